@@ -1,0 +1,77 @@
+-- The value of one account, what is read of it, and the changes to it.
+use Rattle.std.specs.Prelude.{◌≡◌, ◌⊎◌, ℕ, ◌+◌, ◌-◌, ◌<◌, ◌≤◌, ℤ, pos, negsuc, ◌≤ℤ◌, ◌<ℤ◌, ◌-ℤ◌, Bool}
+use Rattle.reg_base.specs.declared.limits.TheConstants.{MOST_HELD, MOST_CORRECTION}
+use Rattle.reg_base.specs.declared.kinds.AccountKind.{AccountKind}
+use Rattle.reg_base.specs.declared.kinds.AllowanceKind.{AllowanceKind}
+use Rattle.reg_base.specs.declared.kinds.AllowanceKind.TheVariants.{General, Aviation}
+use Rattle.reg_base.specs.declared.kinds.Status.{Status}
+use Rattle.reg_account.specs.declared.parts.Holdings.{Holdings}
+use Rattle.reg_account.specs.declared.parts.AccountParts.{AccountParts}
+use Rattle.reg_account.specs.declared.parts.AccountFault.{AccountFault}
+use Rattle.reg_account.specs.declared.parts.AccountFault.TheVariants.{Correction, Holding}
+
+-- an account as plain data
+pub record AccountValue : Type 0 where
+  pub number : ℕ
+  pub kind : AccountKind
+  pub holder : ℕ
+  pub status : Status
+  pub outside : Bool
+  pub waiver : Bool
+  pub correction : ℤ
+  pub held : Holdings
+
+-- the account that these parts make
+abbrev pub account_of : AccountParts → AccountValue
+account_of p = record {
+  number = p.number;
+  kind = p.kind;
+  holder = p.holder;
+  status = p.status;
+  outside = p.outside;
+  waiver = p.waiver;
+  correction = p.correction;
+  held = p.held;
+}
+
+-- how many allowances of a kind there are
+abbrev pub amount_of : Holdings → AllowanceKind → ℕ
+amount_of h General = h.general
+amount_of h Aviation = h.aviation
+
+-- holdings with another number of one kind
+abbrev pub with_amount : Holdings → AllowanceKind → ℕ → Holdings
+with_amount h General n = record h { general = n }
+with_amount h Aviation n = record h { aviation = n }
+
+-- what an account holds of a kind
+abbrev pub held_by : AccountValue → AllowanceKind → ℕ
+held_by a kind = amount_of a.held kind
+
+-- the account with this many allowances more of the kind
+abbrev pub credited : AccountValue → AllowanceKind → ℕ → AccountValue
+credited a kind amount = record a { held = with_amount a.held kind (held_by a kind + amount) }
+
+-- the account with this many allowances fewer of the kind
+abbrev pub debited : AccountValue → AllowanceKind → ℕ → AccountValue
+debited a kind amount = record a { held = with_amount a.held kind (held_by a kind - amount) }
+
+-- the correction factor is within its limits
+pub record CorrectionFits (correction : ℤ) : Type 0 where
+  pub low : (pos 0 -ℤ MOST_CORRECTION) ≤ℤ correction
+  pub high : correction ≤ℤ MOST_CORRECTION
+
+-- both holdings are within their limit
+pub record HoldingsFit (h : Holdings) : Type 0 where
+  pub general : h.general ≤ MOST_HELD
+  pub aviation : h.aviation ≤ MOST_HELD
+
+-- what holds of every account
+pub record IsAccount (a : AccountValue) : Type 0 where
+  pub correction : CorrectionFits a.correction
+  pub holdings : HoldingsFit a.held
+
+-- the first thing that is wrong with the parts, in the order of the faults
+abbrev pub FaultOf : AccountValue → AccountFault → Type 0
+FaultOf a Correction = (a.correction <ℤ (pos 0 -ℤ MOST_CORRECTION)) ⊎ (MOST_CORRECTION <ℤ a.correction)
+FaultOf a Holding = CorrectionFits a.correction × ((MOST_HELD < a.held.general) ⊎ (MOST_HELD < a.held.aviation))

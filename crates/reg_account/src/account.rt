@@ -1,0 +1,140 @@
+//! An account within its limits.
+
+ghost use Rattle.std.specs.Prelude.{◌≡◌, ◌+◌, ◌≤◌, IfOk, MatchResult};
+ghost use Rattle.reg_base.specs.declared.limits.TheConstants.{MOST_HELD};
+
+use crate::parts::{AccountFault, AccountParts};
+use reg_base::{
+    AccountKind, AccountNo, AllowanceKind, HolderNo, MOST_CORRECTION, MOST_HELD, NoMemory, Status,
+};
+use std::alloc::Global;
+use std::marker::Model;
+
+/// An account, each part within its limits. A clause sees it as plain data. It is not `Clone`: allowances
+/// must not come to be twice by accident, so a second one is made by [`Account::copy`] alone.
+#[derive(Debug, Drop)]
+pub struct Account {
+    parts: AccountParts,
+}
+
+impl Model for Account {
+    ghost use Rattle.reg_account.specs.Account.{AccountValue, account_of, IsAccount};
+
+    ghost Value = { AccountValue };
+
+    ghost view = { λ a. account_of a.parts };
+
+    ghost invariant = { λ a. IsAccount (account_of a.parts) };
+}
+
+impl Account {
+    ghost use Rattle.reg_account.specs.Account.{account_of, held_by, credited, debited, IsAccount, FaultOf};
+
+    /// The account that these parts make. Takes no memory.
+    ///
+    /// # Errors
+    /// The parts as they were, with the first fault in the order of [`AccountFault`].
+    pub fn of(parts: AccountParts) -> Result<Self, (AccountParts, AccountFault)>
+        ensures { MatchResult result (λ a. (a ≡ account_of parts) × IsAccount (account_of parts)) (λ e. (e.0 ≡ parts) × FaultOf (account_of parts) e.1) }
+    {
+        if parts.correction < -MOST_CORRECTION || parts.correction > MOST_CORRECTION {
+            return Err((parts, AccountFault::Correction));
+        }
+        if parts.held.general > MOST_HELD || parts.held.aviation > MOST_HELD {
+            return Err((parts, AccountFault::Holding));
+        }
+        Ok(Account { parts })
+    }
+
+    /// Its number.
+    pub fn number(&self) -> AccountNo
+        ensures { result ≡ self.now.number }
+    {
+        self.parts.number
+    }
+
+    /// Its kind.
+    pub fn kind(&self) -> AccountKind
+        ensures { result ≡ self.now.kind }
+    {
+        self.parts.kind
+    }
+
+    /// Who holds it.
+    pub fn holder(&self) -> HolderNo
+        ensures { result ≡ self.now.holder }
+    {
+        self.parts.holder
+    }
+
+    /// What the administrator has set it to.
+    pub fn status(&self) -> Status
+        ensures { result ≡ self.now.status }
+    {
+        self.parts.status
+    }
+
+    /// Whether it allows transfers to accounts off its trusted account list.
+    pub fn outside(&self) -> bool
+        ensures { result ≡ self.now.outside }
+    {
+        self.parts.outside
+    }
+
+    /// Whether a transfer to a trusted account needs no approval.
+    pub fn waiver(&self) -> bool
+        ensures { result ≡ self.now.waiver }
+    {
+        self.parts.waiver
+    }
+
+    /// The correction factor of its compliance figure, in tonnes.
+    pub fn correction(&self) -> i64
+        ensures { result ≡ self.now.correction }
+    {
+        self.parts.correction
+    }
+
+    /// How many allowances of the kind it holds, 0 to 10^15.
+    pub fn held(&self, kind: AllowanceKind) -> u64
+        ensures value { result ≡ held_by self.now kind }
+        ensures limit { result ≤ MOST_HELD }
+    {
+        match kind {
+            AllowanceKind::General => self.parts.held.general,
+            AllowanceKind::Aviation => self.parts.held.aviation,
+        }
+    }
+
+    /// Adds allowances of a kind. Takes no memory.
+    pub fn credit(&mut self, kind: AllowanceKind, amount: u64)
+        requires { held_by self.old kind + amount ≤ MOST_HELD }
+        ensures { self.new ≡ credited self.old kind amount }
+    {
+        match kind {
+            AllowanceKind::General => self.parts.held.general += amount,
+            AllowanceKind::Aviation => self.parts.held.aviation += amount,
+        }
+    }
+
+    /// Takes allowances of a kind away. Takes no memory.
+    pub fn debit(&mut self, kind: AllowanceKind, amount: u64)
+        requires { amount ≤ held_by self.old kind }
+        ensures { self.new ≡ debited self.old kind amount }
+    {
+        match kind {
+            AllowanceKind::General => self.parts.held.general -= amount,
+            AllowanceKind::Aviation => self.parts.held.aviation -= amount,
+        }
+    }
+
+    /// An equal account.
+    ///
+    /// # Errors
+    /// `NoMemory` where a growth was refused; an account without lists needs none yet.
+    pub fn copy(&self, _alloc: Global) -> Result<Account, NoMemory>
+        ensures { IfOk result (λ a. a ≡ self.now) }
+    {
+        Ok(Account { parts: self.parts })
+    }
+}

@@ -1,0 +1,2 @@
+pub mod DueDays
+pub mod Lookups

@@ -1,0 +1,34 @@
+-- The accounts that an instruction reads or changes.
+use Rattle.std.specs.Prelude.{◌≡◌, ℕ, ◌-◌, ◌≤◌, Bool, not, ◌==◌, List, [], ◌∷◌, length, drop, filter, replicate, if◌then◌else◌}
+use Rattle.std.specs.List.{list_all}
+use Rattle.reg_base.specs.declared.instruction.Act.{Act}
+use Rattle.reg_base.specs.declared.instruction.Act.TheVariants.{Transfer}
+use Rattle.reg_base.specs.declared.limits.TheConstants.{MOST_TOUCHED}
+use Rattle.reg_base.specs.Directory.{DirectoryValue, is_known}
+
+-- the accounts that have to be in the directory
+abbrev pub named_by : Act → List ℕ
+named_by (Transfer from to kind amount) = from ∷ to ∷ []
+
+-- the accounts whose values the act reads or changes, in their order
+abbrev pub parties : Act → List ℕ
+parties (Transfer from to kind amount) = from ∷ to ∷ []
+
+-- each account that the act names is in the directory
+abbrev pub all_known : DirectoryValue → Act → Bool
+all_known directory act = list_all (is_known directory) (named_by act)
+
+-- each number where it first stands
+abbrev pub each_once : List ℕ → List ℕ
+each_once [] = []
+each_once (x ∷ xs) = x ∷ filter (λ y. not (y == x)) (each_once xs)
+
+-- the accounts that an instruction with this act reads or changes: none where one that it names is unknown
+abbrev pub footprint : DirectoryValue → Act → List ℕ
+footprint directory act = if all_known directory act then each_once (parties act) else []
+
+-- where a footprint lies in memory: its accounts, and then account 1 up to the end of the array
+pub record IsPadded (accounts : List ℕ) (count : ℕ) : Type 0 where
+  pub size : length accounts ≡ MOST_TOUCHED
+  pub count_fits : count ≤ MOST_TOUCHED
+  pub padding : drop count accounts ≡ replicate (MOST_TOUCHED - count) 1

@@ -1,0 +1,7 @@
+pub mod Rising
+pub mod Calendar
+pub mod Refusals
+pub mod Rules
+pub mod Directory
+pub mod Footprint
+pub mod Batch

@@ -1,0 +1,29 @@
+//! What a settlement day is made of: numbers within their limits, the working calendar, the rules,
+//! the directory of accounts, and the batch of due instructions with the accounts that each touches.
+#![tactic(auto)]
+
+mod batch;
+mod calendar;
+mod directory;
+mod instruction;
+mod kinds;
+mod limits;
+mod numbers;
+mod refusals;
+mod rules;
+
+pub use batch::{Batch, BatchFault};
+pub use calendar::{Calendar, CalendarFault};
+pub use directory::{Directory, NoMemory};
+pub use instruction::{Act, Footprint, Instruction};
+pub use kinds::{AccountKind, AllowanceKind, Right, Status};
+pub use limits::{
+    FIRST_DAY, FIRST_YEAR, LAST_DAY, LAST_YEAR, MOST_ACCOUNTS, MOST_ADMINISTRATORS,
+    MOST_CORRECTION, MOST_HELD, MOST_INSTRUCTIONS, MOST_LAG, MOST_NUMBER, MOST_RECORD, MOST_TOUCHED,
+};
+pub use numbers::{AccountNo, Day, HolderNo, RecordNo, UserNo, Year};
+pub use refusals::Refusal;
+pub use rules::{Rules, RulesFault, RulesParts};
+
+#[cfg(test)]
+mod tests;
