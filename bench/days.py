@@ -1,0 +1,109 @@
+#!/usr/bin/env python3
+"""Writes a large day text: accounts, and transfers over distinct pairs of them.
+
+usage: days.py [--accounts N] [--instructions N] > day.csv
+
+The same words always give the same bytes. Each transfer is accepted: its day is due and the
+account holds enough. The pairs are distinct while there are twice as many accounts as
+instructions; with fewer accounts they come again.
+"""
+
+import argparse
+import datetime
+import math
+import sys
+
+SETTLEMENT_DAY = datetime.date(2025, 3, 31)
+FIRST_RECORD = 100_000_001
+KINDS = ("operator", "aircraft", "trading")
+
+# The limits of a day text, and what is written where nothing is said.
+FEWEST_ACCOUNTS, MOST_ACCOUNTS = 2, 100_000
+MOST_INSTRUCTIONS = 16_384
+
+
+def number(index):
+    """The number of the account at an index; numbers rise and have gaps."""
+    return 1_000 + 7 * index
+
+
+def holding(index):
+    """The general allowances that the account at an index begins with."""
+    return 1_000_000 + index * 104_729 % 1_000_000_000
+
+
+def amount(place):
+    """The amount of the transfer at a place, far below every holding."""
+    return 1 + place * 613 % 1_000
+
+
+def heading():
+    """The rows before the accounts. Every weekday of 2025 is a working day."""
+    yield "format,1"
+    yield f"day,{SETTLEMENT_DAY},{FIRST_RECORD}"
+    yield "period,2021,2030"
+    yield "lags,0,2,2,60"
+    first = datetime.date(2025, 1, 1)
+    for days in range(365):
+        day = first + datetime.timedelta(days)
+        if day.weekday() < 5:
+            yield f"work,{day}"
+
+
+def account(index):
+    """The row of one account. Aircraft operators hold aviation allowances too."""
+    kind = KINDS[index % 3]
+    aviation = holding(index) if kind == "aircraft" else 0
+    return f"account,{number(index)},{kind},{index + 1},open,yes,no,0,{holding(index)},{aviation}"
+
+
+def pairs(accounts):
+    """The indices of from and to, without end: all accounts once, in a mixed order, then again."""
+    even = accounts - accounts % 2
+    stride = next(step for step in range(even * 5 // 8 + 1, 2 * even + 2) if math.gcd(step, even) == 1)
+    place = 0
+    while True:
+        yield place * stride % even, (place + 1) * stride % even
+        place += 2
+
+
+def transfer(place, source, target):
+    """The row of one transfer, proposed one to three weeks before the settlement day."""
+    proposed = SETTLEMENT_DAY - datetime.timedelta(7 + place % 13)
+    proposer, approver = 3 * source + 1_001, 3 * source + 1_002
+    return (f"do,{proposed},{proposer},{approver},"
+            f"transfer,{number(source)},{number(target)},general,{amount(place)}")
+
+
+def day_text(accounts, instructions):
+    """The rows of a whole day text."""
+    yield from heading()
+    for index in range(accounts):
+        yield account(index)
+    for place, (source, target) in zip(range(instructions), pairs(accounts)):
+        yield transfer(place, source, target)
+    yield "end"
+
+
+def totals(accounts):
+    """What all accounts hold together, general and aviation. Transfers leave it as it is."""
+    general = sum(holding(index) for index in range(accounts))
+    aviation = sum(holding(index) for index in range(accounts) if KINDS[index % 3] == "aircraft")
+    return general, aviation
+
+
+def main():
+    words = argparse.ArgumentParser(
+        description=__doc__, formatter_class=argparse.RawDescriptionHelpFormatter)
+    words.add_argument("--accounts", type=int, default=MOST_ACCOUNTS)
+    words.add_argument("--instructions", type=int, default=MOST_INSTRUCTIONS)
+    given = words.parse_args()
+    if not FEWEST_ACCOUNTS <= given.accounts <= MOST_ACCOUNTS:
+        sys.exit(f"days.py: accounts are {FEWEST_ACCOUNTS} to {MOST_ACCOUNTS}")
+    if not 0 <= given.instructions <= MOST_INSTRUCTIONS:
+        sys.exit(f"days.py: instructions are 0 to {MOST_INSTRUCTIONS}")
+    sys.stdout.writelines(f"{row}\n" for row in day_text(given.accounts, given.instructions))
+
+
+if __name__ == "__main__":
+    main()
