@@ -28,9 +28,9 @@ impl Model for Account {
 }
 
 impl Account {
-    ghost use Rattle.reg_account.specs.Account.{account_of, held_by, credited, debited, IsAccount, FaultOf};
+    ghost use Rattle.reg_account.specs.Account.{account_of, held_by, credited, debited, IsAccount, CorrectionFits, FaultOf};
 
-    /// The account that these parts make. Takes no memory.
+    /// The account that these parts make: they make one exactly where no fault applies. Takes no memory.
     ///
     /// # Errors
     /// The parts as they were, with the first fault in the order of [`AccountFault`].
@@ -88,9 +88,10 @@ impl Account {
         self.parts.waiver
     }
 
-    /// The correction factor of its compliance figure, in tonnes.
+    /// The correction factor of its compliance figure, -10^15 to 10^15 tonnes of carbon dioxide equivalent.
     pub fn correction(&self) -> i64
-        ensures { result ≡ self.now.correction }
+        ensures value { result ≡ self.now.correction }
+        ensures limits { CorrectionFits result }
     {
         self.parts.correction
     }
@@ -106,7 +107,7 @@ impl Account {
         }
     }
 
-    /// Adds allowances of a kind. Takes no memory.
+    /// Adds allowances of a kind, which have to fit the limit; nothing else changes. Takes no memory.
     pub fn credit(&mut self, kind: AllowanceKind, amount: u64)
         requires { held_by self.old kind + amount ≤ MOST_HELD }
         ensures { self.new ≡ credited self.old kind amount }
@@ -117,7 +118,7 @@ impl Account {
         }
     }
 
-    /// Takes allowances of a kind away. Takes no memory.
+    /// Takes allowances of a kind away, which have to be there; nothing else changes. Takes no memory.
     pub fn debit(&mut self, kind: AllowanceKind, amount: u64)
         requires { amount ≤ held_by self.old kind }
         ensures { self.new ≡ debited self.old kind amount }
@@ -128,10 +129,10 @@ impl Account {
         }
     }
 
-    /// An equal account.
+    /// An account that is equal in all its parts.
     ///
     /// # Errors
-    /// `NoMemory` where a growth was refused; an account without lists needs none yet.
+    /// `NoMemory` where a growth was refused. An account without lists needs none yet.
     pub fn copy(&self, _alloc: Global) -> Result<Account, NoMemory>
         ensures { IfOk result (λ a. a ≡ self.now) }
     {

@@ -37,9 +37,9 @@ pub struct AccountParts {
 #[derive(Clone, Copy, Debug, PartialEq, Eq, Error)]
 pub enum AccountFault {
     /// The correction factor is outside -10^15 to 10^15 tonnes.
-    #[error("the correction factor is outside its limits")]
+    #[error("the correction factor is not -10^15 to 10^15 tonnes")]
     Correction,
     /// A holding is above 10^15 allowances.
-    #[error("a holding is above its limit")]
+    #[error("a holding is above 10^15 allowances")]
     Holding,
 }

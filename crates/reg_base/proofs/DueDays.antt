@@ -1,6 +1,6 @@
 -- The due day stands as many places after the first working day that is not before the proposed day as the lag says.
-use Rattle.std.proofs.Common.{◌≡◌, ℕ, zero, suc, ◌+◌, ◌<◌, ◌≤◌, Bool, true, false, cond, ◌&&◌, leb, ltb, eqb, List, [], ◌∷◌, length, get_or, drop, refl, ap, ◌∙◌, arith, sym, zero-add, add-one, Bor, Option, Some, None}
-use Rattle.std.specs.Prelude.{find, count_by, slice_get, not}
+use Rattle.std.proofs.Common.{◌≡◌, ℕ, zero, suc, ◌<◌, ◌≤◌, Bool, true, false, cond, ◌&&◌, leb, ltb, eqb, List, [], ◌∷◌, length, get_or, drop, refl, ap, ◌∙◌, arith, sym, zero-add, add-one, Bor, Option, Some, None}
+use Rattle.std.specs.Prelude.{find, slice_get}
 use Prim.Native.Nat.compare
 use Rattle.std.proofs.lemmas.Bool.{le-leb, le-ltb, lt-ltb, lt-leb, and_left, and_right, and_from}
 use Rattle.std.proofs.lemmas.List.Sums.{sum_by-cons}
@@ -19,22 +19,22 @@ RisesFrom low (x ∷ xs) = (low ≤ x) × RisesFrom (suc x) xs
 
 pub rises_from : (low : ℕ) (xs : List ℕ) → IsRising xs → (0 < length xs → low ≤ get_or xs 0 0) → RisesFrom low xs
 rises_from low [] rising first = tt
-rises_from low (x ∷ xs) rising first =
-    (first (omega arith),
-        rises_from (suc x) xs
-            (λ k lt. rw add-one (let h = rising (suc k) (omega arith) in rw add-one at h))
-            (λ some. let h : x < get_or xs 0 0 = rising 0 (omega arith) in omega arith))
+rises_from low (x ∷ xs) rising first = (
+  first (omega arith),
+  rises_from (suc x) xs
+      (λ k lt. rw add-one (let h = rising (suc k) (omega arith) in rw add-one at h))
+      (λ some. let h : x < get_or xs 0 0 = rising 0 (omega arith) in omega arith),
+)
 
 from_low : (low : ℕ) (xs : List ℕ) → RisesFrom low xs → (k d : ℕ) → k < length xs → low ≤ get_or xs k d
 from_low low [] rises k d lt = absurd (omega arith)
 from_low low (x ∷ xs) rises zero d lt = rises.0
 from_low low (x ∷ xs) rises (suc k) d lt = let h = from_low (suc x) xs rises.1 k d (omega arith) in omega (arith, rises.0)
 
-find_same : (p q : ℕ → Bool) (low : ℕ) (xs : List ℕ) → RisesFrom low xs → ((w : ℕ) → low ≤ w → p w ≡ q w) → find p xs ≡ find q xs
+pub find_same : (p q : ℕ → Bool) (low : ℕ) (xs : List ℕ) → RisesFrom low xs → ((w : ℕ) → low ≤ w → p w ≡ q w) → find p xs ≡ find q xs
 find_same p q low [] rises same = refl
 find_same p q low (x ∷ xs) rises same =
     rw (same x rises.0, find_same p q (suc x) xs rises.1 (λ w le. same w (omega (arith, rises.0)))) refl
-
 
 none_between : (d w low : ℕ) (xs : List ℕ) → RisesFrom low xs → w ≤ low → days_between xs d w ≡ 0
 none_between d w low [] rises le = refl
@@ -44,7 +44,7 @@ none_between d w low (x ∷ xs) rises le =
     sum_by-cons (λ y. cond (leb d y && ltb y w) 1 0) x xs ∙ rw (no, none_between d w (suc x) xs rises.1 (omega (arith, rises.0))) refl
 
 -- a day that is not between adds nothing, and one that is adds one
-uncounted : (d w x : ℕ) (xs : List ℕ) → (leb d x && ltb x w) ≡ false → days_between (x ∷ xs) d w ≡ days_between xs d w
+pub uncounted : (d w x : ℕ) (xs : List ℕ) → (leb d x && ltb x w) ≡ false → days_between (x ∷ xs) d w ≡ days_between xs d w
 uncounted d w x xs out = sum_by-cons (λ y. cond (leb d y && ltb y w) 1 0) x xs ∙ rw out (zero-add _)
 
 counted : (d w x : ℕ) (xs : List ℕ) → (leb d x && ltb x w) ≡ true → days_between (x ∷ xs) d w ≡ suc (days_between xs d w)
@@ -72,7 +72,7 @@ due_from_start d (suc lag) low (x ∷ xs) rises le =
     let not_here : is_due (x ∷ xs) d (suc lag) x ≡ false = rw (none, early, compare.zero-suc) refl in
     let same : (w : ℕ) → suc x ≤ w → is_due (x ∷ xs) d (suc lag) w ≡ is_due xs d lag w = λ w above. one_more d lag x w xs early (lt-ltb x w above) in
     rw not_here (find_same (is_due (x ∷ xs) d (suc lag)) (is_due xs d lag) (suc x) xs rises.1 same
-        ∙ due_from_start d lag (suc x) xs rises.1 (omega (arith, rises.0)))
+    ∙ due_from_start d lag (suc x) xs rises.1 (omega (arith, rises.0)))
 
 -- from any place on
 pub due_at : (d lag first low : ℕ) (xs : List ℕ) → RisesFrom low xs → first ≤ length xs
@@ -87,7 +87,7 @@ due_at d lag (suc first) low (x ∷ xs) rises le before after =
     let skipped : (w : ℕ) → suc x ≤ w → is_due (x ∷ xs) d lag w ≡ is_due xs d lag w = λ w above. ap (λ n. leb d w && eqb n lag) (uncounted d w x xs (and_left _ _ early)) in
     let not_here : is_due (x ∷ xs) d lag x ≡ false = and_left _ _ early in
     rw not_here (find_same (is_due (x ∷ xs) d lag) (is_due xs d lag) (suc x) xs rises.1 skipped
-        ∙ due_at d lag first (suc x) xs rises.1 (omega arith) (λ k lt. before (suc k) (omega arith)) (λ k le' lt. after (suc k) (omega arith) (omega arith)))
+    ∙ due_at d lag first (suc x) xs rises.1 (omega arith) (λ k lt. before (suc k) (omega arith)) (λ k le' lt. after (suc k) (omega arith) (omega arith)))
 
 -- a later place has a later day
 ascends : (low : ℕ) (xs : List ℕ) → RisesFrom low xs → (i j d : ℕ) → i ≤ j → j < length xs → get_or xs i d ≤ get_or xs j d

@@ -1,6 +1,6 @@
 -- The accounts that an instruction reads or changes.
-use Rattle.std.specs.Prelude.{◌≡◌, ℕ, ◌-◌, ◌≤◌, Bool, not, ◌==◌, List, [], ◌∷◌, length, drop, filter, replicate, if◌then◌else◌}
-use Rattle.std.specs.List.{list_all}
+use Rattle.std.specs.Prelude.{◌≡◌, ℕ, ◌-◌, ◌≤◌, Bool, IsTrue, not, ◌==◌, nat_eq, List, [], ◌∷◌, length, drop, filter, replicate, All, if◌then◌else◌}
+use Rattle.std.specs.List.{list_all, IsDistinct}
 use Rattle.reg_base.specs.declared.instruction.Act.{Act}
 use Rattle.reg_base.specs.declared.instruction.Act.TheVariants.{Transfer}
 use Rattle.reg_base.specs.declared.limits.TheConstants.{MOST_TOUCHED}
@@ -32,3 +32,13 @@ pub record IsPadded (accounts : List ℕ) (count : ℕ) : Type 0 where
   pub size : length accounts ≡ MOST_TOUCHED
   pub count_fits : count ≤ MOST_TOUCHED
   pub padding : drop count accounts ≡ replicate (MOST_TOUCHED - count) 1
+
+-- no account stands twice, each is in the directory, and there are no more than may be
+pub record IsSound (directory : DirectoryValue) (accounts : List ℕ) : Type 0 where
+  pub once : IsDistinct nat_eq accounts
+  pub known : All (λ a. IsTrue (is_known directory a)) accounts
+  pub few : length accounts ≤ MOST_TOUCHED
+
+-- law: so it is with every footprint
+abbrev pub EachFootprintIsSound : Type 0
+EachFootprintIsSound = (directory : DirectoryValue) (act : Act) → IsSound directory (footprint directory act)

@@ -1,5 +1,8 @@
 //! What a settlement day is made of: numbers within their limits, the working calendar, the rules,
 //! the directory of accounts, and the batch of due instructions with the accounts that each touches.
+//!
+//! A value of these types is within its limits. Nothing here takes memory but [`Directory::insert`], and a
+//! constructor that refuses drops what it was given.
 #![tactic(auto)]
 
 mod batch;
@@ -7,6 +10,7 @@ mod calendar;
 mod directory;
 mod instruction;
 mod kinds;
+pub mod laws;
 mod limits;
 mod numbers;
 mod refusals;
@@ -19,7 +23,8 @@ pub use instruction::{Act, Footprint, Instruction};
 pub use kinds::{AccountKind, AllowanceKind, Right, Status};
 pub use limits::{
     FIRST_DAY, FIRST_YEAR, LAST_DAY, LAST_YEAR, MOST_ACCOUNTS, MOST_ADMINISTRATORS,
-    MOST_CORRECTION, MOST_HELD, MOST_INSTRUCTIONS, MOST_LAG, MOST_NUMBER, MOST_RECORD, MOST_TOUCHED,
+    MOST_CORRECTION, MOST_HELD, MOST_INSTRUCTIONS, MOST_LAG, MOST_NUMBER, MOST_RECORD,
+    MOST_TOUCHED,
 };
 pub use numbers::{AccountNo, Day, HolderNo, RecordNo, UserNo, Year};
 pub use refusals::Refusal;

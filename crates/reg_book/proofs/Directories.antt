@@ -1,0 +1,194 @@
+-- The directory of accounts answers as the accounts do, whatever their order.
+use Rattle.std.proofs.Common.{◌≡◌, ◌≢◌, ℕ, zero, suc, ◌+◌, ◌<◌, ◌≤◌, Bool, true, false, cond, eqb, List, [], ◌∷◌, ◌++◌, map, length, get_or, Option, Some, None, refl, sym, ap, subst, ◌∙◌, arith, inl, inr, ◌⊎◌}
+use Rattle.std.specs.Prelude.{option_map, is_some, is_none, Contains, IsPermutation}
+use Rattle.std.specs.List.{IsDistinct, AllByRecursion, list_any}
+use Rattle.std.specs.Ordering.{nat_cmp, eq_by_cmp}
+use Rattle.std.specs.Cmp.{nat_cmp_total, nat_eq_equiv, unsigned_tied}
+use Rattle.std.specs.FinMap as fin
+use Rattle.std.proofs.lemmas.Bool.{eq-eqb, ne_eqb, eqb-true, eqb-false, or_from}
+use Rattle.std.proofs.lemmas.List.{map-append, get_or-map, length-append}
+use Rattle.std.proofs.lemmas.List.Sorted.{Contains-permutation, IsPermutation-map, IsPermutation-sym}
+use Rattle.std.proofs.lemmas.Map.Keys.{IsDistinct-push, IsDistinct-IsPermutation, IsDistinct-head, IsDistinct-tail, apart_from_distinct}
+use Rattle.reg_base.specs.declared.kinds.AccountKind.{AccountKind}
+use Rattle.reg_base.specs.Directory.{DirectoryValue}
+use Rattle.reg_account.specs.Account.{AccountValue}
+use Rattle.reg_rules.specs.State.{State, account, numbers}
+use Rattle.reg_book.specs.Book.{entry_of, directory_of, IsNext, IsDraft, CanTake}
+
+-- the kind and the holder of an account
+abbrev pub listing : AccountValue → AccountKind × ℕ
+listing v = (v.kind, v.holder)
+
+pub length-numbers : (xs : State) → length (numbers xs) ≡ length xs
+length-numbers [] = refl
+length-numbers (v ∷ vs) = ap suc (length-numbers vs)
+
+-- the number at a place is that of the account there
+pub number_at : (xs : State) (k : ℕ) (d : AccountValue) → k < length xs → get_or (numbers xs) k 0 ≡ (get_or xs k d).number
+number_at xs k d lt = get_or-map (λ (o : AccountValue). o.number) xs k d 0 lt
+
+pub eqb-sym : (x y : ℕ) → eqb x y ≡ eqb y x
+eqb-sym x y = nat_eq_equiv.symm x y
+
+find_by : (b : Bool) (v : AccountValue) (rest : Option (AccountKind × ℕ)) (found : Option AccountValue) → rest ≡ option_map listing found → cond b (Some (listing v)) rest ≡ option_map listing (cond b (Some v) found)
+find_by true v rest found e = refl
+find_by false v rest found e = e
+
+find_listing : (a : ℕ) (xs : State) → fin.find nat_cmp a (map entry_of xs) ≡ option_map listing (account xs a)
+find_listing a [] = refl
+find_listing a (v ∷ vs) =
+    let same : eq_by_cmp nat_cmp a v.number ≡ eqb v.number a = unsigned_tied a v.number ∙ eqb-sym a v.number in
+    rw same (find_by (eqb v.number a) v (fin.find nat_cmp a (map entry_of vs)) (account vs a) (find_listing a vs))
+
+-- what the directory says of a number is what its account is
+pub get-directory_of : (xs : State) (a : ℕ) → fin.get (directory_of xs) a ≡ option_map listing (account xs a)
+get-directory_of xs a = fin.get-from_entries nat_cmp_total (map entry_of xs) a ∙ find_listing a xs
+
+found_by : (b : Bool) (w : AccountValue) (ws : State) (a : ℕ) (v : AccountValue) → eqb w.number a ≡ b
+    → (account ws a ≡ Some v → Contains ws v × (v.number ≡ a)) → cond b (Some w) (account ws a) ≡ Some v → Contains (w ∷ ws) v × (v.number ≡ a)
+found_by true w ws a v same later found =
+    let is : w ≡ v = cc in
+    ((0, omega arith, is), ap (λ (o : AccountValue). o.number) (sym is) ∙ eqb-true w.number a same)
+found_by false w ws a v other later found =
+    let (there, number) = later found in
+    let (k, lt, is) = there in
+    ((suc k, omega arith, is), number)
+
+-- an account that is found is among the accounts, and has the number
+pub found_in : (xs : State) (a : ℕ) (v : AccountValue) → account xs a ≡ Some v → Contains xs v × (v.number ≡ a)
+found_in [] a v e = absurd cc
+found_in (w ∷ ws) a v e = found_by (eqb w.number a) w ws a v refl (found_in ws a v) e
+
+-- an account with a number of its own is the account of that number
+pub is_found : (xs : State) (a : ℕ) (v : AccountValue) → IsDistinct eqb (numbers xs) → Contains xs v → v.number ≡ a → account xs a ≡ Some v
+is_found [] a v distinct (k, lt, is) e = absurd (omega arith)
+is_found (w ∷ ws) a v distinct (zero, lt, is) e =
+    let same : eqb w.number a ≡ true = eq-eqb w.number a (ap (λ (o : AccountValue). o.number) is ∙ e) in
+    rw same (ap (λ (o : AccountValue). Some o) is)
+is_found (w ∷ ws) a v distinct (suc k, lt, is) e =
+    let number_k : get_or (numbers ws) k a ≡ a = get_or-map (λ (o : AccountValue). o.number) ws k v a (omega arith) ∙ ap (λ (o : AccountValue). o.number) is ∙ e in
+    let apart : eqb w.number (get_or (numbers ws) k a) ≡ false = apart_from_distinct eqb (numbers (w ∷ ws)) 0 (suc k) a distinct (omega arith) (omega (arith, length-numbers ws)) in
+    let other : eqb w.number a ≡ false = ap (λ n. eqb w.number n) (sym number_k) ∙ apart in
+    rw other (is_found ws a v (IsDistinct-tail eqb w.number (numbers ws) distinct) (k, omega arith, is) e)
+
+none_or_some : (o : Option AccountValue) → (o ≡ None) ⊎ ((v : AccountValue) × (o ≡ Some v))
+none_or_some None = inl refl
+none_or_some (Some v) = inr (v, refl)
+
+-- accounts in another order are found as before
+pub account-permutation : (xs ys : State) → IsDistinct eqb (numbers xs) → IsPermutation xs ys → (a : ℕ) → account xs a ≡ account ys a
+account-permutation xs ys distinct same a =
+    let distinct_ys = IsDistinct-IsPermutation eqb eqb-sym (numbers xs) (numbers ys) (IsPermutation-map (λ (o : AccountValue). o.number) xs ys same) distinct in
+    elim (none_or_some (account xs a)) [
+      | inr found ↦
+          let (there, number) = found_in xs a found.0 found.1 in
+          found.1 ∙ sym (is_found ys a found.0 distinct_ys (Contains-permutation xs ys found.0 same there) number)
+      | inl none ↦ elim (none_or_some (account ys a)) [
+        | inl none_there ↦ none ∙ sym none_there
+        | inr found ↦
+            let (there, number) = found_in ys a found.0 found.1 in
+            is_found xs a found.0 distinct (Contains-permutation ys xs found.0 (IsPermutation-sym xs ys same) there) number ∙ sym found.1
+      ]
+    ]
+
+-- the directory of accounts in another order is the same
+pub directory_of-permutation : (xs ys : State) → IsDistinct eqb (numbers xs) → IsPermutation xs ys → directory_of xs ≡ directory_of ys
+directory_of-permutation xs ys distinct same =
+    fin.same_map nat_cmp_total fin.nat_cmp-IsAntisymmetric _ _ (λ a.
+    get-directory_of xs a ∙ ap (λ (o : Option AccountValue). option_map listing o) (account-permutation xs ys distinct same a) ∙ sym (get-directory_of ys a))
+
+-- a number that the directory knows is an account's, and one that it doesn't know is none's
+known_by : (xs : State) (a : ℕ) (o : Option AccountValue) → account xs a ≡ o → is_some (option_map listing o) ≡ true → Contains (numbers xs) a
+known_by xs a None e h = absurd cc
+known_by xs a (Some v) e h =
+    let (there, number) = found_in xs a v e in
+    let (k, lt, is) = there in
+    (k, omega (arith, length-numbers xs), get_or-map (λ (o : AccountValue). o.number) xs k v a lt ∙ ap (λ (o : AccountValue). o.number) is ∙ number)
+
+pub known : (xs : State) (a : ℕ) → is_some (fin.get (directory_of xs) a) ≡ true → Contains (numbers xs) a
+known xs a h = known_by xs a (account xs a) refl (ap is_some (sym (get-directory_of xs a)) ∙ h)
+
+unknown_by : (xs : State) (a : ℕ) (o : Option AccountValue) → account xs a ≡ o → is_some (option_map listing o) ≡ false → account xs a ≡ None
+unknown_by xs a None e h = e
+unknown_by xs a (Some v) e h = absurd cc
+
+none_later : (b : Bool) (w : AccountValue) (rest : Option AccountValue) → cond b (Some w) rest ≡ None → (b ≡ false) × (rest ≡ None)
+none_later true w rest e = absurd cc
+none_later false w rest e = (refl, e)
+
+not_among : (xs : State) (a k : ℕ) → account xs a ≡ None → k < length xs → get_or (numbers xs) k a ≡ a → ⊥
+not_among [] a k none lt is = omega arith
+not_among (w ∷ ws) a zero none lt is =
+    let differs = (none_later (eqb w.number a) w (account ws a) none).0 in
+    eqb-false w.number a differs is
+not_among (w ∷ ws) a (suc k) none lt is = not_among ws a k (none_later (eqb w.number a) w (account ws a) none).1 (omega arith) is
+
+pub unknown : (xs : State) (a : ℕ) → is_some (fin.get (directory_of xs) a) ≡ false → account xs a ≡ None × ¬ (Contains (numbers xs) a)
+unknown xs a h =
+    let none = unknown_by xs a (account xs a) refl (ap is_some (sym (get-directory_of xs a)) ∙ h) in
+    (none, λ there. let (k, lt, is) = there in not_among xs a k none (omega (arith, length-numbers xs, lt)) is)
+
+-- the directory of one account more
+pub directory_of-push : (xs : State) (v : AccountValue) → account xs v.number ≡ None → fin.insert (directory_of xs) v.number (v.kind, v.holder) ≡ directory_of (xs ++ v ∷ [])
+directory_of-push xs v none =
+    sym (ap (λ (es : List (ℕ × (AccountKind × ℕ))). fin.from_entries es) (map-append entry_of xs (v ∷ []))
+    ∙ fin.from_entries_push nat_cmp_total fin.nat_cmp-IsAntisymmetric (map entry_of xs) v.number (v.kind, v.holder)
+    (find_listing v.number xs ∙ ap (λ (o : Option AccountValue). option_map listing o) none))
+
+-- the same, as a look-up answers it
+pub known_at : (xs : State) (directory : DirectoryValue) (a n : ℕ) (r : Option (AccountKind × ℕ)) (b : Bool)
+    → directory ≡ directory_of xs → n ≡ a → r ≡ fin.get directory n → b ≡ is_some r → b ≡ true → Contains (numbers xs) a
+known_at xs directory a n r b listed same found answer there =
+    known xs a (sym (ap is_some (found ∙ ap (λ d. fin.get d n) listed ∙ ap (λ m. fin.get (directory_of xs) m) same)) ∙ sym answer ∙ there)
+
+pub unknown_at : (xs : State) (directory : DirectoryValue) (a n : ℕ) (r : Option (AccountKind × ℕ)) (b : Bool)
+    → directory ≡ directory_of xs → n ≡ a → r ≡ fin.get directory n → b ≡ is_some r → b ≡ false → account xs a ≡ None × ¬ (Contains (numbers xs) a)
+unknown_at xs directory a n r b listed same found answer gone =
+    unknown xs a (sym (ap is_some (found ∙ ap (λ d. fin.get d n) listed ∙ ap (λ m. fin.get (directory_of xs) m) same)) ∙ sym answer ∙ gone)
+
+pub pushed_at : (xs : State) (v : AccountValue) (directory new : DirectoryValue) (n : ℕ) (k : AccountKind) (h : ℕ) (b : Bool)
+    → directory ≡ directory_of xs → n ≡ v.number → k ≡ v.kind → h ≡ v.holder → account xs v.number ≡ None
+    → b ≡ is_none (fin.get directory n) → new ≡ cond b (fin.insert directory n (k, h)) directory → new ≡ directory_of (xs ++ v ∷ [])
+pushed_at xs v directory new n k h b listed same kind holder none answer made =
+    let added : b ≡ true = answer ∙ ap (λ d. is_none (fin.get d n)) listed ∙ ap (λ m. is_none (fin.get (directory_of xs) m)) same
+    ∙ ap is_none (get-directory_of xs v.number ∙ ap (λ (o : Option AccountValue). option_map listing o) none) in
+    made
+    ∙ ap (λ c. cond c (fin.insert directory n (k, h)) directory) added
+    ∙ ap (λ d. fin.insert d n (k, h)) listed
+    ∙ ap (λ m. fin.insert (directory_of xs) m (k, h)) same
+    ∙ ap (λ x. fin.insert (directory_of xs) v.number (x, h)) kind
+    ∙ ap (λ x. fin.insert (directory_of xs) v.number (v.kind, x)) holder
+    ∙ directory_of-push xs v none
+
+-- a number that no account has makes the numbers differ still
+pub distinct_push : (xs : State) (v : AccountValue) → IsDistinct eqb (numbers xs) → ¬ (Contains (numbers xs) v.number) → IsDistinct eqb (numbers (xs ++ v ∷ []))
+distinct_push xs v distinct absent =
+    rw (map-append (λ (o : AccountValue). o.number) xs (v ∷ [])) (IsDistinct-push nat_eq_equiv (numbers xs) v.number distinct (none_equal (numbers xs) absent))
+  where
+    none_equal : (ns : List ℕ) → ¬ (Contains ns v.number) → list_any (eqb v.number) ns ≡ false
+    none_equal [] gone = refl
+    none_equal (n ∷ ns) gone =
+        or_from (eqb v.number n) (list_any (eqb v.number) ns)
+        (ne_eqb v.number n (λ e. gone (0, omega arith, sym e)))
+        (none_equal ns (λ there. let (k, lt, is) = there in gone (suc k, omega arith, is)))
+
+-- a draft of no account
+pub empty_draft : (xs : State) (directory : DirectoryValue) (next : ℕ) → xs ≡ [] → directory ≡ fin.empty → IsNext next → IsDraft xs directory next
+unfolding IsDistinct
+empty_draft xs directory next none empty fits =
+    rw (none, empty) (record {
+      distinct = tt;
+      few = omega arith;
+      next_fits = fits;
+      listed = fin.same_map nat_cmp_total fin.nat_cmp-IsAntisymmetric _ _ (λ a. fin.get-empty nat_cmp a ∙ sym (get-directory_of [] a));
+    })
+
+-- a draft of one account more
+pub more_draft : (xs ys : State) (v : AccountValue) (directory new : DirectoryValue) (next : ℕ) → IsDraft xs directory next → ys ≡ xs ++ v ∷ [] → new ≡ directory_of (xs ++ v ∷ []) → CanTake xs v → IsDraft ys new next
+more_draft xs ys v directory new next draft more listed can =
+    rw more (record {
+      distinct = distinct_push xs v draft.distinct can.is_new;
+      few = omega (arith, length-append xs (v ∷ []), can.is_room);
+      next_fits = draft.next_fits;
+      listed = listed;
+    })

@@ -1,0 +1,4 @@
+pub mod Accounts
+pub mod Directories
+pub mod Orders
+pub mod Overlays

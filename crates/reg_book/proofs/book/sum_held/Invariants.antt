@@ -1,0 +1,10 @@
+use Rattle.std.proofs.Common.{◌≡◌, ◌*◌, ◌≤◌, length, take}
+use Rattle.std.specs.Prelude.{sum_by}
+use Rattle.reg_account.specs.Account.{held_by}
+use Rattle.reg_book.proofs.book.sum_held.Given as goal
+
+abbrev pub invariant-loop-account : goal.invariant-loop-account
+invariant-loop-account l = record {
+  so_far : l.sum ≡ sum_by (λ v. held_by v l.kind) (take l.account-index l.accounts);
+  bound : l.sum ≤ 1_000_000_000_000_000 * l.account-index;
+}

@@ -1,0 +1,23 @@
+-- Executing the instructions one after another.
+use Rattle.std.specs.Prelude.{ℕ, ◌+◌, Bool, ◌==◌, List, [], ◌∷◌}
+use Rattle.std.specs.List.{list_any}
+use Rattle.reg_base.specs.declared.instruction.Instruction.{Instruction}
+use Rattle.reg_base.specs.Directory.{DirectoryValue}
+use Rattle.reg_base.specs.Footprint.{footprint}
+use Rattle.reg_rules.specs.declared.reply.LogRow.{LogRow}
+use Rattle.reg_rules.specs.State.{State, Setting}
+use Rattle.reg_rules.specs.Step.{step, row_of}
+
+-- the state after these instructions, of which the first has this record number
+abbrev pub state_after : Setting → State → ℕ → List Instruction → State
+state_after c s number [] = s
+state_after c s number (i ∷ is) = state_after c (step c s number i).0 (number + 1) is
+
+-- the records of these instructions, in order
+abbrev pub rows_of : Setting → State → ℕ → List Instruction → List LogRow
+rows_of c s number [] = []
+rows_of c s number (i ∷ is) = row_of c number i (step c s number i).1 ∷ rows_of c (step c s number i).0 (number + 1) is
+
+-- some instruction touches the account
+abbrev pub is_touched : DirectoryValue → List Instruction → ℕ → Bool
+is_touched directory is a = list_any (λ i. list_any (λ b. b == a) (footprint directory i.act)) is

@@ -1,0 +1,3 @@
+pub mod Book
+pub mod Fold
+pub mod Settled

@@ -1,0 +1,167 @@
+//! A book of accounts.
+
+ghost use Rattle.std.specs.Prelude.{◌≡◌, ◌≢◌, ◌+◌, ◌≤◌, [], ◌∷◌, length, sum_by, MatchResult};
+ghost use Rattle.std.specs.Option.{option_copied};
+ghost use Rattle.reg_base.specs.declared.limits.TheConstants.{MOST_ACCOUNTS};
+ghost use Rattle.reg_base.specs.Rising.{IsRising};
+ghost use Rattle.reg_account.specs.Account.{held_by};
+ghost use Rattle.reg_rules.specs.State.{account, numbers};
+ghost use Rattle.reg_book.specs.Book.{overlay};
+
+use crate::settled::{Log, Settled, Stale};
+use reg_account::Account;
+use reg_base::{AccountNo, AllowanceKind, Directory};
+use std::marker::Model;
+
+/// The sums over all accounts of what they hold, have surrendered and have deleted of one kind, in allowances.
+#[derive(Clone, Copy, Debug, PartialEq, Eq)]
+pub struct Totals {
+    /// Held.
+    pub held: u128,
+    /// Surrendered and not reversed.
+    pub surrendered: u128,
+    /// Deleted and not reversed.
+    pub deleted: u128,
+}
+
+/// The accounts of a registry in the order of their numbers, and the next record number. A clause sees it as
+/// plain data.
+#[derive(Debug, Drop)]
+pub struct Book {
+    accounts: Vec<Account>,
+    directory: Directory,
+    next: u64,
+}
+
+impl Model for Book {
+    ghost use Rattle.reg_book.specs.Book.{BookValue, IsKept};
+
+    ghost Value = { BookValue };
+
+    ghost view = { λ b. record { accounts = b.accounts.items; next = b.next } };
+
+    ghost invariant = { λ b. IsKept b.accounts.items b.directory b.next };
+}
+
+impl Book {
+    ghost use Rattle.reg_book.specs.Book.{directory_of, IsBook, IsKept, total_held};
+    ghost use Rattle.reg_book.specs.Settled.{IsOfBook, committed};
+
+    /// The book of these accounts, which stand in the order of their numbers and in the directory.
+    pub(crate) fn from_sorted(accounts: Vec<Account>, directory: Directory, next: u64) -> Self
+        requires { IsKept accounts.items directory next }
+        ensures { result ≡ record { accounts = accounts.items; next = next } }
+    {
+        Book {
+            accounts,
+            directory,
+            next,
+        }
+    }
+
+    /// The account of this number.
+    pub fn get(&self, number: AccountNo) -> Option<&Account>
+        ensures { option_copied result ≡ account self.now.accounts number }
+    {
+        get_account(&self.accounts, number)
+    }
+
+    /// The accounts, by rising number.
+    pub fn accounts(&self) -> &[Account]
+        ensures value { result.now ≡ self.now.accounts }
+        ensures kept { IsBook self.now }
+    {
+        self.accounts.as_slice()
+    }
+
+    /// The kinds and holders of the accounts.
+    pub fn directory(&self) -> &Directory
+        ensures { result.now ≡ directory_of self.now.accounts }
+    {
+        &self.directory
+    }
+
+    /// The number of the next record, 1 to 10^15 + 1.
+    pub fn next_record(&self) -> u64
+        ensures value { result ≡ self.now.next }
+        ensures kept { IsBook self.now }
+    {
+        self.next
+    }
+
+    /// The sums over all accounts for one kind. Takes no memory.
+    pub fn totals(&self, kind: AllowanceKind) -> Totals
+        ensures { result ≡ record { held = total_held self.now kind; surrendered = 0; deleted = 0 } }
+    {
+        Totals {
+            held: sum_held(&self.accounts, kind),
+            surrendered: 0,
+            deleted: 0,
+        }
+    }
+
+    /// Puts the settled accounts into the book, leaves all others, and counts the records on. Takes no memory.
+    /// Answers the log of the day.
+    ///
+    /// # Errors
+    /// The settled day as it was, with the book's next record number, where the day does not begin with that
+    /// number; the book is unchanged.
+    pub fn commit(&mut self, settled: Settled) -> Result<Log, (Settled, Stale)>
+        requires { settled.base + 1 ≡ self.old.next → IsOfBook self.old settled }
+        ensures { MatchResult result
+            (λ log. (settled.base + 1 ≡ self.old.next) × (self.new ≡ committed self.old settled) × (log ≡ settled.rows))
+            (λ e. (settled.base + 1 ≢ self.old.next) × (self.new ≡ self.old) × (e.0 ≡ settled) × (e.1.next ≡ self.old.next)) }
+    {
+        let next = self.next;
+        if settled.base() + 1 != next {
+            return Err((settled, Stale { next }));
+        }
+        let (base, rows, accounts) = settled.into_parts();
+        self.next = base + rows.len() as u64 + 1;
+        replace_accounts(&mut self.accounts, accounts);
+
+        Ok(Log::new(rows))
+    }
+}
+
+// Puts each account in the place of the one with its number.
+fn replace_accounts(accounts: &mut Vec<Account>, mut settled: Vec<Account>)
+    requires rising { IsRising (numbers accounts.old.items) }
+    ensures { accounts.new.items ≡ overlay accounts.old.items settled.items }
+{
+    while let Some(account) = settled.pop() {
+        replace_account(accounts, account);
+    }
+}
+
+// Puts the account in the place of the one with its number, if there is one.
+fn replace_account(accounts: &mut Vec<Account>, account: Account)
+    requires { IsRising (numbers accounts.old.items) }
+    ensures { accounts.new.items ≡ overlay accounts.old.items (account ∷ []) }
+{
+    if let Ok(place) = accounts.binary_search_by_key(&account.number(), |other| other.number()) {
+        accounts[place] = account;
+    }
+}
+
+// A book finds its accounts by their order.
+pub(crate) fn get_account(accounts: &[Account], number: AccountNo) -> Option<&Account>
+    requires { IsRising (numbers accounts.now) }
+    ensures { option_copied result ≡ account accounts.now number }
+{
+    match accounts.binary_search_by_key(&number, |account| account.number()) {
+        Ok(place) => Some(&accounts[place]),
+        Err(_) => None,
+    }
+}
+
+fn sum_held(accounts: &[Account], kind: AllowanceKind) -> u128
+    requires { length accounts.now ≤ MOST_ACCOUNTS }
+    ensures { result ≡ sum_by (λ v. held_by v kind) accounts.now }
+{
+    let mut sum = 0;
+    for account in accounts {
+        sum += u128::from(account.held(kind));
+    }
+    sum
+}

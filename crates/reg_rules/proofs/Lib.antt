@@ -1,0 +1,9 @@
+pub mod Changes
+pub mod Footprints
+pub mod Numbers
+pub mod Passed
+pub mod Acts
+pub mod Steps
+pub mod Locality
+pub mod Moves
+pub mod Limits

@@ -1,0 +1,5 @@
+pub mod State
+pub mod Checks
+pub mod Effect
+pub mod Step
+pub mod Laws

@@ -1,0 +1,36 @@
+-- A state is the list of its accounts' values. What the rules read of it are maps from account numbers.
+use Rattle.std.specs.Prelude.{ℕ, Bool, false, ◌==◌, List, map, find, Option, if◌then◌else◌}
+use Rattle.std.specs.Option.{option_map_or}
+use Rattle.reg_base.specs.declared.kinds.AllowanceKind.{AllowanceKind}
+use Rattle.reg_base.specs.Rules.{RulesValue}
+use Rattle.reg_base.specs.Directory.{DirectoryValue}
+use Rattle.reg_account.specs.Account.{AccountValue, held_by}
+
+abbrev pub State : Type 0
+State = List AccountValue
+
+-- what stays the same while a day is settled
+pub record Setting : Type 0 where
+  pub rules : RulesValue
+  pub day : ℕ
+  pub directory : DirectoryValue
+
+-- the numbers of a state's accounts, in its order
+abbrev pub numbers : State → List ℕ
+numbers s = map (λ v. v.number) s
+
+-- the account of this number
+abbrev pub account : State → ℕ → Option AccountValue
+account s a = find (λ v. v.number == a) s
+
+-- whether the account is there and passes the test
+abbrev pub account_passes : (AccountValue → Bool) → State → ℕ → Bool
+account_passes test s a = option_map_or test (account s a) false
+
+-- how many allowances of a kind the account holds, 0 where it is not there
+abbrev pub held : State → ℕ → AllowanceKind → ℕ
+held s a kind = option_map_or (λ v. held_by v kind) (account s a) 0
+
+-- the state in which the account of this number is changed so
+abbrev pub change : State → ℕ → (AccountValue → AccountValue) → State
+change s a f = map (λ v. if v.number == a then f v else v) s

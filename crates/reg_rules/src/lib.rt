@@ -1,0 +1,18 @@
+//! The rules of the registry: which instructions are refused and why, what an accepted one does, and the
+//! record that the log keeps of it.
+#![tactic(auto)]
+
+mod checks;
+mod laws;
+mod reply;
+mod settle;
+
+pub use checks::decide;
+pub use laws::{
+    limits_stay, others_stay, refused_changes_nothing, same_state, step_is_local, transfer_moves,
+};
+pub use reply::{Closing, HeldNow, LogRow, Reply};
+pub use settle::{execute, log_row};
+
+#[cfg(test)]
+mod tests;
