@@ -1,4 +1,11 @@
 pub mod Accounts
+pub mod Commits
+pub mod Days
 pub mod Directories
+pub mod Folds
+pub mod Lookups
+pub mod Marks
 pub mod Orders
 pub mod Overlays
+pub mod Turns
+pub mod Values

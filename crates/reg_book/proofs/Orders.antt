@@ -1,5 +1,5 @@
 -- Whether numbers rise, and what sorting makes of them.
-use Rattle.std.proofs.Common.{◌≡◌, ◌≢◌, ℕ, suc, ◌+◌, ◌-◌, ◌<◌, ◌≤◌, Bool, true, false, eqb, List, [], ◌∷◌, length, get_or, map, refl, sym, ap, ◌∙◌, arith, ⊎_elim, tests, is_le, nat_cmp}
+use Rattle.std.proofs.Common.{◌≡◌, ℕ, ◌+◌, ◌-◌, ◌<◌, ◌≤◌, true, false, eqb, [], ◌∷◌, length, get_or, sym, ap, ◌∙◌, arith, ⊎_elim, tests, is_le, nat_cmp}
 use Rattle.std.specs.Prelude.{IsPermutation}
 use Rattle.std.specs.List.{IsDistinct}
 use Rattle.std.specs.List.Sorted.{IsSortedByKey, IsNonDecreasing}
@@ -11,7 +11,7 @@ use Rattle.reg_base.specs.Rising.{IsRising}
 use Rattle.reg_base.specs.Directory.{DirectoryValue}
 use Rattle.reg_account.specs.Account.{AccountValue}
 use Rattle.reg_rules.specs.State.{State, numbers}
-use Rattle.reg_book.specs.Book.{directory_of, IsKept, IsDraft}
+use Rattle.reg_book.specs.Book.{IsKept, IsDraft}
 use Rattle.reg_book.proofs.Directories.{eqb-sym, length-numbers, number_at, directory_of-permutation}
 
 pub le_of : (x y : ℕ) → is_le (nat_cmp x y) ≡ true → x ≤ y

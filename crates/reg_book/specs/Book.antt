@@ -1,7 +1,6 @@
 -- A book: the accounts of a registry in the order of their numbers, and the next record number.
-use Rattle.std.specs.Prelude.{◌≡◌, ◌≢◌, ℕ, ◌+◌, ◌<◌, ◌≤◌, List, [], ◌∷◌, ◌++◌, map, length, Contains, sum_by, nat_eq, IsPermutation, unwrap_or}
+use Rattle.std.specs.Prelude.{◌≡◌, ℕ, ◌+◌, ◌<◌, ◌≤◌, List, [], ◌∷◌, ◌++◌, map, length, Contains, sum_by, nat_eq, IsPermutation, unwrap_or}
 use Rattle.std.specs.List.{IsDistinct}
-use Rattle.std.specs.Ordering.{nat_cmp}
 use Rattle.std.specs.FinMap as fin
 use Rattle.reg_base.specs.declared.limits.TheConstants.{MOST_ACCOUNTS, MOST_RECORD}
 use Rattle.reg_base.specs.declared.kinds.AllowanceKind.{AllowanceKind}

@@ -1,5 +1,5 @@
 -- A settled day: its log, and the accounts that it touched after it.
-use Rattle.std.specs.Prelude.{◌≡◌, ◌≢◌, ℕ, ◌+◌, ◌≤◌, List, map, filter, length, unwrap_or, IsSomeAnd}
+use Rattle.std.specs.Prelude.{◌≡◌, ℕ, ◌+◌, ◌≤◌, List, filter, length, IsSomeAnd}
 use Rattle.std.specs.List.{AllByRecursion}
 use Rattle.reg_base.specs.declared.limits.TheConstants.{MOST_RECORD}
 use Rattle.reg_base.specs.Rising.{IsRising}

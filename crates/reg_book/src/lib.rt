@@ -3,11 +3,20 @@
 
 mod book;
 mod draft;
+mod laws;
+mod places;
+mod settle;
 mod settled;
+mod touched;
+mod turn;
 
 pub use book::{Book, Totals};
 pub use draft::{BookDraft, BookFault};
+pub use laws::{committed_is_closing, fold_keeps_limits, untouched_stay, value_is_last_touchers};
+pub use settle::{SettleFault, settle_plain};
 pub use settled::{Log, Settled, Stale};
 
 #[cfg(test)]
 mod tests;
+#[cfg(test)]
+mod tests_settle;

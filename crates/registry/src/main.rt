@@ -1,7 +1,84 @@
-//! Settles one day of an emission allowance registry: reads a day text and writes its report.
+//! Settles one day of an emission allowance registry: reads a day text from standard input, and writes to
+//! standard output what became of its instructions. A fault is one line on standard error.
 #![tactic(auto)]
 
-fn main(rt: HostRuntime) -> std::process::ExitCode {
-    let _ = eprintln!(rt; "row 1: end");
-    std::process::ExitCode::from(3)
+ghost use Rattle.std.specs.Prelude.{◌≡◌};
+ghost use Rattle.registry.specs.Statuses.{status_of};
+
+use reg_front::{Command, FrontFault, run};
+use std::alloc::{AllocError, Global};
+use std::convert::AsStr;
+use std::io::{Read, Write};
+use std::process::ExitCode;
+use std::rt::Env;
+use std::{env, io};
+
+// How many workers settle the day, unless the words say otherwise.
+const WORKERS: u32 = 4;
+
+/// Does what the words after the program's name ask for: settles the day text that the reader gives, and
+/// writes its report to the writer. The words are not looked at yet.
+///
+/// Answers the status with which the program ends: 0, or that of the fault, which is told as one line to
+/// `faults`. Where that line can't be written, the status is the same.
+pub fn serve<S: AsStr, R: Read, W: Write, F: Write>(
+    alloc: Global,
+    _words: &[S],
+    reader: &mut R,
+    writer: &mut W,
+    faults: &mut F,
+) -> u8 {
+    match run(alloc, reader, writer, Command::Settle { workers: WORKERS }) {
+        Ok(()) => 0,
+        Err(fault) => tell(fault, faults),
+    }
 }
+
+// Writes the line of a fault and answers its status.
+fn tell<F: Write>(fault: FrontFault, faults: &mut F) -> u8
+    ensures { result ≡ status_of fault }
+{
+    let _ = writeln!(faults, "{fault}");
+    status(fault)
+}
+
+// The status with which the program ends after a fault.
+fn status(fault: FrontFault) -> u8
+    ensures { result ≡ status_of fault }
+{
+    match fault {
+        FrontFault::Workers => 2,
+        FrontFault::Row { .. } => 3,
+        FrontFault::NoMemory => 4,
+        FrontFault::Read | FrontFault::WriteFailed => 5,
+    }
+}
+
+// The words after the program's name. Those that are no text in UTF-8 stand for no words at all.
+fn words<R: Env + AllocGlobal>(rt: &R) -> Result<Vec<String>, AllocError> {
+    match env::args(rt) {
+        Ok(args) => args.skip(1).collect(rt.alloc()),
+        Err(fault) => match fault.kind() {
+            io::ErrorKind::OutOfMemory => Err(AllocError),
+            _ => Ok(Vec::new(rt.alloc())),
+        },
+    }
+}
+
+fn main(rt: HostRuntime) -> ExitCode {
+    let mut faults = rt.stderr();
+    let status = match words(&rt) {
+        Ok(words) => serve(
+            rt.alloc(),
+            words.as_slice(),
+            &mut rt.stdin(),
+            &mut rt.stdout(),
+            &mut faults,
+        ),
+        Err(AllocError) => tell(FrontFault::NoMemory, &mut faults),
+    };
+    ExitCode::from(status)
+}
+
+#[cfg(test)]
+mod tests;

@@ -1,4 +1,4 @@
-use Rattle.std.proofs.Common.{◌≡◌, ◌*◌, ◌≤◌, length, take}
+use Rattle.std.proofs.Common.{◌≡◌, ◌*◌, ◌≤◌, take}
 use Rattle.std.specs.Prelude.{sum_by}
 use Rattle.reg_account.specs.Account.{held_by}
 use Rattle.reg_book.proofs.book.sum_held.Given as goal

@@ -1,0 +1,64 @@
+-- A settled day in its book is the state after its instructions.
+use Rattle.std.proofs.Common.{◌≡◌, ℕ, ◌+◌, Bool, true, false, eqb, List, length, Option, Some, None, refl, sym, ap, subst, ◌∙◌, arith}
+use Rattle.std.specs.Prelude.{option_map, unwrap_or}
+use Rattle.std.specs.List.{IsDistinct}
+use Rattle.reg_base.specs.declared.instruction.Instruction.{Instruction}
+use Rattle.reg_account.specs.Account.{AccountValue}
+use Rattle.reg_rules.specs.State.{State, Setting, account, numbers}
+use Rattle.reg_rules.proofs.Numbers.{account-map, account-number}
+use Rattle.reg_book.specs.Book.{overlay}
+use Rattle.reg_book.specs.Fold.{state_after, rows_of, is_touched}
+use Rattle.reg_book.specs.Laws.{CommittedIsClosing}
+use Rattle.reg_book.specs.Settled.{setting_of}
+use Rattle.reg_book.specs.Touched.{touched_of}
+use Rattle.reg_book.proofs.Days.{touched-account, untouched-account, listing-fold}
+use Rattle.reg_book.proofs.Directories.{listing}
+use Rattle.reg_book.proofs.Folds.{numbers-fold, others-fold, size-rows_of}
+use Rattle.reg_book.proofs.Lookups.{rising-distinct}
+use Rattle.reg_book.proofs.Overlays.{numbers-overlay, placed_number}
+use Rattle.reg_book.proofs.Turns.{same-state}
+
+-- an account that the settled ones lie over is the settled one, or the same where there is none
+laid_over : (later opening other : Option AccountValue) → option_map listing later ≡ option_map listing opening
+    → (other ≡ later) → option_map (unwrap_or other) opening ≡ later
+laid_over None None other same is = refl
+laid_over None (Some v) other same is = absurd cc
+laid_over (Some w) None other same is = absurd cc
+laid_over (Some w) (Some v) other same is = ap (λ (o : Option AccountValue). option_map (unwrap_or o) (Some v)) is
+
+left_alone : (opening other : Option AccountValue) → other ≡ None → option_map (unwrap_or other) opening ≡ opening
+left_alone None other is = refl
+left_alone (Some v) other is = ap (λ (o : Option AccountValue). option_map (unwrap_or o) (Some v)) is
+
+at_number : (others : State) (a : ℕ) (o : Option AccountValue) → ((v : AccountValue) → o ≡ Some v → v.number ≡ a)
+    → option_map (λ v. unwrap_or (account others v.number) v) o ≡ option_map (unwrap_or (account others a)) o
+at_number others a None named = refl
+at_number others a (Some v) named = ap (λ n. option_map (unwrap_or (account others n)) (Some v)) (named v refl)
+
+account-overlay : (s others : State) (a : ℕ) → account (overlay s others) a ≡ option_map (unwrap_or (account others a)) (account s a)
+account-overlay s others a =
+    account-map (λ v. unwrap_or (account others v.number) v) (placed_number others) s a
+    ∙ at_number others a (account s a) (account-number s a)
+
+pub overlay-closing : (c : Setting) (s : State) (n : ℕ) (is : List Instruction) → IsDistinct eqb (numbers s)
+    → overlay s (touched_of c.directory is (state_after c s n is)) ≡ state_after c s n is
+overlay-closing c s n is distinct =
+    same-state (overlay s (touched_of c.directory is (state_after c s n is))) (state_after c s n is)
+    (subst (IsDistinct eqb) (sym (numbers-fold c s n is)) distinct)
+    (numbers-overlay s (touched_of c.directory is (state_after c s n is)) ∙ sym (numbers-fold c s n is))
+    (λ a. account-overlay s (touched_of c.directory is (state_after c s n is)) a ∙ at a (is_touched c.directory is a) refl)
+  where
+    at : (a : ℕ) (b : Bool) → is_touched c.directory is a ≡ b
+        → option_map (unwrap_or (account (touched_of c.directory is (state_after c s n is)) a)) (account s a) ≡ account (state_after c s n is) a
+    at a true touched =
+        laid_over (account (state_after c s n is) a) (account s a) (account (touched_of c.directory is (state_after c s n is)) a)
+        (listing-fold c s n is a) (touched-account c.directory is (state_after c s n is) a touched)
+    at a false untouched =
+        left_alone (account s a) (account (touched_of c.directory is (state_after c s n is)) a) (untouched-account c.directory is (state_after c s n is) a untouched)
+        ∙ sym (others-fold c s n is a untouched)
+
+pub committed-closing : CommittedIsClosing
+committed-closing book rules batch kept begins =
+    let size = size-rows_of (setting_of book rules batch) book.accounts (batch.base + 1) batch.instructions in
+    let counted : batch.base + length (rows_of (setting_of book rules batch) book.accounts (batch.base + 1) batch.instructions) + 1 ≡ book.next + length batch.instructions = omega (arith, size, begins) in
+    λ i. record { accounts = overlay-closing (setting_of book rules batch) book.accounts (batch.base + 1) batch.instructions (rising-distinct book.accounts kept.rising) i; next = counted i }

@@ -1,0 +1,26 @@
+//! What is true of instructions one after another. Each law is the contract of a function that does nothing;
+//! whoever needs a law calls its function.
+
+ghost use Rattle.reg_book.specs.Laws.{FoldKeepsNumbers, UntouchedStay, ValueIsLastTouchers, LastToucherIsLast, FoldKeepsLimits, CommittedIsClosing};
+
+/// No account comes, goes or moves, and one that no instruction touches stays as it is.
+pub fn untouched_stay()
+    ensures accounts { UntouchedStay }
+    ensures numbers { FoldKeepsNumbers }
+{}
+
+/// An account is as the last instruction that touched it left it.
+pub fn value_is_last_touchers()
+    ensures value { ValueIsLastTouchers }
+    ensures last { LastToucherIsLast }
+{}
+
+/// Accounts within their limits stay within them.
+pub fn fold_keeps_limits()
+    ensures { FoldKeepsLimits }
+{}
+
+/// A settled day that is put into its book leaves what its instructions leave one after another.
+pub fn committed_is_closing()
+    ensures { CommittedIsClosing }
+{}

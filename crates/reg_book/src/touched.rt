@@ -1,0 +1,92 @@
+//! The accounts that a batch touches.
+
+ghost use Rattle.std.specs.Prelude.{◌≡◌, [], IfOk, length};
+ghost use Rattle.reg_base.specs.Rising.{IsRising};
+ghost use Rattle.reg_rules.specs.State.{numbers};
+ghost use Rattle.reg_book.specs.Touched.{touched_of, touched_marks, marked, picked};
+
+use crate::places::place_of;
+use reg_account::Account;
+use reg_base::{AccountNo, Directory, Instruction, NoMemory};
+use std::alloc::Global;
+
+/// Copies of the accounts that some instruction touches, in their order. Each is copied once, however many
+/// instructions touch it.
+///
+/// # Errors
+/// `NoMemory` where a growth was refused.
+pub(crate) fn copy_touched(
+    alloc: Global,
+    accounts: &[Account],
+    directory: &Directory,
+    instructions: &[Instruction],
+) -> Result<Vec<Account>, NoMemory>
+    requires { IsRising (numbers accounts.now) }
+    ensures { IfOk result (λ copies. copies.items ≡ touched_of directory.now instructions.now accounts.now) }
+{
+    let marks = mark_touched(alloc, accounts, directory, instructions)?;
+    copy_marked(alloc, accounts, &marks)
+}
+
+// A mark for each account that some instruction touches.
+fn mark_touched(
+    alloc: Global,
+    accounts: &[Account],
+    directory: &Directory,
+    instructions: &[Instruction],
+) -> Result<Vec<bool>, NoMemory>
+    requires { IsRising (numbers accounts.now) }
+    ensures { IfOk result (λ marks. marks.items ≡ touched_marks directory.now instructions.now accounts.now) }
+{
+    let mut marks = vec![in alloc; false; accounts.len()]?;
+    mark_all(&mut marks, accounts, directory, instructions);
+    Ok(marks)
+}
+
+// Marks each account that some instruction touches.
+fn mark_all(
+    marks: &mut [bool],
+    accounts: &[Account],
+    directory: &Directory,
+    instructions: &[Instruction],
+)
+    requires rising { IsRising (numbers accounts.now) }
+    requires none { marks.old ≡ touched_marks directory.now [] accounts.now }
+    ensures { marks.new ≡ touched_marks directory.now instructions.now accounts.now }
+{
+    for instruction in instructions {
+        mark(marks, accounts, instruction.touches(directory).as_slice());
+    }
+}
+
+// Marks the accounts of these numbers.
+fn mark(marks: &mut [bool], accounts: &[Account], wanted: &[AccountNo])
+    requires rising { IsRising (numbers accounts.now) }
+    requires size { length marks.old ≡ length accounts.now }
+    ensures { marks.new ≡ marked marks.old accounts.now wanted.now }
+{
+    for number in wanted {
+        if let Some(place) = place_of(accounts, *number) {
+            marks[place] = true;
+        }
+    }
+}
+
+// Copies of the marked accounts, in their order.
+fn copy_marked(
+    alloc: Global,
+    accounts: &[Account],
+    marks: &[bool],
+) -> Result<Vec<Account>, NoMemory>
+    requires { length marks.now ≡ length accounts.now }
+    ensures { IfOk result (λ copies. copies.items ≡ picked marks.now accounts.now) }
+{
+    let count = marks.iter().filter(|mark| **mark).count();
+    let mut copies = Vec::with_capacity(alloc, count)?;
+    for (place, account) in accounts.iter().enumerate() {
+        if marks[place] {
+            copies.push(account.copy(alloc)?)?;
+        }
+    }
+    Ok(copies)
+}

@@ -1,0 +1,10 @@
+-- What the reader has lost is the text so far, which is within the limit.
+use Rattle.std.proofs.Common.{◌≤◌, ◌^◌, vec_len}
+use Rattle.std.specs.Io.KnownBytes.{Consumes}
+use Rattle.reg_front.proofs.device.read_all.Given as goal
+
+abbrev pub invariant-loop : goal.invariant-loop
+invariant-loop g l = record {
+  lost : Consumes (g.R.Read.remaining l.initial.reader) (g.R.Read.remaining l.reader) l.text.items;
+  limit : vec_len l.text ≤ 2 ^ 30;
+}

@@ -1,0 +1,66 @@
+-- What a command gives of an input: the text that it writes, or the fault that it answers.
+use Rattle.std.specs.Prelude.{◌≡◌, ℕ, ◌≤◌, List, Option, Err, ⊤, IfSome}
+use Rattle.std.specs.Io.KnownBytes.{Keeps, Appends}
+use Rattle.reg_book.specs.Settled.{settled_day}
+use Rattle.reg_text.specs.Day.{DayValue}
+use Rattle.reg_text.specs.Rows.{rows_of}
+use Rattle.reg_text.specs.Faults.{day_of_rows}
+use Rattle.reg_text.specs.Reading.{IsReading}
+use Rattle.reg_text.specs.Report.{text_of, log_rows}
+use Rattle.reg_front.specs.declared.command.Command.{Command}
+use Rattle.reg_front.specs.declared.command.Command.TheVariants.{Settle}
+use Rattle.reg_front.specs.declared.fault.FrontFault.{FrontFault}
+use Rattle.reg_front.specs.declared.fault.FrontFault.TheVariants.{Row, Read, Workers, NoMemory, WriteFailed}
+use Rattle.reg_front.specs.Devices.{AppendsFrontOf}
+
+-- so many workers may settle a day
+abbrev pub AreWorkers : ℕ → Type 0
+AreWorkers workers = (1 ≤ workers) × (workers ≤ 8)
+
+-- the command may be carried out
+abbrev pub IsAllowed : Command → Type 0
+IsAllowed (Settle workers) = AreWorkers workers
+
+-- what the command writes of a day
+abbrev pub report_of : Command → DayValue → List ℕ
+report_of (Settle workers) day = text_of (log_rows (settled_day day.book day.rules day.batch).rows)
+
+-- the input is the text of a day, and this is what the command writes of it
+abbrev pub IsReport : Command → List ℕ → List ℕ → Type 0
+IsReport command input report = (day : DayValue) × IsReading (rows_of input) day × IsAllowed command × (report ≡ report_of command day)
+
+-- the fault is what the command answers of the input; want of memory and a failed reader may come at any input
+abbrev pub IsFault : Command → List ℕ → FrontFault → Type 0
+IsFault command input (Row row cause) = day_of_rows (rows_of input) ≡ Err (row, cause)
+IsFault command input Workers = (day : DayValue) × IsReading (rows_of input) day × ¬ IsAllowed command
+IsFault command input WriteFailed = (report : List ℕ) × IsReport command input report
+IsFault command input Read = ⊤
+IsFault command input NoMemory = ⊤
+
+-- the command has written its report of the input, where that is known
+abbrev pub WritesReport : Command → Option (List ℕ) → Option (List ℕ) → Option (List ℕ) → Type 0
+WritesReport command input old new = IfSome input (λ text. (report : List ℕ) × IsReport command text report × Appends old new report)
+
+-- what a fault leaves of the writer: a failed writer may have taken a front of the report, any other fault finds it as it was
+abbrev pub Leaves : Command → Option (List ℕ) → FrontFault → Option (List ℕ) → Option (List ℕ) → Type 0
+Leaves command input (Row row cause) old new = Keeps old new
+Leaves command input Workers old new = Keeps old new
+Leaves command input WriteFailed old new = IfSome input (λ text. (report : List ℕ) × IsReport command text report × AppendsFrontOf report old new)
+Leaves command input Read old new = Keeps old new
+Leaves command input NoMemory old new = Keeps old new
+
+-- why the input gives no day
+abbrev pub IsReadingFault : Option (List ℕ) → FrontFault → Type 0
+IsReadingFault input (Row row cause) = IfSome input (λ text. day_of_rows (rows_of text) ≡ Err (row, cause))
+IsReadingFault input Workers = ⊥
+IsReadingFault input WriteFailed = ⊥
+IsReadingFault input Read = ⊤
+IsReadingFault input NoMemory = ⊤
+
+-- why a day that was read is not settled
+abbrev pub IsSettlingFault : ℕ → FrontFault → Type 0
+IsSettlingFault workers (Row row cause) = ⊥
+IsSettlingFault workers Workers = ¬ AreWorkers workers
+IsSettlingFault workers WriteFailed = ⊥
+IsSettlingFault workers Read = ⊥
+IsSettlingFault workers NoMemory = ⊤

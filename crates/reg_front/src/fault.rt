@@ -1,0 +1,66 @@
+//! Why a day was not settled.
+
+ghost use Rattle.std.specs.Prelude.{◌≡◌};
+ghost use Rattle.reg_front.specs.declared.fault.FrontFault.TheVariants.{NoMemory};
+ghost use Rattle.reg_front.specs.Faults.{fault_of_read, fault_of_day};
+
+use crate::device::ReadFault;
+use reg_base::NoMemory;
+use reg_text::{Cause, DayFault};
+use thiserror::Error;
+
+/// Why [`run`](crate::run) gave no report. Its text is the line by which the fault is told.
+#[derive(Clone, Copy, Debug, PartialEq, Eq, Error)]
+pub enum FrontFault {
+    /// The input is no day text.
+    #[error("row {row}: {cause}")]
+    Row {
+        /// The number of the first faulty row, counted from 1 over the records of the text; one more than
+        /// there are records where the text ends too early.
+        row: u64,
+        /// The first cause that applies to it.
+        cause: Cause,
+    },
+    /// The reader failed, or the input has more than 2^30 bytes or needs more than 2^32 calls of `read`.
+    #[error("read failed")]
+    Read,
+    /// The number of workers is not 1 to 8.
+    #[error("workers must be 1 to 8")]
+    Workers,
+    /// Memory was refused.
+    #[error("out of memory")]
+    NoMemory,
+    /// The writer failed; it may have taken a front of the report.
+    #[error("write failed")]
+    WriteFailed,
+}
+
+impl From<ReadFault> for FrontFault {
+    ghost from_gives = { λ e fault. fault ≡ fault_of_read e };
+
+    fn from(fault: ReadFault) -> FrontFault {
+        match fault {
+            ReadFault::Read => FrontFault::Read,
+            ReadFault::NoMemory => FrontFault::NoMemory,
+        }
+    }
+}
+
+impl From<DayFault> for FrontFault {
+    ghost from_gives = { λ e fault. fault ≡ fault_of_day e };
+
+    fn from(fault: DayFault) -> FrontFault {
+        match fault {
+            DayFault::Row { row, cause } => FrontFault::Row { row, cause },
+            DayFault::NoMemory => FrontFault::NoMemory,
+        }
+    }
+}
+
+impl From<NoMemory> for FrontFault {
+    ghost from_gives = { λ _ fault. fault ≡ NoMemory };
+
+    fn from(_refused: NoMemory) -> FrontFault {
+        FrontFault::NoMemory
+    }
+}

@@ -1,0 +1,84 @@
+//! What a command answers and writes, over memory.
+
+use crate::{Command, FrontFault, run};
+use reg_text::Cause;
+use std::alloc::Global;
+use std::test::Fail;
+
+const DAY: &str = "\
+format,1
+day,2025-03-31,1
+period,2021,2030
+lags,0,1,1,2
+work,2025-03-31
+account,1,operator,11,open,no,no,0,100,0
+account,2,trading,12,open,no,no,0,0,0
+do,2025-03-31,101,102,transfer,1,2,general,40
+do,2025-03-31,101,102,transfer,1,2,general,70
+end
+";
+
+const REPORT: &str = "\
+log,1,2025-03-31,2025-03-31,101,102,transfer,1,2,general,40,done,,1,60,0,2,40,0
+log,2,2025-03-31,2025-03-31,101,102,transfer,1,2,general,70,refused,18,NotEnough
+";
+
+// What settling the text with so many workers answers, and what it writes after what was there.
+fn settle(alloc: Global, text: &str, workers: u32) -> (Result<(), FrontFault>, Vec<u8>) {
+    let mut reader = text.as_bytes();
+    let mut written = Vec::new(alloc);
+    let answer = run(
+        alloc,
+        &mut reader,
+        &mut written,
+        Command::Settle { workers },
+    );
+    (answer, written)
+}
+
+#[test]
+fn the_report_is_the_same_for_each_number_of_workers(rt: HostRuntime) {
+    for workers in 1..9 {
+        let (answer, written) = settle(rt.alloc(), DAY, workers);
+        assert_eq!(rt; answer, Ok(()), "{workers} workers");
+        assert_eq!(rt; written.as_slice(), REPORT.as_bytes(), "{workers} workers");
+    }
+}
+
+#[test]
+fn a_faulty_day_comes_before_the_number_of_workers(rt: HostRuntime) {
+    let empty = FrontFault::Row {
+        row: 1,
+        cause: Cause::End,
+    };
+    for (text, workers, fault) in [
+        (DAY, 0, FrontFault::Workers),
+        (DAY, 9, FrontFault::Workers),
+        ("", 4, empty),
+        ("", 9, empty),
+    ] {
+        let (answer, written) = settle(rt.alloc(), text, workers);
+        assert_eq!(rt; answer, Err(fault), "{workers} workers");
+        assert_eq!(rt; written.as_slice(), b"".as_slice(), "{workers} workers");
+    }
+}
+
+#[test]
+fn each_fault_has_its_line(rt: HostRuntime) -> Result<(), Fail> {
+    for (fault, line) in [
+        (
+            FrontFault::Row {
+                row: 28,
+                cause: Cause::Fields,
+            },
+            "row 28: fields",
+        ),
+        (FrontFault::Read, "read failed"),
+        (FrontFault::Workers, "workers must be 1 to 8"),
+        (FrontFault::NoMemory, "out of memory"),
+        (FrontFault::WriteFailed, "write failed"),
+    ] {
+        assert_eq!(rt; fault.to_string(rt.alloc())?.as_str(), line);
+    }
+    Ok(())
+}

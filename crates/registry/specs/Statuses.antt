@@ -1,0 +1,12 @@
+-- The status with which the program ends after a fault.
+use Rattle.std.specs.Prelude.{ℕ}
+use Rattle.reg_front.specs.declared.fault.FrontFault.{FrontFault}
+use Rattle.reg_front.specs.declared.fault.FrontFault.TheVariants.{Row, Read, Workers, NoMemory, WriteFailed}
+
+-- 2 for what was asked, 3 for what was read, 4 for memory, 5 for a device
+abbrev pub status_of : FrontFault → ℕ
+status_of Workers = 2
+status_of (Row row cause) = 3
+status_of NoMemory = 4
+status_of Read = 5
+status_of WriteFailed = 5
