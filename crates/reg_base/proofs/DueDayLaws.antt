@@ -1,7 +1,7 @@
 -- The due day is the only working day that is due, and stands at its place among the later working days.
 use Rattle.std.proofs.Common.{◌≡◌, ℕ, zero, suc, ◌+◌, ◌<◌, ◌≤◌, Bool, true, false, cond, ◌&&◌, leb, ltb, eqb, List, [], ◌∷◌, length, get_or, refl, ap, ◌∙◌, arith, sym, Option, Some, None}
 use Rattle.std.specs.Prelude.{find, filter, slice_get, All, Contains, IsTrue, MatchOption}
-use Rattle.std.proofs.lemmas.Bool.{le-leb, leb-true, leb-false, eqb-true, and_left}
+use Rattle.std.proofs.lemmas.Bool.{le-leb, leb-true, eqb-true, and_left}
 use Rattle.std.proofs.lemmas.Bool.Decides.{nat_tests}
 use Rattle.std.proofs.lemmas.List.Sums.{sum_by-cons}
 use Rattle.std.proofs.lemmas.List.Elements.{All-cons, All-nil, Contains-get_or}

@@ -1,6 +1,6 @@
 -- A footprint has each account once, and only those that the directory has.
-use Rattle.std.proofs.Common.{◌≡◌, ℕ, ◌≤◌, Bool, true, false, cond, ◌&&◌, eqb, List, [], ◌∷◌, length, refl, sym, arith}
-use Rattle.std.specs.Prelude.{IsTrue, All, filter, not}
+use Rattle.std.proofs.Common.{◌≡◌, ℕ, ◌≤◌, Bool, true, false, ◌&&◌, eqb, List, [], ◌∷◌, length, refl, sym, arith}
+use Rattle.std.specs.Prelude.{filter, not}
 use Rattle.std.specs.List.{IsDistinct, AllByRecursion, list_all}
 use Rattle.std.proofs.lemmas.Bool.{cond_both, eqb-false, ne_eqb, not-true}
 use Rattle.std.proofs.lemmas.List.Elements.{All-from_recursion}

@@ -1,12 +1,12 @@
 -- What a command gives of an input: the text that it writes, or the fault that it answers.
 use Rattle.std.specs.Prelude.{◌≡◌, ℕ, ◌≤◌, List, Option, Err, ⊤, IfSome}
 use Rattle.std.specs.Io.KnownBytes.{Keeps, Appends}
-use Rattle.reg_book.specs.Settled.{settled_day}
+use Rattle.reg_book.specs.Settled.{SettledValue, settled_day, committed}
 use Rattle.reg_text.specs.Day.{DayValue}
 use Rattle.reg_text.specs.Rows.{rows_of}
 use Rattle.reg_text.specs.Faults.{day_of_rows}
 use Rattle.reg_text.specs.Reading.{IsReading}
-use Rattle.reg_text.specs.Report.{text_of, log_rows}
+use Rattle.reg_text.specs.Report.{text_of, report_rows}
 use Rattle.reg_front.specs.declared.command.Command.{Command}
 use Rattle.reg_front.specs.declared.command.Command.TheVariants.{Settle}
 use Rattle.reg_front.specs.declared.fault.FrontFault.{FrontFault}
@@ -21,9 +21,13 @@ AreWorkers workers = (1 ≤ workers) × (workers ≤ 8)
 abbrev pub IsAllowed : Command → Type 0
 IsAllowed (Settle workers) = AreWorkers workers
 
+-- the report of a day that was settled so: its log, the book after it, the totals and the closing row
+abbrev pub report_after : DayValue → SettledValue → List ℕ
+report_after day settled = text_of (report_rows (committed day.book settled) settled.rows)
+
 -- what the command writes of a day
 abbrev pub report_of : Command → DayValue → List ℕ
-report_of (Settle workers) day = text_of (log_rows (settled_day day.book day.rules day.batch).rows)
+report_of (Settle workers) day = report_after day (settled_day day.book day.rules day.batch)
 
 -- the input is the text of a day, and this is what the command writes of it
 abbrev pub IsReport : Command → List ℕ → List ℕ → Type 0

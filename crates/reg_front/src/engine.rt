@@ -10,7 +10,7 @@ use crate::command::Command;
 use crate::device::{read_all, write_all};
 use crate::fault::FrontFault;
 use reg_book::{SettleFault, settle_plain};
-use reg_text::{DayInput, read_day, write_log};
+use reg_text::{DayInput, read_day, write_report};
 use std::alloc::Global;
 use std::io::{Read, Write};
 
@@ -65,10 +65,19 @@ fn settle(alloc: Global, day: DayInput, workers: u32) -> Result<Vec<u8>, FrontFa
     if workers < 1 || workers > MOST_WORKERS {
         return Err(FrontFault::Workers);
     }
-    let settled = match settle_plain(alloc, &day.book, &day.rules, &day.batch) {
+    let DayInput {
+        rules,
+        mut book,
+        batch,
+    } = day;
+    let settled = match settle_plain(alloc, &book, &rules, &batch) {
         Ok(settled) => settled,
         Err(SettleFault::NoMemory) => return Err(FrontFault::NoMemory),
         Err(SettleFault::WrongBase { .. }) => unreachable!(),
     };
-    Ok(write_log(alloc, settled.rows())?)
+    let log = match book.commit(settled) {
+        Ok(log) => log,
+        Err(_) => unreachable!(),
+    };
+    Ok(write_report(alloc, &book, log.as_slice())?)
 }

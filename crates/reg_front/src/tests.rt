@@ -5,6 +5,7 @@ use reg_text::Cause;
 use std::alloc::Global;
 use std::test::Fail;
 
+// Two transfers, of which the second finds too little left.
 const DAY: &str = "\
 format,1
 day,2025-03-31,1
@@ -18,9 +19,16 @@ do,2025-03-31,101,102,transfer,1,2,general,70
 end
 ";
 
+// What that day gives.
 const REPORT: &str = "\
 log,1,2025-03-31,2025-03-31,101,102,transfer,1,2,general,40,done,,1,60,0,2,40,0
 log,2,2025-03-31,2025-03-31,101,102,transfer,1,2,general,70,refused,18,NotEnough
+book,3
+account,1,operator,11,open,no,no,0,60,0
+account,2,trading,12,open,no,no,0,40,0
+totals,general,100,0,0
+totals,aviation,0,0,0
+end
 ";
 
 // What settling the text with so many workers answers, and what it writes after what was there.

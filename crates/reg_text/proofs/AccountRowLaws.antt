@@ -1,17 +1,16 @@
 -- A row reads as an account exactly where its fields are the account's.
-use Rattle.std.proofs.Common.{◌≡◌, ◌⊎◌, ℕ, ◌<◌, ◌≤◌, ◌^◌, eqb, List, [], ◌∷◌, length, Ok, Err, refl, sym, ap, subst, ◌∙◌, arith}
+use Rattle.std.proofs.Common.{◌≡◌, ℕ, eqb, List, [], ◌∷◌, length, Ok, refl, subst, ◌∙◌, arith}
 use Rattle.std.proofs.lemmas.Bool.{eqb-true}
 use Rattle.reg_base.specs.declared.limits.TheConstants.{MOST_NUMBER, MOST_HELD}
 use Rattle.reg_account.specs.Account.{AccountValue}
 use Rattle.reg_text.specs.declared.cause.Cause.TheVariants as cause
-use Rattle.reg_text.specs.Causes.{◌>>=◌}
-use Rattle.reg_text.specs.Records.{Record, field, counted}
+use Rattle.reg_text.specs.Records.{Record, field}
 use Rattle.reg_text.specs.Signed.{correction_of}
 use Rattle.reg_text.specs.Limits.{account_no_of, holder_no_of, held_of}
 use Rattle.reg_text.specs.Words.{account_kind_of, status_of, yes_no_of}
 use Rattle.reg_text.specs.Spelling.{account_fields}
 use Rattle.reg_text.specs.RowReaders.{account_of}
-use Rattle.reg_text.specs.Reading.{IsNo, IsAccountRow}
+use Rattle.reg_text.specs.Reading.{IsAccountRow}
 use Rattle.reg_text.proofs.Binds.{bind_ok, if_ok, ok_is}
 use Rattle.reg_text.proofs.ListFacts.{by_items, cons}
 use Rattle.reg_text.proofs.NumberLaws.{bounded-spelled, bounded-again}
@@ -41,12 +40,14 @@ account-spelled r a e =
     let f8 = bounded-spelled 0 MOST_HELD (field r 8) general.0 general.1 in
     let f9 = bounded-spelled 0 MOST_HELD (field r 9) aviation.0 aviation.1 in
     let made : AccountValue = record { number = number.0; kind = kind.0; holder = holder.0; status = status.0; outside = outside.0; waiver = waiver.0; correction = correction.0; held = record { general = general.0; aviation = aviation.0 } } in
-    subst (λ (v : AccountValue). (r ≡ field r 0 ∷ account_fields v) × IsAccountRow v) (ok_is made a aviation.2)
-    (listed ∙ cons refl (cons f1.0 (cons f2 (cons f3.0 (cons f4 (cons f5 (cons f6 (cons f7.0 (cons f8.0 (cons f9.0 refl))))))))), record {
-      number = record { from = f1.1; to = f1.2 };
-      holder = record { from = f3.1; to = f3.2 };
-      account = record { correction = f7.1; holdings = record { general = f8.2; aviation = f9.2 } };
-    })
+    subst (λ (v : AccountValue). (r ≡ field r 0 ∷ account_fields v) × IsAccountRow v) (ok_is made a aviation.2) (
+      listed ∙ cons refl (cons f1.0 (cons f2 (cons f3.0 (cons f4 (cons f5 (cons f6 (cons f7.0 (cons f8.0 (cons f9.0 refl))))))))),
+      record {
+        number = record { from = f1.1; to = f1.2 };
+        holder = record { from = f3.1; to = f3.2 };
+        account = record { correction = f7.1; holdings = record { general = f8.2; aviation = f9.2 } };
+      },
+    )
 
 pub account-again : (first : List ℕ) (a : AccountValue) → IsAccountRow a → account_of (first ∷ account_fields a) ≡ Ok a
 account-again first a h =

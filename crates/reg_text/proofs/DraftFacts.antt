@@ -1,20 +1,14 @@
 -- The rows that a draft stands for, and the day that it says.
-use Rattle.std.proofs.Common.{◌≡◌, ◌⊎◌, inl, inr, ℕ, zero, suc, ◌+◌, ◌-◌, ◌<◌, ◌≤◌, Bool, true, false, ◌&&◌, nat_lt, nat_le, List, [], ◌∷◌, ◌++◌, length, map, Option, Some, None, Result, Ok, Err, refl, sym, ap, subst, ◌∙◌, arith, length-append, append_assoc}
-use Rattle.std.specs.List.{AllByRecursion}
-use Rattle.std.proofs.lemmas.List.{append-nil, map-append}
-use Rattle.reg_base.specs.declared.limits.TheConstants.{MOST_ACCOUNTS, MOST_INSTRUCTIONS, MOST_RECORD}
-use Rattle.reg_base.specs.declared.instruction.Instruction.{Instruction}
-use Rattle.reg_base.specs.Rising.{IsRising}
-use Rattle.reg_account.specs.Account.{AccountValue}
+use Rattle.std.proofs.Common.{◌≡◌, ◌≤◌, List, [], ◌∷◌, ◌++◌, map, Option, Some, None, refl, sym, arith, append_assoc}
+use Rattle.std.proofs.lemmas.List.{append-nil}
 use Rattle.reg_text.specs.declared.reading.tag.Tag.{Tag}
 use Rattle.reg_text.specs.declared.reading.tag.Tag.TheVariants as tag
-use Rattle.reg_text.specs.declared.reading.heading_rows.Lags.{Lags}
 use Rattle.reg_text.specs.Records.{Record}
 use Rattle.reg_text.specs.Drafts.{DraftValue}
 use Rattle.reg_text.specs.Day.{DayValue, day_said}
-use Rattle.reg_text.specs.Spelling.{format_row, day_row, period_row, lags_row, work_row, account_row, do_row, end_row, heading, day_text}
-use Rattle.reg_text.specs.Reading.{IsDayNo, IsYearNo, IsNextNo, IsAccountRow, IsInstructionRow, IsDay}
-use Rattle.reg_text.specs.DraftLimits.{place, AreLags, IsHead, AreDays, AreAccounts, AreDue, IsOrderly, IsDraft}
+use Rattle.reg_text.specs.Spelling.{format_row, day_row, period_row, work_row, account_row, do_row, end_row, heading}
+use Rattle.reg_text.specs.Reading.{IsDay}
+use Rattle.reg_text.specs.DraftLimits.{place, IsDraft}
 
 -- a finished draft says a day within the limits
 pub says_a_day : (d : DraftValue) → IsDraft d → IsDay (day_said d)

@@ -1,26 +1,23 @@
 -- A row that is taken: the draft stays within its limits, and stands for one row more.
-use Rattle.std.proofs.Common.{◌≡◌, ◌⊎◌, inl, inr, ℕ, zero, suc, ◌+◌, ◌-◌, ◌<◌, ◌≤◌, Bool, true, false, ◌&&◌, nat_lt, nat_le, cond, eqb, List, [], ◌∷◌, ◌++◌, length, map, Option, Some, None, Result, Ok, Err, refl, sym, ap, subst, ◌∙◌, arith, length-append, append_assoc}
-use Rattle.std.specs.Prelude.{codes}
+use Rattle.std.proofs.Common.{◌≡◌, ℕ, ◌+◌, ◌<◌, ◌≤◌, true, nat_lt, nat_le, eqb, List, [], ◌∷◌, ◌++◌, length, map, Option, Some, None, Ok, refl, sym, ap, subst, ◌∙◌, arith, length-append}
 use Rattle.std.proofs.lemmas.Bool.{and_parts, ltb-true, leb-true, eqb-true}
 use Rattle.std.proofs.lemmas.List.{append-nil, map-append}
 use Rattle.reg_base.specs.declared.limits.TheConstants.{MOST_ACCOUNTS, MOST_INSTRUCTIONS, MOST_RECORD}
 use Rattle.reg_base.specs.declared.instruction.Instruction.{Instruction}
 use Rattle.reg_account.specs.Account.{AccountValue}
-use Rattle.reg_text.specs.declared.cause.Cause.{Cause}
 use Rattle.reg_text.specs.declared.cause.Cause.TheVariants as cause
 use Rattle.reg_text.specs.declared.reading.tag.Tag.{Tag}
 use Rattle.reg_text.specs.declared.reading.tag.Tag.TheVariants as tag
-use Rattle.reg_text.specs.declared.reading.heading_rows.Lags.{Lags}
 use Rattle.reg_text.specs.Causes.{◌>>=◌, test}
-use Rattle.reg_text.specs.Records.{Record, field, counted}
+use Rattle.reg_text.specs.Records.{Record, field}
 use Rattle.reg_text.specs.Tags.{tag_word, tag_after}
 use Rattle.reg_text.specs.RowReaders.{format_of, day_of, period_of, lags_of, work_of, account_of, instruction_of}
 use Rattle.reg_text.specs.Drafts.{DraftValue}
 use Rattle.reg_text.specs.Day.{DayValue, day_said}
-use Rattle.reg_text.specs.Spelling.{format_row, day_row, day_fields, period_row, period_fields, lags_row, lags_fields, work_row, account_row, account_fields, do_row, instruction_fields, end_row, heading}
+use Rattle.reg_text.specs.Spelling.{format_row, day_row, period_row, lags_row, work_row, account_row, do_row, end_row, heading}
 use Rattle.reg_text.specs.Reading.{IsDayNo, IsAccountRow, IsInstructionRow}
 use Rattle.reg_text.specs.Lasts.{last_of, is_above, number_of_account}
-use Rattle.reg_text.specs.DraftLimits.{place, IsHead, AreDays, AreAccounts, AreDue, IsOrderly, IsDraft}
+use Rattle.reg_text.specs.DraftLimits.{place, AreDue, IsOrderly, IsDraft}
 use Rattle.reg_text.specs.Faults.{has_room_for, with_format, with_day, with_period, with_lags, with_work, with_account, with_instruction, with_end, with_row, is_over, next_draft}
 use Rattle.reg_text.proofs.Binds.{bind_ok, if_ok, unless_ok, test_ok, ok_is}
 use Rattle.reg_text.proofs.ListFacts.{by_items, cons, all-push}
@@ -119,7 +116,11 @@ grows-day d e r h may first eq =
     let due : AreDue read.0.1 d.instructions = subst (AreDue read.0.1) (sym none) (record { all = tt; few = omega arith; numbered = omega (arith, s.2.to) }) in
     let draft : IsDraft made = record {
       head = record { day_fits = s.1; next_fits = s.2; first_fits = h.head.first_fits; last_fits = h.head.last_fits; period = h.head.period; lags_fit = h.head.lags_fit };
-      days = h.days; accounts = h.accounts; due = due; orderly = still-orderly d 2 h (omega arith) } in
+      days = h.days;
+      accounts = h.accounts;
+      due = due;
+      orderly = still-orderly d 2 h (omega arith);
+    } in
     subst (Grows d r) (ok_is made e read.2) (record {
       draft = draft;
       rows = only-head made draft (omega arith) ∙ sym (ap (λ (t : List Record). t ++ r ∷ []) (only-head d h (omega arith) ∙ head-one d.last (day_said d) p.from at) ∙ cons refl (cons row refl));
@@ -135,7 +136,11 @@ grows-period d e r h may first eq =
     let made : DraftValue = record d { last = Some tag.Period; first_year = read.0.0; last_year = read.0.1 } in
     let draft : IsDraft made = record {
       head = record { day_fits = h.head.day_fits; next_fits = h.head.next_fits; first_fits = s.1; last_fits = s.2; period = s.3; lags_fit = h.head.lags_fit };
-      days = h.days; accounts = h.accounts; due = h.due; orderly = still-orderly d 3 h (omega arith) } in
+      days = h.days;
+      accounts = h.accounts;
+      due = h.due;
+      orderly = still-orderly d 3 h (omega arith);
+    } in
     subst (Grows d r) (ok_is made e read.2) (record {
       draft = draft;
       rows = only-head made draft (omega arith) ∙ sym (ap (λ (t : List Record). t ++ r ∷ []) (only-head d h (omega arith) ∙ head-two d.last (day_said d) p.from at) ∙ cons refl (cons refl (cons row refl)));
@@ -151,7 +156,11 @@ grows-lags d e r h may first eq =
     let made : DraftValue = record d { last = Some tag.Lags; lags = read.0 } in
     let draft : IsDraft made = record {
       head = record { day_fits = h.head.day_fits; next_fits = h.head.next_fits; first_fits = h.head.first_fits; last_fits = h.head.last_fits; period = h.head.period; lags_fit = s.1 };
-      days = h.days; accounts = h.accounts; due = h.due; orderly = still-orderly d 4 h (omega arith) } in
+      days = h.days;
+      accounts = h.accounts;
+      due = h.due;
+      orderly = still-orderly d 4 h (omega arith);
+    } in
     subst (Grows d r) (ok_is made e read.2) (record {
       draft = draft;
       rows = only-head made draft (omega arith) ∙ sym (ap (λ (t : List Record). t ++ r ∷ []) (only-head d h (omega arith) ∙ head-three d.last (day_said d) p.from at) ∙ cons refl (cons refl (cons refl (cons row refl))));
@@ -179,8 +188,10 @@ grows-work d e r h may first eq =
     let draft : IsDraft made = record {
       head = h.head;
       days = record { all = all-push IsDayNo d.work day h.days.all s.1; rise = rising-push d.work day h.days.rise order.0 };
-      accounts = h.accounts; due = h.due;
-      orderly = record { no_work = λ lt. absurd (omega arith); no_accounts = λ lt. no_accounts; no_instructions = λ lt. none_due } } in
+      accounts = h.accounts;
+      due = h.due;
+      orderly = record { no_work = λ lt. absurd (omega arith); no_accounts = λ lt. no_accounts; no_instructions = λ lt. none_due };
+    } in
     let rows = work_rows (heading (day_said d)) d.last (day_said d) d.work day d.accounts d.instructions (end_so_far d.last) (head-whole d.last (day_said d) p.from) no_accounts none_due (not-closed d.last (omega arith)) in
     subst (Grows d r) order.1 (record { draft = draft; rows = rows ∙ ap (λ (x : Record). rows_so_far d ++ x ∷ []) (sym row) })
 
@@ -205,10 +216,12 @@ grows-account d e r h may first eq =
     let rise = rising-push (map (λ (x : AccountValue). x.number) d.accounts) a.number h.accounts.rise above in
     let none_due = h.orderly.no_instructions (omega arith) in
     let draft : IsDraft made = record {
-      head = h.head; days = h.days;
+      head = h.head;
+      days = h.days;
       accounts = record { all = all-push IsAccountRow d.accounts a h.accounts.all s.1; rise = rw map-append rise; few = omega (arith, length-append d.accounts (a ∷ [])) };
       due = h.due;
-      orderly = record { no_work = λ lt. absurd (omega arith); no_accounts = λ lt. absurd (omega arith); no_instructions = λ lt. none_due } } in
+      orderly = record { no_work = λ lt. absurd (omega arith); no_accounts = λ lt. absurd (omega arith); no_instructions = λ lt. none_due };
+    } in
     let rows = account_rows (heading (day_said d)) (map work_row d.work) d.last (day_said d) d.accounts a d.instructions (end_so_far d.last) (head-whole d.last (day_said d) p.from) none_due (not-closed d.last (omega arith)) in
     subst (Grows d r) room.1 (record { draft = draft; rows = rows ∙ ap (λ (x : Record). rows_so_far d ++ x ∷ []) (sym row) })
 
@@ -232,9 +245,12 @@ grows-instruction d e r h may first eq =
     let numbered : d.next + length d.instructions ≤ MOST_RECORD = leb-true _ _ both.1 in
     let size = length-append d.instructions (i ∷ []) in
     let draft : IsDraft made = record {
-      head = h.head; days = h.days; accounts = h.accounts;
+      head = h.head;
+      days = h.days;
+      accounts = h.accounts;
       due = record { all = all-push IsInstructionRow d.instructions i h.due.all s.1; few = omega (arith, size); numbered = omega (arith, size) };
-      orderly = record { no_work = λ lt. absurd (omega arith); no_accounts = λ lt. absurd (omega arith); no_instructions = λ lt. absurd (omega arith) } } in
+      orderly = record { no_work = λ lt. absurd (omega arith); no_accounts = λ lt. absurd (omega arith); no_instructions = λ lt. absurd (omega arith) };
+    } in
     let rows = due_rows (heading (day_said d)) (map work_row d.work) (map account_row d.accounts) d.last (day_said d) d.instructions i (end_so_far d.last) (head-whole d.last (day_said d) p.from) (not-closed d.last (omega arith)) in
     subst (Grows d r) room.1 (record { draft = draft; rows = rows ∙ ap (λ (x : Record). rows_so_far d ++ x ∷ []) (sym row) })
 
@@ -250,8 +266,12 @@ grows-end d e r h may first eq =
     let counts = if_ok (eqb (length r) 1) cause.Fields (Ok made) e eq in
     let row : r ≡ end_row = by_items 1 r [] (eqb-true _ _ counts.0) ∙ cons first refl in
     let draft : IsDraft made = record {
-      head = h.head; days = h.days; accounts = h.accounts; due = h.due;
-      orderly = record { no_work = λ lt. absurd (omega arith); no_accounts = λ lt. absurd (omega arith); no_instructions = λ lt. absurd (omega arith) } } in
+      head = h.head;
+      days = h.days;
+      accounts = h.accounts;
+      due = h.due;
+      orderly = record { no_work = λ lt. absurd (omega arith); no_accounts = λ lt. absurd (omega arith); no_instructions = λ lt. absurd (omega arith) };
+    } in
     let rows = end_rows (heading (day_said d)) (map work_row d.work) (map account_row d.accounts) (map do_row d.instructions) d.last (day_said d) (end_so_far d.last) (head-whole d.last (day_said d) p.from) (not-closed d.last (omega arith)) in
     subst (Grows d r) (ok_is made e counts.1) (record { draft = draft; rows = rows ∙ ap (λ (x : Record). rows_so_far d ++ x ∷ []) (sym row) })
 

@@ -1,5 +1,5 @@
 -- The row that a fault names is the first with which no day text begins.
-use Rattle.std.proofs.Common.{◌≡◌, ◌⊎◌, inl, inr, ℕ, zero, suc, ◌+◌, ◌-◌, ◌<◌, ◌≤◌, Bool, true, false, cond, List, [], ◌∷◌, ◌++◌, length, map, take, Option, Some, None, Result, Ok, Err, refl, sym, ap, subst, ◌∙◌, arith, append_assoc}
+use Rattle.std.proofs.Common.{◌≡◌, ◌⊎◌, inl, inr, ℕ, suc, ◌+◌, ◌-◌, ◌<◌, ◌≤◌, Bool, true, false, cond, List, [], ◌∷◌, ◌++◌, length, map, take, Option, Some, None, Result, Ok, Err, refl, sym, ap, subst, ◌∙◌, arith, append_assoc}
 use Rattle.std.proofs.lemmas.List.{append-nil}
 use Rattle.reg_text.specs.declared.cause.Cause.{Cause}
 use Rattle.reg_text.specs.declared.cause.Cause.TheVariants as cause
@@ -9,11 +9,11 @@ use Rattle.reg_text.specs.Records.{Record}
 use Rattle.reg_text.specs.Drafts.{DraftValue}
 use Rattle.reg_text.specs.DraftLimits.{place, IsOrderly, IsDraft}
 use Rattle.reg_text.specs.Day.{DayValue, day_said}
-use Rattle.reg_text.specs.Spelling.{heading, day_text, day_row, period_row, lags_row, lags_in, work_row, account_row, do_row, end_row}
-use Rattle.reg_text.specs.Reading.{IsDay, IsReading, Begins, IsFirstFaulty}
+use Rattle.reg_text.specs.Spelling.{heading, day_text, day_row, period_row, lags_row, work_row, account_row, do_row, end_row}
+use Rattle.reg_text.specs.Reading.{IsReading, Begins, IsFirstFaulty}
 use Rattle.reg_text.specs.Faults.{nothing_read, is_over, next_draft, at_row, after_rows, draft_of_rows, said, day_of_rows}
 use Rattle.reg_text.proofs.DraftFacts.{rows_so_far, head_so_far, end_so_far, in_order, says_a_day, push_end}
-use Rattle.reg_text.proofs.DraftSteps.{Grows, grows}
+use Rattle.reg_text.proofs.DraftSteps.{grows}
 use Rattle.reg_text.proofs.Readings.{nothing-fits, reading-to}
 
 -- ---- the rows of a draft begin the text of its day
@@ -69,21 +69,21 @@ stops [] number d row c h e =
     let a = at_end (is_over d.last) d number row c e in
     record { count = 0; at = omega (arith, a.0); within = omega arith; last_draft = d; fits = h; stands = sym (append-nil (rows_so_far d)); stays = λ lt more. absurd (omega arith); too_short = λ same. a.1 }
 stops (r ∷ rows) number d row c h e = elim (faulty_row number (next_draft d r) (λ x. after_rows (number + 1) x rows) row c e) [
-      | inl here ↦ record { count = 0; at = omega (arith, here.1); within = omega arith; last_draft = d; fits = h; stands = sym (append-nil (rows_so_far d)); stays = λ lt more. rw here.0 (ap (λ (n : ℕ). Err (n, c)) (sym here.1)); too_short = λ same. absurd (omega arith) }
-      | inr later ↦
-        let g = grows d later.0 r h later.1 in
-        let s = stops rows (number + 1) later.0 row c g.draft later.2 in
-        record {
-          count = suc s.count;
-          at = omega (arith, s.at);
-          within = omega (arith, s.within);
-          last_draft = s.last_draft;
-          fits = s.fits;
-          stands = s.stands ∙ ap (λ (x : List Record). x ++ take s.count rows) g.rows ∙ append_assoc (rows_so_far d) (r ∷ []) (take s.count rows);
-          stays = λ lt more. let plus : suc s.count + 1 ≡ suc (s.count + 1) = omega arith in rw (plus, later.1) (s.stays (omega arith) more);
-          too_short = λ same. s.too_short (omega arith);
-        }
-    ]
+  | inl here ↦ record { count = 0; at = omega (arith, here.1); within = omega arith; last_draft = d; fits = h; stands = sym (append-nil (rows_so_far d)); stays = λ lt more. rw here.0 (ap (λ (n : ℕ). Err (n, c)) (sym here.1)); too_short = λ same. absurd (omega arith) }
+  | inr later ↦
+      let g = grows d later.0 r h later.1 in
+      let s = stops rows (number + 1) later.0 row c g.draft later.2 in
+      record {
+        count = suc s.count;
+        at = omega (arith, s.at);
+        within = omega (arith, s.within);
+        last_draft = s.last_draft;
+        fits = s.fits;
+        stands = s.stands ∙ ap (λ (x : List Record). x ++ take s.count rows) g.rows ∙ append_assoc (rows_so_far d) (r ∷ []) (take s.count rows);
+        stays = λ lt more. let plus : suc s.count + 1 ≡ suc (s.count + 1) = omega arith in rw (plus, later.1) (s.stays (omega arith) more);
+        too_short = λ same. s.too_short (omega arith);
+      }
+]
 
 -- ---- the law
 
@@ -105,14 +105,16 @@ first-faulty rows row c e =
     let d = faulty rows row c e in
     let s = stops rows 1 nothing_read row c nothing-fits d in
     let before : row - 1 ≡ s.count = omega (arith, s.at) in
-    let with_it : row ≡ s.count + 1 = omega (arith, s.at) in
-    (record {
-      from_one = omega (arith, s.at);
-      to_the_end = omega (arith, s.at, s.within);
-      begins_before = subst Begins (s.stands ∙ ap (λ (k : ℕ). take k rows) (sym before)) (begins-draft s.last_draft s.fits);
-      none_with_it = λ le begins.
-        let longer = s.stays (omega (arith, s.at)) begins.0 in
-        let same : take (s.count + 1) rows ++ begins.0 ≡ take row rows ++ begins.0 = ap (λ (k : ℕ). take k rows ++ begins.0) (sym with_it) in
-        no_value (take row rows ++ begins.0) begins.1 row c (ap draft_of_rows (sym same) ∙ longer) begins.2;
-      none_at_the_end = λ same v reading. no_value rows v row c d reading;
-    }, λ same. s.too_short (omega (arith, s.at)))
+    let with_it : row ≡ s.count + 1 = omega (arith, s.at) in (
+      record {
+        from_one = omega (arith, s.at);
+        to_the_end = omega (arith, s.at, s.within);
+        begins_before = subst Begins (s.stands ∙ ap (λ (k : ℕ). take k rows) (sym before)) (begins-draft s.last_draft s.fits);
+        none_with_it = λ le begins.
+            let longer = s.stays (omega (arith, s.at)) begins.0 in
+            let same : take (s.count + 1) rows ++ begins.0 ≡ take row rows ++ begins.0 = ap (λ (k : ℕ). take k rows ++ begins.0) (sym with_it) in
+            no_value (take row rows ++ begins.0) begins.1 row c (ap draft_of_rows (sym same) ∙ longer) begins.2;
+        none_at_the_end = λ same v reading. no_value rows v row c d reading;
+      },
+      λ same. s.too_short (omega (arith, s.at)),
+    )

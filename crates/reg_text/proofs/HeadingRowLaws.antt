@@ -1,13 +1,12 @@
 -- The rows at the head of a text, the rows of working days and the closing row read as what their fields spell.
-use Rattle.std.proofs.Common.{◌≡◌, ℕ, ◌+◌, ◌<◌, ◌≤◌, ◌^◌, nat_le, eqb, List, [], ◌∷◌, length, Ok, Err, refl, sym, ap, subst, ◌∙◌, arith}
+use Rattle.std.proofs.Common.{◌≡◌, ℕ, ◌+◌, ◌≤◌, nat_le, eqb, List, [], ◌∷◌, length, Ok, refl, subst, ◌∙◌, arith}
 use Rattle.std.specs.Prelude.{codes}
 use Rattle.std.specs.Str.{bytes_eq}
 use Rattle.std.proofs.lemmas.Bool.{eqb-true, leb-true, le-leb}
 use Rattle.reg_base.specs.declared.limits.TheConstants.{MOST_RECORD, MOST_LAG, FIRST_YEAR, LAST_YEAR}
 use Rattle.reg_text.specs.declared.cause.Cause.TheVariants as cause
 use Rattle.reg_text.specs.declared.reading.heading_rows.Lags.{Lags}
-use Rattle.reg_text.specs.Causes.{◌>>=◌, test}
-use Rattle.reg_text.specs.Records.{Record, field, counted}
+use Rattle.reg_text.specs.Records.{Record, field}
 use Rattle.reg_text.specs.Dates.{date, date_of}
 use Rattle.reg_text.specs.Limits.{next_of, year_of, lag_of}
 use Rattle.reg_text.specs.Spelling.{day_fields, period_fields, lags_fields}
@@ -79,11 +78,11 @@ lags-spelled r v e =
 
 pub lags-again : (tag : List ℕ) (lags : Lags) → AreLags lags → lags_of (tag ∷ lags_fields lags) ≡ Ok lags
 lags-again tag lags h = rw (
-      bounded-again 0 MOST_LAG lags.trusted (omega arith) (omega arith) h.trusted,
-      bounded-again 0 MOST_LAG lags.other (omega arith) (omega arith) h.other,
-      bounded-again 0 MOST_LAG lags.list (omega arith) (omega arith) h.listed,
-      bounded-again 0 MOST_LAG lags.reversal (omega arith) (omega arith) h.reversal,
-    ) refl
+  bounded-again 0 MOST_LAG lags.trusted (omega arith) (omega arith) h.trusted,
+  bounded-again 0 MOST_LAG lags.other (omega arith) (omega arith) h.other,
+  bounded-again 0 MOST_LAG lags.list (omega arith) (omega arith) h.listed,
+  bounded-again 0 MOST_LAG lags.reversal (omega arith) (omega arith) h.reversal,
+) refl
 
 -- a working day
 pub work-spelled : (r : Record) (day : ℕ) → work_of r ≡ Ok day → (r ≡ field r 0 ∷ date day ∷ []) × IsDayNo day

@@ -1,5 +1,5 @@
 -- A row reads as an instruction exactly where its fields are the instruction's.
-use Rattle.std.proofs.Common.{◌≡◌, ℕ, zero, suc, ◌+◌, ◌<◌, ◌≤◌, ◌^◌, nat_lt, eqb, Bool, true, false, cond, List, [], ◌∷◌, length, Option, Some, None, Ok, Err, refl, sym, ap, subst, ◌∙◌, arith, inl, inr}
+use Rattle.std.proofs.Common.{◌≡◌, ℕ, ◌<◌, ◌≤◌, nat_lt, eqb, Bool, true, false, cond, List, [], ◌∷◌, length, Option, Some, None, Ok, refl, sym, ap, subst, ◌∙◌, arith}
 use Rattle.std.specs.Prelude.{IfSome}
 use Rattle.std.proofs.lemmas.Bool.{eqb-true, eq-eqb, ne_eqb, le-ltb}
 use Rattle.std.proofs.lemmas.List.{nil_from_length}
@@ -7,19 +7,18 @@ use Rattle.reg_base.specs.declared.limits.TheConstants.{MOST_NUMBER}
 use Rattle.reg_base.specs.declared.instruction.Act.{Act}
 use Rattle.reg_base.specs.declared.instruction.Act.TheVariants as act
 use Rattle.reg_base.specs.declared.instruction.Instruction.{Instruction}
-use Rattle.reg_text.specs.declared.cause.Cause.{Cause}
 use Rattle.reg_text.specs.declared.cause.Cause.TheVariants as cause
 use Rattle.reg_text.specs.declared.reading.instruction_row.ActName.{ActName}
 use Rattle.reg_text.specs.declared.reading.instruction_row.ActName.TheVariants.{Transfer}
-use Rattle.reg_text.specs.Causes.{◌>>=◌, test}
-use Rattle.reg_text.specs.Records.{Record, field, counted}
+use Rattle.reg_text.specs.Causes.{◌>>=◌}
+use Rattle.reg_text.specs.Records.{Record, field}
 use Rattle.reg_text.specs.Dates.{date, date_of}
 use Rattle.reg_text.specs.Numbers.{number, number_of}
 use Rattle.reg_text.specs.Limits.{account_no_of, user_no_of, approver_text, approver_of}
-use Rattle.reg_text.specs.Words.{named, kind_word, kind_of}
+use Rattle.reg_text.specs.Words.{named, kind_of}
 use Rattle.reg_text.specs.Spelling.{act_word, act_name, act_fields, instruction_fields}
 use Rattle.reg_text.specs.RowReaders.{act_name_of, fields_for, act_of, instruction_of}
-use Rattle.reg_text.specs.Reading.{IsNo, IsDayNo, IsActRow, IsInstructionRow}
+use Rattle.reg_text.specs.Reading.{IsNo, IsActRow, IsInstructionRow}
 use Rattle.reg_text.proofs.Binds.{bind_ok, if_ok, unless_ok, ok_is}
 use Rattle.reg_text.proofs.ListFacts.{by_items, cons}
 use Rattle.reg_text.proofs.NumberLaws.{number-spelled, number-again, bounded-spelled, bounded-again, digit-first}
@@ -65,17 +64,19 @@ act-spelled Transfer r a counts e =
     let f7 = kind-spelled (field r 7) kind.0 kind.1 in
     let f8 = number-spelled (field r 8) amount.0 amount.1 in
     let made : Act = act.Transfer from.0 to.0 kind.0 amount.0 in
-    subst (λ (x : Act). (r ≡ field r 0 ∷ field r 1 ∷ field r 2 ∷ field r 3 ∷ field r 4 ∷ act_fields x) × IsActRow x × (act_name x ≡ Transfer)) (ok_is made a amount.2)
-    (listed ∙ cons refl (cons refl (cons refl (cons refl (cons refl (cons f5.0 (cons f6.0 (cons f7 (cons f8.0 refl)))))))),
-    record { from_no = record { from = f5.1; to = f5.2 }; to_no = record { from = f6.1; to = f6.2 }; amount_fits = f8.1 }, refl)
+    subst (λ (x : Act). (r ≡ field r 0 ∷ field r 1 ∷ field r 2 ∷ field r 3 ∷ field r 4 ∷ act_fields x) × IsActRow x × (act_name x ≡ Transfer)) (ok_is made a amount.2) (
+      listed ∙ cons refl (cons refl (cons refl (cons refl (cons refl (cons f5.0 (cons f6.0 (cons f7 (cons f8.0 refl)))))))),
+      record { from_no = record { from = f5.1; to = f5.2 }; to_no = record { from = f6.1; to = f6.2 }; amount_fits = f8.1 },
+      refl,
+    )
 
 pub act-again : (a : Act) (f0 f1 f2 f3 f4 : List ℕ) → IsActRow a → act_of (act_name a) (f0 ∷ f1 ∷ f2 ∷ f3 ∷ f4 ∷ act_fields a) ≡ Ok a
 act-again (act.Transfer from to kind amount) f0 f1 f2 f3 f4 h = rw (
-      bounded-again 1 MOST_NUMBER from (omega arith) h.from_no.from h.from_no.to,
-      bounded-again 1 MOST_NUMBER to (omega arith) h.to_no.from h.to_no.to,
-      kind-again kind,
-      number-again amount h.amount_fits,
-    ) refl
+  bounded-again 1 MOST_NUMBER from (omega arith) h.from_no.from h.from_no.to,
+  bounded-again 1 MOST_NUMBER to (omega arith) h.to_no.from h.to_no.to,
+  kind-again kind,
+  number-again amount h.amount_fits,
+) refl
 
 pub act_name-again : (name : ActName) → act_name_of (act_word name) ≡ Ok name
 act_name-again Transfer = refl
@@ -100,9 +101,10 @@ instruction-spelled r i e =
     let parts = act-spelled name.0 r wanted.0 (eqb-true _ _ counts.0) wanted.1 in
     let word : field r 4 ≡ act_word (act_name wanted.0) = f4.0 ∙ ap act_word (sym parts.2) in
     let made : Instruction = record { proposed = proposed.0; proposer = proposer.0; approver = approver.0; act = wanted.0 } in
-    subst (λ (x : Instruction). (r ≡ field r 0 ∷ instruction_fields x) × IsInstructionRow x) (ok_is made i wanted.2)
-    (parts.0 ∙ cons refl (cons f1.0 (cons f2.0 (cons f3.0 (cons word refl)))),
-    record { proposed = record { from = f1.1; to = f1.2 }; proposer = record { from = f2.1; to = f2.2 }; approver = f3.1; act = parts.1 })
+    subst (λ (x : Instruction). (r ≡ field r 0 ∷ instruction_fields x) × IsInstructionRow x) (ok_is made i wanted.2) (
+      parts.0 ∙ cons refl (cons f1.0 (cons f2.0 (cons f3.0 (cons word refl)))),
+      record { proposed = record { from = f1.1; to = f1.2 }; proposer = record { from = f2.1; to = f2.2 }; approver = f3.1; act = parts.1 },
+    )
 
 from_fields : (r : Record) (i : Instruction) (name : ActName) → 5 ≤ length r → act_name_of (field r 4) ≡ Ok name → length r ≡ fields_for name → date_of (field r 1) ≡ Ok i.proposed
     → user_no_of (field r 2) ≡ Ok i.proposer → approver_of (field r 3) ≡ Ok i.approver → act_of name r ≡ Ok i.act → instruction_of r ≡ Ok i

@@ -18,6 +18,7 @@ pub mod DraftSteps
 pub mod Taken
 pub mod Readings
 pub mod FirstFault
+pub mod TableLaws
 pub mod PlainFacts
 pub mod RowFacts
 pub mod TextFacts

@@ -1,7 +1,6 @@
 -- The laws of reading: the rows read as a day exactly where they are its spelling.
-use Rattle.std.proofs.Common.{◌≡◌, ◌⊎◌, inl, inr, ℕ, zero, suc, ◌+◌, ◌-◌, ◌<◌, ◌≤◌, Bool, true, false, cond, List, [], ◌∷◌, ◌++◌, length, map, Option, Some, None, Result, Ok, Err, refl, sym, ap, subst, ◌∙◌, arith, append_assoc, take}
+use Rattle.std.proofs.Common.{◌≡◌, ℕ, ◌+◌, ◌-◌, Bool, true, false, cond, List, [], ◌∷◌, ◌++◌, map, Option, Some, None, Result, Ok, Err, refl, sym, ap, subst, ◌∙◌, arith, append_assoc}
 use Rattle.std.proofs.lemmas.List.{append-nil}
-use Rattle.reg_base.specs.Rules.{RulesValue}
 use Rattle.reg_text.specs.declared.cause.Cause.{Cause}
 use Rattle.reg_text.specs.declared.cause.Cause.TheVariants as cause
 use Rattle.reg_text.specs.declared.reading.tag.Tag.{Tag}
@@ -9,12 +8,12 @@ use Rattle.reg_text.specs.declared.reading.tag.Tag.TheVariants as tag
 use Rattle.reg_text.specs.Records.{Record}
 use Rattle.reg_text.specs.Drafts.{DraftValue}
 use Rattle.reg_text.specs.Day.{DayValue, day_said}
-use Rattle.reg_text.specs.Spelling.{heading, day_text, work_row, account_row, do_row, end_row}
-use Rattle.reg_text.specs.Reading.{IsDay, IsReading, Begins}
+use Rattle.reg_text.specs.Spelling.{day_text, work_row, account_row, do_row}
+use Rattle.reg_text.specs.Reading.{IsDay, IsReading}
 use Rattle.reg_text.specs.DraftLimits.{IsDraft}
 use Rattle.reg_text.specs.Faults.{nothing_read, is_over, next_draft, at_row, after_rows, draft_of_rows, said, day_of_rows}
 use Rattle.reg_text.proofs.DraftFacts.{rows_so_far, head_so_far, end_so_far, in_order, says_a_day}
-use Rattle.reg_text.proofs.DraftSteps.{Grows, grows}
+use Rattle.reg_text.proofs.DraftSteps.{grows}
 use Rattle.reg_text.proofs.Taken.{text-taken, draft_for}
 
 -- nothing is within all limits

@@ -1,5 +1,5 @@
 -- What is spelled is taken: the rows of a day text read as its day.
-use Rattle.std.proofs.Common.{◌≡◌, ◌⊎◌, inl, inr, ℕ, zero, suc, ◌+◌, ◌-◌, ◌<◌, ◌≤◌, Bool, true, false, ◌&&◌, nat_lt, nat_le, cond, eqb, List, [], ◌∷◌, ◌++◌, length, map, Option, Some, None, Result, Ok, Err, refl, sym, ap, subst, ◌∙◌, arith, length-append, append_assoc}
+use Rattle.std.proofs.Common.{◌≡◌, inl, ℕ, ◌+◌, ◌<◌, ◌≤◌, true, List, [], ◌∷◌, ◌++◌, length, map, Option, Some, Ok, refl, sym, ap, subst, ◌∙◌, arith, length-append, append_assoc}
 use Rattle.std.specs.Prelude.{codes}
 use Rattle.std.specs.List.{AllByRecursion}
 use Rattle.std.proofs.lemmas.Bool.{lt-ltb, le-leb}
@@ -8,21 +8,17 @@ use Rattle.reg_base.specs.declared.limits.TheConstants.{MOST_ACCOUNTS, MOST_INST
 use Rattle.reg_base.specs.declared.instruction.Instruction.{Instruction}
 use Rattle.reg_base.specs.Rising.{IsRising}
 use Rattle.reg_account.specs.Account.{AccountValue}
-use Rattle.reg_text.specs.declared.cause.Cause.{Cause}
 use Rattle.reg_text.specs.declared.reading.tag.Tag.{Tag}
 use Rattle.reg_text.specs.declared.reading.tag.Tag.TheVariants as tag
-use Rattle.reg_text.specs.declared.reading.heading_rows.Lags.{Lags}
-use Rattle.reg_text.specs.Causes.{◌>>=◌, test}
-use Rattle.reg_text.specs.Records.{Record, field}
-use Rattle.reg_text.specs.Tags.{tag_word, tag_after}
-use Rattle.reg_text.specs.RowReaders.{work_of, account_of, instruction_of}
+use Rattle.reg_text.specs.Records.{Record}
+use Rattle.reg_text.specs.Tags.{tag_word}
 use Rattle.reg_text.specs.Drafts.{DraftValue}
-use Rattle.reg_text.specs.Day.{DayValue, day_said}
-use Rattle.reg_text.specs.Spelling.{format_row, day_row, day_fields, period_row, period_fields, lags_row, lags_fields, lags_in, work_row, account_row, account_fields, do_row, instruction_fields, end_row, heading, day_text}
-use Rattle.reg_text.specs.Reading.{IsDayNo, IsYearNo, IsNextNo, IsAccountRow, IsInstructionRow, IsDay}
+use Rattle.reg_text.specs.Day.{DayValue}
+use Rattle.reg_text.specs.Spelling.{format_row, day_row, day_fields, period_row, period_fields, lags_row, lags_fields, lags_in, work_row, account_row, do_row, end_row, heading, day_text}
+use Rattle.reg_text.specs.Reading.{IsDayNo, IsAccountRow, IsInstructionRow, IsDay}
 use Rattle.reg_text.specs.Lasts.{last_of, is_above, number_of_account}
 use Rattle.reg_text.specs.DraftLimits.{AreLags}
-use Rattle.reg_text.specs.Faults.{nothing_read, has_room_for, with_row, is_over, next_draft, at_row, after_rows, draft_of_rows}
+use Rattle.reg_text.specs.Faults.{nothing_read, with_row, next_draft, after_rows}
 use Rattle.reg_text.proofs.RisingFacts.{rising-above, last-number}
 use Rattle.reg_text.proofs.HeadingRowLaws.{day-again, period-again, lags-again, work-again}
 use Rattle.reg_text.proofs.AccountRowLaws.{account-again}

@@ -65,4 +65,3 @@ pub record IsDraft (d : DraftValue) : Type 0 where
   pub accounts : AreAccounts d.accounts
   pub due : AreDue d.next d.instructions
   pub orderly : IsOrderly (place d.last) d.work d.accounts d.instructions
-

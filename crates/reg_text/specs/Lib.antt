@@ -16,6 +16,7 @@ pub mod Spelling
 pub mod Reading
 pub mod DraftLimits
 pub mod Inputs
+pub mod Table
 pub mod Log
 pub mod Report
 pub mod Plain

@@ -1,10 +1,9 @@
 -- What a record reads as, for each tag: the number of fields first, and then the fields from the left.
-use Rattle.std.specs.Prelude.{ℕ, List, [], ◌∷◌, nat_lt, nat_le, length, Option, Result, Ok, Err, codes, if◌then◌else◌}
+use Rattle.std.specs.Prelude.{ℕ, List, [], ◌∷◌, nat_lt, nat_le, length, Result, Ok, Err, codes, if◌then◌else◌}
 use Rattle.std.specs.Str.{bytes_eq}
 use Rattle.reg_base.specs.declared.instruction.Act.{Act}
 use Rattle.reg_base.specs.declared.instruction.Act.TheVariants as act
 use Rattle.reg_base.specs.declared.instruction.Instruction.{Instruction}
-use Rattle.reg_account.specs.declared.parts.Holdings.{Holdings}
 use Rattle.reg_account.specs.Account.{AccountValue}
 use Rattle.reg_text.specs.declared.cause.Cause.{Cause}
 use Rattle.reg_text.specs.declared.cause.Cause.TheVariants as cause
@@ -27,25 +26,25 @@ format_of r = counted 2 r (test (bytes_eq (field r 1) (codes "1")) cause.Version
 -- the settlement day, and the next record number
 abbrev pub day_of : Record → Result (ℕ × ℕ) Cause
 day_of r = counted 3 r (do
-    day ← date_of (field r 1)
-    next ← next_of (field r 2)
-    Ok (day, next))
+  day ← date_of (field r 1)
+  next ← next_of (field r 2)
+  Ok (day, next))
 
 -- the first and the last year of the period
 abbrev pub period_of : Record → Result (ℕ × ℕ) Cause
 period_of r = counted 3 r (do
-    first ← year_of (field r 1)
-    last ← year_of (field r 2)
-    test (nat_le first last) cause.Order (first, last))
+  first ← year_of (field r 1)
+  last ← year_of (field r 2)
+  test (nat_le first last) cause.Order (first, last))
 
 -- the lags and the reversal window
 abbrev pub lags_of : Record → Result Lags Cause
 lags_of r = counted 5 r (do
-    trusted ← lag_of (field r 1)
-    other ← lag_of (field r 2)
-    listed ← lag_of (field r 3)
-    reversal ← lag_of (field r 4)
-    Ok (record { trusted = trusted; other = other; list = listed; reversal = reversal }))
+  trusted ← lag_of (field r 1)
+  other ← lag_of (field r 2)
+  listed ← lag_of (field r 3)
+  reversal ← lag_of (field r 4)
+  Ok (record { trusted = trusted; other = other; list = listed; reversal = reversal }))
 
 -- a working day
 abbrev pub work_of : Record → Result ℕ Cause
@@ -54,16 +53,16 @@ work_of r = counted 2 r (date_of (field r 1))
 -- an account
 abbrev pub account_of : Record → Result AccountValue Cause
 account_of r = counted 10 r (do
-    number ← account_no_of (field r 1)
-    kind ← account_kind_of (field r 2)
-    holder ← holder_no_of (field r 3)
-    status ← status_of (field r 4)
-    outside ← yes_no_of (field r 5)
-    waiver ← yes_no_of (field r 6)
-    correction ← correction_of (field r 7)
-    general ← held_of (field r 8)
-    aviation ← held_of (field r 9)
-    Ok (record { number = number; kind = kind; holder = holder; status = status; outside = outside; waiver = waiver; correction = correction; held = record { general = general; aviation = aviation } }))
+  number ← account_no_of (field r 1)
+  kind ← account_kind_of (field r 2)
+  holder ← holder_no_of (field r 3)
+  status ← status_of (field r 4)
+  outside ← yes_no_of (field r 5)
+  waiver ← yes_no_of (field r 6)
+  correction ← correction_of (field r 7)
+  general ← held_of (field r 8)
+  aviation ← held_of (field r 9)
+  Ok (record { number = number; kind = kind; holder = holder; status = status; outside = outside; waiver = waiver; correction = correction; held = record { general = general; aviation = aviation } }))
 
 -- the act that a field names
 abbrev pub act_name_of : List ℕ → Result ActName Cause
@@ -76,19 +75,19 @@ fields_for Transfer = 9
 -- the act of this name, in the fields from the fifth on
 abbrev pub act_of : ActName → Record → Result Act Cause
 act_of Transfer r = do
-    from ← account_no_of (field r 5)
-    to ← account_no_of (field r 6)
-    kind ← kind_of (field r 7)
-    amount ← number_of (field r 8)
-    Ok (act.Transfer from to kind amount)
+  from ← account_no_of (field r 5)
+  to ← account_no_of (field r 6)
+  kind ← kind_of (field r 7)
+  amount ← number_of (field r 8)
+  Ok (act.Transfer from to kind amount)
 
 -- an instruction: its act is looked at first
 abbrev pub instruction_of : Record → Result Instruction Cause
 instruction_of r = if nat_lt (length r) 5 then Err cause.Fields else (do
-    name ← act_name_of (field r 4)
-    counted (fields_for name) r (do
-        proposed ← date_of (field r 1)
-        proposer ← user_no_of (field r 2)
-        approver ← approver_of (field r 3)
-        wanted ← act_of name r
-        Ok (record { proposed = proposed; proposer = proposer; approver = approver; act = wanted })))
+  name ← act_name_of (field r 4)
+  counted (fields_for name) r (do
+    proposed ← date_of (field r 1)
+    proposer ← user_no_of (field r 2)
+    approver ← approver_of (field r 3)
+    wanted ← act_of name r
+    Ok (record { proposed = proposed; proposer = proposer; approver = approver; act = wanted })))

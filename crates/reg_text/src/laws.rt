@@ -11,43 +11,45 @@ ghost use Rattle.reg_text.specs.Dates.{date, date_of};
 ghost use Rattle.reg_text.specs.Records.{Record};
 ghost use Rattle.reg_text.specs.Day.{DayValue};
 ghost use Rattle.reg_text.specs.Reading.{IsDayNo, IsReading, IsFirstFaulty};
-ghost use Rattle.reg_text.specs.Faults.{day_of_rows};
+ghost use Rattle.reg_text.specs.Drafts.{DraftValue};
+ghost use Rattle.reg_text.specs.Faults.{day_of_rows, next_draft};
+ghost use Rattle.reg_text.specs.Table.{fault_of, first_cause, tests_of};
 
 /// A field reads as a number exactly where it is the one spelling of that number, and the number is below 2^64.
 pub fn one_spelling_of_a_number()
     ensures { (f : List ℕ) (n : ℕ) → (number_of f ≡ Ok n) ↔ ((f ≡ number n) × (n < 2 ^ 64)) }
-{
-}
+{}
 
 /// A field reads as a correction factor exactly where it is the one spelling of that number, and the number is
 /// within the limits of a correction factor.
 pub fn one_spelling_of_a_correction()
     ensures { (f : List ℕ) (z : ℤ) → (correction_of f ≡ Ok z) ↔ ((f ≡ signed z) × CorrectionFits z) }
-{
-}
+{}
 
 /// A field reads as a day exactly where it is the date of that day, and the day is within the limits.
 pub fn one_spelling_of_a_day()
     ensures { (f : List ℕ) (n : ℕ) → (date_of f ≡ Ok n) ↔ ((f ≡ date n) × IsDayNo n) }
-{
-}
+{}
 
 /// Rows read as a day exactly where they are its spelling, and the day is within the limits.
 pub fn reads_what_is_spelled()
     ensures { (rows : List Record) (v : DayValue) → (day_of_rows rows ≡ Ok v) ↔ IsReading rows v }
-{
-}
+{}
 
 /// Rows are the spelling of at most one day.
 pub fn at_most_one_reading()
     ensures { (rows : List Record) (v w : DayValue) → IsReading rows v → IsReading rows w → v ≡ w }
-{
-}
+{}
 
 /// The row that a fault names is the first with which no day text begins. Where all rows begin one and are none,
 /// it is one more than there are rows, and the cause is that the text ends too early.
 pub fn names_the_first_faulty_row()
     ensures first { (rows : List Record) (row : ℕ) (c : Cause) → day_of_rows rows ≡ Err (row, c) → IsFirstFaulty rows row }
     ensures end { (rows : List Record) (row : ℕ) (c : Cause) → day_of_rows rows ≡ Err (row, c) → row ≡ length rows + 1 → c ≡ cause.End }
-{
-}
+{}
+
+/// The cause against a row is the first of the table's causes that applies to it, and a row against which none
+/// applies is taken.
+pub fn names_the_first_cause()
+    ensures { (d : DraftValue) (r : Record) → fault_of (next_draft d r) ≡ first_cause (tests_of d r) }
+{}

@@ -20,8 +20,15 @@ const DAY: [&str; 9] = [
 ];
 
 // What that day gives.
-const REPORT: &str =
-    "log,1,2025-03-31,2025-03-31,101,102,transfer,1,2,general,40,done,,1,60,0,2,40,0\n";
+const REPORT: &str = "\
+log,1,2025-03-31,2025-03-31,101,102,transfer,1,2,general,40,done,,1,60,0,2,40,0
+book,2
+account,1,operator,11,open,no,no,0,60,0
+account,2,trading,12,open,no,no,0,40,0
+totals,general,100,0,0
+totals,aviation,0,0,0
+end
+";
 
 // The day's rows with the text of one of them, counted from 1, replaced; each ends as it is told.
 fn day_with(alloc: Global, row: usize, text: &str, row_end: &str) -> Result<String, AllocError> {

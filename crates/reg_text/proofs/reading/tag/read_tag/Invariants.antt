@@ -1,7 +1,7 @@
 use Rattle.std.proofs.Common.{◌≡◌, drop}
 use Rattle.reg_text.specs.declared.cause.Cause.TheVariants as cause
 use Rattle.reg_text.specs.Words.{named}
-use Rattle.reg_text.specs.Tags.{tag_word, followers, tag_after}
+use Rattle.reg_text.specs.Tags.{tag_word}
 use Rattle.reg_text.proofs.reading.tag.read_tag.Given as goal
 
 -- what the tags from here on give is what all of them give
