@@ -26,3 +26,4 @@ pub mod NumberField
 pub mod LibraryDates
 pub mod Splits
 pub mod PlainRows
+pub mod ReadAgain

@@ -21,3 +21,4 @@ pub mod Log
 pub mod Report
 pub mod Plain
 pub mod Written
+pub mod ReadAgain

@@ -1,13 +1,18 @@
 //! What holds of all day texts: laws on the definitions that the readers follow, in the words of the format.
 
-ghost use Rattle.std.specs.Prelude.{◌≡◌, ◌↔◌, ◌+◌, ◌<◌, ◌≤◌, ◌^◌, ℕ, ℤ, List, Ok, Err, length};
+ghost use Rattle.std.specs.Prelude.{◌≡◌, ◌↔◌, ◌+◌, ◌<◌, ◌≤◌, ◌^◌, ℕ, ℤ, List, Ok, Err, length, Bool};
 ghost use Rattle.reg_base.specs.declared.limits.TheConstants.{FIRST_DAY, LAST_DAY};
+ghost use Rattle.reg_base.specs.declared.kinds.AccountKind.{AccountKind};
+ghost use Rattle.reg_base.specs.declared.kinds.AllowanceKind.{AllowanceKind};
+ghost use Rattle.reg_base.specs.declared.kinds.Status.{Status};
 ghost use Rattle.reg_account.specs.Account.{CorrectionFits};
 ghost use Rattle.reg_text.specs.declared.cause.Cause.{Cause};
 ghost use Rattle.reg_text.specs.declared.cause.Cause.TheVariants as cause;
 ghost use Rattle.reg_text.specs.Numbers.{number, number_of};
 ghost use Rattle.reg_text.specs.Signed.{signed, correction_of};
 ghost use Rattle.reg_text.specs.Dates.{date, date_of};
+ghost use Rattle.reg_text.specs.Limits.{bounded_of};
+ghost use Rattle.reg_text.specs.Words.{kind_word, kind_of, account_kind_word, account_kind_of, status_word, status_of, yes_no_word, yes_no_of};
 ghost use Rattle.reg_text.specs.Records.{Record};
 ghost use Rattle.reg_text.specs.Day.{DayValue};
 ghost use Rattle.reg_text.specs.Reading.{IsDayNo, IsReading, IsFirstFaulty};
@@ -29,6 +34,19 @@ pub fn one_spelling_of_a_correction()
 /// A field reads as a day exactly where it is the date of that day, and the day is within the limits.
 pub fn one_spelling_of_a_day()
     ensures { (f : List ℕ) (n : ℕ) → (date_of f ≡ Ok n) ↔ ((f ≡ date n) × IsDayNo n) }
+{}
+
+/// A field reads as a number within limits exactly where it is the one spelling of a number within them.
+pub fn one_spelling_within_limits()
+    ensures { (low high : ℕ) (f : List ℕ) (n : ℕ) → high < 2 ^ 64 → (bounded_of low high f ≡ Ok n) ↔ ((f ≡ number n) × (low ≤ n) × (n ≤ high)) }
+{}
+
+/// A field reads as a value of a list of words exactly where it is the word of that value.
+pub fn one_word_of_each_value()
+    ensures kinds { (f : List ℕ) (k : AllowanceKind) → (kind_of f ≡ Ok k) ↔ (f ≡ kind_word k) }
+    ensures account_kinds { (f : List ℕ) (k : AccountKind) → (account_kind_of f ≡ Ok k) ↔ (f ≡ account_kind_word k) }
+    ensures statuses { (f : List ℕ) (s : Status) → (status_of f ≡ Ok s) ↔ (f ≡ status_word s) }
+    ensures yes_or_no { (f : List ℕ) (b : Bool) → (yes_no_of f ≡ Ok b) ↔ (f ≡ yes_no_word b) }
 {}
 
 /// Rows read as a day exactly where they are its spelling, and the day is within the limits.
