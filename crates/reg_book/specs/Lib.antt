@@ -5,3 +5,4 @@ pub mod Touched
 pub mod Settled
 pub mod Settling
 pub mod Laws
+pub mod FirstDay

@@ -1,6 +1,7 @@
 //! What is true of instructions one after another. Each law is the contract of a function that does nothing;
 //! whoever needs a law calls its function.
 
+ghost use Rattle.reg_book.specs.FirstDay.{FirstStep, RefusedStep, FirstFold, FirstClosing};
 ghost use Rattle.reg_book.specs.Laws.{FoldKeepsNumbers, UntouchedStay, ValueIsLastTouchers, LastToucherIsLast, FoldKeepsLimits, CommittedIsClosing};
 
 /// No account comes, goes or moves, and one that no instruction touches stays as it is.
@@ -23,4 +24,13 @@ pub fn fold_keeps_limits()
 /// A settled day that is put into its book leaves what its instructions leave one after another.
 pub fn committed_is_closing()
     ensures { CommittedIsClosing }
+{}
+
+/// Worked values of the step and of the instructions one after another: 40 of an account with 100 move, 101 are not
+/// enough; 40, 61 and 60 after one another are done, refused and done.
+pub fn first_day_is_decided()
+    ensures moves { FirstStep }
+    ensures refuses { RefusedStep }
+    ensures rows { FirstFold }
+    ensures closing { FirstClosing }
 {}

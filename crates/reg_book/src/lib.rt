@@ -12,7 +12,10 @@ mod turn;
 
 pub use book::{Book, Totals};
 pub use draft::{BookDraft, BookFault};
-pub use laws::{committed_is_closing, fold_keeps_limits, untouched_stay, value_is_last_touchers};
+pub use laws::{
+    committed_is_closing, first_day_is_decided, fold_keeps_limits, untouched_stay,
+    value_is_last_touchers,
+};
 pub use settle::{SettleFault, settle_plain};
 pub use settled::{Log, Settled, Stale};
 
