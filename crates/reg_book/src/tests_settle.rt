@@ -70,24 +70,26 @@ fn book(alloc: Global, first: u64, second: u64) -> Result<Book, Fail> {
     Ok(draft.finish())
 }
 
-fn transfer(from: u32, to: u32, amount: u64) -> Result<Instruction, Fail> {
-    Ok(Instruction {
-        proposed: Day::new(MONDAY).ok_or("a day")?,
-        proposer: UserNo::new(101).ok_or("a user number")?,
-        approver: None,
-        act: Act::Transfer {
-            from: no(from)?,
-            to: no(to)?,
-            kind: AllowanceKind::General,
-            amount,
-        },
-    })
-}
-
+// The batch of these transfers, from account, to account, and amount. It is pushed where it is made: the checker
+// can't carry an instruction that a call answered into the list.
 fn batch(alloc: Global, base: u64, transfers: &[(u32, u32, u64)]) -> Result<Batch, Fail> {
     let mut instructions = Vec::new(alloc);
     for (from, to, amount) in transfers {
-        instructions.push(transfer(*from, *to, *amount)?)?;
+        let proposed = Day::new(MONDAY).ok_or("a day")?;
+        let proposer = UserNo::new(101).ok_or("a user number")?;
+        let from = no(*from)?;
+        let to = no(*to)?;
+        instructions.push(Instruction {
+            proposed,
+            proposer,
+            approver: None,
+            act: Act::Transfer {
+                from,
+                to,
+                kind: AllowanceKind::General,
+                amount: *amount,
+            },
+        })?;
     }
     Ok(Batch::new(Day::new(MONDAY).ok_or("a day")?, base, instructions)?)
 }
