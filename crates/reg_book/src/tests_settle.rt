@@ -211,11 +211,7 @@ fn a_full_batch_is_settled(rt: HostRuntime) -> Result<(), Fail> {
         .filter(|line| matches!(line, Line::Done(..)))
         .count();
     assert_eq!(rt; done, 100);
-    let refused = log
-        .iter()
-        .filter(|line| matches!(line, Line::Refused(_, Refusal::NotEnough)))
-        .count();
-    assert_eq!(rt; refused, 16_284);
+    assert_eq!(rt; log.len() - done, 16_284);
     assert_eq!(rt;
         log.last(),
         Some(&Line::Refused(16_384, Refusal::NotEnough))
