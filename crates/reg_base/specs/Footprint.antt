@@ -1,6 +1,6 @@
 -- The accounts that an instruction reads or changes.
 use Rattle.std.specs.Prelude.{◌≡◌, ℕ, ◌-◌, ◌≤◌, Bool, IsTrue, not, ◌==◌, nat_eq, List, [], ◌∷◌, length, drop, filter, replicate, All, if◌then◌else◌}
-use Rattle.std.specs.List.{list_all, IsDistinct}
+use Rattle.std.specs.List.{list_all, list_any, IsDistinct}
 use Rattle.reg_base.specs.declared.instruction.Act.{Act}
 use Rattle.reg_base.specs.declared.instruction.Act.TheVariants.{Transfer}
 use Rattle.reg_base.specs.declared.limits.TheConstants.{MOST_TOUCHED}
@@ -22,6 +22,10 @@ all_known directory act = list_all (is_known directory) (named_by act)
 abbrev pub each_once : List ℕ → List ℕ
 each_once [] = []
 each_once (x ∷ xs) = x ∷ filter (λ y. not (y == x)) (each_once xs)
+
+-- the number stands in the list
+abbrev pub is_among : List ℕ → ℕ → Bool
+is_among numbers a = list_any (λ n. n == a) numbers
 
 -- the accounts that an instruction with this act reads or changes: none where one that it names is unknown
 abbrev pub footprint : DirectoryValue → Act → List ℕ

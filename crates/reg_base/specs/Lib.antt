@@ -1,4 +1,5 @@
 pub mod Rising
+pub mod RisesFrom
 pub mod Calendar
 pub mod Refusals
 pub mod Rules

@@ -1,18 +1,18 @@
 -- A settled day in its book is the state after its instructions.
-use Rattle.std.proofs.Common.{◌≡◌, ℕ, ◌+◌, Bool, true, false, eqb, List, length, Option, Some, None, refl, sym, ap, subst, ◌∙◌, arith}
+use Rattle.std.proofs.Common.{◌≡◌, ℕ, ◌+◌, Bool, true, false, cond, eqb, List, [], ◌∷◌, map, length, Option, Some, None, refl, sym, ap, subst, ◌∙◌, arith}
 use Rattle.std.specs.Prelude.{option_map, unwrap_or}
 use Rattle.std.specs.List.{IsDistinct}
 use Rattle.reg_base.specs.declared.instruction.Instruction.{Instruction}
 use Rattle.reg_account.specs.Account.{AccountValue}
 use Rattle.reg_rules.specs.State.{State, Setting, account, numbers}
-use Rattle.reg_rules.proofs.Numbers.{account-map, account-number}
+use Rattle.reg_rules.specs.Laws.{StepLaws}
 use Rattle.reg_book.specs.Book.{overlay}
 use Rattle.reg_book.specs.Fold.{state_after, rows_of, is_touched}
 use Rattle.reg_book.specs.Laws.{CommittedIsClosing}
 use Rattle.reg_book.specs.Settled.{setting_of}
 use Rattle.reg_book.specs.Touched.{touched_of}
 use Rattle.reg_book.proofs.Days.{touched-account, untouched-account, listing-fold}
-use Rattle.reg_book.proofs.Directories.{listing}
+use Rattle.reg_book.proofs.Directories.{listing, found_in}
 use Rattle.reg_book.proofs.Folds.{numbers-fold, others-fold, size-rows_of}
 use Rattle.reg_book.proofs.Lookups.{rising-distinct}
 use Rattle.reg_book.proofs.Overlays.{numbers-overlay, placed_number}
@@ -35,30 +35,41 @@ at_number : (others : State) (a : ℕ) (o : Option AccountValue) → ((v : Accou
 at_number others a None named = refl
 at_number others a (Some v) named = ap (λ n. option_map (unwrap_or (account others n)) (Some v)) (named v refl)
 
+-- a change that keeps each number is a change of what the numbers lead to
+account-map : (f : AccountValue → AccountValue) → ((v : AccountValue) → (f v).number ≡ v.number) → (s : State) (a : ℕ) → account (map f s) a ≡ option_map f (account s a)
+account-map f keeps [] a = refl
+account-map f keeps (v ∷ vs) a =
+    ap (λ n. cond (eqb n a) (Some (f v)) (account (map f vs) a)) (keeps v) ∙ go (eqb v.number a) (account-map f keeps vs a)
+  where
+    go : (b : Bool) → account (map f vs) a ≡ option_map f (account vs a) → cond b (Some (f v)) (account (map f vs) a) ≡ option_map f (cond b (Some v) (account vs a))
+    go true more = refl
+    go false more = more
+
 account-overlay : (s others : State) (a : ℕ) → account (overlay s others) a ≡ option_map (unwrap_or (account others a)) (account s a)
 account-overlay s others a =
     account-map (λ v. unwrap_or (account others v.number) v) (placed_number others) s a
-    ∙ at_number others a (account s a) (account-number s a)
+    ∙ at_number others a (account s a) (λ v e. (found_in s a v e).1)
 
-pub overlay-closing : (c : Setting) (s : State) (n : ℕ) (is : List Instruction) → IsDistinct eqb (numbers s)
-    → overlay s (touched_of c.directory is (state_after c s n is)) ≡ state_after c s n is
-overlay-closing c s n is distinct =
-    same-state (overlay s (touched_of c.directory is (state_after c s n is))) (state_after c s n is)
-    (subst (IsDistinct eqb) (sym (numbers-fold c s n is)) distinct)
-    (numbers-overlay s (touched_of c.directory is (state_after c s n is)) ∙ sym (numbers-fold c s n is))
-    (λ a. account-overlay s (touched_of c.directory is (state_after c s n is)) a ∙ at a (is_touched c.directory is a) refl)
-  where
-    at : (a : ℕ) (b : Bool) → is_touched c.directory is a ≡ b
-        → option_map (unwrap_or (account (touched_of c.directory is (state_after c s n is)) a)) (account s a) ≡ account (state_after c s n is) a
-    at a true touched =
-        laid_over (account (state_after c s n is) a) (account s a) (account (touched_of c.directory is (state_after c s n is)) a)
-        (listing-fold c s n is a) (touched-account c.directory is (state_after c s n is) a touched)
-    at a false untouched =
-        left_alone (account s a) (account (touched_of c.directory is (state_after c s n is)) a) (untouched-account c.directory is (state_after c s n is) a untouched)
-        ∙ sym (others-fold c s n is a untouched)
+module _ (laws : StepLaws) where
+  pub overlay-closing : (c : Setting) (s : State) (n : ℕ) (is : List Instruction) → IsDistinct eqb (numbers s)
+      → overlay s (touched_of c.directory is (state_after c s n is)) ≡ state_after c s n is
+  overlay-closing c s n is distinct =
+      same-state laws (overlay s (touched_of c.directory is (state_after c s n is))) (state_after c s n is)
+      (subst (IsDistinct eqb) (sym (numbers-fold laws c s n is)) distinct)
+      (numbers-overlay s (touched_of c.directory is (state_after c s n is)) ∙ sym (numbers-fold laws c s n is))
+      (λ a. account-overlay s (touched_of c.directory is (state_after c s n is)) a ∙ at a (is_touched c.directory is a) refl)
+    where
+      at : (a : ℕ) (b : Bool) → is_touched c.directory is a ≡ b
+          → option_map (unwrap_or (account (touched_of c.directory is (state_after c s n is)) a)) (account s a) ≡ account (state_after c s n is) a
+      at a true touched =
+          laid_over (account (state_after c s n is) a) (account s a) (account (touched_of c.directory is (state_after c s n is)) a)
+          (listing-fold laws c s n is a) (touched-account c.directory is (state_after c s n is) a touched)
+      at a false untouched =
+          left_alone (account s a) (account (touched_of c.directory is (state_after c s n is)) a) (untouched-account c.directory is (state_after c s n is) a untouched)
+          ∙ sym (others-fold laws c s n is a untouched)
 
-pub committed-closing : CommittedIsClosing
-committed-closing book rules batch kept begins =
-    let size = size-rows_of (setting_of book rules batch) book.accounts (batch.base + 1) batch.instructions in
-    let counted : batch.base + length (rows_of (setting_of book rules batch) book.accounts (batch.base + 1) batch.instructions) + 1 ≡ book.next + length batch.instructions = omega (arith, size, begins) in
-    λ i. record { accounts = overlay-closing (setting_of book rules batch) book.accounts (batch.base + 1) batch.instructions (rising-distinct book.accounts kept.rising) i; next = counted i }
+  pub committed-closing : CommittedIsClosing
+  committed-closing book rules batch kept begins =
+      let size = size-rows_of (setting_of book rules batch) book.accounts (batch.base + 1) batch.instructions in
+      let counted : batch.base + length (rows_of (setting_of book rules batch) book.accounts (batch.base + 1) batch.instructions) + 1 ≡ book.next + length batch.instructions = omega (arith, size, begins) in
+      λ i. record { accounts = overlay-closing (setting_of book rules batch) book.accounts (batch.base + 1) batch.instructions (rising-distinct book.accounts kept.rising) i; next = counted i }

@@ -3,32 +3,19 @@ use Rattle.std.proofs.Common.{◌≡◌, ℕ, suc, ◌+◌, ◌<◌, true, false
 use Rattle.std.specs.List.{AllByRecursion}
 use Rattle.std.proofs.lemmas.List.{drop_more, append_assoc}
 use Rattle.reg_base.specs.declared.instruction.Instruction.{Instruction}
-use Rattle.reg_base.specs.Footprint.{footprint}
+use Rattle.reg_base.specs.Footprint.{footprint, is_among}
 use Rattle.reg_rules.specs.declared.reply.Reply.{Reply}
 use Rattle.reg_rules.specs.declared.reply.LogRow.{LogRow}
 use Rattle.reg_rules.specs.State.{State, Setting, account, numbers}
 use Rattle.reg_rules.specs.Step.{step, row_of}
-use Rattle.reg_rules.proofs.Locality.{reply-local, after-local, other-stays, numbers-stay}
+use Rattle.reg_rules.specs.Laws.{StepLaws}
 use Rattle.reg_book.specs.Fold.{state_after, rows_of, is_touched}
-use Rattle.reg_book.specs.Touched.{is_among}
 use Rattle.reg_book.proofs.Lookups.{all_among, not_contained, or_true_left, or_true_right, or_cases}
-
--- no account comes, goes or moves
-pub numbers-fold : (c : Setting) (s : State) (n : ℕ) (is : List Instruction) → numbers (state_after c s n is) ≡ numbers s
-numbers-fold c s n [] = refl
-numbers-fold c s n (i ∷ is) = numbers-fold c (step c s n i).0 (n + 1) is ∙ numbers-stay c s n i
+use Rattle.reg_book.proofs.StepFacts.{reply-local, after-local}
 
 pub size-rows_of : (c : Setting) (s : State) (n : ℕ) (is : List Instruction) → length (rows_of c s n is) ≡ length is
 size-rows_of c s n [] = refl
 size-rows_of c s n (i ∷ is) = ap suc (size-rows_of c (step c s n i).0 (n + 1) is)
-
--- an account that no instruction touches stays as it is
-pub others-fold : (c : Setting) (s : State) (n : ℕ) (is : List Instruction) (a : ℕ) → is_touched c.directory is a ≡ false → account (state_after c s n is) a ≡ account s a
-others-fold c s n [] a none = refl
-others-fold c s n (i ∷ is) a none =
-    let apart = or_cases (is_among (footprint c.directory i.act) a) (is_touched c.directory is a) none in
-    others-fold c (step c s n i).0 (n + 1) is a apart.1
-    ∙ other-stays c s n i a (not_contained (footprint c.directory i.act) a apart.0)
 
 -- states agree on the accounts that some instruction touches
 abbrev pub AgreeOnTouched : Setting → List Instruction → State → State → Type 0
@@ -38,23 +25,40 @@ agree_first : (c : Setting) (i : Instruction) (is : List Instruction) (s t : Sta
 agree_first c i is s t agree =
     all_among (λ a. account s a ≡ account t a) (footprint c.directory i.act) (λ a h. agree a (or_true_left (is_among (footprint c.directory i.act) a) (is_touched c.directory is a) h))
 
-agree_later : (c : Setting) (n : ℕ) (i : Instruction) (is : List Instruction) (s t : State) → AgreeOnTouched c (i ∷ is) s t → AgreeOnTouched c is (step c s n i).0 (step c t n i).0
-agree_later c n i is s t agree a h =
-    after-local c s t n i (agree_first c i is s t agree) a (agree a (or_true_right (is_among (footprint c.directory i.act) a) (is_touched c.directory is a) h))
+module _ (laws : StepLaws) where
+  -- no account comes, goes or moves
+  pub numbers-fold : (c : Setting) (s : State) (n : ℕ) (is : List Instruction) → numbers (state_after c s n is) ≡ numbers s
+  numbers-fold c s n [] = refl
+  numbers-fold c s n (i ∷ is) = numbers-fold c (step c s n i).0 (n + 1) is ∙ laws.numbers_stay c s n i
 
--- then the records are the same
-pub rows-local : (c : Setting) (s t : State) (n : ℕ) (is : List Instruction) → AgreeOnTouched c is s t → rows_of c s n is ≡ rows_of c t n is
-rows-local c s t n [] agree = refl
-rows-local c s t n (i ∷ is) agree =
-    ap (λ (r : Reply). row_of c n i r ∷ rows_of c (step c s n i).0 (n + 1) is) (reply-local c s t n i (agree_first c i is s t agree))
-    ∙ ap (λ (rs : List LogRow). row_of c n i (step c t n i).1 ∷ rs) (rows-local c (step c s n i).0 (step c t n i).0 (n + 1) is (agree_later c n i is s t agree))
+  -- an account that no instruction touches stays as it is
+  pub others-fold : (c : Setting) (s : State) (n : ℕ) (is : List Instruction) (a : ℕ) → is_touched c.directory is a ≡ false → account (state_after c s n is) a ≡ account s a
+  others-fold c s n [] a none = refl
+  others-fold c s n (i ∷ is) a none =
+      let apart = or_cases (is_among (footprint c.directory i.act) a) (is_touched c.directory is a) none in
+      others-fold c (step c s n i).0 (n + 1) is a apart.1
+      ∙ laws.others_stay c s n i a (not_contained (footprint c.directory i.act) a apart.0)
 
--- and they agree afterwards wherever they did before
-pub fold-local : (c : Setting) (s t : State) (n : ℕ) (is : List Instruction) → AgreeOnTouched c is s t
-    → (a : ℕ) → account s a ≡ account t a → account (state_after c s n is) a ≡ account (state_after c t n is) a
-fold-local c s t n [] agree a same = same
-fold-local c s t n (i ∷ is) agree a same =
-    fold-local c (step c s n i).0 (step c t n i).0 (n + 1) is (agree_later c n i is s t agree) a (after-local c s t n i (agree_first c i is s t agree) a same)
+  agree_later : (c : Setting) (n : ℕ) (i : Instruction) (is : List Instruction) (s t : State) → AgreeOnTouched c (i ∷ is) s t → AgreeOnTouched c is (step c s n i).0 (step c t n i).0
+  agree_later c n i is s t agree a h =
+      after-local laws c s t n i (agree_first c i is s t agree) a (agree a (or_true_right (is_among (footprint c.directory i.act) a) (is_touched c.directory is a) h))
+
+  -- then the records are the same
+  pub rows-local : (c : Setting) (s t : State) (n : ℕ) (is : List Instruction) → AgreeOnTouched c is s t → rows_of c s n is ≡ rows_of c t n is
+  rows-local c s t n [] agree = refl
+  rows-local c s t n (i ∷ is) agree =
+      ap (λ (r : Reply). row_of c n i r ∷ rows_of c (step c s n i).0 (n + 1) is) (reply-local laws c s t n i (agree_first c i is s t agree))
+      ∙ ap (λ (rs : List LogRow). row_of c n i (step c t n i).1 ∷ rs) (rows-local c (step c s n i).0 (step c t n i).0 (n + 1) is (agree_later c n i is s t agree))
+
+  -- and they agree afterwards wherever they did before
+  pub fold-local : (c : Setting) (s t : State) (n : ℕ) (is : List Instruction) → AgreeOnTouched c is s t
+      → (a : ℕ) → account s a ≡ account t a → account (state_after c s n is) a ≡ account (state_after c t n is) a
+  fold-local c s t n [] agree a same = same
+  fold-local c s t n (i ∷ is) agree a same =
+      fold-local c (step c s n i).0 (step c t n i).0 (n + 1) is (agree_later c n i is s t agree) a (after-local laws c s t n i (agree_first c i is s t agree) a same)
+
+  pub numbers_more : (c : Setting) (s t : State) (number : ℕ) (i : Instruction) (reply : Reply) → ◌≡◌ {A = State × Reply} (t, reply) (step c s number i) → numbers t ≡ numbers s
+  numbers_more c s t number i reply stepped = ap (λ (r : State × Reply). numbers r.0) stepped ∙ laws.numbers_stay c s number i
 
 -- one instruction more, in a loop
 pub rows_more : (c : Setting) (s t : State) (is : List Instruction) (j last number : ℕ) (i : Instruction) (reply : Reply) (rows more all : List LogRow) (row : LogRow)
@@ -85,6 +89,3 @@ state_more c s t is j last number i reply all lt at counted stepped so_far =
     ap (λ (r : State × Reply). state_after c r.0 (last + 1 + 1) (drop (j + 1) is)) stepped_last
     ∙ ap (λ l. state_after c s (last + 1) l) (sym rest)
     ∙ so_far
-
-pub numbers_more : (c : Setting) (s t : State) (number : ℕ) (i : Instruction) (reply : Reply) → ◌≡◌ {A = State × Reply} (t, reply) (step c s number i) → numbers t ≡ numbers s
-numbers_more c s t number i reply stepped = ap (λ (r : State × Reply). numbers r.0) stepped ∙ numbers-stay c s number i

@@ -2,7 +2,9 @@ pub mod Accounts
 pub mod Commits
 pub mod Days
 pub mod Directories
+pub mod StepFacts
 pub mod Folds
+pub mod FirstDays
 pub mod Lookups
 pub mod Marks
 pub mod Orders

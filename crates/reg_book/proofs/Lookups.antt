@@ -3,7 +3,7 @@ use Rattle.std.proofs.Common.{◌≡◌, ℕ, zero, suc, ◌<◌, Bool, true, fa
 use Rattle.std.specs.Prelude.{Contains, MatchOption, IsSome}
 use Rattle.std.proofs.lemmas.Map.Keys.{IsDistinct-cons}
 use Rattle.reg_base.specs.Rising.{IsRising}
-use Rattle.reg_base.proofs.DueDays.{RisesFrom, rises_from}
+use Rattle.reg_base.specs.RisesFrom.{RisesFrom, rises_from}
 use Rattle.std.specs.List.{IsDistinct, AllByRecursion, HoldsAt}
 use Rattle.std.specs.Ordering.{nat_cmp}
 use Rattle.std.specs.declared.cmp.Ordering.TheVariants.{Equal}
@@ -13,10 +13,9 @@ use Rattle.std.proofs.lemmas.List.{get_or-map}
 use Rattle.reg_account.specs.Account.{AccountValue}
 use Rattle.reg_rules.specs.State.{State, account, numbers}
 use Rattle.reg_book.specs.Places.{StandsAt, HasTouched}
-use Rattle.reg_book.specs.Touched.{is_among}
 use Rattle.reg_base.specs.declared.instruction.Instruction.{Instruction}
 use Rattle.reg_base.specs.Directory.{DirectoryValue}
-use Rattle.reg_base.specs.Footprint.{footprint}
+use Rattle.reg_base.specs.Footprint.{footprint, is_among}
 use Rattle.std.proofs.lemmas.List.Elements.{All-from_recursion}
 
 -- the place that a binary search found

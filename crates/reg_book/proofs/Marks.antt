@@ -7,14 +7,15 @@ use Rattle.std.proofs.lemmas.List.{take_more}
 use Rattle.std.proofs.lemmas.List.Folds.{list_any-append, list_any_more}
 use Rattle.reg_base.specs.declared.instruction.Instruction.{Instruction}
 use Rattle.reg_base.specs.Directory.{DirectoryValue}
-use Rattle.reg_base.specs.Footprint.{footprint}
+use Rattle.reg_base.specs.Footprint.{footprint, is_among}
 use Rattle.reg_base.specs.Rising.{IsRising}
-use Rattle.reg_base.proofs.DueDays.{RisesFrom, rises_from}
+use Rattle.reg_base.specs.RisesFrom.{RisesFrom, rises_from}
 use Rattle.reg_account.specs.Account.{AccountValue}
 use Rattle.reg_rules.specs.State.{State, account, numbers}
 use Rattle.reg_book.specs.Fold.{is_touched}
 use Rattle.reg_book.specs.Places.{StandsAt}
-use Rattle.reg_book.specs.Touched.{is_among, touched_of, marked, touched_marks, picked}
+use Rattle.reg_book.specs.Touched.{touched_of}
+use Rattle.reg_book.specs.TouchedMarks.{marked, touched_marks, picked}
 
 -- no account has this number
 abbrev Lacks : State → ℕ → Type 0

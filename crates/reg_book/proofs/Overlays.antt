@@ -1,6 +1,6 @@
 -- Accounts put in the place of those with their numbers.
 use Rattle.std.proofs.Common.{◌≡◌, ◌≢◌, ℕ, zero, suc, ◌<◌, Bool, true, false, cond, eqb, List, [], ◌∷◌, ◌++◌, map, length, get_or, take, drop, Option, Some, None, Ok, Err, refl, sym, ap, subst, ◌∙◌, arith, append_assoc}
-use Rattle.std.specs.Prelude.{unwrap_or, slice_set, IsSomeAnd}
+use Rattle.std.specs.Prelude.{unwrap_or, option_map, slice_set, IsSomeAnd}
 use Rattle.std.specs.List.{AllByRecursion}
 use Rattle.std.specs.FinMap as fin
 use Rattle.std.proofs.lemmas.List.Elements.{All-contains, All-from_recursion}
@@ -8,14 +8,16 @@ use Rattle.reg_base.specs.Directory.{DirectoryValue}
 use Rattle.std.proofs.lemmas.Bool.{eq-eqb, ne_eqb}
 use Rattle.std.proofs.lemmas.List.{take-append-drop, take_at, drop_at}
 use Rattle.std.specs.Ordering.{nat_cmp}
+use Rattle.std.proofs.lemmas.Option.{same_Some}
+use Rattle.reg_base.specs.declared.kinds.AccountKind.{AccountKind}
 use Rattle.std.specs.List.Sorted.{IsBinarySearchResult}
 use Rattle.reg_base.specs.Rising.{IsRising}
-use Rattle.reg_base.proofs.DueDays.{RisesFrom, rises_from}
+use Rattle.reg_base.specs.RisesFrom.{RisesFrom, rises_from}
 use Rattle.reg_account.specs.Account.{AccountValue}
 use Rattle.reg_rules.specs.State.{State, account, numbers}
-use Rattle.reg_book.specs.Book.{overlay, entry_of, IsNext, IsKept}
+use Rattle.reg_book.specs.Book.{overlay, entry_of, directory_of, IsNext, IsKept}
 use Rattle.reg_book.proofs.Accounts.{low_number, account_at, number_found, searched_err}
-use Rattle.reg_book.proofs.Directories.{found_in, eqb-sym}
+use Rattle.reg_book.proofs.Directories.{found_in, eqb-sym, listing, get-directory_of}
 
 -- accounts of other numbers stay
 over_others : (xs : State) (w : AccountValue) → ((p : ℕ) (d : AccountValue) → p < length xs → (get_or xs p d).number ≢ w.number) → overlay xs (w ∷ []) ≡ xs
@@ -133,3 +135,20 @@ kept_after xs ys others directory next after kept is stand fits =
       };
       listed = kept.listed ∙ ap (λ es. fin.from_entries es) (sym entries);
     })
+
+-- an account of the same kind and holder
+same_listing : (v : AccountValue) (o p : Option AccountValue) → option_map listing p ≡ option_map listing o
+    → IsSomeAnd o (λ w. (w.kind ≡ v.kind) × (w.holder ≡ v.holder)) → IsSomeAnd p (λ w. (w.kind ≡ v.kind) × (w.holder ≡ v.holder))
+same_listing v None p same stands = absurd stands
+same_listing v (Some w) None same stands = absurd cc
+same_listing v (Some w) (Some u) same stands =
+    let is : ◌≡◌ {A = AccountKind × ℕ} (listing u) (listing w) = same_Some (listing u) (listing w) same in
+    (ap (λ (l : AccountKind × ℕ). l.0) is ∙ stands.0, ap (λ (l : AccountKind × ℕ). l.1) is ∙ stands.1)
+
+-- where the directory stays, accounts that stood in the book stand in it
+pub stand_still : (xs ys others : State) → directory_of ys ≡ directory_of xs → StandIn xs others → StandIn ys others
+stand_still xs ys [] same stand = tt
+stand_still xs ys (v ∷ vs) same stand =
+    let listed : option_map listing (account ys v.number) ≡ option_map listing (account xs v.number) =
+    sym (get-directory_of ys v.number) ∙ ap (λ d. fin.get d v.number) same ∙ get-directory_of xs v.number in
+    (same_listing v (account xs v.number) (account ys v.number) listed stand.0, stand_still xs ys vs same stand.1)

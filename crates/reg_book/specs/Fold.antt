@@ -1,9 +1,9 @@
 -- Executing the instructions one after another.
-use Rattle.std.specs.Prelude.{ℕ, ◌+◌, Bool, ◌==◌, List, [], ◌∷◌}
+use Rattle.std.specs.Prelude.{ℕ, ◌+◌, Bool, List, [], ◌∷◌}
 use Rattle.std.specs.List.{list_any}
 use Rattle.reg_base.specs.declared.instruction.Instruction.{Instruction}
 use Rattle.reg_base.specs.Directory.{DirectoryValue}
-use Rattle.reg_base.specs.Footprint.{footprint}
+use Rattle.reg_base.specs.Footprint.{footprint, is_among}
 use Rattle.reg_rules.specs.declared.reply.LogRow.{LogRow}
 use Rattle.reg_rules.specs.State.{State, Setting}
 use Rattle.reg_rules.specs.Step.{step, row_of}
@@ -20,4 +20,4 @@ rows_of c s number (i ∷ is) = row_of c number i (step c s number i).1 ∷ rows
 
 -- some instruction touches the account
 abbrev pub is_touched : DirectoryValue → List Instruction → ℕ → Bool
-is_touched directory is a = list_any (λ i. list_any (λ b. b == a) (footprint directory i.act)) is
+is_touched directory is a = list_any (λ i. is_among (footprint directory i.act) a) is

@@ -4,7 +4,7 @@ use Rattle.std.specs.Option.{option_map_or}
 use Rattle.std.specs.List.{All, IsDistinct}
 use Rattle.reg_base.specs.declared.instruction.Instruction.{Instruction}
 use Rattle.reg_base.specs.Directory.{DirectoryValue}
-use Rattle.reg_base.specs.Footprint.{footprint}
+use Rattle.reg_base.specs.Footprint.{footprint, is_among}
 use Rattle.reg_account.specs.Account.{AccountValue, IsAccount}
 use Rattle.reg_rules.specs.State.{State, Setting, numbers, account}
 use Rattle.reg_base.specs.Rules.{RulesValue}
@@ -12,7 +12,6 @@ use Rattle.reg_base.specs.Batch.{BatchValue}
 use Rattle.reg_book.specs.Book.{BookValue, IsBook}
 use Rattle.reg_book.specs.Settled.{settled_day, closing_state, committed}
 use Rattle.reg_book.specs.Fold.{state_after, is_touched}
-use Rattle.reg_book.specs.Touched.{is_among}
 
 -- the account after the first j instructions
 abbrev pub value_at : Setting → State → ℕ → List Instruction → ℕ → ℕ → Option AccountValue

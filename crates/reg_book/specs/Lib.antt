@@ -2,6 +2,7 @@ pub mod Book
 pub mod Fold
 pub mod Places
 pub mod Touched
+pub mod TouchedMarks
 pub mod Settled
 pub mod Settling
 pub mod Laws

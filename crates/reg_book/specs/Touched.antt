@@ -1,32 +1,10 @@
 -- The accounts that a batch touches.
-use Rattle.std.specs.Prelude.{ℕ, Bool, ◌==◌, ◌||◌, List, [], ◌∷◌, filter, if◌then◌else◌}
-use Rattle.std.specs.List.{list_any}
+use Rattle.std.specs.Prelude.{List, filter}
 use Rattle.reg_base.specs.declared.instruction.Instruction.{Instruction}
 use Rattle.reg_base.specs.Directory.{DirectoryValue}
 use Rattle.reg_rules.specs.State.{State}
 use Rattle.reg_book.specs.Fold.{is_touched}
 
--- the number stands in the list
-abbrev pub is_among : List ℕ → ℕ → Bool
-is_among ns a = list_any (λ n. n == a) ns
-
 -- the accounts that some instruction touches, in their order
 abbrev pub touched_of : DirectoryValue → List Instruction → State → State
 touched_of directory is s = filter (λ v. is_touched directory is v.number) s
-
--- marks beside accounts, with one more at each account whose number stands in the list
-abbrev pub marked : List Bool → State → List ℕ → List Bool
-marked [] s ns = []
-marked (m ∷ ms) [] ns = m ∷ ms
-marked (m ∷ ms) (v ∷ vs) ns = (m || is_among ns v.number) ∷ marked ms vs ns
-
--- whether some instruction touches it, for each account
-abbrev pub touched_marks : DirectoryValue → List Instruction → State → List Bool
-touched_marks directory is [] = []
-touched_marks directory is (v ∷ vs) = is_touched directory is v.number ∷ touched_marks directory is vs
-
--- the accounts that are marked
-abbrev pub picked : List Bool → State → State
-picked [] s = []
-picked (m ∷ ms) [] = []
-picked (m ∷ ms) (v ∷ vs) = if m then v ∷ picked ms vs else picked ms vs

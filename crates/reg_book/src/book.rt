@@ -45,7 +45,7 @@ impl Model for Book {
 
 impl Book {
     ghost use Rattle.reg_book.specs.Book.{directory_of, IsBook, IsKept, total_held};
-    ghost use Rattle.reg_book.specs.Settled.{IsOfBook, committed};
+    ghost use Rattle.reg_book.specs.Settled.{SettledValue, IsOfBook, committed};
 
     /// The book of these accounts, which stand in the order of their numbers and in the directory.
     pub(crate) fn from_sorted(accounts: Vec<Account>, directory: Directory, next: u64) -> Self
@@ -108,9 +108,11 @@ impl Book {
     /// number; the book is unchanged.
     pub fn commit(&mut self, settled: Settled) -> Result<Log, (Settled, Stale)>
         requires { settled.base + 1 ≡ self.old.next → IsOfBook self.old settled }
-        ensures { MatchResult result
+        ensures answer { MatchResult result
             (λ log. (settled.base + 1 ≡ self.old.next) × (self.new ≡ committed self.old settled) × (log ≡ settled.rows))
             (λ e. (settled.base + 1 ≢ self.old.next) × (self.new ≡ self.old) × (e.0 ≡ settled) × (e.1.next ≡ self.old.next)) }
+        ensures directory { directory_of self.new.accounts ≡ directory_of self.old.accounts }
+        ensures of_book { (other : SettledValue) → IsOfBook self.old other → IsOfBook self.new other }
     {
         let next = self.next;
         if settled.base() + 1 != next {

@@ -13,8 +13,9 @@ use crate::settled::Settled;
 use crate::touched::copy_touched;
 use crate::turn::{Turn, take_turn};
 use reg_account::Account;
+use reg_base::laws::each_footprint_is_sound;
 use reg_base::{Batch, Directory, NoMemory, RecordNo, Rules};
-use reg_rules::{LogRow, log_row};
+use reg_rules::{LogRow, log_row, step_laws};
 use std::alloc::Global;
 use thiserror::Error;
 
@@ -70,6 +71,9 @@ fn settle_batch(
     ensures settled { IfOk result (λ s. s ≡ settled_day book.now rules.now batch.now) }
     ensures of_book { IfOk result (λ s. IsOfBook book.now s) }
 {
+    // What is settled on the touched accounts alone is what is settled on all.
+    step_laws();
+    each_footprint_is_sound();
     let directory = book.directory();
     let mut accounts = copy_touched(alloc, book.accounts(), directory, batch.instructions())?;
     let rows = settle_all(alloc, rules, batch, directory, &mut accounts)?;
@@ -89,6 +93,7 @@ fn settle_all(
     ensures rows { IfOk result (λ rows. rows.items ≡ rows_of (record { rules = rules.now; day = batch.now.day; directory = directory.now }) accounts.old (batch.now.base + 1) batch.now.instructions) }
     ensures accounts { OnOk result (accounts.new ≡ state_after (record { rules = rules.now; day = batch.now.day; directory = directory.now }) accounts.old (batch.now.base + 1) batch.now.instructions) }
 {
+    step_laws();
     let day = batch.day();
     let instructions = batch.instructions();
     let mut rows = Vec::with_capacity(alloc, instructions.len())?;

@@ -1,6 +1,6 @@
 //! What no clause says of a settled day: that the calls succeed where memory is left, and the worked values.
 
-use crate::{Book, BookDraft, SettleFault, Settled, settle_plain};
+use crate::{Book, BookDraft, SettleFault, Settled, Stale, settle_plain};
 use reg_account::{Account, AccountParts, Holdings};
 use reg_base::{
     AccountKind, AccountNo, Act, AllowanceKind, Batch, Calendar, Day, HolderNo, Instruction,
@@ -240,20 +240,45 @@ fn an_empty_batch_changes_nothing(rt: HostRuntime) -> Result<(), Fail> {
 fn a_committed_day_is_in_the_book(rt: HostRuntime) -> Result<(), Fail> {
     let rules = rules(rt.alloc())?;
     let mut book = book(rt.alloc(), 100, 0)?;
-    let batch = batch(rt.alloc(), 0, &[(1, 2, 70)])?;
-    let first = settle_plain(rt.alloc(), &book, &rules, &batch)?;
-    match book.commit(first) {
+    let batch = batch(rt.alloc(), 0, &[(1, 2, 40)])?;
+    let settled = settle_plain(rt.alloc(), &book, &rules, &batch)?;
+    match book.commit(settled) {
         Ok(log) => {
             assert_eq!(rt;
                 lines(rt.alloc(), log.as_slice())?.as_slice(),
-                [Line::Done(1, 30, 70)].as_slice()
+                [Line::Done(1, 60, 40)].as_slice()
             );
         }
         Err(_) => return Err("stale")?,
     }
-    assert_eq!(rt; book.next_record(), 2);
     let account = book.get(no(2)?).ok_or("account 2")?;
-    assert_eq!(rt; account.held(AllowanceKind::General), 70);
+    assert_eq!(rt; account.held(AllowanceKind::General), 40);
+    Ok(())
+}
+
+#[test]
+fn of_two_settled_days_one_is_stale(rt: HostRuntime) -> Result<(), Fail> {
+    let rules = rules(rt.alloc())?;
+    let mut book = book(rt.alloc(), 100, 0)?;
+    let batch = batch(rt.alloc(), 0, &[(1, 2, 40)])?;
+    let first = settle_plain(rt.alloc(), &book, &rules, &batch)?;
+    let second = settle_plain(rt.alloc(), &book, &rules, &batch)?;
+    match book.commit(first) {
+        Ok(log) => assert_eq!(rt; log.as_slice().len(), 1),
+        Err(_) => return Err("the first is stale")?,
+    }
+    assert_eq!(rt; book.next_record(), 2);
+    match book.commit(second) {
+        Ok(_) => return Err("the second is taken")?,
+        Err((given_back, stale)) => {
+            assert_eq!(rt; stale, Stale { next: 2 });
+            assert_eq!(rt;
+                lines(rt.alloc(), given_back.rows())?.as_slice(),
+                [Line::Done(1, 60, 40)].as_slice()
+            );
+        }
+    }
+    assert_eq!(rt; book.next_record(), 2);
     let late = settle_plain(rt.alloc(), &book, &rules, &batch);
     assert_eq!(rt; late.err(), Some(SettleFault::WrongBase { next: 2 }));
     Ok(())

@@ -3,7 +3,8 @@
 ghost use Rattle.std.specs.Prelude.{◌≡◌, [], IfOk, length};
 ghost use Rattle.reg_base.specs.Rising.{IsRising};
 ghost use Rattle.reg_rules.specs.State.{numbers};
-ghost use Rattle.reg_book.specs.Touched.{touched_of, touched_marks, marked, picked};
+ghost use Rattle.reg_book.specs.Touched.{touched_of};
+ghost use Rattle.reg_book.specs.TouchedMarks.{touched_marks, marked, picked};
 
 use crate::places::place_of;
 use reg_account::Account;

@@ -11,7 +11,7 @@ ghost use Rattle.reg_book.specs.Places.{HasTouched};
 use crate::places::place_of;
 use reg_account::Account;
 use reg_base::{Day, Directory, Instruction, NoMemory, RecordNo, Rules};
-use reg_rules::{Reply, execute};
+use reg_rules::{Reply, execute, step_laws};
 use std::alloc::Global;
 
 /// An instruction with its record number, and what stays the same while its day is settled.
@@ -69,6 +69,7 @@ fn turn_of_one(
     requires touches { footprint turn.now.directory.now turn.now.instruction.now.act ≡ slice_index (numbers accounts.old) place ∷ [] }
     ensures { IfOk result (λ reply. (accounts.new, reply) ≡ step (record { rules = turn.now.rules.now; day = turn.now.day; directory = turn.now.directory.now }) accounts.old turn.now.number turn.now.instruction.now) }
 {
+    step_laws();
     accounts.swap(0, place);
     let reply = turn_at_front(alloc, turn, accounts, 1);
     accounts.swap(0, place);
@@ -90,6 +91,7 @@ fn turn_of_two(
     requires touches { footprint turn.now.directory.now turn.now.instruction.now.act ≡ slice_index (numbers accounts.old) first ∷ slice_index (numbers accounts.old) second ∷ [] }
     ensures { IfOk result (λ reply. (accounts.new, reply) ≡ step (record { rules = turn.now.rules.now; day = turn.now.day; directory = turn.now.directory.now }) accounts.old turn.now.number turn.now.instruction.now) }
 {
+    step_laws();
     // The first swap moves the second account where that one was at the front.
     let second_now = if second == 0 { first } else { second };
     accounts.swap(0, first);
@@ -113,6 +115,8 @@ fn turn_at_front(
     ensures ok { IfOk result (λ reply. (accounts.new, reply) ≡ step (record { rules = turn.now.rules.now; day = turn.now.day; directory = turn.now.directory.now }) accounts.old turn.now.number turn.now.instruction.now) }
     ensures count { length accounts.new ≡ length accounts.old }
 {
+    // A step depends on the accounts that it touches alone.
+    step_laws();
     execute(
         alloc,
         turn.rules,

@@ -1,9 +1,11 @@
 pub mod Changes
-pub mod Footprints
 pub mod Numbers
 pub mod Passed
 pub mod Acts
+pub mod Effects
+pub mod Movements
 pub mod Steps
 pub mod Locality
 pub mod Moves
 pub mod Limits
+pub mod Constants

@@ -13,8 +13,8 @@ use Rattle.reg_base.specs.declared.instruction.Act.TheVariants.{Transfer}
 use Rattle.reg_base.specs.declared.instruction.Instruction.{Instruction}
 use Rattle.reg_base.specs.Calendar.{due}
 use Rattle.reg_base.specs.Rules.{RulesValue}
-use Rattle.reg_base.specs.Footprint.{all_known}
-use Rattle.reg_rules.specs.State.{State, Setting, account_passes, held}
+use Rattle.reg_base.specs.Footprint.{all_known, footprint}
+use Rattle.reg_rules.specs.State.{State, Setting, accounts_at, account_passes, held}
 
 -- the kinds of the accounts that holders have
 abbrev pub is_holder_kind : AccountKind → Bool
@@ -73,7 +73,7 @@ is_short s (Transfer from to kind amount) = nat_lt (held s from kind) amount
 abbrev pub overfills : State → Act → Bool
 overfills s (Transfer from to kind amount) = nat_lt MOST_HELD (held s to kind + amount)
 
--- the check of this name fails
+-- the check of this name fails on these accounts
 abbrev pub fails : Setting → State → Instruction → Refusal → Bool
 fails c s i UnknownAccount = not (all_known c.directory i.act)
 fails c s i SameAccount = names_one_account i.act
@@ -108,6 +108,10 @@ fails c s i EmissionsMissing = false
 abbrev pub checks : List Refusal
 checks = UnknownAccount ∷ SameAccount ∷ WrongAccountKind ∷ SourceStatus ∷ DestinationStatus ∷ OutsideCalendar ∷ NotDue ∷ ZeroAmount ∷ NotEnough ∷ HoldingTooLarge ∷ []
 
--- the first check that fails, or none
+-- the accounts that the instruction touches, in their order
+abbrev pub touched_accounts : Setting → State → Instruction → State
+touched_accounts c s i = accounts_at s (footprint c.directory i.act)
+
+-- the first check that fails on the accounts that the instruction touches, or none
 abbrev pub refusal : Setting → State → Instruction → Option Refusal
-refusal c s i = find (fails c s i) checks
+refusal c s i = find (fails c (touched_accounts c s i) i) checks

@@ -1,12 +1,41 @@
--- What an accepted act makes of each account.
+-- What an accepted act makes of the accounts that it touches.
 use Rattle.std.specs.Prelude.{◌≡◌, ◌≢◌, ℕ, ◌+◌, ◌≤◌, ◌==◌, map, if◌then◌else◌}
 use Rattle.std.specs.List.{AllByRecursion}
 use Rattle.reg_base.specs.declared.limits.TheConstants.{MOST_HELD}
 use Rattle.reg_base.specs.declared.kinds.AllowanceKind.{AllowanceKind}
 use Rattle.reg_base.specs.declared.instruction.Act.{Act}
 use Rattle.reg_base.specs.declared.instruction.Act.TheVariants.{Transfer}
+use Rattle.reg_base.specs.declared.instruction.Instruction.{Instruction}
+use Rattle.reg_base.specs.Footprint.{footprint, is_among}
+use Rattle.reg_account.specs.declared.parts.Holdings.{Holdings}
 use Rattle.reg_account.specs.Account.{AccountValue, held_by, credited, debited}
 use Rattle.reg_rules.specs.State.{State, Setting}
+
+-- what the account holds after so many allowances of a kind went from one account to another
+abbrev pub held_after_move : ℕ → ℕ → AllowanceKind → ℕ → AccountValue → Holdings
+held_after_move from to kind amount v =
+    if v.number == from then (debited v kind amount).held else if v.number == to then (credited v kind amount).held else v.held
+
+-- the account after such a move
+abbrev pub after_move : ℕ → ℕ → AllowanceKind → ℕ → AccountValue → AccountValue
+after_move from to kind amount v = record v { held = held_after_move from to kind amount v }
+
+-- what the account holds after the act
+abbrev pub held_after : Act → AccountValue → Holdings
+held_after (Transfer from to kind amount) v = held_after_move from to kind amount v
+
+-- the account after the act, which is carried out under this record number: an act changes what an account holds, and nothing else of it
+abbrev pub changed_by : Setting → ℕ → Act → AccountValue → AccountValue
+changed_by c number act v = record v { held = held_after act v }
+
+-- the state after the instruction: the accounts that it touches are changed, every other stays
+abbrev pub effect : Setting → State → ℕ → Instruction → State
+effect c s number i = map (λ v. if is_among (footprint c.directory i.act) v.number then changed_by c number i.act v else v) s
+
+-- the account has the allowances that leave it, and room for those that reach it
+abbrev pub CanMove : ℕ → ℕ → AllowanceKind → ℕ → AccountValue → Type 0
+CanMove from to kind amount v =
+    (v.number ≡ from → amount ≤ held_by v kind) × (v.number ≡ to → held_by v kind + amount ≤ MOST_HELD)
 
 -- each account of this number holds the amount
 abbrev pub HoldAtLeast : State → ℕ → AllowanceKind → ℕ → Type 0
@@ -16,14 +45,14 @@ HoldAtLeast s a kind amount = AllByRecursion (λ v. v.number ≡ a → amount �
 abbrev pub HaveRoom : State → ℕ → AllowanceKind → ℕ → Type 0
 HaveRoom s a kind amount = AllByRecursion (λ v. v.number ≡ a → held_by v kind + amount ≤ MOST_HELD) s
 
--- what the change of an act needs of the accounts
+-- what the change of an act needs of an account
+abbrev pub CanChange : Act → AccountValue → Type 0
+CanChange (Transfer from to kind amount) v = CanMove from to kind amount v
+
+-- the act names two accounts where it needs two
+abbrev pub NamesApart : Act → Type 0
+NamesApart (Transfer from to kind amount) = from ≢ to
+
+-- what the change of an act needs
 abbrev pub CanApply : State → Act → Type 0
-CanApply s (Transfer from to kind amount) = (from ≢ to) × HoldAtLeast s from kind amount × HaveRoom s to kind amount
-
--- the account after the act, which is carried out under this record number
-abbrev pub changed_by : Setting → ℕ → Act → AccountValue → AccountValue
-changed_by c number (Transfer from to kind amount) v = if v.number == from then debited v kind amount else if v.number == to then credited v kind amount else v
-
--- the state after the act
-abbrev pub effect : Setting → State → ℕ → Act → State
-effect c s number act = map (changed_by c number act) s
+CanApply s act = NamesApart act × AllByRecursion (CanChange act) s

@@ -1,7 +1,8 @@
 -- The laws of a step, in the words of what the states say of each account number.
-use Rattle.std.specs.Prelude.{◌≡◌, ◌≢◌, ℕ, ◌+◌, ◌-◌, ◌≤◌, nat_eq, List, Option, Some, None}
+use Rattle.std.specs.Prelude.{◌≡◌, ◌≢◌, ℕ, ℤ, ◌+◌, ◌-◌, ◌≤◌, Bool, nat_eq, List, Option, Some, None}
 use Rattle.std.specs.Option.{option_map}
 use Rattle.std.specs.List.{All, Contains, IsDistinct}
+use Rattle.reg_base.specs.declared.kinds.AccountKind.{AccountKind}
 use Rattle.reg_base.specs.declared.kinds.AllowanceKind.{AllowanceKind}
 use Rattle.reg_base.specs.declared.refusals.Refusal.{Refusal}
 use Rattle.reg_base.specs.declared.instruction.Act.TheVariants.{Transfer}
@@ -26,6 +27,18 @@ reply_to c s number i = (step c s number i).1
 abbrev pub AgreeOn : List ℕ → State → State → Type 0
 AgreeOn wanted s t = All (λ a. account s a ≡ account t a) wanted
 
+-- what no act changes of an account
+pub record Constants : Type 0 where
+  pub number : ℕ
+  pub kind : AccountKind
+  pub holder : ℕ
+  pub outside : Bool
+  pub waiver : Bool
+  pub correction : ℤ
+
+abbrev pub constants_of : AccountValue → Constants
+constants_of v = record { number = v.number; kind = v.kind; holder = v.holder; outside = v.outside; waiver = v.waiver; correction = v.correction }
+
 -- what an account is but for what it holds
 abbrev pub set_aside : AccountValue → AccountValue
 set_aside v = record v { held = record { general = 0; aviation = 0 } }
@@ -48,6 +61,11 @@ OthersStay = (c : Setting) (s : State) (number : ℕ) (i : Instruction) (a : ℕ
 -- no account comes, goes or moves
 abbrev pub NumbersStay : Type 0
 NumbersStay = (c : Setting) (s : State) (number : ℕ) (i : Instruction) → numbers (state_after c s number i) ≡ numbers s
+
+-- an account keeps its kind, its holder, its permissions and its correction factor
+abbrev pub ConstantsStay : Type 0
+ConstantsStay = (c : Setting) (s : State) (number : ℕ) (i : Instruction) (a : ℕ)
+    → option_map constants_of (account (state_after c s number i) a) ≡ option_map constants_of (account s a)
 
 -- a refused instruction changes nothing, and its reply is the refusal
 abbrev pub RefusedChangesNothing : Type 0
@@ -76,3 +94,13 @@ SameState = (s t : State) → IsDistinct nat_eq (numbers s) → numbers s ≡ nu
 abbrev pub LimitsStay : Type 0
 LimitsStay = (c : Setting) (s : State) (number : ℕ) (i : Instruction)
     → IsDistinct nat_eq (numbers s) → All IsAccount s → All IsAccount (state_after c s number i)
+
+-- what holds of every step, whatever its act
+pub record StepLaws : Type 0 where
+  pub local : StepIsLocal
+  pub others_stay : OthersStay
+  pub numbers_stay : NumbersStay
+  pub constants_stay : ConstantsStay
+  pub refused_changes_nothing : RefusedChangesNothing
+  pub limits_stay : LimitsStay
+  pub same_state : SameState

@@ -1,5 +1,5 @@
 -- A state is the list of its accounts' values. What the rules read of it are maps from account numbers.
-use Rattle.std.specs.Prelude.{ℕ, Bool, false, ◌==◌, List, map, find, Option, if◌then◌else◌}
+use Rattle.std.specs.Prelude.{ℕ, Bool, false, ◌==◌, List, map, find, filter_map, Option, if◌then◌else◌}
 use Rattle.std.specs.Option.{option_map_or}
 use Rattle.reg_base.specs.declared.kinds.AllowanceKind.{AllowanceKind}
 use Rattle.reg_base.specs.Rules.{RulesValue}
@@ -22,6 +22,10 @@ numbers s = map (λ v. v.number) s
 -- the account of this number
 abbrev pub account : State → ℕ → Option AccountValue
 account s a = find (λ v. v.number == a) s
+
+-- the accounts of these numbers, in their order
+abbrev pub accounts_at : State → List ℕ → State
+accounts_at s numbers = filter_map (account s) numbers
 
 -- whether the account is there and passes the test
 abbrev pub account_passes : (AccountValue → Bool) → State → ℕ → Bool

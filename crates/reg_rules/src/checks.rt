@@ -1,13 +1,14 @@
 //! The checks of an instruction, in the order of their table.
 
-ghost use Rattle.std.specs.Prelude.{◌≡◌, ◌≤◌};
+ghost use Rattle.std.specs.Prelude.{◌≡◌, ◌≤◌, find};
 ghost use Rattle.std.specs.Option.{option_copied};
 ghost use Rattle.reg_base.specs.declared.limits.TheConstants.{MOST_HELD};
 ghost use Rattle.reg_base.specs.Footprint.{footprint, all_known};
 ghost use Rattle.reg_rules.specs.State.{Setting, numbers, account, held};
-ghost use Rattle.reg_rules.specs.Checks.{is_holder_kind, is_opened, is_closed, names_one_account, has_right_kinds, source_allows, destination_allows, due_day, moves_nothing, is_short, overfills, fails, refusal};
+ghost use Rattle.reg_rules.specs.Checks.{is_holder_kind, is_opened, is_closed, names_one_account, has_right_kinds, source_allows, destination_allows, due_day, moves_nothing, is_short, overfills, fails, checks, refusal};
 
 use reg_account::Account;
+use reg_base::laws::each_footprint_is_sound;
 use reg_base::{
     AccountKind, AccountNo, Act, AllowanceKind, Day, Directory, Instruction, MOST_HELD, RecordNo,
     Refusal, Rules, Status,
@@ -42,6 +43,20 @@ pub fn decide(
     ensures { result ≡ refusal (record { rules = rules.now; day = day; directory = directory.now }) accounts.now instruction.now }
 {
     let _unused_yet = number;
+    each_footprint_is_sound();
+    first_failing(rules, day, instruction, directory, accounts)
+}
+
+// The first check that fails on these accounts.
+fn first_failing(
+    rules: &Rules,
+    day: Day,
+    instruction: &Instruction,
+    directory: &Directory,
+    accounts: &[Account],
+) -> Option<Refusal>
+    ensures { result ≡ find (fails (record { rules = rules.now; day = day; directory = directory.now }) accounts.now instruction.now) checks }
+{
     CHECKS.iter().copied().find(|check| refuses(
         *check,
         rules,

@@ -8,9 +8,7 @@ mod reply;
 mod settle;
 
 pub use checks::decide;
-pub use laws::{
-    limits_stay, others_stay, refused_changes_nothing, same_state, step_is_local, transfer_moves,
-};
+pub use laws::{step_laws, transfer_moves};
 pub use reply::{Closing, HeldNow, LogRow, Reply};
 pub use settle::{execute, log_row};
 

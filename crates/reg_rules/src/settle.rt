@@ -1,17 +1,18 @@
 //! Carrying out one instruction.
 
-ghost use Rattle.std.specs.Prelude.{◌≡◌, ℕ, ◌≤◌, None, IfOk, OnErr, length, map, vec_len, vec_capacity};
-ghost use Rattle.reg_base.specs.declared.instruction.Act.TheVariants.{Transfer};
+ghost use Rattle.std.specs.Prelude.{◌≡◌, ◌≢◌, ◌≤◌, None, IfOk, OnErr, length, map, vec_len, vec_capacity};
+ghost use Rattle.std.specs.List.{AllByRecursion};
 ghost use Rattle.reg_base.specs.Footprint.{footprint};
 ghost use Rattle.reg_account.specs.Account.{credited, debited};
 ghost use Rattle.reg_rules.specs.State.{Setting, numbers, change};
 ghost use Rattle.reg_rules.specs.Checks.{refusal};
-ghost use Rattle.reg_rules.specs.Effect.{effect, HoldAtLeast, HaveRoom, CanApply};
+ghost use Rattle.reg_rules.specs.Effect.{changed_by, after_move, CanMove, HoldAtLeast, HaveRoom, CanApply};
 ghost use Rattle.reg_rules.specs.Step.{step, holdings_of};
 
 use crate::checks::decide;
 use crate::reply::{Closing, HeldNow, LogRow, Reply};
 use reg_account::Account;
+use reg_base::laws::each_footprint_is_sound;
 use reg_base::{
     AccountNo, Act, AllowanceKind, Day, Directory, Instruction, NoMemory, RecordNo, Rules,
 };
@@ -41,6 +42,7 @@ pub fn execute(
     if let Some(refusal) = decide(rules, day, number, instruction, directory, accounts) {
         return Ok(Reply::Refused(refusal));
     }
+    each_footprint_is_sound();
     // The room comes first, so that want of memory finds the accounts as they were.
     let room = Vec::with_capacity(alloc, accounts.len())?;
     apply(number, &instruction.act, accounts);
@@ -65,7 +67,7 @@ pub fn log_row(number: RecordNo, day: Day, instruction: Instruction, reply: Repl
 // The change of an act that no check refuses.
 fn apply(number: RecordNo, act: &Act, accounts: &mut [Account])
     requires { CanApply accounts.old act.now }
-    ensures { (c : Setting) → accounts.new ≡ effect c accounts.old number act.now }
+    ensures { (c : Setting) → accounts.new ≡ map (changed_by c number act.now) accounts.old }
 {
     match *act {
         Act::Transfer {
@@ -73,20 +75,21 @@ fn apply(number: RecordNo, act: &Act, accounts: &mut [Account])
             to,
             kind,
             amount,
-        } => transfer(accounts, from, to, kind, amount),
+        } => move_allowances(accounts, from, to, kind, amount),
     }
 }
 
 // Takes the amount from the one account and gives it to the other.
-fn transfer(
+fn move_allowances(
     accounts: &mut [Account],
     from: AccountNo,
     to: AccountNo,
     kind: AllowanceKind,
     amount: u64,
 )
-    requires { CanApply accounts.old (Transfer from to kind amount) }
-    ensures { (c : Setting) (number : ℕ) → accounts.new ≡ effect c accounts.old number (Transfer from to kind amount) }
+    requires apart { from ≢ to }
+    requires can { AllByRecursion (CanMove from to kind amount) accounts.old }
+    ensures { accounts.new ≡ map (after_move from to kind amount) accounts.old }
 {
     take_from(accounts, from, kind, amount);
     give_to(accounts, to, kind, amount);

@@ -416,10 +416,6 @@ fn records_the_instruction(rt: HostRuntime) -> Result<(), Fail> {
 
 #[test]
 fn calls_the_laws() {
-    step_is_local();
-    others_stay();
-    refused_changes_nothing();
+    step_laws();
     transfer_moves();
-    same_state();
-    limits_stay();
 }

@@ -9,6 +9,8 @@ use Rattle.reg_base.specs.declared.instruction.Act.TheVariants as act
 use Rattle.reg_base.specs.declared.instruction.Instruction.{Instruction}
 use Rattle.reg_text.specs.declared.cause.Cause.TheVariants as cause
 use Rattle.reg_text.specs.declared.reading.instruction_row.ActName.{ActName}
+use Rattle.reg_text.specs.declared.reading.instruction_row.Move.{Move}
+use Rattle.reg_base.specs.declared.kinds.AllowanceKind.{AllowanceKind}
 use Rattle.reg_text.specs.declared.reading.instruction_row.ActName.TheVariants.{Transfer}
 use Rattle.reg_text.specs.Causes.{◌>>=◌}
 use Rattle.reg_text.specs.Records.{Record, field}
@@ -16,9 +18,9 @@ use Rattle.reg_text.specs.Dates.{date, date_of}
 use Rattle.reg_text.specs.Numbers.{number, number_of}
 use Rattle.reg_text.specs.Limits.{account_no_of, user_no_of, approver_text, approver_of}
 use Rattle.reg_text.specs.Words.{named, kind_of}
-use Rattle.reg_text.specs.Spelling.{act_word, act_name, act_fields, instruction_fields}
-use Rattle.reg_text.specs.RowReaders.{act_name_of, fields_for, act_of, instruction_of}
-use Rattle.reg_text.specs.Reading.{IsNo, IsActRow, IsInstructionRow}
+use Rattle.reg_text.specs.Spelling.{act_names, act_word, act_name, move_fields, act_fields, instruction_fields}
+use Rattle.reg_text.specs.RowReaders.{act_name_of, fields_for, move_of, act_of, instruction_of}
+use Rattle.reg_text.specs.Reading.{IsNo, IsMoveRow, IsActRow, IsInstructionRow}
 use Rattle.reg_text.proofs.Binds.{bind_ok, if_ok, unless_ok, ok_is}
 use Rattle.reg_text.proofs.ListFacts.{by_items, cons}
 use Rattle.reg_text.proofs.NumberLaws.{number-spelled, number-again, bounded-spelled, bounded-again, digit-first}
@@ -50,33 +52,46 @@ unfolding approver_of
 approver-again None h = refl
 approver-again (Some n) h = some_by_test (number n) n (digit-first n (omega (arith, h.to))).0 (bounded-again 1 MOST_NUMBER n (omega arith) h.from h.to)
 
--- the act
-pub act-spelled : (name : ActName) (r : Record) (a : Act) → length r ≡ fields_for name → act_of name r ≡ Ok a
-    → (r ≡ field r 0 ∷ field r 1 ∷ field r 2 ∷ field r 3 ∷ field r 4 ∷ act_fields a) × IsActRow a × (act_name a ≡ name)
-act-spelled Transfer r a counts e =
+-- a move of allowances
+move-spelled : (r : Record) (m : Move) → length r ≡ 9 → move_of r ≡ Ok m
+    → (r ≡ field r 0 ∷ field r 1 ∷ field r 2 ∷ field r 3 ∷ field r 4 ∷ move_fields m.from m.to m.kind m.amount) × IsMoveRow m.from m.to m.amount
+move-spelled r m counts e =
     let listed = by_items 9 r [] counts in
-    let from = bind_ok (account_no_of (field r 5)) _ a e in
-    let to = bind_ok (account_no_of (field r 6)) _ a from.2 in
-    let kind = bind_ok (kind_of (field r 7)) _ a to.2 in
-    let amount = bind_ok (number_of (field r 8)) _ a kind.2 in
+    let from = bind_ok (account_no_of (field r 5)) _ m e in
+    let to = bind_ok (account_no_of (field r 6)) _ m from.2 in
+    let kind = bind_ok (kind_of (field r 7)) _ m to.2 in
+    let amount = bind_ok (number_of (field r 8)) _ m kind.2 in
     let f5 = bounded-spelled 1 MOST_NUMBER (field r 5) from.0 from.1 in
     let f6 = bounded-spelled 1 MOST_NUMBER (field r 6) to.0 to.1 in
     let f7 = kind-spelled (field r 7) kind.0 kind.1 in
     let f8 = number-spelled (field r 8) amount.0 amount.1 in
-    let made : Act = act.Transfer from.0 to.0 kind.0 amount.0 in
-    subst (λ (x : Act). (r ≡ field r 0 ∷ field r 1 ∷ field r 2 ∷ field r 3 ∷ field r 4 ∷ act_fields x) × IsActRow x × (act_name x ≡ Transfer)) (ok_is made a amount.2) (
+    let made : Move = record { from = from.0; to = to.0; kind = kind.0; amount = amount.0 } in
+    subst (λ (x : Move). (r ≡ field r 0 ∷ field r 1 ∷ field r 2 ∷ field r 3 ∷ field r 4 ∷ move_fields x.from x.to x.kind x.amount) × IsMoveRow x.from x.to x.amount) (ok_is made m amount.2) (
       listed ∙ cons refl (cons refl (cons refl (cons refl (cons refl (cons f5.0 (cons f6.0 (cons f7 (cons f8.0 refl)))))))),
       record { from_no = record { from = f5.1; to = f5.2 }; to_no = record { from = f6.1; to = f6.2 }; amount_fits = f8.1 },
-      refl,
     )
 
-pub act-again : (a : Act) (f0 f1 f2 f3 f4 : List ℕ) → IsActRow a → act_of (act_name a) (f0 ∷ f1 ∷ f2 ∷ f3 ∷ f4 ∷ act_fields a) ≡ Ok a
-act-again (act.Transfer from to kind amount) f0 f1 f2 f3 f4 h = rw (
+move-again : (from to : ℕ) (kind : AllowanceKind) (amount : ℕ) (f0 f1 f2 f3 f4 : List ℕ) → IsMoveRow from to amount
+    → move_of (f0 ∷ f1 ∷ f2 ∷ f3 ∷ f4 ∷ move_fields from to kind amount) ≡ Ok (record { from = from; to = to; kind = kind; amount = amount })
+move-again from to kind amount f0 f1 f2 f3 f4 h = rw (
   bounded-again 1 MOST_NUMBER from (omega arith) h.from_no.from h.from_no.to,
   bounded-again 1 MOST_NUMBER to (omega arith) h.to_no.from h.to_no.to,
   kind-again kind,
   number-again amount h.amount_fits,
 ) refl
+
+-- the act
+pub act-spelled : (name : ActName) (r : Record) (a : Act) → length r ≡ fields_for name → act_of name r ≡ Ok a
+    → (r ≡ field r 0 ∷ field r 1 ∷ field r 2 ∷ field r 3 ∷ field r 4 ∷ act_fields a) × IsActRow a × (act_name a ≡ name)
+act-spelled Transfer r a counts e =
+    let m = bind_ok (move_of r) _ a e in
+    let spelled = move-spelled r m.0 counts m.1 in
+    let made : Act = act.Transfer m.0.from m.0.to m.0.kind m.0.amount in
+    subst (λ (x : Act). (r ≡ field r 0 ∷ field r 1 ∷ field r 2 ∷ field r 3 ∷ field r 4 ∷ act_fields x) × IsActRow x × (act_name x ≡ Transfer)) (ok_is made a m.2)
+    (spelled.0, spelled.1, refl)
+
+pub act-again : (a : Act) (f0 f1 f2 f3 f4 : List ℕ) → IsActRow a → act_of (act_name a) (f0 ∷ f1 ∷ f2 ∷ f3 ∷ f4 ∷ act_fields a) ≡ Ok a
+act-again (act.Transfer from to kind amount) f0 f1 f2 f3 f4 h = rw (move-again from to kind amount f0 f1 f2 f3 f4 h) refl
 
 pub act_name-again : (name : ActName) → act_name_of (act_word name) ≡ Ok name
 act_name-again Transfer = refl
@@ -97,7 +112,7 @@ instruction-spelled r i e =
     let f1 = date-spelled (field r 1) proposed.0 proposed.1 in
     let f2 = bounded-spelled 1 MOST_NUMBER (field r 2) proposer.0 proposer.1 in
     let f3 = approver-spelled (field r 3) approver.0 approver.1 in
-    let f4 = named-spelled cause.Word act_word (Transfer ∷ []) (field r 4) name.0 name.1 in
+    let f4 = named-spelled cause.Word act_word act_names (field r 4) name.0 name.1 in
     let parts = act-spelled name.0 r wanted.0 (eqb-true _ _ counts.0) wanted.1 in
     let word : field r 4 ≡ act_word (act_name wanted.0) = f4.0 ∙ ap act_word (sym parts.2) in
     let made : Instruction = record { proposed = proposed.0; proposer = proposer.0; approver = approver.0; act = wanted.0 } in

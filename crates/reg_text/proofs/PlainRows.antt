@@ -22,7 +22,7 @@ use Rattle.reg_book.specs.Book.{BookValue, total_held}
 use Rattle.reg_text.specs.Records.{Record}
 use Rattle.reg_text.specs.Words.{kind_word, account_kind_word, status_word, yes_no_word}
 use Rattle.reg_text.specs.Limits.{approver_text}
-use Rattle.reg_text.specs.Spelling.{account_row, act_word, act_name, act_fields, instruction_fields, end_row}
+use Rattle.reg_text.specs.Spelling.{account_row, act_word, act_name, move_fields, act_fields, instruction_fields, end_row}
 use Rattle.reg_text.specs.Log.{refusal_name, figure_field, holding_fields, reply_fields, log_row}
 use Rattle.reg_text.specs.Report.{log_rows, written_book, totals_row, report_rows}
 use Rattle.reg_text.specs.Plain.{IsPlain}
@@ -103,8 +103,11 @@ plain-approver : (user : Option ℕ) → IsPlain (approver_text user)
 plain-approver None = refl
 plain-approver (Some user) = plain-decimal user
 
+plain-move : (from to : ℕ) (kind : AllowanceKind) (amount : ℕ) → Plain (move_fields from to kind amount)
+plain-move from to kind amount = (plain-decimal from, (plain-decimal to, (plain-kind kind, (plain-decimal amount, tt))))
+
 plain-act : (a : Act) → Plain (act_word (act_name a) ∷ act_fields a)
-plain-act (act.Transfer from to kind amount) = (refl, (plain-decimal from, (plain-decimal to, (plain-kind kind, (plain-decimal amount, tt)))))
+plain-act (act.Transfer from to kind amount) = (refl, plain-move from to kind amount)
 
 plain-instruction : (i : Instruction) → Plain (instruction_fields i)
 plain-instruction i = (plain-date i.proposed, (plain-decimal i.proposer, (plain-approver i.approver, plain-act i.act)))

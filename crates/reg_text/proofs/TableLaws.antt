@@ -23,12 +23,12 @@ use Rattle.reg_text.specs.Dates.{date_of}
 use Rattle.reg_text.specs.Limits.{within, bounded_of, approver_of, user_no_of, account_no_of, holder_no_of, held_of, year_of, lag_of, next_of}
 use Rattle.reg_text.specs.Words.{named, kind_word, kind_of, account_kind_word, account_kind_of, status_word, status_of, yes_no_word, yes_no_of}
 use Rattle.reg_text.specs.Tags.{tag_word, followers, tag_after}
-use Rattle.reg_text.specs.Spelling.{act_word}
+use Rattle.reg_text.specs.Spelling.{act_names, act_word}
 use Rattle.reg_text.specs.Lasts.{last_of, is_above, number_of_account}
-use Rattle.reg_text.specs.RowReaders.{format_of, day_of, period_of, lags_of, work_of, account_of, act_name_of, fields_for, act_of, instruction_of}
+use Rattle.reg_text.specs.RowReaders.{format_of, day_of, period_of, lags_of, work_of, account_of, act_name_of, fields_for, move_of, act_of, instruction_of}
 use Rattle.reg_text.specs.Drafts.{DraftValue}
 use Rattle.reg_text.specs.Faults.{is_over, has_room_for, with_format, with_day, with_period, with_lags, with_work, with_account, joined, with_instruction, with_end, with_row, next_draft}
-use Rattle.reg_text.specs.Table.{when, first_cause, fault_of, value_of, number_tests, correction_tests, date_tests, word_tests, approver_tests, act_tests, named_tests, field_tests, order_tests, limit_tests, tagged_tests, tests_of}
+use Rattle.reg_text.specs.Table.{when, first_cause, fault_of, value_of, number_tests, correction_tests, date_tests, word_tests, approver_tests, move_tests, act_tests, named_tests, field_tests, order_tests, limit_tests, tagged_tests, tests_of}
 use Rattle.reg_text.proofs.Binds.{bind_ok, if_ok, test_ok, ok_is}
 
 -- ---- tests one after another
@@ -247,12 +247,15 @@ account-fault : (d : DraftValue) (r : Record) → fault_of (with_account d r) �
 account-fault d r = next (account_of r) _ (field_tests tag.Account r) (order_tests tag.Account d r ++ limit_tests tag.Account d) (account-fields r) (λ a e.
     joined-fault d a (value_of (field r 1)) (value-is (field r 1) 1 MOST_NUMBER a.number (account-number r a e)))
 
-act-fault : (name : ActName) (r : Record) → fault_of (act_of name r) ≡ first_cause (act_tests name r)
-act-fault Transfer r =
+move-fault : (r : Record) → fault_of (move_of r) ≡ first_cause (move_tests r)
+move-fault r =
     next (account_no_of (field r 5)) _ (number_tests 1 MOST_NUMBER (field r 5)) _ (bounded 1 MOST_NUMBER (field r 5)) (λ x5 e5.
     next (account_no_of (field r 6)) _ (number_tests 1 MOST_NUMBER (field r 6)) _ (bounded 1 MOST_NUMBER (field r 6)) (λ x6 e6.
     next (kind_of (field r 7)) _ (word_tests (kind_of (field r 7))) (when (not (is_ok (number_of (field r 8)))) cause.Number ∷ []) (kind-once (field r 7)) (λ x7 e7.
     done (number_of (field r 8)) _ (when (not (is_ok (number_of (field r 8)))) cause.Number ∷ []) (number-once (field r 8)))))
+
+act-fault : (name : ActName) (r : Record) → fault_of (act_of name r) ≡ first_cause (act_tests name r)
+act-fault Transfer r = done (move_of r) _ (move_tests r) (move-fault r)
 
 named-fault : (name : ActName) (r : Record) (read : Result Instruction Cause) → read ≡ (date_of (field r 1) >>= λ proposed. user_no_of (field r 2) >>= λ proposer. approver_of (field r 3) >>= λ approver. act_of name r >>= λ wanted. Ok (record { proposed = proposed; proposer = proposer; approver = approver; act = wanted }))
     → fault_of (counted (fields_for name) r read) ≡ first_cause (named_tests (Ok name) r)
@@ -263,7 +266,7 @@ named-fault name r read is = guarded (eqb (length r) (fields_for name)) cause.Fi
     done (act_of name r) _ (act_tests name r) (act-fault name r)))))
 
 act_name-once : (f : List ℕ) → fault_of (act_name_of f) ≡ first_cause (word_tests (act_name_of f))
-act_name-once f = once cause.Word (act_name_of f) (only-named cause.Word act_word (Transfer ∷ []) f)
+act_name-once f = once cause.Word (act_name_of f) (only-named cause.Word act_word act_names f)
 
 instruction-fields : (r : Record) → fault_of (instruction_of r) ≡ first_cause (field_tests tag.Do r)
 instruction-fields r = refused (nat_lt (length r) 5) cause.Fields _ _ (λ h.

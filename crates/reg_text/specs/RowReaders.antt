@@ -1,5 +1,5 @@
 -- What a record reads as, for each tag: the number of fields first, and then the fields from the left.
-use Rattle.std.specs.Prelude.{ℕ, List, [], ◌∷◌, nat_lt, nat_le, length, Result, Ok, Err, codes, if◌then◌else◌}
+use Rattle.std.specs.Prelude.{ℕ, List, nat_lt, nat_le, length, Result, Ok, Err, codes, if◌then◌else◌}
 use Rattle.std.specs.Str.{bytes_eq}
 use Rattle.reg_base.specs.declared.instruction.Act.{Act}
 use Rattle.reg_base.specs.declared.instruction.Act.TheVariants as act
@@ -9,6 +9,7 @@ use Rattle.reg_text.specs.declared.cause.Cause.{Cause}
 use Rattle.reg_text.specs.declared.cause.Cause.TheVariants as cause
 use Rattle.reg_text.specs.declared.reading.heading_rows.Lags.{Lags}
 use Rattle.reg_text.specs.declared.reading.instruction_row.ActName.{ActName}
+use Rattle.reg_text.specs.declared.reading.instruction_row.Move.{Move}
 use Rattle.reg_text.specs.declared.reading.instruction_row.ActName.TheVariants.{Transfer}
 use Rattle.reg_text.specs.Causes.{◌>>=◌, test}
 use Rattle.reg_text.specs.Records.{Record, field, counted}
@@ -16,7 +17,7 @@ use Rattle.reg_text.specs.Numbers.{number_of}
 use Rattle.reg_text.specs.Signed.{correction_of}
 use Rattle.reg_text.specs.Dates.{date_of}
 use Rattle.reg_text.specs.Limits.{account_no_of, user_no_of, holder_no_of, approver_of, next_of, year_of, lag_of, held_of}
-use Rattle.reg_text.specs.Spelling.{act_word}
+use Rattle.reg_text.specs.Spelling.{act_names, act_word}
 use Rattle.reg_text.specs.Words.{named, kind_of, account_kind_of, status_of, yes_no_of}
 
 -- the version of the format
@@ -66,20 +67,26 @@ account_of r = counted 10 r (do
 
 -- the act that a field names
 abbrev pub act_name_of : List ℕ → Result ActName Cause
-act_name_of = named cause.Word act_word (Transfer ∷ [])
+act_name_of = named cause.Word act_word act_names
 
 -- how many fields the row of an instruction has
 abbrev pub fields_for : ActName → ℕ
 fields_for Transfer = 9
 
--- the act of this name, in the fields from the fifth on
-abbrev pub act_of : ActName → Record → Result Act Cause
-act_of Transfer r = do
+-- allowances that move, in the fields after the act
+abbrev pub move_of : Record → Result Move Cause
+move_of r = do
   from ← account_no_of (field r 5)
   to ← account_no_of (field r 6)
   kind ← kind_of (field r 7)
   amount ← number_of (field r 8)
-  Ok (act.Transfer from to kind amount)
+  Ok (record { from = from; to = to; kind = kind; amount = amount })
+
+-- the act of this name, in the fields after it
+abbrev pub act_of : ActName → Record → Result Act Cause
+act_of Transfer r = do
+  moved ← move_of r
+  Ok (act.Transfer moved.from moved.to moved.kind moved.amount)
 
 -- an instruction: its act is looked at first
 abbrev pub instruction_of : Record → Result Instruction Cause

@@ -69,10 +69,14 @@ count_test count r = when (not (length r == count)) cause.Fields
 
 -- ---- the tests of a row
 
+-- FROM,TO,KIND,AMOUNT
+abbrev pub move_tests : Record → List (Option Cause)
+move_tests r = number_tests 1 MOST_NUMBER (field r 5) ++ (number_tests 1 MOST_NUMBER (field r 6) ++ (word_tests (kind_of (field r 7))
+    ++ (when (not (is_ok (number_of (field r 8)))) cause.Number ∷ [])))
+
 -- the fields of an act
 abbrev pub act_tests : ActName → Record → List (Option Cause)
-act_tests Transfer r = number_tests 1 MOST_NUMBER (field r 5) ++ (number_tests 1 MOST_NUMBER (field r 6) ++ (word_tests (kind_of (field r 7))
-    ++ (when (not (is_ok (number_of (field r 8)))) cause.Number ∷ [])))
+act_tests Transfer r = move_tests r
 
 -- the number of fields for the act, and the fields from the left
 abbrev pub named_tests : Result ActName Cause → Record → List (Option Cause)

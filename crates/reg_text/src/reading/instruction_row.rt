@@ -2,7 +2,7 @@
 
 ghost use Rattle.std.specs.Prelude.{◌≡◌};
 ghost use Rattle.csv.specs.Records.{fields_of};
-ghost use Rattle.reg_text.specs.RowReaders.{instruction_of, act_name_of, act_of, fields_for};
+ghost use Rattle.reg_text.specs.RowReaders.{instruction_of, act_name_of, act_of, move_of, fields_for};
 
 use crate::cause::Cause;
 use crate::fields::dates::read_date;
@@ -11,7 +11,7 @@ use crate::fields::numbers::read_number;
 use crate::fields::words::{is_word, read_kind};
 use crate::reading::row::{field_at, has_fields};
 use csv::ByteRecord;
-use reg_base::{Act, Instruction};
+use reg_base::{AccountNo, Act, AllowanceKind, Instruction};
 
 /// The name of an act.
 #[derive(Clone, Copy, Debug, PartialEq, Eq)]
@@ -42,16 +42,47 @@ fn read_act_name(field: &[u8]) -> Result<ActName, Cause>
     }
 }
 
-// The act of this name in the fields from the fifth on.
+/// What the fields of a move of allowances say.
+#[derive(Clone, Copy, Debug, PartialEq, Eq)]
+pub(crate) struct Move {
+    /// The account that gives.
+    pub from: AccountNo,
+    /// The account that receives.
+    pub to: AccountNo,
+    /// The kind of the allowances.
+    pub kind: AllowanceKind,
+    /// How many allowances, any number.
+    pub amount: u64,
+}
+
+// `FROM,TO,KIND,AMOUNT` in the fields after the act.
+fn read_move(row: &ByteRecord) -> Result<Move, Cause>
+    ensures { result ≡ move_of (fields_of row.now) }
+{
+    let from = read_account_no(field_at(row, 5))?;
+    let to = read_account_no(field_at(row, 6))?;
+    let kind = read_kind(field_at(row, 7))?;
+    let amount = read_number(field_at(row, 8))?;
+    Ok(Move {
+        from,
+        to,
+        kind,
+        amount,
+    })
+}
+
+// The act of this name in the fields after it.
 fn read_act(name: ActName, row: &ByteRecord) -> Result<Act, Cause>
     ensures { result ≡ act_of name (fields_of row.now) }
 {
     match name {
         ActName::Transfer => {
-            let from = read_account_no(field_at(row, 5))?;
-            let to = read_account_no(field_at(row, 6))?;
-            let kind = read_kind(field_at(row, 7))?;
-            let amount = read_number(field_at(row, 8))?;
+            let Move {
+                from,
+                to,
+                kind,
+                amount,
+            } = read_move(row)?;
             Ok(Act::Transfer {
                 from,
                 to,

@@ -13,7 +13,7 @@ loop-instruction-preserved c =
     let noted : c.log_row.result ≡ row_of setting c.unwrap-number.result c.instruction-item.result c.in_ok-reply.reply = c.log_row.ensures in
     record {
       counted = omega arith;
-      same_numbers = numbers_more setting c.loop-instruction.accounts c.take_turn.new.accounts c.unwrap-number.result c.instruction-item.result c.in_ok-reply.reply c.in_ok-reply.ensures ∙ c.loop-instruction.invariant.same_numbers;
+      same_numbers = numbers_more c.step_laws.ensures setting c.loop-instruction.accounts c.take_turn.new.accounts c.unwrap-number.result c.instruction-item.result c.in_ok-reply.reply c.in_ok-reply.ensures ∙ c.loop-instruction.invariant.same_numbers;
       so_far = rows_more setting c.loop-instruction.accounts c.take_turn.new.accounts c.instructions-instructions.result.now c.loop-instruction.instruction-index c.loop-instruction.last c.unwrap-number.result
           c.instruction-item.result c.in_ok-reply.reply c.loop-instruction.rows.items c.push.new.self.items _ c.log_row.result within c.instruction-item.is counted c.in_ok-reply.ensures noted grown c.loop-instruction.invariant.so_far;
       state = state_more setting c.loop-instruction.accounts c.take_turn.new.accounts c.instructions-instructions.result.now c.loop-instruction.instruction-index c.loop-instruction.last c.unwrap-number.result

@@ -29,22 +29,22 @@ settle_all-requires-clause-present c =
     ∙ ap (λ is. touched_of (directory_of book.accounts) is c.accounts.result.now) c.instructions.ensures
     ∙ ap (touched_of (directory_of book.accounts) batch.instructions) c.accounts.ensures.value in
     subst (λ d. HaveTouched d c.deref_mut.result.now batch.instructions) (sym c.directory-directory.ensures)
-    (subst (λ s. HaveTouched (directory_of book.accounts) s batch.instructions) (sym table) (touched-present book.accounts batch.instructions))
+    (subst (λ s. HaveTouched (directory_of book.accounts) s batch.instructions) (sym table) (touched-present c.each_footprint_is_sound.ensures book.accounts batch.instructions))
 
 pub new-requires : goal.new-requires
 new-requires c =
     let size : c.in_ok-accounts.accounts.len ≡ length c.in_ok-accounts.accounts.items = search rules in
-    let day = day-made c.args.book.now c.args.rules.now c.args.batch.now c.directory-directory.result.now c.instructions.result.now c.accounts.result.now
+    let day = day-made c.step_laws.ensures c.args.book.now c.args.rules.now c.args.batch.now c.directory-directory.result.now c.instructions.result.now c.accounts.result.now
     c.in_ok-accounts.accounts.items c.deref_mut.result.now c.settle_all.new.accounts c.in_ok-rows.rows.items c.base.result c.in_ok-accounts.accounts.len
     c.accounts.ensures.kept c.directory-directory.ensures c.instructions.ensures c.accounts.ensures.value c.in_ok-accounts.ensures c.deref_mut.ensures.value
     c.in_ok-rows.ensures.rows c.in_ok-rows.ensures.accounts c.base.ensures.value size in
-    subst IsSettled (sym day) (settled-kept c.args.book.now c.args.rules.now c.args.batch.now c.accounts.ensures.kept c.base.ensures.room)
+    subst IsSettled (sym day) (settled-kept c.step_laws.ensures c.args.book.now c.args.rules.now c.args.batch.now c.accounts.ensures.kept c.base.ensures.room)
 
 pub returns-clause-settled : goal.returns-clause-settled
 returns-clause-settled c =
     let size : c.in_ok-accounts.accounts.len ≡ length c.in_ok-accounts.accounts.items = search rules in
     c.new.ensures
-    ∙ day-made c.args.book.now c.args.rules.now c.args.batch.now c.directory-directory.result.now c.instructions.result.now c.accounts.result.now
+    ∙ day-made c.step_laws.ensures c.args.book.now c.args.rules.now c.args.batch.now c.directory-directory.result.now c.instructions.result.now c.accounts.result.now
     c.in_ok-accounts.accounts.items c.deref_mut.result.now c.settle_all.new.accounts c.in_ok-rows.rows.items c.base.result c.in_ok-accounts.accounts.len
     c.accounts.ensures.kept c.directory-directory.ensures c.instructions.ensures c.accounts.ensures.value c.in_ok-accounts.ensures c.deref_mut.ensures.value
     c.in_ok-rows.ensures.rows c.in_ok-rows.ensures.accounts c.base.ensures.value size
@@ -53,8 +53,8 @@ pub returns-clause-of_book : goal.returns-clause-of_book
 returns-clause-of_book c =
     let size : c.in_ok-accounts.accounts.len ≡ length c.in_ok-accounts.accounts.items = search rules in
     let day = c.new.ensures
-    ∙ day-made c.args.book.now c.args.rules.now c.args.batch.now c.directory-directory.result.now c.instructions.result.now c.accounts.result.now
+    ∙ day-made c.step_laws.ensures c.args.book.now c.args.rules.now c.args.batch.now c.directory-directory.result.now c.instructions.result.now c.accounts.result.now
     c.in_ok-accounts.accounts.items c.deref_mut.result.now c.settle_all.new.accounts c.in_ok-rows.rows.items c.base.result c.in_ok-accounts.accounts.len
     c.accounts.ensures.kept c.directory-directory.ensures c.instructions.ensures c.accounts.ensures.value c.in_ok-accounts.ensures c.deref_mut.ensures.value
     c.in_ok-rows.ensures.rows c.in_ok-rows.ensures.accounts c.base.ensures.value size in
-    subst (IsOfBook c.args.book.now) (sym day) (settled-of_book c.args.book.now c.args.rules.now c.args.batch.now c.accounts.ensures.kept)
+    subst (IsOfBook c.args.book.now) (sym day) (settled-of_book c.step_laws.ensures c.args.book.now c.args.rules.now c.args.batch.now c.accounts.ensures.kept)

@@ -1,6 +1,6 @@
 use Rattle.std.proofs.Common.{length, ap, ◌∙◌}
 use Rattle.std.proofs.lemmas.Result.{IfOk-weaker}
-use Rattle.reg_book.specs.Touched.{picked}
+use Rattle.reg_book.specs.TouchedMarks.{picked}
 use Rattle.reg_book.proofs.Marks.{picked-touched, size-touched_marks}
 use Rattle.reg_book.proofs.touched.copy_touched.Goals as goal
 

@@ -1,5 +1,5 @@
 use Rattle.std.proofs.Common.{◌≡◌, take}
-use Rattle.reg_book.specs.Touched.{marked}
+use Rattle.reg_book.specs.TouchedMarks.{marked}
 use Rattle.reg_book.proofs.touched.mark.Given as goal
 
 abbrev pub invariant-loop-number : goal.invariant-loop-number

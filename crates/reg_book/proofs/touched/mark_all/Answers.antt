@@ -1,5 +1,5 @@
 use Rattle.std.proofs.Common.{length, take, rules, ap, ◌∙◌}
-use Rattle.reg_book.specs.Touched.{marked, touched_marks}
+use Rattle.reg_book.specs.TouchedMarks.{marked, touched_marks}
 use Rattle.reg_book.proofs.Marks.{touched_marks_more, size-touched_marks}
 use Rattle.reg_book.proofs.touched.mark_all.Goals as goal
 

@@ -1,5 +1,5 @@
 use Rattle.std.proofs.Common.{◌≡◌, take}
-use Rattle.reg_book.specs.Touched.{touched_marks}
+use Rattle.reg_book.specs.TouchedMarks.{touched_marks}
 use Rattle.reg_book.proofs.touched.mark_all.Given as goal
 
 abbrev pub invariant-loop-instruction : goal.invariant-loop-instruction

@@ -8,6 +8,6 @@ turn_at_front-reply-requires-clause-distinct c =
 
 pub returns : goal.returns
 returns c =
-    swapped-turn (record { rules = c.args.turn.now.rules.now; day = c.args.turn.now.day; directory = c.args.turn.now.directory.now }) c.args.accounts.now c.swap.new.self
+    swapped-turn c.step_laws.ensures (record { rules = c.args.turn.now.rules.now; day = c.args.turn.now.day; directory = c.args.turn.now.directory.now }) c.args.accounts.now c.swap.new.self
     c.turn_at_front-reply.new.accounts c.swap-2.new.self c.args.turn.now.number c.args.turn.now.instruction.now c.turn_at_front-reply.result 0 c.args.place
     (omega arith) c.requires.within c.requires.distinct c.swap.ensures.after c.turn_at_front-reply.ensures.ok c.swap-2.ensures.after

@@ -25,9 +25,9 @@ pub returns : goal.returns
 returns c =
     let setting : Setting = record { rules = c.args.turn.now.rules.now; day = c.args.turn.now.day; directory = c.args.turn.now.directory.now } in
     let once = distinct-swap c.args.accounts.now c.swap.new.self 0 c.args.first (omega arith) c.requires.first_within c.requires.distinct c.swap.ensures.after in
-    let inner = swapped-turn setting c.swap.new.self c.swap-2.new.self c.turn_at_front-reply.new.accounts c.swap-3.new.self
+    let inner = swapped-turn c.step_laws.ensures setting c.swap.new.self c.swap-2.new.self c.turn_at_front-reply.new.accounts c.swap-3.new.self
     c.args.turn.now.number c.args.turn.now.instruction.now c.turn_at_front-reply.result 1 c.if-second-eq0.second_now
     (omega arith) (omega arith) once c.swap-2.ensures.after c.turn_at_front-reply.ensures.ok c.swap-3.ensures.after in
-    swapped-turn setting c.args.accounts.now c.swap.new.self c.swap-3.new.self c.swap-4.new.self
+    swapped-turn c.step_laws.ensures setting c.args.accounts.now c.swap.new.self c.swap-3.new.self c.swap-4.new.self
     c.args.turn.now.number c.args.turn.now.instruction.now c.turn_at_front-reply.result 0 c.args.first
     (omega arith) c.requires.first_within c.requires.distinct c.swap.ensures.after inner c.swap-4.ensures.after
