@@ -95,7 +95,7 @@ impl Settled {
     pub fn rows(&self) -> &[LogRow]
         ensures { result.now ≡ self.now.rows }
     {
-        &self.rows
+        self.rows.as_slice()
     }
 
     /// The account of this number after the day, where the day touched it.

@@ -1,4 +1,6 @@
 -- The engine's fault for each fault of its parts.
+use Rattle.std.specs.Prelude.{ℕ, ◌<◌, List, length, Option, IfSome, ⊤}
+use Rattle.reg_front.specs.declared.device.TheConstants.{MOST_INPUT}
 use Rattle.reg_text.specs.declared.cause.DayFault.{DayFault}
 use Rattle.reg_text.specs.declared.cause.DayFault.TheVariants as day
 use Rattle.reg_front.specs.declared.device.ReadFault.{ReadFault}
@@ -8,8 +10,17 @@ use Rattle.reg_front.specs.declared.fault.FrontFault.TheVariants as front
 
 -- of the reader
 abbrev pub fault_of_read : ReadFault → FrontFault
-fault_of_read read.Read = front.Read
+fault_of_read read.Failed = front.Read
+fault_of_read read.TooLong = front.Read
+fault_of_read read.TooManyCalls = front.Read
 fault_of_read read.NoMemory = front.NoMemory
+
+-- an input is too long only where it has more bytes than an input may have
+abbrev pub IsReadFault : Option (List ℕ) → ReadFault → Type 0
+IsReadFault input read.Failed = ⊤
+IsReadFault input read.TooLong = IfSome input (λ bytes. MOST_INPUT < length bytes)
+IsReadFault input read.TooManyCalls = ⊤
+IsReadFault input read.NoMemory = ⊤
 
 -- of the text
 abbrev pub fault_of_day : DayFault → FrontFault

@@ -1,8 +1,9 @@
 //! Reading a whole input and writing a whole text, by plain calls of `read` and `write`.
 
-ghost use Rattle.std.specs.Prelude.{◌≡◌, ◌≤◌, IfOk, IfSome, OnOk, OnErr, vec_len};
+ghost use Rattle.std.specs.Prelude.{◌≡◌, ◌≤◌, IfErr, IfOk, IfSome, OnOk, OnErr, vec_len};
 ghost use Rattle.std.specs.Io.KnownBytes.{Appends, IsAtEnd};
 ghost use Rattle.reg_front.specs.Devices.{AppendsFrontOf, ConsumesFront};
+ghost use Rattle.reg_front.specs.Faults.{IsReadFault};
 
 use std::alloc::Global;
 use std::io::{Read, Write};
@@ -19,8 +20,12 @@ const PIECE: usize = 64 * 1024;
 /// Why an input could not be read to its end.
 #[derive(Clone, Copy, Debug, PartialEq, Eq)]
 pub(crate) enum ReadFault {
-    /// A call of `read` failed, or the input passes [`MOST_INPUT`] or [`MOST_READS`].
-    Read,
+    /// A call of `read` failed.
+    Failed,
+    /// The input has more than [`MOST_INPUT`] bytes.
+    TooLong,
+    /// The input needs more than [`MOST_READS`] calls of `read`.
+    TooManyCalls,
     /// Memory was refused.
     NoMemory,
 }
@@ -32,14 +37,15 @@ pub(crate) struct WriteFailed;
 /// All that the reader has left, up to its end.
 ///
 /// # Errors
-/// `Read` where a call of `read` fails, which is not tried again, and where the input is longer than
-/// [`MOST_INPUT`] or needs more than [`MOST_READS`] calls. `NoMemory` where a growth was refused. What was
-/// read by then is lost.
+/// `Failed` where a call of `read` fails, which is not tried again; `TooLong` where the input is longer than
+/// [`MOST_INPUT`], and `TooManyCalls` where it needs more than [`MOST_READS`] calls; `NoMemory` where a growth
+/// was refused. What was read by then is lost.
 pub(crate) fn read_all<R: Read>(alloc: Global, reader: &mut R) -> Result<Vec<u8>, ReadFault>
     ensures whole { IfOk result (λ text. IfSome (R.remaining reader.old) (λ bytes. text.items ≡ bytes)) }
     ensures end { OnOk result (IsAtEnd (R.remaining reader.new)) }
     ensures limit { IfOk result (λ text. vec_len text ≤ MOST_INPUT) }
     ensures err { OnErr result (ConsumesFront (R.remaining reader.old) (R.remaining reader.new)) }
+    ensures fault { IfErr result (IsReadFault (R.remaining reader.old)) }
 {
     let mut text = Vec::new(alloc);
     let mut piece = [0; PIECE];
@@ -48,16 +54,16 @@ pub(crate) fn read_all<R: Read>(alloc: Global, reader: &mut R) -> Result<Vec<u8>
             Ok(0) => return Ok(text),
             Ok(count) => {
                 if count > MOST_INPUT - text.len() {
-                    return Err(ReadFault::Read);
+                    return Err(ReadFault::TooLong);
                 }
                 if text.extend_from_slice(&piece[..count]).is_err() {
                     return Err(ReadFault::NoMemory);
                 }
             }
-            Err(_) => return Err(ReadFault::Read),
+            Err(_) => return Err(ReadFault::Failed),
         }
     }
-    Err(ReadFault::Read)
+    Err(ReadFault::TooManyCalls)
 }
 
 /// Writes the whole text and flushes the writer.

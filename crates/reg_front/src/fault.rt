@@ -40,7 +40,7 @@ impl From<ReadFault> for FrontFault {
 
     fn from(fault: ReadFault) -> FrontFault {
         match fault {
-            ReadFault::Read => FrontFault::Read,
+            ReadFault::Failed | ReadFault::TooLong | ReadFault::TooManyCalls => FrontFault::Read,
             ReadFault::NoMemory => FrontFault::NoMemory,
         }
     }
