@@ -1,11 +1,11 @@
 #!/usr/bin/env python3
-"""Writes a large day text: accounts, and transfers over distinct pairs of them.
+"""Writes a large day text: accounts, and transfers between different pairs of them.
 
 usage: days.py [--accounts N] [--instructions N] > day.csv
 
-The same words always give the same bytes. Each transfer is accepted: its day is due and the
-account holds enough. The pairs are distinct while there are twice as many accounts as
-instructions; with fewer accounts they come again.
+The same arguments always give the same bytes. Each transfer is done: it is due, and the account
+holds enough. The pairs are all different if there are twice as many accounts as instructions; with
+fewer accounts they repeat.
 """
 
 import argparse

@@ -1,20 +1,20 @@
 #!/usr/bin/env -S python3 -B
 """Measures how much processor time and memory the program takes, and how they grow.
 
-usage: measure.py [--repeat N] [PROGRAM WORD ..]
+usage: measure.py [--repeat N] [PROGRAM ARGUMENT ..]
 
-PROGRAM with its words reads a day text on standard input and writes the log rows or the report;
-left out, it is the program of this repository: crates/registry/out/registry settle.
+PROGRAM with its arguments reads a day text on standard input and writes the log rows or the report.
+Without PROGRAM, the program of this repository is measured: crates/registry/out/registry settle.
 
 Prints
   - for a full day (100,000 accounts, 16,384 transfers) the seconds of processor time and the peak
     of resident memory;
   - the same for 1,000 to 100,000 accounts, and for 1,000 to 16,384 transfers, with the exponent of
-    each axis: the power of the size by which the time grew over the last step, once the time of a
-    day with next to nothing on that axis is taken off. 1 is linear.
+    each axis: the power of the size by which the time grew over the last step. The time of a day
+    with almost nothing on that axis is subtracted first. 1 is linear.
 Times are the least of all repeats, memory is the greatest. The texts take turns, so that a busy
-moment of the machine falls on all alike. Each output is looked through: every transfer has its log
-row and was done, and the totals, where the program writes them, are the sums of the text.
+moment of the machine affects all of them. Each output is looked through: every transfer must have
+its log row and be done, and the totals, if the program writes them, must be the sums of the text.
 """
 
 import argparse
@@ -118,7 +118,7 @@ def main():
     words = argparse.ArgumentParser(
         description=__doc__, formatter_class=argparse.RawDescriptionHelpFormatter)
     words.add_argument("--repeat", type=int, default=9, help="runs of each text (default 9)")
-    words.add_argument("program", nargs=argparse.REMAINDER, metavar="PROGRAM WORD ..")
+    words.add_argument("program", nargs=argparse.REMAINDER, metavar="PROGRAM ARGUMENT ..")
     given = words.parse_args()
     program = given.program or OWN_PROGRAM
     if not os.access(program[0], os.X_OK):

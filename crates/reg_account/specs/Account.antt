@@ -1,4 +1,4 @@
--- The value of one account, what is read of it, and the changes to it.
+-- One account as plain data, and its changes.
 use Rattle.std.specs.Prelude.{◌⊎◌, ℕ, ◌+◌, ◌-◌, ◌<◌, ◌≤◌, ℤ, pos, ◌≤ℤ◌, ◌<ℤ◌, ◌-ℤ◌, Bool}
 use Rattle.reg_base.specs.declared.limits.TheConstants.{MOST_HELD, MOST_CORRECTION}
 use Rattle.reg_base.specs.declared.kinds.AccountKind.{AccountKind}
@@ -21,7 +21,7 @@ pub record AccountValue : Type 0 where
   pub correction : ℤ
   pub held : Holdings
 
--- the account that these parts make
+-- the account with these parts
 abbrev pub account_of : AccountParts → AccountValue
 account_of p = record {
   number = p.number;
@@ -34,7 +34,7 @@ account_of p = record {
   held = p.held;
 }
 
--- how many allowances of a kind there are
+-- how many allowances of this kind there are
 abbrev pub amount_of : Holdings → AllowanceKind → ℕ
 amount_of h General = h.general
 amount_of h Aviation = h.aviation
@@ -44,15 +44,15 @@ abbrev pub with_amount : Holdings → AllowanceKind → ℕ → Holdings
 with_amount h General n = record h { general = n }
 with_amount h Aviation n = record h { aviation = n }
 
--- what an account holds of a kind
+-- what an account holds of this kind
 abbrev pub held_by : AccountValue → AllowanceKind → ℕ
 held_by a kind = amount_of a.held kind
 
--- the account with this many allowances more of the kind
+-- the account with this many more allowances of the kind
 abbrev pub credited : AccountValue → AllowanceKind → ℕ → AccountValue
 credited a kind amount = record a { held = with_amount a.held kind (held_by a kind + amount) }
 
--- the account with this many allowances fewer of the kind
+-- the account with this many fewer allowances of the kind
 abbrev pub debited : AccountValue → AllowanceKind → ℕ → AccountValue
 debited a kind amount = record a { held = with_amount a.held kind (held_by a kind - amount) }
 
@@ -71,7 +71,7 @@ pub record IsAccount (a : AccountValue) : Type 0 where
   pub correction : CorrectionFits a.correction
   pub holdings : HoldingsFit a.held
 
--- the first thing that is wrong with the parts, in the order of the faults
+-- why parts are not an account: the first fault that applies
 abbrev pub FaultOf : AccountValue → AccountFault → Type 0
 FaultOf a Correction = (a.correction <ℤ (pos 0 -ℤ MOST_CORRECTION)) ⊎ (MOST_CORRECTION <ℤ a.correction)
 FaultOf a Holding = CorrectionFits a.correction × ((MOST_HELD < a.held.general) ⊎ (MOST_HELD < a.held.aviation))

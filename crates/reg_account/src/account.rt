@@ -10,8 +10,8 @@ use reg_base::{
 use std::alloc::Global;
 use std::marker::Model;
 
-/// An account, each part within its limits. A clause sees it as plain data. It is not `Clone`: allowances
-/// must not come to be twice by accident, so a second one is made by [`Account::copy`] alone.
+/// An account, each part within its limits. A contract sees it as plain data. It is not `Clone`, so that no
+/// allowance is doubled by accident; only [`Account::copy`] makes a second one.
 #[derive(Debug, Drop)]
 pub struct Account {
     parts: AccountParts,
@@ -30,10 +30,10 @@ impl Model for Account {
 impl Account {
     ghost use Rattle.reg_account.specs.Account.{account_of, held_by, credited, debited, IsAccount, CorrectionFits, FaultOf};
 
-    /// The account that these parts make: they make one exactly where no fault applies. Takes no memory.
+    /// The account with these parts, if no fault applies to them. Takes no memory.
     ///
     /// # Errors
-    /// The parts as they were, with the first fault in the order of [`AccountFault`].
+    /// The parts as they were, and the first fault that applies, in the order of [`AccountFault`].
     pub fn of(parts: AccountParts) -> Result<Self, (AccountParts, AccountFault)>
         ensures { MatchResult result (λ a. (a ≡ account_of parts) × IsAccount (account_of parts)) (λ e. (e.0 ≡ parts) × FaultOf (account_of parts) e.1) }
     {
@@ -60,21 +60,21 @@ impl Account {
         self.parts.kind
     }
 
-    /// Who holds it.
+    /// Its holder.
     pub fn holder(&self) -> HolderNo
         ensures { result ≡ self.now.holder }
     {
         self.parts.holder
     }
 
-    /// What the administrator has set it to.
+    /// Its status.
     pub fn status(&self) -> Status
         ensures { result ≡ self.now.status }
     {
         self.parts.status
     }
 
-    /// Whether it allows transfers to accounts off its trusted account list.
+    /// Whether it allows transfers to accounts that are not on its trusted account list.
     pub fn outside(&self) -> bool
         ensures { result ≡ self.now.outside }
     {
@@ -88,7 +88,7 @@ impl Account {
         self.parts.waiver
     }
 
-    /// The correction factor of its compliance figure, -10^15 to 10^15 tonnes of carbon dioxide equivalent.
+    /// The correction factor of its compliance figure, from -10^15 to 10^15 tonnes of carbon dioxide equivalent.
     pub fn correction(&self) -> i64
         ensures value { result ≡ self.now.correction }
         ensures limits { CorrectionFits result }
@@ -96,7 +96,7 @@ impl Account {
         self.parts.correction
     }
 
-    /// How many allowances of the kind it holds, 0 to 10^15.
+    /// How many allowances of this kind it holds, 0 to 10^15.
     pub fn held(&self, kind: AllowanceKind) -> u64
         ensures value { result ≡ held_by self.now kind }
         ensures limit { result ≤ MOST_HELD }
@@ -107,7 +107,8 @@ impl Account {
         }
     }
 
-    /// Adds allowances of a kind, which have to fit the limit; nothing else changes. Takes no memory.
+    /// Adds `amount` allowances of this kind. The sum must be at most [`MOST_HELD`]. Nothing else changes. Takes no
+    /// memory.
     pub fn credit(&mut self, kind: AllowanceKind, amount: u64)
         requires { held_by self.old kind + amount ≤ MOST_HELD }
         ensures { self.new ≡ credited self.old kind amount }
@@ -118,7 +119,8 @@ impl Account {
         }
     }
 
-    /// Takes allowances of a kind away, which have to be there; nothing else changes. Takes no memory.
+    /// Takes `amount` allowances of this kind away. The account must hold them. Nothing else changes. Takes no
+    /// memory.
     pub fn debit(&mut self, kind: AllowanceKind, amount: u64)
         requires { amount ≤ held_by self.old kind }
         ensures { self.new ≡ debited self.old kind amount }
@@ -129,10 +131,10 @@ impl Account {
         }
     }
 
-    /// An account that is equal in all its parts.
+    /// A second account, equal in all parts.
     ///
     /// # Errors
-    /// `NoMemory` where a growth was refused. An account without lists needs none yet.
+    /// `NoMemory` if memory ran out. Today this never happens, because no part of an account needs memory.
     pub fn copy(&self, _alloc: Global) -> Result<Account, NoMemory>
         ensures { IfOk result (λ a. a ≡ self.now) }
     {

@@ -1,4 +1,4 @@
-//! The value of one account: what it is, what it holds, and the changes that a settlement makes to it.
+//! One account: what it is, what it holds, and how a settlement changes it.
 #![tactic(auto)]
 
 mod account;

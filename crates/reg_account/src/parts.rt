@@ -1,14 +1,14 @@
-//! What an account is made of, before it is tested.
+//! The parts of an account, not yet tested.
 
 use reg_base::{AccountKind, AccountNo, HolderNo, Status};
 use thiserror::Error;
 
-/// How many allowances of each kind an account holds. Allowances are fungible, so a holding is a number.
+/// How many allowances of each kind an account holds. Allowances are fungible, so numbers are enough.
 #[derive(Clone, Copy, Debug, PartialEq, Eq)]
 pub struct Holdings {
-    /// General allowances.
+    /// The number of general allowances.
     pub general: u64,
-    /// Aviation allowances.
+    /// The number of aviation allowances.
     pub aviation: u64,
 }
 
@@ -19,24 +19,24 @@ pub struct AccountParts {
     pub number: AccountNo,
     /// Its kind.
     pub kind: AccountKind,
-    /// Who holds it.
+    /// Its holder.
     pub holder: HolderNo,
-    /// What the administrator has set it to.
+    /// Its status.
     pub status: Status,
-    /// Whether it allows transfers to accounts off its trusted account list.
+    /// Whether it allows transfers to accounts that are not on its trusted account list.
     pub outside: bool,
     /// Whether a transfer to a trusted account needs no approval.
     pub waiver: bool,
-    /// The correction factor of its compliance figure, -10^15 to 10^15 tonnes.
+    /// The correction factor of its compliance figure, from -10^15 to 10^15 tonnes of carbon dioxide equivalent.
     pub correction: i64,
-    /// What it holds, 0 to 10^15 allowances of each kind.
+    /// What it holds: 0 to 10^15 allowances of each kind.
     pub held: Holdings,
 }
 
-/// Why parts make no account: the first of these that applies.
+/// Why parts are not an account: the first of these that applies.
 #[derive(Clone, Copy, Debug, PartialEq, Eq, Error)]
 pub enum AccountFault {
-    /// The correction factor is outside -10^15 to 10^15 tonnes.
+    /// The correction factor is below -10^15 or above 10^15 tonnes.
     #[error("the correction factor is not -10^15 to 10^15 tonnes")]
     Correction,
     /// A holding is above 10^15 allowances.

@@ -1,4 +1,4 @@
-//! Due instructions, and the accounts that each reads or changes.
+//! Instructions, and the accounts that each reads or changes.
 
 ghost use Rattle.std.specs.Prelude.{◌≡◌, [], ◌∷◌};
 ghost use Rattle.reg_base.specs.Footprint.{footprint};
@@ -9,10 +9,10 @@ use crate::limits::MOST_TOUCHED;
 use crate::numbers::{AccountNo, Day, UserNo};
 use std::marker::Model;
 
-/// What an instruction is to do.
+/// What an instruction asks for.
 #[derive(Clone, Copy, Debug, PartialEq, Eq)]
 pub enum Act {
-    /// Allowances move from one holder's account to another.
+    /// Allowances move from one account to another.
     Transfer {
         /// The account that gives.
         from: AccountNo,
@@ -20,27 +20,27 @@ pub enum Act {
         to: AccountNo,
         /// The kind of the allowances.
         kind: AllowanceKind,
-        /// How many allowances: any number, 0 is refused by a check.
+        /// How many allowances. It may be any number; checks refuse 0 and amounts that are too large.
         amount: u64,
     },
 }
 
-/// A due instruction: proposed by one representative, and approved by another where it needs that.
+/// An instruction. One user proposed it, and another may have approved it.
 #[derive(Clone, Copy, Debug, PartialEq, Eq)]
 pub struct Instruction {
     /// The day on which it was proposed.
     pub proposed: Day,
-    /// Who proposed it.
+    /// The user who proposed it.
     pub proposer: UserNo,
-    /// Who approved it, if anybody did.
+    /// The user who approved it, or `None` if nobody did.
     pub approver: Option<UserNo>,
-    /// What it is to do.
+    /// What it asks for.
     pub act: Act,
 }
 
 impl Instruction {
-    /// The accounts that the instruction reads or changes: those that its act names, in their order and each
-    /// once, or none where the directory lacks one of them.
+    /// The accounts that the instruction reads or changes: those that its act names, in this order, each of them
+    /// once. No accounts at all if one of them is not in the directory.
     pub fn touches(&self, directory: &Directory) -> Footprint
         ensures { result ≡ footprint directory.now self.now.act }
     {
@@ -58,7 +58,8 @@ impl Instruction {
     }
 }
 
-/// The accounts that an instruction reads or changes, in their order, each once. A clause sees their list.
+/// The accounts that an instruction reads or changes, in the order in which it names them, each of them once. A
+/// contract sees the list of their numbers.
 #[derive(Clone, Copy, Debug)]
 pub struct Footprint {
     accounts: [AccountNo; MOST_TOUCHED],
@@ -107,7 +108,7 @@ impl Footprint {
         }
     }
 
-    /// The accounts, in their order.
+    /// The accounts, in the order in which the instruction names them.
     pub fn as_slice(&self) -> &[AccountNo]
         ensures { result.now ≡ self.now }
     {

@@ -1,28 +1,28 @@
-//! The limits of this profile, each with its unit. They are the project's own and no rule of the Regulation.
+//! The limits of this profile, each with its unit. This project set them; they don't come from the Regulation.
 
-/// Accounts in a book.
+/// The most accounts of a book.
 pub const MOST_ACCOUNTS: usize = 100_000;
-/// Due instructions in a batch.
+/// The most instructions of a batch.
 pub const MOST_INSTRUCTIONS: usize = 16_384;
-/// Administrators of a day.
+/// The most administrators of a day.
 pub const MOST_ADMINISTRATORS: usize = 64;
-/// The largest account, user and holder number; the smallest is 1.
+/// The largest account, user and holder number. The smallest is 1.
 pub const MOST_NUMBER: u32 = 999_999_999;
-/// The largest record number; the smallest is 1.
+/// The largest record number. The smallest is 1.
 pub const MOST_RECORD: u64 = 1_000_000_000_000_000;
-/// The largest holding of one kind on one account, in allowances.
+/// The most allowances of one kind that one account holds.
 pub const MOST_HELD: u64 = 1_000_000_000_000_000;
-/// The largest correction factor, in tonnes of carbon dioxide equivalent; the smallest is its negative.
+/// The largest correction factor, in tonnes of carbon dioxide equivalent. The smallest is its negative.
 pub const MOST_CORRECTION: i64 = 1_000_000_000_000_000;
 /// The longest lag and the longest reversal window, in working days.
 pub const MOST_LAG: u16 = 1_000;
-/// The first year of a period.
+/// The earliest year of a period.
 pub const FIRST_YEAR: u16 = 2021;
-/// The last year of a period.
+/// The latest year of a period.
 pub const LAST_YEAR: u16 = 2100;
-/// 2021-01-01, as days from 1970-01-01.
+/// The earliest day, 2021-01-01, in days since 1970-01-01.
 pub const FIRST_DAY: u32 = 18_628;
-/// 2100-12-31, as days from 1970-01-01.
+/// The latest day, 2100-12-31, in days since 1970-01-01.
 pub const LAST_DAY: u32 = 47_846;
 /// The most accounts that one instruction touches.
 pub const MOST_TOUCHED: usize = 2;

@@ -1,4 +1,4 @@
--- Accounts in the order of their numbers, and the account of a number.
+-- Finding an account among accounts by rising number.
 use Rattle.std.proofs.Common.{◌≡◌, ◌≢◌, ℕ, zero, suc, ◌<◌, ◌≤◌, [], ◌∷◌, length, get_or, Some, None, refl, sym, arith}
 use Rattle.std.proofs.Common.{Err, ⊎_elim, tests}
 use Rattle.std.proofs.lemmas.Bool.{eq-eqb, ne_eqb, cases_lt}

@@ -1,4 +1,4 @@
--- A settled day in its book is the state after its instructions.
+-- A book with the settled day committed is the state after the instructions.
 use Rattle.std.proofs.Common.{◌≡◌, ℕ, ◌+◌, Bool, true, false, cond, eqb, List, [], ◌∷◌, map, length, Option, Some, None, refl, sym, ap, subst, ◌∙◌, arith}
 use Rattle.std.specs.Prelude.{option_map, unwrap_or}
 use Rattle.std.specs.List.{IsDistinct}
@@ -18,7 +18,7 @@ use Rattle.reg_book.proofs.Lookups.{rising-distinct}
 use Rattle.reg_book.proofs.Overlays.{numbers-overlay, placed_number}
 use Rattle.reg_book.proofs.Turns.{same-state}
 
--- an account that the settled ones lie over is the settled one, or the same where there is none
+-- an account of the overlaid list is the settled one, or the old one if it is not settled
 laid_over : (later opening other : Option AccountValue) → option_map listing later ≡ option_map listing opening
     → (other ≡ later) → option_map (unwrap_or other) opening ≡ later
 laid_over None None other same is = refl

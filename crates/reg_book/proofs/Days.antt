@@ -1,4 +1,4 @@
--- Settling the touched accounts alone is settling the day.
+-- Settling only the touched accounts gives the settled day.
 use Rattle.std.proofs.Common.{◌≡◌, ℕ, zero, suc, ◌+◌, ◌<◌, Bool, true, false, cond, eqb, List, [], ◌∷◌, ◌++◌, filter, length, get_or, take, drop, Option, Some, None, refl, sym, ap, subst, ◌∙◌, arith}
 use Rattle.std.specs.Prelude.{Contains, option_map, IsSomeAnd}
 use Rattle.std.specs.List.{IsDistinct, AllByRecursion}
@@ -138,7 +138,7 @@ module _ (laws : StepLaws) where
   listing-fold c s n [] a = refl
   listing-fold c s n (i ∷ is) a = listing-fold c (step c s n i).0 (n + 1) is a ∙ listing-step c s n i a
 
-  -- each touched account stands in the book as it did, but for what the instructions change
+  -- each touched account is in the book, with the same constants
   pub touched-like : (c : Setting) (s : State) (n : ℕ) (is : List Instruction) → IsDistinct eqb (numbers s)
       → AllByRecursion (λ v. IsSomeAnd (account s v.number) (IsLike v)) (touched_of c.directory is (state_after c s n is))
   touched-like c s n is distinct =

@@ -1,4 +1,4 @@
--- The directory of accounts answers as the accounts do, whatever their order.
+-- The directory gives what a search in the accounts gives, whatever their order.
 use Rattle.std.proofs.Common.{◌≡◌, ℕ, zero, suc, ◌<◌, Bool, true, false, cond, eqb, List, [], ◌∷◌, ◌++◌, map, length, get_or, Option, Some, None, refl, sym, ap, ◌∙◌, arith, inl, inr, ◌⊎◌}
 use Rattle.std.specs.Prelude.{option_map, is_some, is_none, Contains, IsPermutation}
 use Rattle.std.specs.List.{IsDistinct, list_any}

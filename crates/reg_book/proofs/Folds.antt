@@ -1,4 +1,4 @@
--- Instructions one after another, on all accounts and on the touched ones alone.
+-- Instructions one after another, on all accounts and on only the touched ones.
 use Rattle.std.proofs.Common.{◌≡◌, ℕ, suc, ◌+◌, ◌<◌, true, false, List, [], ◌∷◌, ◌++◌, length, get_or, drop, refl, sym, ap, ◌∙◌}
 use Rattle.std.specs.List.{AllByRecursion}
 use Rattle.std.proofs.lemmas.List.{drop_more, append_assoc}

@@ -1,4 +1,4 @@
--- Looking accounts up in lists that are put together from others.
+-- Finding accounts in lists made from other lists.
 use Rattle.std.proofs.Common.{◌≡◌, ℕ, zero, suc, ◌<◌, Bool, true, false, cond, eqb, ◌||◌, List, [], ◌∷◌, ◌++◌, filter, length, get_or, Option, Some, None, refl, sym, ap, subst, ◌∙◌, arith}
 use Rattle.std.specs.Prelude.{Contains, MatchOption, IsSome}
 use Rattle.std.proofs.lemmas.Map.Keys.{IsDistinct-cons}

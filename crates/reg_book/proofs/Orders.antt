@@ -1,4 +1,4 @@
--- Whether numbers rise, and what sorting makes of them.
+-- Rising numbers, and sorting.
 use Rattle.std.proofs.Common.{◌≡◌, ℕ, ◌+◌, ◌-◌, ◌<◌, ◌≤◌, true, false, eqb, [], ◌∷◌, length, get_or, sym, ap, ◌∙◌, arith, ⊎_elim, tests, is_le, nat_cmp}
 use Rattle.std.specs.Prelude.{IsPermutation}
 use Rattle.std.specs.List.{IsDistinct}

@@ -1,4 +1,4 @@
--- Accounts put in the place of those with their numbers.
+-- Replacing accounts by those with the same numbers.
 use Rattle.std.proofs.Common.{◌≡◌, ◌≢◌, ℕ, zero, suc, ◌<◌, Bool, true, false, cond, eqb, List, [], ◌∷◌, ◌++◌, map, length, get_or, take, drop, Option, Some, None, Ok, Err, refl, sym, ap, subst, ◌∙◌, arith, append_assoc}
 use Rattle.std.specs.Prelude.{unwrap_or, option_map, slice_set, IsSomeAnd}
 use Rattle.std.specs.List.{AllByRecursion}
@@ -78,7 +78,7 @@ pub over_nothing : (xs : State) → overlay xs [] ≡ xs
 over_nothing [] = refl
 over_nothing (v ∷ vs) = ap (λ (ys : State). v ∷ ys) (over_nothing vs)
 
--- what a binary search by number says of where an account goes
+-- what a binary search by number says about the place of an account
 pub set_found : (xs ys : State) (w : AccountValue) (n p : ℕ) → ys ≡ xs → n ≡ w.number → IsRising (numbers xs) → p < length ys → IsBinarySearchResult (λ y. nat_cmp y.number n) ys (Ok p) → slice_set xs p w ≡ overlay xs (w ∷ [])
 set_found xs ys w n p same number rising within found =
     let rises = rises_from 0 (numbers xs) rising (λ some. omega arith) in
@@ -145,7 +145,7 @@ same_listing v (Some w) (Some u) same stands =
     let is : ◌≡◌ {A = AccountKind × ℕ} (listing u) (listing w) = same_Some (listing u) (listing w) same in
     (ap (λ (l : AccountKind × ℕ). l.0) is ∙ stands.0, ap (λ (l : AccountKind × ℕ). l.1) is ∙ stands.1)
 
--- where the directory stays, accounts that stood in the book stand in it
+-- if the directory stays, accounts that were in the book are in it
 pub stand_still : (xs ys others : State) → directory_of ys ≡ directory_of xs → StandIn xs others → StandIn ys others
 stand_still xs ys [] same stand = tt
 stand_still xs ys (v ∷ vs) same stand =

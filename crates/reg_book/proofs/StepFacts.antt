@@ -1,4 +1,4 @@
--- The laws of a step, as recursions on the list of touched accounts use them.
+-- The laws of a step, in the form that recursions over the touched accounts use.
 use Rattle.std.proofs.Common.{◌≡◌, ℕ, eqb}
 use Rattle.std.specs.List.{IsDistinct, AllByRecursion}
 use Rattle.std.proofs.lemmas.List.Elements.{All-from_recursion}

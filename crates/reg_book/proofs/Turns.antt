@@ -1,4 +1,4 @@
--- An instruction on accounts in another order, and on the first of them alone.
+-- An instruction on accounts in another order, and on only the first of them.
 use Rattle.std.proofs.Common.{Result, Ok, Err, ◌≡◌, ◌≢◌, ℕ, ◌<◌, ◌≤◌, Bool, true, false, eqb, List, [], ◌∷◌, ◌++◌, map, length, get_or, set, take, drop, refl, sym, ap, subst, ◌∙◌, inl, inr, ◌⊎◌, arith}
 use Rattle.std.specs.List.{IsDistinct, AllByRecursion, swap}
 use Rattle.std.proofs.lemmas.Bool.{cases_eq}
@@ -150,7 +150,7 @@ two_first [] le = absurd (omega arith)
 two_first (x ∷ []) le = absurd (omega arith)
 two_first (x ∷ y ∷ ns) le = refl
 
--- two places of a list, brought to its front by two swaps
+-- two places of a list, swapped to its front
 pub front-pair : (s t u : State) (first second now : ℕ)
     → first < length s → second < length s → first ≢ second
     → ((second ≡ 0) × (now ≡ first)) ⊎ ((second ≢ 0) × (now ≡ second))

@@ -1,4 +1,4 @@
--- A book: the accounts of a registry in the order of their numbers, and the next record number.
+-- A book: the accounts of a registry by rising number, and the next record number.
 use Rattle.std.specs.Prelude.{◌≡◌, ℕ, ◌+◌, ◌<◌, ◌≤◌, List, [], ◌∷◌, ◌++◌, map, length, Contains, sum_by, nat_eq, IsPermutation, unwrap_or}
 use Rattle.std.specs.List.{IsDistinct}
 use Rattle.std.specs.FinMap as fin
@@ -25,7 +25,7 @@ entry_of v = (v.number, (v.kind, v.holder))
 abbrev pub directory_of : List AccountValue → DirectoryValue
 directory_of accounts = fin.from_entries (map entry_of accounts)
 
--- the next record number is one that a record may have, or one above the last of these
+-- the next record number is 1 to 10^15 + 1
 pub record IsNext (next : ℕ) : Type 0 where
   pub from_one : 1 ≤ next
   pub to_the_end : next ≤ MOST_RECORD + 1
@@ -36,36 +36,36 @@ pub record IsBook (b : BookValue) : Type 0 where
   pub few : length b.accounts ≤ MOST_ACCOUNTS
   pub next : IsNext b.next
 
--- what holds of a book and of the directory that is kept beside it
+-- what holds of a book and its directory
 pub record IsKept (accounts : List AccountValue) (directory : DirectoryValue) (next : ℕ) : Type 0 where
   pub book : IsBook (record { accounts = accounts; next = next })
   pub listed : directory ≡ directory_of accounts
 
--- what holds of every draft, whose accounts stand in the order in which they came
+-- what holds of every draft; its accounts are in the order in which they were inserted
 pub record IsDraft (accounts : List AccountValue) (directory : DirectoryValue) (next : ℕ) : Type 0 where
   pub distinct : IsDistinct nat_eq (numbers accounts)
   pub few : length accounts ≤ MOST_ACCOUNTS
   pub next_fits : IsNext next
   pub listed : directory ≡ directory_of accounts
 
--- the book has the draft's accounts and no other, in the order of their numbers
+-- the book has exactly the accounts of the draft, by rising number
 pub record IsFinished (draft book : BookValue) : Type 0 where
   pub same : IsPermutation draft.accounts book.accounts
   pub rising : IsRising (numbers book.accounts)
   pub next_stays : book.next ≡ draft.next
-  -- accounts that came in the order of their numbers stay in it
+  -- accounts that were inserted by rising number stay in this order
   pub in_order : IsRising (numbers draft.accounts) → book.accounts ≡ draft.accounts
 
--- the book with one account more
+-- the book with one more account
 abbrev pub with_account : BookValue → AccountValue → BookValue
 with_account b a = record b { accounts = b.accounts ++ a ∷ [] }
 
--- the account can be taken in: no other has its number, and there are few enough
+-- the draft can take the account: no other account has its number, and the draft has fewer than 100,000 accounts
 pub record CanTake (accounts : List AccountValue) (a : AccountValue) : Type 0 where
   pub is_new : ¬ (Contains (numbers accounts) a.number)
   pub is_room : length accounts < MOST_ACCOUNTS
 
--- why an account is not taken in, the first of these that applies
+-- why a draft refuses an account: the first fault that applies
 abbrev pub FaultOf : List AccountValue → AccountValue → BookFault → Type 0
 FaultOf accounts a Repeated = Contains (numbers accounts) a.number
 FaultOf accounts a Full = ¬ (Contains (numbers accounts) a.number) × (length accounts ≡ MOST_ACCOUNTS)
@@ -75,6 +75,6 @@ FaultOf accounts a NoMemory = CanTake accounts a
 abbrev pub total_held : BookValue → AllowanceKind → ℕ
 total_held b kind = sum_by (λ v. held_by v kind) b.accounts
 
--- the accounts, with those of another list in the place of the ones with their numbers
+-- the accounts, each replaced by the account of the other list that has the same number, if there is one
 abbrev pub overlay : List AccountValue → List AccountValue → List AccountValue
 overlay accounts others = map (λ v. unwrap_or (account others v.number) v) accounts

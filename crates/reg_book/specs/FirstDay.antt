@@ -32,7 +32,7 @@ first_rules = record {
   last_year = 2030;
 }
 
--- that day, where the directory has these accounts
+-- that day, if the directory has these accounts
 abbrev pub first_setting : DirectoryValue → Setting
 first_setting directory = record { rules = first_rules; day = first_day; directory = directory }
 
@@ -66,7 +66,7 @@ first_trader general = record {
 abbrev pub first_state : ℕ → ℕ → State
 first_state operator trader = first_operator operator ∷ first_trader trader ∷ []
 
--- a transfer of so many general allowances from the operator to the trader
+-- a transfer of this many general allowances from the operator to the trader
 abbrev pub first_transfer : ℕ → Instruction
 first_transfer amount = record { proposed = first_day; proposer = 101; approver = Some 102; act = Transfer 1 2 General amount }
 
@@ -74,11 +74,11 @@ first_transfer amount = record { proposed = first_day; proposer = 101; approver 
 abbrev pub KnowsBoth : DirectoryValue → Type 0
 KnowsBoth directory = (is_known directory 1 ≡ true) × (is_known directory 2 ≡ true)
 
--- 40 of 100 move, and leave 60
+-- a transfer of 40 out of 100 is done and leaves 60
 abbrev pub FirstStep : Type 0
 FirstStep = (directory : DirectoryValue) → KnowsBoth directory → (step (first_setting directory) (first_state 100 0) 1 (first_transfer 40)).0 ≡ first_state 60 40
 
--- 101 of 100 are not enough, and nothing moves
+-- a transfer of 101 out of 100 is refused and moves nothing
 abbrev pub RefusedStep : Type 0
 RefusedStep = (directory : DirectoryValue) → KnowsBoth directory → step (first_setting directory) (first_state 100 0) 1 (first_transfer 101) ≡ (first_state 100 0, Refused NotEnough)
 
@@ -86,14 +86,14 @@ RefusedStep = (directory : DirectoryValue) → KnowsBoth directory → step (fir
 abbrev pub first_holdings : ℕ → ℕ → Reply
 first_holdings operator trader = Done (record { account = 1; general = operator; aviation = 0 } ∷ record { account = 2; general = trader; aviation = 0 } ∷ []) None
 
--- 40, then 61 of the 60 that are left, then these 60
+-- transfers of 40, then of 61 although 60 are left, then of these 60
 abbrev pub first_instructions : List Instruction
 first_instructions = first_transfer 40 ∷ first_transfer 61 ∷ first_transfer 60 ∷ []
 
--- one after another: done, refused, done
+-- they are done, refused, done
 abbrev pub FirstFold : Type 0
 FirstFold = (directory : DirectoryValue) → KnowsBoth directory → map (λ row. row.reply) (rows_of (first_setting directory) (first_state 100 0) 1 first_instructions) ≡ first_holdings 60 40 ∷ Refused NotEnough ∷ first_holdings 0 100 ∷ []
 
--- and the operator has none left
+-- the operator then holds none
 abbrev pub FirstClosing : Type 0
 FirstClosing = (directory : DirectoryValue) → KnowsBoth directory → state_after (first_setting directory) (first_state 100 0) 1 first_instructions ≡ first_state 0 100

@@ -1,4 +1,4 @@
--- What is true of instructions one after another, in the words of what a state says of each account number.
+-- Laws of instructions that are executed one after another. They look at the state at each account number.
 use Rattle.std.specs.Prelude.{◌≡◌, ℕ, zero, suc, ◌+◌, ◌<◌, ◌≤◌, Bool, true, false, List, length, take, nat_eq, slice_get, Option, if◌then◌else◌}
 use Rattle.std.specs.Option.{option_map_or}
 use Rattle.std.specs.List.{All, IsDistinct}
@@ -17,16 +17,16 @@ use Rattle.reg_book.specs.Fold.{state_after, is_touched}
 abbrev pub value_at : Setting → State → ℕ → List Instruction → ℕ → ℕ → Option AccountValue
 value_at c s number is a j = account (state_after c s number (take j is)) a
 
--- the instruction before which k others stand touches the account
+-- instruction k, counted from 0, touches the account
 abbrev pub touches_after : DirectoryValue → List Instruction → ℕ → ℕ → Bool
 touches_after directory is a k = option_map_or (λ i. is_among (footprint directory i.act) a) (slice_get is k) false
 
--- the place, counted from 1, of the last of the first j instructions that touches the account, or 0 where none does
+-- the place, counted from 1, of the last instruction among the first j that touches the account; 0 if none does
 abbrev pub last_toucher : DirectoryValue → List Instruction → ℕ → ℕ → ℕ
 last_toucher directory is a zero = 0
 last_toucher directory is a (suc k) = if touches_after directory is a k then suc k else last_toucher directory is a k
 
--- no account comes, goes or moves
+-- no account is added, removed or moved in the list
 abbrev pub FoldKeepsNumbers : Type 0
 FoldKeepsNumbers = (c : Setting) (s : State) (number : ℕ) (is : List Instruction) → numbers (state_after c s number is) ≡ numbers s
 
@@ -35,12 +35,13 @@ abbrev pub UntouchedStay : Type 0
 UntouchedStay = (c : Setting) (s : State) (number : ℕ) (is : List Instruction) (a : ℕ)
     → is_touched c.directory is a ≡ false → account (state_after c s number is) a ≡ account s a
 
--- an account is as the last instruction that touched it left it
+-- an account has the value that the last instruction touching it gave it
 abbrev pub ValueIsLastTouchers : Type 0
 ValueIsLastTouchers = (c : Setting) (s : State) (number : ℕ) (is : List Instruction) (a j : ℕ)
     → value_at c s number is a j ≡ value_at c s number is a (last_toucher c.directory is a j)
 
--- what a last toucher is: it stands among the first j, it touches the account, and none of these after it does
+-- the place is that of the last toucher: it is among the first j, touches the account, and none of the first j after it
+-- touches the account
 pub record IsLastToucher (directory : DirectoryValue) (is : List Instruction) (a j place : ℕ) : Type 0 where
   pub among : place ≤ j
   pub touches : (k : ℕ) → place ≡ suc k → touches_after directory is a k ≡ true
@@ -49,12 +50,13 @@ pub record IsLastToucher (directory : DirectoryValue) (is : List Instruction) (a
 abbrev pub LastToucherIsLast : Type 0
 LastToucherIsLast = (directory : DirectoryValue) (is : List Instruction) (a j : ℕ) → IsLastToucher directory is a j (last_toucher directory is a j)
 
--- where each number stands once, accounts within their limits stay within them
+-- if each number occurs once, accounts that are within their limits stay within them
 abbrev pub FoldKeepsLimits : Type 0
 FoldKeepsLimits = (c : Setting) (s : State) (number : ℕ) (is : List Instruction)
     → IsDistinct nat_eq (numbers s) → All IsAccount s → All IsAccount (state_after c s number is)
 
--- a settled day that is put into its book leaves the state after all instructions, and counts a record for each
+-- after a settled day is committed, the book holds the state after all instructions, and its next record number has
+-- risen by the number of instructions
 abbrev pub CommittedIsClosing : Type 0
 CommittedIsClosing = (book : BookValue) (rules : RulesValue) (batch : BatchValue) → IsBook book → batch.base + 1 ≡ book.next
     → committed book (settled_day book rules batch)

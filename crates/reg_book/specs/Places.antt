@@ -11,10 +11,10 @@ pub record StandsAt (s : State) (place a : ℕ) : Type 0 where
   pub within : place < length s
   pub has_number : slice_index (numbers s) place ≡ a
 
--- each account that the instruction touches is there
+-- each account that the instruction touches is in the list
 abbrev pub HasTouched : DirectoryValue → State → Instruction → Type 0
 HasTouched directory s i = AllByRecursion (Contains (numbers s)) (footprint directory i.act)
 
--- each account that some instruction touches is there
+-- each account that some instruction touches is in the list
 abbrev pub HaveTouched : DirectoryValue → State → List Instruction → Type 0
 HaveTouched directory s is = AllByRecursion (HasTouched directory s) is

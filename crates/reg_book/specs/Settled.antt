@@ -1,4 +1,4 @@
--- A settled day: its log, and the accounts that it touched after it.
+-- A settled day: its log, and the touched accounts as they are after it.
 use Rattle.std.specs.Prelude.{◌≡◌, ℕ, ◌+◌, ◌≤◌, List, filter, length, IsSomeAnd}
 use Rattle.std.specs.List.{AllByRecursion}
 use Rattle.reg_base.specs.declared.limits.TheConstants.{MOST_RECORD}
@@ -11,13 +11,13 @@ use Rattle.reg_rules.specs.State.{Setting, account, numbers}
 use Rattle.reg_book.specs.Book.{BookValue, directory_of, overlay}
 use Rattle.reg_book.specs.Fold.{state_after, rows_of, is_touched}
 
--- a settled day as plain data: the record number before its first, its log, and the touched accounts by number
+-- a settled day as plain data: the last record number before it, its log, and the touched accounts by rising number
 pub record SettledValue : Type 0 where
   pub base : ℕ
   pub rows : List LogRow
   pub accounts : List AccountValue
 
--- what stays the same while the day is settled
+-- what stays the same throughout the day
 abbrev pub setting_of : BookValue → RulesValue → BatchValue → Setting
 setting_of book rules batch = record { rules = rules; day = batch.day; directory = directory_of book.accounts }
 
@@ -38,10 +38,11 @@ pub record IsSettled (s : SettledValue) : Type 0 where
   pub rising : IsRising (numbers s.accounts)
   pub numbered : s.base + length s.rows ≤ MOST_RECORD
 
--- the book after the settled day: the settled accounts in their places, and the record numbers counted on
+-- the book after the settled day: the settled accounts are replaced, and the next record number has risen by the number
+-- of log rows
 abbrev pub committed : BookValue → SettledValue → BookValue
 committed book s = record { accounts = overlay book.accounts s.accounts; next = s.base + length s.rows + 1 }
 
--- each settled account stands in the book with the same kind and holder
+-- each settled account is in the book, with the same kind and holder
 abbrev pub IsOfBook : BookValue → SettledValue → Type 0
 IsOfBook book s = AllByRecursion (λ v. IsSomeAnd (account book.accounts v.number) (λ o. (o.kind ≡ v.kind) × (o.holder ≡ v.holder))) s.accounts

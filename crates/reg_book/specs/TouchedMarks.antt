@@ -1,4 +1,5 @@
--- How the touched accounts of a batch are found: by marks beside the accounts. Private functions are stated in these.
+-- How the touched accounts of a batch are found: by one mark for each account. Only contracts of private functions use
+-- these definitions.
 use Rattle.std.specs.Prelude.{ℕ, Bool, ◌||◌, List, [], ◌∷◌, if◌then◌else◌}
 use Rattle.reg_base.specs.declared.instruction.Instruction.{Instruction}
 use Rattle.reg_base.specs.Directory.{DirectoryValue}
@@ -6,13 +7,13 @@ use Rattle.reg_base.specs.Footprint.{is_among}
 use Rattle.reg_rules.specs.State.{State}
 use Rattle.reg_book.specs.Fold.{is_touched}
 
--- marks beside accounts, with one more at each account whose number stands in the list
+-- the marks of the accounts, where each account whose number is in the list is marked too
 abbrev pub marked : List Bool → State → List ℕ → List Bool
 marked [] s ns = []
 marked (m ∷ ms) [] ns = m ∷ ms
 marked (m ∷ ms) (v ∷ vs) ns = (m || is_among ns v.number) ∷ marked ms vs ns
 
--- whether some instruction touches it, for each account
+-- for each account, whether some instruction touches it
 abbrev pub touched_marks : DirectoryValue → List Instruction → State → List Bool
 touched_marks directory is [] = []
 touched_marks directory is (v ∷ vs) = is_touched directory is v.number ∷ touched_marks directory is vs

@@ -1,4 +1,4 @@
-//! A book of accounts.
+//! The book of all accounts.
 
 ghost use Rattle.std.specs.Prelude.{◌≡◌, ◌≢◌, ◌+◌, ◌≤◌, [], ◌∷◌, length, sum_by, MatchResult};
 ghost use Rattle.std.specs.Option.{option_copied};
@@ -13,19 +13,18 @@ use reg_account::Account;
 use reg_base::{AccountNo, AllowanceKind, Directory};
 use std::marker::Model;
 
-/// The sums over all accounts of what they hold, have surrendered and have deleted of one kind, in allowances.
+/// How many allowances of one kind all accounts together hold, have surrendered and have deleted.
 #[derive(Clone, Copy, Debug, PartialEq, Eq)]
 pub struct Totals {
-    /// Held.
+    /// Allowances held.
     pub held: u128,
-    /// Surrendered and not reversed.
+    /// Allowances surrendered and not reversed. Always 0 in this version.
     pub surrendered: u128,
-    /// Deleted and not reversed.
+    /// Allowances deleted and not reversed. Always 0 in this version.
     pub deleted: u128,
 }
 
-/// The accounts of a registry in the order of their numbers, and the next record number. A clause sees it as
-/// plain data.
+/// The accounts of a registry, by rising number, and the next record number. A contract sees the book as plain data.
 #[derive(Debug, Drop)]
 pub struct Book {
     accounts: Vec<Account>,
@@ -47,7 +46,7 @@ impl Book {
     ghost use Rattle.reg_book.specs.Book.{directory_of, IsBook, IsKept, total_held};
     ghost use Rattle.reg_book.specs.Settled.{SettledValue, IsOfBook, committed};
 
-    /// The book of these accounts, which stand in the order of their numbers and in the directory.
+    /// The book of these accounts, which must be in the order of their numbers and in the directory.
     pub(crate) fn from_sorted(accounts: Vec<Account>, directory: Directory, next: u64) -> Self
         requires { IsKept accounts.items directory next }
         ensures { result ≡ record { accounts = accounts.items; next = next } }
@@ -59,7 +58,7 @@ impl Book {
         }
     }
 
-    /// The account of this number.
+    /// The account with this number, or `None` if there is none.
     pub fn get(&self, number: AccountNo) -> Option<&Account>
         ensures { option_copied result ≡ account self.now.accounts number }
     {
@@ -89,7 +88,7 @@ impl Book {
         self.next
     }
 
-    /// The sums over all accounts for one kind. Takes no memory.
+    /// The sums over all accounts for this kind. Takes no memory.
     pub fn totals(&self, kind: AllowanceKind) -> Totals
         ensures { result ≡ record { held = total_held self.now kind; surrendered = 0; deleted = 0 } }
     {
@@ -100,12 +99,12 @@ impl Book {
         }
     }
 
-    /// Puts the settled accounts into the book, leaves all others, and counts the records on. Takes no memory.
-    /// Answers the log of the day.
+    /// Replaces the settled accounts in the book, raises the next record number by the number of log rows, and
+    /// answers these rows. All other accounts stay as they are. Takes no memory.
     ///
     /// # Errors
-    /// The settled day as it was, with the book's next record number, where the day does not begin with that
-    /// number; the book is unchanged.
+    /// The settled day as it was, and the book's next record number, if the first record of the day does not have
+    /// this number. The book is unchanged.
     pub fn commit(&mut self, settled: Settled) -> Result<Log, (Settled, Stale)>
         requires { settled.base + 1 ≡ self.old.next → IsOfBook self.old settled }
         ensures answer { MatchResult result
@@ -126,7 +125,7 @@ impl Book {
     }
 }
 
-// Puts each account in the place of the one with its number.
+// Replaces each account that has the number of a settled one.
 fn replace_accounts(accounts: &mut Vec<Account>, mut settled: Vec<Account>)
     requires rising { IsRising (numbers accounts.old.items) }
     ensures { accounts.new.items ≡ overlay accounts.old.items settled.items }
@@ -136,7 +135,7 @@ fn replace_accounts(accounts: &mut Vec<Account>, mut settled: Vec<Account>)
     }
 }
 
-// Puts the account in the place of the one with its number, if there is one.
+// Replaces the account with the same number, if there is one.
 fn replace_account(accounts: &mut Vec<Account>, account: Account)
     requires { IsRising (numbers accounts.old.items) }
     ensures { accounts.new.items ≡ overlay accounts.old.items (account ∷ []) }
@@ -146,7 +145,7 @@ fn replace_account(accounts: &mut Vec<Account>, account: Account)
     }
 }
 
-// A book finds its accounts by their order.
+// The account with this number, found by binary search.
 pub(crate) fn get_account(accounts: &[Account], number: AccountNo) -> Option<&Account>
     requires { IsRising (numbers accounts.now) }
     ensures { option_copied result ≡ account accounts.now number }

@@ -1,4 +1,4 @@
-//! A book that is being put together.
+//! A book in the making.
 
 ghost use Rattle.std.specs.Prelude.{◌≡◌, ◌<◌, ◌≤◌, [], ◌∷◌, ◌++◌, length, vec_len, vec_capacity, MatchResult, OnOk, IfErr, IsTrue, ◌↔◌, nat_eq, IsPermutation};
 ghost use Rattle.std.specs.List.{IsDistinct};
@@ -14,21 +14,21 @@ use std::alloc::Global;
 use std::marker::Model;
 use thiserror::Error;
 
-/// Why a draft takes an account not in: the first of these that applies.
+/// Why a draft refuses an account: the first of these that applies.
 #[derive(Clone, Copy, Debug, PartialEq, Eq, Error)]
 pub enum BookFault {
-    /// An account of this number is there already.
+    /// The draft already has an account with this number.
     #[error("an account of this number is there already")]
     Repeated,
-    /// The draft has 100,000 accounts.
+    /// The draft already has 100,000 accounts.
     #[error("the book has as many accounts as it may have")]
     Full,
-    /// A growth was refused.
+    /// Memory ran out.
     #[error("out of memory")]
     NoMemory,
 }
 
-/// A book that is being put together: accounts in the order in which they came, and the next record number.
+/// A book in the making: its accounts, in the order in which they were inserted, and the next record number.
 #[derive(Debug, Drop)]
 pub struct BookDraft {
     accounts: Vec<Account>,
@@ -49,7 +49,7 @@ impl Model for BookDraft {
 impl BookDraft {
     ghost use Rattle.reg_book.specs.Book.{with_account, IsNext, CanTake, FaultOf, IsFinished};
 
-    /// A draft of no account, whose first record is to have the number `next`, 1 to 10^15 + 1.
+    /// A draft without accounts. `next` is the next record number, 1 to 10^15 + 1. Takes no memory.
     pub fn new(alloc: Global, next: u64) -> Self
         requires { IsNext next }
         ensures { result ≡ record { accounts = []; next = next } }
@@ -61,10 +61,11 @@ impl BookDraft {
         }
     }
 
-    /// Takes an account in, whatever its place among the numbers.
+    /// Inserts an account. The accounts may come in any order of their numbers.
     ///
     /// # Errors
-    /// The account as it was, with the first fault in the order of [`BookFault`]; the draft is unchanged.
+    /// The account as it was, and the first fault that applies, in the order of [`BookFault`]. The draft is not
+    /// changed.
     pub fn insert(&mut self, account: Account) -> Result<(), (Account, BookFault)>
         ensures { MatchResult result
             (λ _. (self.new ≡ with_account self.old account) × CanTake self.old.accounts account)
@@ -79,7 +80,7 @@ impl BookDraft {
         }
     }
 
-    /// The book of these accounts, in the order of their numbers. Takes no memory.
+    /// The book of these accounts, by rising number. Takes no memory.
     pub fn finish(self) -> Book
         ensures { IsFinished self result }
     {
@@ -93,7 +94,7 @@ impl BookDraft {
     }
 }
 
-// Accounts that came by rising number stay where they are; others are sorted in place.
+// Sorts the accounts by number, in place. Accounts that are in order already are not moved.
 fn put_in_order(accounts: &mut Vec<Account>)
     requires { IsDistinct nat_eq (numbers accounts.old.items) }
     ensures same { IsPermutation accounts.old.items accounts.new.items }
@@ -117,7 +118,7 @@ fn has_rising_numbers(accounts: &[Account]) -> bool
     true
 }
 
-// Enters the account into the directory and makes room for it among the accounts, or says why it can't be taken.
+// Enters the account into the directory and makes room for it in the list, or answers why the draft refuses it.
 fn make_room(
     accounts: &mut Vec<Account>,
     directory: &mut Directory,

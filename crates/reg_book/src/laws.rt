@@ -1,12 +1,12 @@
-//! What is true of instructions one after another. Each law is the contract of a function that does nothing;
-//! whoever needs a law calls its function.
+//! Laws of instructions that are executed one after another. Each law is the contract of a function that does
+//! nothing. A function whose proof needs a law calls it.
 
 ghost use Rattle.reg_book.specs.FirstDay.{FirstStep, RefusedStep, FirstFold, FirstClosing};
 ghost use Rattle.reg_book.specs.Laws.{FoldKeepsNumbers, UntouchedStay, ValueIsLastTouchers, LastToucherIsLast, FoldKeepsLimits, CommittedIsClosing};
 
 use reg_rules::step_laws;
 
-/// No account comes, goes or moves, and one that no instruction touches stays as it is.
+/// No account is added, removed or moved in the list. An account that no instruction touches stays as it is.
 pub fn untouched_stay()
     ensures accounts { UntouchedStay }
     ensures numbers { FoldKeepsNumbers }
@@ -14,7 +14,7 @@ pub fn untouched_stay()
     step_laws();
 }
 
-/// An account is as the last instruction that touched it left it.
+/// Each touched account ends with the value that the last instruction touching it gave it.
 pub fn value_is_last_touchers()
     ensures value { ValueIsLastTouchers }
     ensures last { LastToucherIsLast }
@@ -22,22 +22,22 @@ pub fn value_is_last_touchers()
     step_laws();
 }
 
-/// Accounts within their limits stay within them.
+/// Accounts that are within their limits stay within them.
 pub fn fold_keeps_limits()
     ensures { FoldKeepsLimits }
 {
     step_laws();
 }
 
-/// A settled day that is put into its book leaves what its instructions leave one after another.
+/// After a settled day is committed, the book holds what the instructions give one after another.
 pub fn committed_is_closing()
     ensures { CommittedIsClosing }
 {
     step_laws();
 }
 
-/// Worked values of the step and of the instructions one after another: 40 of an account with 100 move, 101 are not
-/// enough; 40, 61 and 60 after one another are done, refused and done.
+/// Worked values. From an account that holds 100, a transfer of 40 is done and a transfer of 101 is refused as
+/// `NotEnough`. Transfers of 40, 61 and 60 one after another are done, refused and done.
 pub fn first_day_is_decided()
     ensures moves { FirstStep }
     ensures refuses { RefusedStep }

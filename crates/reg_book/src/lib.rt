@@ -1,4 +1,4 @@
-//! All accounts of a registry, and the plain settlement of a day: its instructions one after another.
+//! The book of all accounts, and the plain settlement of a day, which executes the instructions one after another.
 #![tactic(auto)]
 
 mod book;

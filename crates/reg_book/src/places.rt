@@ -1,4 +1,4 @@
-//! Where an account stands among accounts in the order of their numbers.
+//! The place of an account among accounts that are sorted by number.
 
 ghost use Rattle.std.specs.Prelude.{◌≡◌, None, MatchOption};
 ghost use Rattle.reg_base.specs.Rising.{IsRising};
@@ -8,7 +8,7 @@ ghost use Rattle.reg_book.specs.Places.{StandsAt};
 use reg_account::Account;
 use reg_base::AccountNo;
 
-/// The place of the account of this number, counted from 0.
+/// The place of the account with this number, counted from 0.
 pub(crate) fn place_of(accounts: &[Account], number: AccountNo) -> Option<usize>
     requires { IsRising (numbers accounts.now) }
     ensures { MatchOption result (account accounts.now number ≡ None) (λ place. StandsAt accounts.now place number) }

@@ -19,29 +19,29 @@ use reg_rules::{LogRow, log_row, step_laws};
 use std::alloc::Global;
 use thiserror::Error;
 
-/// Why a batch is not settled: the first of these that applies.
+/// Why a batch was not settled: the first of these that applies.
 #[derive(Clone, Copy, Debug, PartialEq, Eq, Error)]
 pub enum SettleFault {
-    /// The batch does not begin with the book's next record number.
+    /// The first record number of the batch is not the book's next record number.
     #[error("the batch does not begin with record {next}")]
     WrongBase {
         /// The book's next record number.
         next: u64,
     },
-    /// A growth was refused.
+    /// Memory ran out.
     #[error("out of memory")]
     NoMemory,
 }
 
-/// Settles a batch: its instructions one after another, each on what the ones before it left. The book stays as
-/// it is.
+/// Settles a batch: executes its instructions one after another, each on the accounts as the instructions before it
+/// left them. The book is not changed.
 ///
-/// The time is linear in the book's accounts and in the batch, look-ups apart; each touched account is copied
-/// once.
+/// The time is linear in the accounts of the book and the instructions of the batch, except for searches by account
+/// number. Each touched account is copied once.
 ///
 /// # Errors
-/// `WrongBase` where the batch does not begin with the book's next record number; `NoMemory` where it does and a
-/// growth was refused.
+/// `WrongBase` if the first record number of the batch is not the book's next record number. Otherwise `NoMemory` if
+/// memory ran out.
 pub fn settle_plain(
     alloc: Global,
     book: &Book,
@@ -61,7 +61,7 @@ pub fn settle_plain(
     }
 }
 
-// Settles a batch whose numbers follow the book's.
+// Settles a batch whose first record number is the book's next one.
 fn settle_batch(
     alloc: Global,
     book: &Book,
@@ -71,7 +71,7 @@ fn settle_batch(
     ensures settled { IfOk result (λ s. s ≡ settled_day book.now rules.now batch.now) }
     ensures of_book { IfOk result (λ s. IsOfBook book.now s) }
 {
-    // What is settled on the touched accounts alone is what is settled on all.
+    // By the laws, settling the touched accounts gives what settling all accounts would give.
     step_laws();
     each_footprint_is_sound();
     let directory = book.directory();
@@ -80,7 +80,7 @@ fn settle_batch(
     Ok(Settled::new(batch.base(), rows, accounts))
 }
 
-// Carries all instructions out on the accounts that they touch, and answers the log.
+// Executes all instructions on copies of the accounts that they touch, and answers the log.
 fn settle_all(
     alloc: Global,
     rules: &Rules,

@@ -1,4 +1,4 @@
-//! A settled day, before it is put into the book.
+//! A settled day that is not yet in the book.
 
 ghost use Rattle.std.specs.Prelude.{◌≡◌};
 ghost use Rattle.std.specs.Option.{option_copied};
@@ -11,7 +11,7 @@ use reg_rules::LogRow;
 use std::marker::Model;
 use thiserror::Error;
 
-/// The log of a day, by rising record number. A clause sees the list of its rows.
+/// The log of a day, by rising record number. A contract sees the list of its rows.
 #[derive(Debug, Drop)]
 pub struct Log {
     rows: Vec<LogRow>,
@@ -27,7 +27,7 @@ impl Model for Log {
 }
 
 impl Log {
-    /// The log of these rows. Takes no memory.
+    /// The log with these rows. Takes no memory.
     pub fn new(rows: Vec<LogRow>) -> Self
         ensures { result ≡ rows.items }
     {
@@ -42,7 +42,7 @@ impl Log {
     }
 }
 
-/// The settled day does not follow on the book: another day came between.
+/// The settled day does not begin with the book's next record number, because another day was committed in between.
 #[derive(Clone, Copy, Debug, PartialEq, Eq, Error)]
 #[error("the next record number is {next}")]
 pub struct Stale {
@@ -50,7 +50,7 @@ pub struct Stale {
     pub next: u64,
 }
 
-/// A settled day: the record number before its first, its log, and the accounts that it touched, after it.
+/// A settled day: the last record number before it, its log, and the touched accounts as they are after it.
 #[derive(Debug, Drop)]
 pub struct Settled {
     base: u64,
@@ -71,7 +71,7 @@ impl Model for Settled {
 impl Settled {
     ghost use Rattle.reg_book.specs.Settled.{SettledValue, IsSettled};
 
-    /// The settled day of these parts. Takes no memory.
+    /// The settled day with these parts. Takes no memory.
     pub(crate) fn new(base: u64, rows: Vec<LogRow>, accounts: Vec<Account>) -> Self
         requires { let day : SettledValue = record { base = base; rows = rows.items; accounts = accounts.items } in IsSettled day }
         ensures { result ≡ record { base = base; rows = rows.items; accounts = accounts.items } }
@@ -98,7 +98,7 @@ impl Settled {
         self.rows.as_slice()
     }
 
-    /// The account of this number after the day, where the day touched it.
+    /// The account with this number as it is after the day, or `None` if the day did not touch it.
     pub fn account(&self, number: AccountNo) -> Option<&Account>
         ensures { option_copied result ≡ account self.now.accounts number }
     {

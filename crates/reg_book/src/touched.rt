@@ -11,11 +11,11 @@ use reg_account::Account;
 use reg_base::{AccountNo, Directory, Instruction, NoMemory};
 use std::alloc::Global;
 
-/// Copies of the accounts that some instruction touches, in their order. Each is copied once, however many
+/// Copies of the accounts that the instructions touch, in the order of the book. Each is copied once, however many
 /// instructions touch it.
 ///
 /// # Errors
-/// `NoMemory` where a growth was refused.
+/// `NoMemory` if memory ran out.
 pub(crate) fn copy_touched(
     alloc: Global,
     accounts: &[Account],
@@ -29,7 +29,7 @@ pub(crate) fn copy_touched(
     copy_marked(alloc, accounts, &marks)
 }
 
-// A mark for each account that some instruction touches.
+// One mark for each account: whether some instruction touches it.
 fn mark_touched(
     alloc: Global,
     accounts: &[Account],
@@ -60,7 +60,7 @@ fn mark_all(
     }
 }
 
-// Marks the accounts of these numbers.
+// Marks the accounts with these numbers.
 fn mark(marks: &mut [bool], accounts: &[Account], wanted: &[AccountNo])
     requires rising { IsRising (numbers accounts.now) }
     requires size { length marks.old ≡ length accounts.now }
@@ -73,7 +73,7 @@ fn mark(marks: &mut [bool], accounts: &[Account], wanted: &[AccountNo])
     }
 }
 
-// Copies of the marked accounts, in their order.
+// Copies of the marked accounts, in the same order.
 fn copy_marked(
     alloc: Global,
     accounts: &[Account],

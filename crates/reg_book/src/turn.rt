@@ -1,4 +1,4 @@
-//! One instruction at its turn, on accounts in the order of their numbers.
+//! One instruction, executed on accounts that are sorted by number.
 
 ghost use Rattle.std.specs.Prelude.{◌≡◌, ◌≢◌, ◌<◌, ◌≤◌, [], ◌∷◌, IfOk, length, take, nat_eq, slice_index};
 ghost use Rattle.std.specs.List.{IsDistinct};
@@ -14,7 +14,7 @@ use reg_base::{Day, Directory, Instruction, NoMemory, RecordNo, Rules};
 use reg_rules::{Reply, execute, step_laws};
 use std::alloc::Global;
 
-/// An instruction with its record number, and what stays the same while its day is settled.
+/// An instruction with its record number, and what stays the same throughout the day.
 #[derive(Clone, Copy)]
 pub(crate) struct Turn<'a> {
     /// The rules of the day.
@@ -29,12 +29,12 @@ pub(crate) struct Turn<'a> {
     pub instruction: &'a Instruction,
 }
 
-/// Carries the instruction out on accounts among which are those that it touches.
+/// Executes the instruction. `accounts` must contain all accounts that it touches.
 ///
-/// They are moved to the front for it and then back, so that none is copied and no room is needed for them.
+/// The touched accounts are swapped to the front for this and then back, so that no account is copied.
 ///
 /// # Errors
-/// `NoMemory` where the room for the closing holdings was refused.
+/// `NoMemory` if there was no memory for the closing holdings.
 pub(crate) fn take_turn(
     alloc: Global,
     turn: &Turn,
@@ -57,7 +57,7 @@ pub(crate) fn take_turn(
     turn_of_two(alloc, turn, accounts, first, second)
 }
 
-// Carries out an instruction that touches the account at this place alone.
+// Executes an instruction that touches only the account at this place.
 fn turn_of_one(
     alloc: Global,
     turn: &Turn,
@@ -76,7 +76,7 @@ fn turn_of_one(
     reply
 }
 
-// Carries out an instruction that touches the accounts at these two places, in this order.
+// Executes an instruction that touches the accounts at these two places, in this order.
 fn turn_of_two(
     alloc: Global,
     turn: &Turn,
@@ -92,7 +92,7 @@ fn turn_of_two(
     ensures { IfOk result (λ reply. (accounts.new, reply) ≡ step (record { rules = turn.now.rules.now; day = turn.now.day; directory = turn.now.directory.now }) accounts.old turn.now.number turn.now.instruction.now) }
 {
     step_laws();
-    // The first swap moves the second account where that one was at the front.
+    // If the second account was at the front, the first swap moves it.
     let second_now = if second == 0 { first } else { second };
     accounts.swap(0, first);
     accounts.swap(1, second_now);
@@ -102,7 +102,7 @@ fn turn_of_two(
     reply
 }
 
-// Carries the instruction out on accounts of which it touches the first ones, in their order.
+// Executes the instruction. The first `count` accounts are those that it touches, in its order.
 fn turn_at_front(
     alloc: Global,
     turn: &Turn,
@@ -115,7 +115,7 @@ fn turn_at_front(
     ensures ok { IfOk result (λ reply. (accounts.new, reply) ≡ step (record { rules = turn.now.rules.now; day = turn.now.day; directory = turn.now.directory.now }) accounts.old turn.now.number turn.now.instruction.now) }
     ensures count { length accounts.new ≡ length accounts.old }
 {
-    // A step depends on the accounts that it touches alone.
+    // A step depends only on the accounts that it touches.
     step_laws();
     execute(
         alloc,

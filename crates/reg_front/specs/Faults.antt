@@ -8,21 +8,21 @@ use Rattle.reg_front.specs.declared.device.ReadFault.TheVariants as read
 use Rattle.reg_front.specs.declared.fault.FrontFault.{FrontFault}
 use Rattle.reg_front.specs.declared.fault.FrontFault.TheVariants as front
 
--- of the reader
+-- the fault of `run` for each fault of the reader
 abbrev pub fault_of_read : ReadFault → FrontFault
 fault_of_read read.Failed = front.Read
 fault_of_read read.TooLong = front.Read
 fault_of_read read.TooManyCalls = front.Read
 fault_of_read read.NoMemory = front.NoMemory
 
--- an input is too long only where it has more bytes than an input may have
+-- an input is too long only if it has more bytes than the limit
 abbrev pub IsReadFault : Option (List ℕ) → ReadFault → Type 0
 IsReadFault input read.Failed = ⊤
 IsReadFault input read.TooLong = IfSome input (λ bytes. MOST_INPUT < length bytes)
 IsReadFault input read.TooManyCalls = ⊤
 IsReadFault input read.NoMemory = ⊤
 
--- of the text
+-- the fault of `run` for each fault of the text
 abbrev pub fault_of_day : DayFault → FrontFault
 fault_of_day (day.Row row cause) = front.Row row cause
 fault_of_day day.NoMemory = front.NoMemory

@@ -1,4 +1,4 @@
--- What a command gives of an input: the text that it writes, or the fault that it answers.
+-- What a command makes of an input: the report that it writes, or the fault that it answers.
 use Rattle.std.specs.Prelude.{◌≡◌, ℕ, ◌≤◌, List, Option, Err, ⊤, IfSome}
 use Rattle.std.specs.Io.KnownBytes.{Keeps, Appends}
 use Rattle.reg_book.specs.Settled.{SettledValue, settled_day, committed}
@@ -13,27 +13,27 @@ use Rattle.reg_front.specs.declared.fault.FrontFault.{FrontFault}
 use Rattle.reg_front.specs.declared.fault.FrontFault.TheVariants.{Row, Read, Workers, NoMemory, WriteFailed}
 use Rattle.reg_front.specs.Devices.{AppendsFrontOf}
 
--- so many workers may settle a day
+-- this number of workers is within its limits
 abbrev pub AreWorkers : ℕ → Type 0
 AreWorkers workers = (1 ≤ workers) × (workers ≤ 8)
 
--- the command may be carried out
+-- the command is within its limits
 abbrev pub IsAllowed : Command → Type 0
 IsAllowed (Settle workers) = AreWorkers workers
 
--- the report of a day that was settled so: its log, the book after it, the totals and the closing row
+-- the report of a settled day: its log, the book after it, the totals and the row end
 abbrev pub report_after : DayValue → SettledValue → List ℕ
 report_after day settled = text_of (report_rows (committed day.book settled) settled.rows)
 
--- what the command writes of a day
+-- the report that the command writes for a day
 abbrev pub report_of : Command → DayValue → List ℕ
 report_of (Settle workers) day = report_after day (settled_day day.book day.rules day.batch)
 
--- the input is the text of a day, and this is what the command writes of it
+-- the input is a day text, and this is the report that the command writes for it
 abbrev pub IsReport : Command → List ℕ → List ℕ → Type 0
 IsReport command input report = (day : DayValue) × IsReading (rows_of input) day × IsAllowed command × (report ≡ report_of command day)
 
--- the fault is what the command answers of the input; want of memory and a failed reader may come at any input
+-- the command may answer this fault for this input; a lack of memory and a failed reader can occur with every input
 abbrev pub IsFault : Command → List ℕ → FrontFault → Type 0
 IsFault command input (Row row cause) = day_of_rows (rows_of input) ≡ Err (row, cause)
 IsFault command input Workers = (day : DayValue) × IsReading (rows_of input) day × ¬ IsAllowed command
@@ -41,11 +41,12 @@ IsFault command input WriteFailed = (report : List ℕ) × IsReport command inpu
 IsFault command input Read = ⊤
 IsFault command input NoMemory = ⊤
 
--- the command has written its report of the input, where that is known
+-- if the input is known, the command has written its report
 abbrev pub WritesReport : Command → Option (List ℕ) → Option (List ℕ) → Option (List ℕ) → Type 0
 WritesReport command input old new = IfSome input (λ text. (report : List ℕ) × IsReport command text report × Appends old new report)
 
--- what a fault leaves of the writer: a failed writer may have taken a front of the report, any other fault finds it as it was
+-- what the writer holds after a fault: a failed writer may have taken a prefix of the report; after all other faults it
+-- holds what it held before
 abbrev pub Leaves : Command → Option (List ℕ) → FrontFault → Option (List ℕ) → Option (List ℕ) → Type 0
 Leaves command input (Row row cause) old new = Keeps old new
 Leaves command input Workers old new = Keeps old new
@@ -53,7 +54,7 @@ Leaves command input WriteFailed old new = IfSome input (λ text. (report : List
 Leaves command input Read old new = Keeps old new
 Leaves command input NoMemory old new = Keeps old new
 
--- why the input gives no day
+-- why no day was read from the input
 abbrev pub IsReadingFault : Option (List ℕ) → FrontFault → Type 0
 IsReadingFault input (Row row cause) = IfSome input (λ text. day_of_rows (rows_of text) ≡ Err (row, cause))
 IsReadingFault input Workers = ⊥
@@ -61,7 +62,7 @@ IsReadingFault input WriteFailed = ⊥
 IsReadingFault input Read = ⊤
 IsReadingFault input NoMemory = ⊤
 
--- why a day that was read is not settled
+-- why a day that was read was not settled
 abbrev pub IsSettlingFault : ℕ → FrontFault → Type 0
 IsSettlingFault workers (Row row cause) = ⊥
 IsSettlingFault workers Workers = ¬ AreWorkers workers

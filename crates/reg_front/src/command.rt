@@ -1,11 +1,11 @@
-//! What a day text is read for.
+//! What to do with a day text.
 
-/// What [`run`](crate::run) is to do with the day that it reads.
+/// What [`run`](crate::run) does with the day that it reads.
 #[derive(Clone, Copy, Debug, PartialEq, Eq)]
 pub enum Command {
-    /// Settle the day and write its report.
+    /// Settles the day and writes the report.
     Settle {
-        /// How many workers are to settle it, 1 to 8. The report is the same for each number.
+        /// The number of workers, 1 to 8. The report does not depend on it. This version only checks the number.
         workers: u32,
     },
 }

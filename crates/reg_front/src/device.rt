@@ -1,4 +1,4 @@
-//! Reading a whole input and writing a whole text, by plain calls of `read` and `write`.
+//! Reading a whole input and writing a whole text.
 
 ghost use Rattle.std.specs.Prelude.{◌≡◌, ◌≤◌, IfErr, IfOk, IfSome, OnOk, OnErr, vec_len};
 ghost use Rattle.std.specs.Io.KnownBytes.{Appends, IsAtEnd};
@@ -8,13 +8,13 @@ ghost use Rattle.reg_front.specs.Faults.{IsReadFault};
 use std::alloc::Global;
 use std::io::{Read, Write};
 
-/// The most bytes that an input may have: 2^30.
+/// The most bytes of an input: 2^30.
 pub(crate) const MOST_INPUT: usize = 1 << 30;
 
-/// The most calls of `read` that an input may need: 2^32, the one that finds its end included.
+/// The most calls of `read` for an input: 2^32, including the call that finds its end.
 pub(crate) const MOST_READS: u64 = 1 << 32;
 
-// How many bytes one call of `read` may bring.
+// The most bytes that one call of `read` brings.
 const PIECE: usize = 64 * 1024;
 
 /// Why an input could not be read to its end.
@@ -24,22 +24,22 @@ pub(crate) enum ReadFault {
     Failed,
     /// The input has more than [`MOST_INPUT`] bytes.
     TooLong,
-    /// The input needs more than [`MOST_READS`] calls of `read`.
+    /// The input has not ended after [`MOST_READS`] calls of `read`.
     TooManyCalls,
-    /// Memory was refused.
+    /// Memory ran out.
     NoMemory,
 }
 
-/// A write or a flush failed, or a write took no byte of a text that had some left.
+/// A write or a flush failed, or a write took no byte although some were left.
 #[derive(Clone, Copy, Debug, PartialEq, Eq)]
 pub(crate) struct WriteFailed;
 
-/// All that the reader has left, up to its end.
+/// All bytes that the reader has left, up to its end.
 ///
 /// # Errors
-/// `Failed` where a call of `read` fails, which is not tried again; `TooLong` where the input is longer than
-/// [`MOST_INPUT`], and `TooManyCalls` where it needs more than [`MOST_READS`] calls; `NoMemory` where a growth
-/// was refused. What was read by then is lost.
+/// `Failed` if a call of `read` fails; there is no second try. `TooLong` if the input has more than [`MOST_INPUT`]
+/// bytes. `TooManyCalls` if it has not ended after [`MOST_READS`] calls. `NoMemory` if memory ran out. In each case
+/// the bytes read so far are lost.
 pub(crate) fn read_all<R: Read>(alloc: Global, reader: &mut R) -> Result<Vec<u8>, ReadFault>
     ensures whole { IfOk result (λ text. IfSome (R.remaining reader.old) (λ bytes. text.items ≡ bytes)) }
     ensures end { OnOk result (IsAtEnd (R.remaining reader.new)) }
@@ -69,8 +69,8 @@ pub(crate) fn read_all<R: Read>(alloc: Global, reader: &mut R) -> Result<Vec<u8>
 /// Writes the whole text and flushes the writer.
 ///
 /// # Errors
-/// [`WriteFailed`] where a call of `write` or `flush` fails, which is not tried again, or a `write` takes no
-/// byte. The writer has then taken a front of the text, which may be all of it.
+/// [`WriteFailed`] if a call of `write` or `flush` fails, or a `write` takes no byte; there is no second try. The
+/// writer has then taken a prefix of the text, possibly all of it.
 pub(crate) fn write_all<W: Write>(writer: &mut W, text: &[u8]) -> Result<(), WriteFailed>
     ensures ok { OnOk result (Appends (W.contents writer.old) (W.contents writer.new) text.now) }
     ensures err { OnErr result (AppendsFrontOf text.now (W.contents writer.old) (W.contents writer.new)) }

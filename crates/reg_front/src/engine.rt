@@ -1,4 +1,4 @@
-//! One command over one input, from bytes to bytes.
+//! One command, from its input to its output.
 
 ghost use Rattle.std.specs.Prelude.{◌≡◌, ◌+◌, IfOk, IfErr, IfSome, OnOk, MatchResult};
 ghost use Rattle.reg_text.specs.Rows.{rows_of};
@@ -14,17 +14,20 @@ use reg_text::{DayInput, read_day, write_report};
 use std::alloc::Global;
 use std::io::{Read, Write};
 
-// The most workers that may settle a day.
+// The most workers of a settlement.
 const MOST_WORKERS: u32 = 8;
 
-/// Reads the whole input, carries the command out on the day that it gives, and writes the report, whose text
-/// is whole before its first byte is written.
+/// Reads the whole input, carries out the command on the day that it describes, and writes the report. The whole
+/// report is made before its first byte is written.
 ///
 /// # Errors
-/// `Row` exactly where the input is no day text, with the first faulty row and its first cause; `Workers`
-/// exactly where it is one and the command's number of workers is not 1 to 8. Before either comes `Read`, where
-/// the reader fails or the input is too long, and `NoMemory` may come at any input. After these nothing was
-/// written. `WriteFailed` leaves a front of the report.
+/// - `Read` if the reader fails, the input has more than 2^30 bytes, or it has not ended after 2^32 calls of `read`.
+/// - `Row` if the input is not a day text, with the first faulty row and the first cause that applies to it.
+/// - `Workers` if the input is a day text and the number of workers is not 1 to 8.
+/// - `NoMemory` if memory ran out.
+/// - `WriteFailed` if the writer fails. A prefix of the report has then been written.
+///
+/// After all faults except `WriteFailed`, nothing has been written.
 pub fn run<R: Read, W: Write>(
     alloc: Global,
     reader: &mut R,
@@ -45,7 +48,7 @@ pub fn run<R: Read, W: Write>(
     Ok(())
 }
 
-// The day that the whole input gives. The input's own bytes are let go before the day is settled.
+// The day that the whole input describes. The bytes of the input are dropped before the day is settled.
 fn read_input<R: Read>(alloc: Global, reader: &mut R) -> Result<DayInput, FrontFault>
     ensures ok { IfOk result (λ day. IfSome (R.remaining reader.old) (λ input. IsReading (rows_of input) (day_of_input day))) }
     ensures follows { IfOk result (λ day. day.batch.base + 1 ≡ day.book.next) }
@@ -55,7 +58,7 @@ fn read_input<R: Read>(alloc: Global, reader: &mut R) -> Result<DayInput, FrontF
     Ok(read_day(alloc, text.as_slice())?)
 }
 
-// The report of the day after its batch.
+// The report of the settled day.
 fn settle(alloc: Global, day: DayInput, workers: u32) -> Result<Vec<u8>, FrontFault>
     requires { day.batch.base + 1 ≡ day.book.next }
     ensures { MatchResult result

@@ -1,4 +1,4 @@
-//! Why a day was not settled.
+//! Why a command gave no report.
 
 ghost use Rattle.std.specs.Prelude.{◌≡◌};
 ghost use Rattle.reg_front.specs.declared.fault.FrontFault.TheVariants.{NoMemory};
@@ -9,28 +9,28 @@ use reg_base::NoMemory;
 use reg_text::{Cause, DayFault};
 use thiserror::Error;
 
-/// Why [`run`](crate::run) gave no report. Its text is the line by which the fault is told.
+/// Why [`run`](crate::run) gave no report. `Display` gives the line on standard error.
 #[derive(Clone, Copy, Debug, PartialEq, Eq, Error)]
 pub enum FrontFault {
-    /// The input is no day text.
+    /// The input is not a day text.
     #[error("row {row}: {cause}")]
     Row {
-        /// The number of the first faulty row, counted from 1 over the records of the text; one more than
-        /// there are records where the text ends too early.
+        /// The number of the first faulty row among the records of the text, counted from 1. If the text ends too
+        /// early: the number of records plus 1.
         row: u64,
         /// The first cause that applies to it.
         cause: Cause,
     },
-    /// The reader failed, or the input has more than 2^30 bytes or needs more than 2^32 calls of `read`.
+    /// The reader failed, the input has more than 2^30 bytes, or it has not ended after 2^32 calls of `read`.
     #[error("read failed")]
     Read,
     /// The number of workers is not 1 to 8.
     #[error("workers must be 1 to 8")]
     Workers,
-    /// Memory was refused.
+    /// Memory ran out.
     #[error("out of memory")]
     NoMemory,
-    /// The writer failed; it may have taken a front of the report.
+    /// The writer failed. It may have taken a prefix of the report.
     #[error("write failed")]
     WriteFailed,
 }

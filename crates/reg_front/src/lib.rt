@@ -1,4 +1,4 @@
-//! The engine of the registry over bytes: reads a day text, settles it, and writes its report.
+//! The engine of the registry, from bytes to bytes: reads a day text, settles the day, and writes the report.
 #![tactic(auto)]
 
 mod command;

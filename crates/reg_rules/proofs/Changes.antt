@@ -1,4 +1,4 @@
--- A list of accounts in which those of a number are changed, one after another.
+-- A loop over accounts that changes those with one number.
 use Rattle.std.proofs.Common.{◌≡◌, ℕ, ◌+◌, ◌<◌, Bool, cond, eqb, ◌++◌, length, get_or, set, take, drop, sym, ap, ◌∙◌}
 use Rattle.std.proofs.lemmas.List.Edits.{map_over_more}
 use Rattle.reg_account.specs.Account.{AccountValue}

@@ -1,4 +1,4 @@
--- No act changes the kind, holder, permissions or correction factor of an account.
+-- No act changes the kind, holder, switches or correction factor of an account.
 use Rattle.std.proofs.Common.{◌≡◌, ℕ, Bool, true, false, cond, Option, Some, None, refl, ap, ◌∙◌}
 use Rattle.std.specs.Option.{option_map}
 use Rattle.reg_base.specs.declared.instruction.Instruction.{Instruction}

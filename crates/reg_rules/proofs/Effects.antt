@@ -10,7 +10,7 @@ use Rattle.reg_rules.specs.State.{State, Setting, numbers, account}
 use Rattle.reg_rules.specs.Effect.{changed_by, effect}
 use Rattle.reg_rules.proofs.Numbers.{account-map, numbers-map}
 
--- what the instruction makes of an account: changed where it touches it, else as it was
+-- an account after the instruction: changed if the instruction touches it, else as it was
 abbrev pub after : Setting → ℕ → Instruction → AccountValue → AccountValue
 after c n i v = cond (is_among (footprint c.directory i.act) v.number) (changed_by c n i.act v) v
 
@@ -43,7 +43,7 @@ own-among (y ∷ ys) ns within = (
   own-among ys ns (λ a h. within a (or-true-right (eqb y.number a) (is_among (numbers ys) a) h)),
 )
 
--- where the accounts are those of the footprint, each is changed
+-- if the accounts are those of the footprint, each is changed
 pub effect-own : (c : Setting) (s : State) (n : ℕ) (i : Instruction) → numbers s ≡ footprint c.directory i.act → effect c s n i ≡ map (changed_by c n i.act) s
 effect-own c s n i own = go s (own-among s (footprint c.directory i.act) (λ a h. ap (λ ns. is_among ns a) (sym own) ∙ h)) where
   go : (ys : State) → AllByRecursion (λ v. is_among (footprint c.directory i.act) v.number ≡ true) ys → map (after c n i) ys ≡ map (changed_by c n i.act) ys

@@ -40,7 +40,7 @@ limits-stay c s n i d all =
       go None none = limits-after c s n i none s (found-by_number s d) (recursion_from_All IsAccount s all)
       go (Some q) refused = recursion_from_All IsAccount s all
 
--- where nothing refuses, the accounts of the footprint have what the change of the act needs
+-- if no check fails, the accounts of the footprint have what the act needs
 pub CanApply-passed : (c : Setting) (s : State) (i : Instruction) → IsDistinct eqb (numbers s) → numbers s ≡ footprint c.directory i.act → refusal c s i ≡ None → CanApply s i.act
 CanApply-passed c s i d own none = (names-apart i.act (passed c s i SameAccount none refl), go s (found-by_number s d)) where
   same : touched_accounts c s i ≡ s

@@ -1,4 +1,4 @@
--- A step reads and changes the accounts of its footprint alone.
+-- A step reads and changes only the accounts of its footprint.
 use Rattle.std.proofs.Common.{◌≡◌, ℕ, false, cond, eqb, List, [], ◌∷◌, get_or, map, Option, Some, None, refl, sym, ap, ◌∙◌}
 use Rattle.std.specs.Prelude.{find}
 use Rattle.std.specs.Option.{option_map}

@@ -1,4 +1,4 @@
--- What an accepted transfer makes of each account.
+-- Each account after an accepted transfer.
 use Rattle.std.proofs.Common.{◌≡◌, ℕ, ◌+◌, ◌-◌, ◌≤◌, Bool, true, false, cond, ◌||◌, eqb, [], ◌∷◌, Option, Some, None, refl, sym, ap, ◌∙◌, subst}
 use Rattle.std.specs.Prelude.{◌≢◌, not}
 use Rattle.std.specs.Option.{option_map, option_map_or}

@@ -1,4 +1,4 @@
--- Accounts by their numbers: where each number stands once, it leads to its account.
+-- Accounts by their numbers: if each number occurs once, looking it up finds its account.
 use Rattle.std.proofs.Common.{◌≡◌, ℕ, Bool, true, false, cond, eqb, List, [], ◌∷◌, map, ◌||◌, Option, Some, None, refl, sym, ap, ◌∙◌, subst}
 use Rattle.std.specs.Option.{option_map}
 use Rattle.std.specs.List.{IsDistinct, AllByRecursion}
@@ -18,7 +18,7 @@ account-number (x ∷ xs) a v e =
     (λ same found. ap (λ (w : AccountValue). w.number) (sym (same_Some x v found)) ∙ eqb-true x.number a same)
     (λ _ found. more found) e
 
--- an account that is put before others leaves those of other numbers where they are
+-- an account put before a list does not change what the other numbers find
 behind : (x : AccountValue) (xs ys : State) → AllByRecursion (λ n. eqb x.number n ≡ false) (numbers ys) → AllByRecursion (λ v. account xs v.number ≡ Some v) ys → AllByRecursion (λ v. account (x ∷ xs) v.number ≡ Some v) ys
 behind x xs [] others found = tt
 behind x xs (y ∷ ys) others found =

@@ -1,4 +1,4 @@
--- Where nothing refuses, no check fails.
+-- If there is no refusal, no check fails.
 use Rattle.std.proofs.Common.{◌≡◌, Bool, true, false, cond, eqb, List, [], ◌∷◌, Some, None, refl, sym, ap, ◌∙◌}
 use Rattle.std.specs.Prelude.{find}
 use Rattle.std.proofs.lemmas.Option.{same_Some, none-some}

@@ -1,4 +1,4 @@
--- One step, on the accounts that it touches alone.
+-- One step, on only the accounts that it touches.
 use Rattle.std.proofs.Common.{◌≡◌, ℕ, eqb, List, map, Option, None, refl, sym, ap, ◌∙◌, subst}
 use Rattle.std.specs.List.{IsDistinct}
 use Rattle.std.specs.Option.{option_map_or}

@@ -1,4 +1,4 @@
--- The table of checks. The first that fails names the refusal.
+-- The table of checks. The first one that fails is the refusal.
 use Rattle.std.specs.Prelude.{ℕ, ◌+◌, Bool, true, false, not, ◌==◌, ◌&&◌, nat_lt, List, [], ◌∷◌, find, Option, is_none}
 use Rattle.std.specs.Option.{option_map_or}
 use Rattle.reg_base.specs.declared.limits.TheConstants.{MOST_HELD}
@@ -16,7 +16,7 @@ use Rattle.reg_base.specs.Rules.{RulesValue}
 use Rattle.reg_base.specs.Footprint.{all_known, footprint}
 use Rattle.reg_rules.specs.State.{State, Setting, accounts_at, account_passes, held}
 
--- the kinds of the accounts that holders have
+-- the holder kinds
 abbrev pub is_holder_kind : AccountKind → Bool
 is_holder_kind Total = false
 is_holder_kind Allocation = false
@@ -36,44 +36,44 @@ is_closed Blocked = false
 is_closed Excluded = false
 is_closed Closed = true
 
--- both accounts of the act are one
+-- both accounts of the act are the same
 abbrev pub names_one_account : Act → Bool
 names_one_account (Transfer from to kind amount) = from == to
 
--- a transfer goes from a holder's account to a holder's account
+-- a transfer needs two accounts of holder kinds
 abbrev pub has_right_kinds : State → Act → Bool
 has_right_kinds s (Transfer from to kind amount) =
     account_passes (λ v. is_holder_kind v.kind) s from && account_passes (λ v. is_holder_kind v.kind) s to
 
--- a transfer leaves an opened account
+-- a transfer needs an opened source account
 abbrev pub source_allows : State → Act → Bool
 source_allows s (Transfer from to kind amount) = account_passes (λ v. is_opened v.status) s from
 
--- a transfer reaches an account that is not closed
+-- a transfer needs a destination account that is not closed
 abbrev pub destination_allows : State → Act → Bool
 destination_allows s (Transfer from to kind amount) = account_passes (λ v. not (is_closed v.status)) s to
 
--- how many working days lie between the proposal and the due day
+-- the lag: how many working days lie from the day of the proposal up to, but not including, the due day
 abbrev pub lag_of : RulesValue → Act → ℕ
 lag_of rules (Transfer from to kind amount) = rules.trusted_lag
 
--- the day on which the instruction falls due, if the calendar has it
+-- the due day of the instruction, if the calendar has such a day
 abbrev pub due_day : RulesValue → Instruction → Option ℕ
 due_day rules i = due rules.calendar i.proposed (lag_of rules i.act)
 
--- the act moves no allowance
+-- the act moves 0 allowances
 abbrev pub moves_nothing : Act → Bool
 moves_nothing (Transfer from to kind amount) = amount == 0
 
--- the giving account holds fewer allowances of the kind than the act takes
+-- the source account holds fewer allowances of the kind than the amount
 abbrev pub is_short : State → Act → Bool
 is_short s (Transfer from to kind amount) = nat_lt (held s from kind) amount
 
--- the receiving account would hold more allowances of the kind than it may
+-- the destination account would hold more allowances of the kind than the limit
 abbrev pub overfills : State → Act → Bool
 overfills s (Transfer from to kind amount) = nat_lt MOST_HELD (held s to kind + amount)
 
--- the check of this name fails on these accounts
+-- this check fails for these accounts
 abbrev pub fails : Setting → State → Instruction → Refusal → Bool
 fails c s i UnknownAccount = not (all_known c.directory i.act)
 fails c s i SameAccount = names_one_account i.act
@@ -104,14 +104,14 @@ fails c s i YearOutsidePeriod = false
 fails c s i AmountTooLarge = false
 fails c s i EmissionsMissing = false
 
--- the checks that are asked so far, in their order
+-- the checks that this version asks, in order
 abbrev pub checks : List Refusal
 checks = UnknownAccount ∷ SameAccount ∷ WrongAccountKind ∷ SourceStatus ∷ DestinationStatus ∷ OutsideCalendar ∷ NotDue ∷ ZeroAmount ∷ NotEnough ∷ HoldingTooLarge ∷ []
 
--- the accounts that the instruction touches, in their order
+-- the accounts that the instruction touches, in the order in which it names them
 abbrev pub touched_accounts : Setting → State → Instruction → State
 touched_accounts c s i = accounts_at s (footprint c.directory i.act)
 
--- the first check that fails on the accounts that the instruction touches, or none
+-- the first check that fails for the accounts that the instruction touches, or none
 abbrev pub refusal : Setting → State → Instruction → Option Refusal
 refusal c s i = find (fails c (touched_accounts c s i) i) checks

@@ -1,4 +1,4 @@
--- What an accepted act makes of the accounts that it touches.
+-- How an accepted act changes the accounts that it touches.
 use Rattle.std.specs.Prelude.{◌≡◌, ◌≢◌, ℕ, ◌+◌, ◌≤◌, ◌==◌, map, if◌then◌else◌}
 use Rattle.std.specs.List.{AllByRecursion}
 use Rattle.reg_base.specs.declared.limits.TheConstants.{MOST_HELD}
@@ -11,7 +11,7 @@ use Rattle.reg_account.specs.declared.parts.Holdings.{Holdings}
 use Rattle.reg_account.specs.Account.{AccountValue, held_by, credited, debited}
 use Rattle.reg_rules.specs.State.{State, Setting}
 
--- what the account holds after so many allowances of a kind went from one account to another
+-- what the account holds after this amount of a kind moved from one account to another
 abbrev pub held_after_move : ℕ → ℕ → AllowanceKind → ℕ → AccountValue → Holdings
 held_after_move from to kind amount v =
     if v.number == from then (debited v kind amount).held else if v.number == to then (credited v kind amount).held else v.held
@@ -24,11 +24,11 @@ after_move from to kind amount v = record v { held = held_after_move from to kin
 abbrev pub held_after : Act → AccountValue → Holdings
 held_after (Transfer from to kind amount) v = held_after_move from to kind amount v
 
--- the account after the act, which is carried out under this record number: an act changes what an account holds, and nothing else of it
+-- the account after the act with this record number: an act changes what an account holds, and nothing else of it
 abbrev pub changed_by : Setting → ℕ → Act → AccountValue → AccountValue
 changed_by c number act v = record v { held = held_after act v }
 
--- the state after the instruction: the accounts that it touches are changed, every other stays
+-- the state after the instruction: the accounts that it touches are changed, all others stay as they are
 abbrev pub effect : Setting → State → ℕ → Instruction → State
 effect c s number i = map (λ v. if is_among (footprint c.directory i.act) v.number then changed_by c number i.act v else v) s
 
@@ -37,22 +37,22 @@ abbrev pub CanMove : ℕ → ℕ → AllowanceKind → ℕ → AccountValue → 
 CanMove from to kind amount v =
     (v.number ≡ from → amount ≤ held_by v kind) × (v.number ≡ to → held_by v kind + amount ≤ MOST_HELD)
 
--- each account of this number holds the amount
+-- each account with this number holds at least the amount
 abbrev pub HoldAtLeast : State → ℕ → AllowanceKind → ℕ → Type 0
 HoldAtLeast s a kind amount = AllByRecursion (λ v. v.number ≡ a → amount ≤ held_by v kind) s
 
--- each account of this number has room for the amount
+-- each account with this number has room for the amount
 abbrev pub HaveRoom : State → ℕ → AllowanceKind → ℕ → Type 0
 HaveRoom s a kind amount = AllByRecursion (λ v. v.number ≡ a → held_by v kind + amount ≤ MOST_HELD) s
 
--- what the change of an act needs of an account
+-- the condition on each account under which the act can be carried out
 abbrev pub CanChange : Act → AccountValue → Type 0
 CanChange (Transfer from to kind amount) v = CanMove from to kind amount v
 
--- the act names two accounts where it needs two
+-- the two accounts of the act are different
 abbrev pub NamesApart : Act → Type 0
 NamesApart (Transfer from to kind amount) = from ≢ to
 
--- what the change of an act needs
+-- the condition under which the act can be carried out
 abbrev pub CanApply : State → Act → Type 0
 CanApply s act = NamesApart act × AllByRecursion (CanChange act) s

@@ -1,4 +1,4 @@
--- The laws of a step, in the words of what the states say of each account number.
+-- The laws of a step. They compare the states at each account number.
 use Rattle.std.specs.Prelude.{◌≡◌, ◌≢◌, ℕ, ℤ, ◌+◌, ◌-◌, ◌≤◌, Bool, nat_eq, List, Option, Some, None}
 use Rattle.std.specs.Option.{option_map}
 use Rattle.std.specs.List.{All, Contains, IsDistinct}
@@ -39,15 +39,16 @@ pub record Constants : Type 0 where
 abbrev pub constants_of : AccountValue → Constants
 constants_of v = record { number = v.number; kind = v.kind; holder = v.holder; outside = v.outside; waiver = v.waiver; correction = v.correction }
 
--- what an account is but for what it holds
+-- an account without what it holds
 abbrev pub set_aside : AccountValue → AccountValue
 set_aside v = record v { held = record { general = 0; aviation = 0 } }
 
--- the account of this number but for what it holds
+-- the account with this number, without what it holds
 abbrev pub account_aside : State → ℕ → Option AccountValue
 account_aside s a = option_map set_aside (account s a)
 
--- where two states agree on the accounts that the instruction touches, its reply is one, and they agree afterwards wherever they did before
+-- if two states agree on the accounts that the instruction touches, its reply is the same in both, and afterwards the
+-- states agree wherever they agreed before
 abbrev pub StepIsLocal : Type 0
 StepIsLocal = (c : Setting) (s t : State) (number : ℕ) (i : Instruction) → AgreeOn (footprint c.directory i.act) s t
     → (reply_to c s number i ≡ reply_to c t number i)
@@ -58,11 +59,11 @@ abbrev pub OthersStay : Type 0
 OthersStay = (c : Setting) (s : State) (number : ℕ) (i : Instruction) (a : ℕ)
     → (Contains (footprint c.directory i.act) a → ⊥) → account (state_after c s number i) a ≡ account s a
 
--- no account comes, goes or moves
+-- no account is added, removed or moved in the list
 abbrev pub NumbersStay : Type 0
 NumbersStay = (c : Setting) (s : State) (number : ℕ) (i : Instruction) → numbers (state_after c s number i) ≡ numbers s
 
--- an account keeps its kind, its holder, its permissions and its correction factor
+-- an account keeps its kind, its holder, its two switches and its correction factor
 abbrev pub ConstantsStay : Type 0
 ConstantsStay = (c : Setting) (s : State) (number : ℕ) (i : Instruction) (a : ℕ)
     → option_map constants_of (account (state_after c s number i) a) ≡ option_map constants_of (account s a)
@@ -72,7 +73,7 @@ abbrev pub RefusedChangesNothing : Type 0
 RefusedChangesNothing = (c : Setting) (s : State) (number : ℕ) (i : Instruction) (q : Refusal)
     → refusal c s i ≡ Some q → step c s number i ≡ (s, Refused q)
 
--- the second state is the first but for this amount, which has moved from one account to another
+-- the second state equals the first, except that this amount has moved from one account to the other
 pub record IsMoved (s t : State) (from to : ℕ) (kind : AllowanceKind) (amount : ℕ) : Type 0 where
   pub enough : amount ≤ held s from kind
   pub lowered : held t from kind ≡ held s from kind - amount
@@ -81,16 +82,16 @@ pub record IsMoved (s t : State) (from to : ℕ) (kind : AllowanceKind) (amount 
   pub other_accounts : (a : ℕ) → a ≢ from → a ≢ to → account t a ≡ account s a
   pub rest : (a : ℕ) → account_aside t a ≡ account_aside s a
 
--- an accepted transfer moves its amount, and does nothing else
+-- an accepted transfer moves its amount and changes nothing else
 abbrev pub TransferMoves : Type 0
 TransferMoves = (c : Setting) (s : State) (number : ℕ) (i : Instruction) (from to : ℕ) (kind : AllowanceKind) (amount : ℕ)
     → i.act ≡ Transfer from to kind amount → refusal c s i ≡ None → IsMoved s (state_after c s number i) from to kind amount
 
--- states with the same numbers, each once, and the same account at each of them are one
+-- two states are equal if they list the same account numbers, each once, with the same account at each number
 abbrev pub SameState : Type 0
 SameState = (s t : State) → IsDistinct nat_eq (numbers s) → numbers s ≡ numbers t → AgreeOn (numbers s) s t → s ≡ t
 
--- where each number stands once, accounts within their limits stay within them
+-- if each number occurs once, accounts that are within their limits stay within them
 abbrev pub LimitsStay : Type 0
 LimitsStay = (c : Setting) (s : State) (number : ℕ) (i : Instruction)
     → IsDistinct nat_eq (numbers s) → All IsAccount s → All IsAccount (state_after c s number i)

@@ -1,4 +1,4 @@
--- A state is the list of its accounts' values. What the rules read of it are maps from account numbers.
+-- A state is the list of its accounts. The rules read it as maps from account numbers.
 use Rattle.std.specs.Prelude.{ℕ, Bool, false, ◌==◌, List, map, find, filter_map, Option, if◌then◌else◌}
 use Rattle.std.specs.Option.{option_map_or}
 use Rattle.reg_base.specs.declared.kinds.AllowanceKind.{AllowanceKind}
@@ -9,32 +9,32 @@ use Rattle.reg_account.specs.Account.{AccountValue, held_by}
 abbrev pub State : Type 0
 State = List AccountValue
 
--- what stays the same while a day is settled
+-- what stays the same throughout the day
 pub record Setting : Type 0 where
   pub rules : RulesValue
   pub day : ℕ
   pub directory : DirectoryValue
 
--- the numbers of a state's accounts, in its order
+-- the numbers of the accounts, in the order of the list
 abbrev pub numbers : State → List ℕ
 numbers s = map (λ v. v.number) s
 
--- the account of this number
+-- the account with this number
 abbrev pub account : State → ℕ → Option AccountValue
 account s a = find (λ v. v.number == a) s
 
--- the accounts of these numbers, in their order
+-- the accounts with these numbers, in the order of the numbers
 abbrev pub accounts_at : State → List ℕ → State
 accounts_at s numbers = filter_map (account s) numbers
 
--- whether the account is there and passes the test
+-- whether there is an account with this number and it passes the test
 abbrev pub account_passes : (AccountValue → Bool) → State → ℕ → Bool
 account_passes test s a = option_map_or test (account s a) false
 
--- how many allowances of a kind the account holds, 0 where it is not there
+-- how many allowances of a kind the account holds; 0 if there is no such account
 abbrev pub held : State → ℕ → AllowanceKind → ℕ
 held s a kind = option_map_or (λ v. held_by v kind) (account s a) 0
 
--- the state in which the account of this number is changed so
+-- the state in which the account with this number is changed by f
 abbrev pub change : State → ℕ → (AccountValue → AccountValue) → State
 change s a f = map (λ v. if v.number == a then f v else v) s

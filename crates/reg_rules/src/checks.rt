@@ -1,4 +1,4 @@
-//! The checks of an instruction, in the order of their table.
+//! The checks of an instruction, in the order of the table of checks.
 
 ghost use Rattle.std.specs.Prelude.{◌≡◌, ◌≤◌, find};
 ghost use Rattle.std.specs.Option.{option_copied};
@@ -14,7 +14,7 @@ use reg_base::{
     Refusal, Rules, Status,
 };
 
-/// The checks that are asked so far, in their order.
+/// The checks that this version asks, in order.
 const CHECKS: [Refusal; 10] = [
     Refusal::UnknownAccount,
     Refusal::SameAccount,
@@ -28,9 +28,9 @@ const CHECKS: [Refusal; 10] = [
     Refusal::HoldingTooLarge,
 ];
 
-/// The first check that the instruction fails, or `None` where it is to be carried out. Takes no memory.
+/// The first check that fails, or `None` if no check fails. Takes no memory.
 ///
-/// `accounts` are those that the instruction touches, in that order.
+/// `accounts` must be the accounts that the instruction touches, in the order of [`Instruction::touches`].
 pub fn decide(
     rules: &Rules,
     day: Day,
@@ -47,7 +47,7 @@ pub fn decide(
     first_failing(rules, day, instruction, directory, accounts)
 }
 
-// The first check that fails on these accounts.
+// The first check that fails for these accounts.
 fn first_failing(
     rules: &Rules,
     day: Day,
@@ -67,7 +67,7 @@ fn first_failing(
     ))
 }
 
-// Whether the check of this name fails.
+// Whether this check fails. A check that this version does not ask never fails.
 fn refuses(
     check: Refusal,
     rules: &Rules,
@@ -111,14 +111,14 @@ fn refuses(
     }
 }
 
-// The account of this number among those that are touched.
+// The account with this number among the touched accounts.
 fn find_account(accounts: &[Account], number: AccountNo) -> Option<&Account>
     ensures { option_copied result ≡ account accounts.now number }
 {
     accounts.iter().find(|account| account.number() == number)
 }
 
-// How many allowances of the kind the account of this number holds.
+// How many allowances of this kind the account with this number holds.
 fn held_at(accounts: &[Account], number: AccountNo, kind: AllowanceKind) -> u64
     ensures value { result ≡ held accounts.now number kind }
     ensures limit { result ≤ MOST_HELD }
@@ -200,7 +200,7 @@ fn may_arrive(accounts: &[Account], act: &Act) -> bool
     }
 }
 
-// The day on which the instruction falls due. Every destination counts as trusted so far.
+// The due day of the instruction. In this version every destination counts as trusted.
 fn falls_due(rules: &Rules, instruction: &Instruction) -> Option<Day>
     ensures { result ≡ due_day rules.now instruction.now }
 {

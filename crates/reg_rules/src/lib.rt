@@ -1,5 +1,5 @@
-//! The rules of the registry: which instructions are refused and why, what an accepted one does, and the
-//! record that the log keeps of it.
+//! The rules of the registry: which instructions are refused and why, what an accepted instruction does, and its
+//! row in the log.
 #![tactic(auto)]
 
 mod checks;

@@ -18,14 +18,13 @@ use reg_base::{
 };
 use std::alloc::Global;
 
-/// Carries the instruction out on the accounts that it touches, or refuses it. A refused instruction changes
-/// nothing and takes no memory.
+/// Carries the instruction out, or refuses it. A refused instruction changes nothing and takes no memory.
 ///
-/// `accounts` are those that the instruction touches, in that order.
+/// `accounts` must be the accounts that the instruction touches, in the order of [`Instruction::touches`].
 ///
 /// # Errors
-/// `NoMemory` where the room for the closing holdings was refused; the accounts are unchanged, and no refusal
-/// was due.
+/// `NoMemory` if there was no memory for the closing holdings. No check fails in this case, and the accounts are
+/// unchanged.
 pub fn execute(
     alloc: Global,
     rules: &Rules,
@@ -43,7 +42,7 @@ pub fn execute(
         return Ok(Reply::Refused(refusal));
     }
     each_footprint_is_sound();
-    // The room comes first, so that want of memory finds the accounts as they were.
+    // Memory is taken first: if there is none, the accounts are still unchanged.
     let room = Vec::with_capacity(alloc, accounts.len())?;
     apply(number, &instruction.act, accounts);
     Ok(Reply::Done {
@@ -52,7 +51,7 @@ pub fn execute(
     })
 }
 
-/// The record of an instruction, refused or not. Takes no memory.
+/// The log row of an instruction, done or refused. Takes no memory.
 pub fn log_row(number: RecordNo, day: Day, instruction: Instruction, reply: Reply) -> LogRow
     ensures { result ≡ record { number = number; day = day; instruction = instruction; reply = reply } }
 {
@@ -64,7 +63,7 @@ pub fn log_row(number: RecordNo, day: Day, instruction: Instruction, reply: Repl
     }
 }
 
-// The change of an act that no check refuses.
+// Carries out an act for which no check fails.
 fn apply(number: RecordNo, act: &Act, accounts: &mut [Account])
     requires { CanApply accounts.old act.now }
     ensures { (c : Setting) → accounts.new ≡ map (changed_by c number act.now) accounts.old }
@@ -79,7 +78,7 @@ fn apply(number: RecordNo, act: &Act, accounts: &mut [Account])
     }
 }
 
-// Takes the amount from the one account and gives it to the other.
+// Moves the amount from one account to the other.
 fn move_allowances(
     accounts: &mut [Account],
     from: AccountNo,
@@ -95,7 +94,7 @@ fn move_allowances(
     give_to(accounts, to, kind, amount);
 }
 
-// Lowers the holding of the account of this number.
+// Takes the amount from the account with this number.
 fn take_from(accounts: &mut [Account], number: AccountNo, kind: AllowanceKind, amount: u64)
     requires { HoldAtLeast accounts.old number kind amount }
     ensures { accounts.new ≡ change accounts.old number (λ v. debited v kind amount) }
@@ -107,7 +106,7 @@ fn take_from(accounts: &mut [Account], number: AccountNo, kind: AllowanceKind, a
     }
 }
 
-// Raises the holding of the account of this number.
+// Adds the amount to the account with this number.
 fn give_to(accounts: &mut [Account], number: AccountNo, kind: AllowanceKind, amount: u64)
     requires { HaveRoom accounts.old number kind amount }
     ensures { accounts.new ≡ change accounts.old number (λ v. credited v kind amount) }
@@ -119,7 +118,7 @@ fn give_to(accounts: &mut [Account], number: AccountNo, kind: AllowanceKind, amo
     }
 }
 
-// What the accounts hold now, in the room that was made for it.
+// What the accounts hold now. `room` has the capacity for it.
 fn closing_of(mut room: Vec<HeldNow>, accounts: &[Account]) -> Closing
     requires empty { vec_len room ≡ 0 }
     requires fits { length accounts.now ≤ vec_capacity room }

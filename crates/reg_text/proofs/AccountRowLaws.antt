@@ -1,4 +1,4 @@
--- A row reads as an account exactly where its fields are the account's.
+-- A row is read as an account exactly if its fields spell this account.
 use Rattle.std.proofs.Common.{◌≡◌, ℕ, eqb, List, [], ◌∷◌, length, Ok, refl, subst, ◌∙◌, arith}
 use Rattle.std.proofs.lemmas.Bool.{eqb-true}
 use Rattle.reg_base.specs.declared.limits.TheConstants.{MOST_NUMBER, MOST_HELD}

@@ -1,4 +1,4 @@
--- The rows at the head of a text, the rows of working days and the closing row read as what their fields spell.
+-- The heading rows, the `work` rows and the row `end` are read as what their fields spell.
 use Rattle.std.proofs.Common.{◌≡◌, ℕ, ◌+◌, ◌≤◌, nat_le, eqb, List, [], ◌∷◌, length, Ok, refl, subst, ◌∙◌, arith}
 use Rattle.std.specs.Prelude.{codes}
 use Rattle.std.specs.Str.{bytes_eq}

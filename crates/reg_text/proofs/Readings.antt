@@ -1,4 +1,4 @@
--- The laws of reading: the rows read as a day exactly where they are its spelling.
+-- The laws of reading: rows are read as a day exactly if they are its spelling.
 use Rattle.std.proofs.Common.{◌≡◌, ℕ, ◌+◌, ◌-◌, Bool, true, false, cond, List, [], ◌∷◌, ◌++◌, map, Option, Some, None, Result, Ok, Err, refl, sym, ap, subst, ◌∙◌, arith, append_assoc}
 use Rattle.std.proofs.lemmas.List.{append-nil}
 use Rattle.reg_text.specs.declared.cause.Cause.{Cause}

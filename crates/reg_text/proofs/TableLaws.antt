@@ -1,4 +1,4 @@
--- The cause against a row is the first of the table's that applies.
+-- The cause of a faulty row is the first one of the table that applies.
 use Rattle.std.proofs.Common.{◌≡◌, ℕ, zero, suc, ◌+◌, Bool, true, false, not, cond, ◌&&◌, nat_lt, nat_le, eqb, length, List, [], ◌∷◌, ◌++◌, Option, Some, None, Result, Ok, Err, refl, sym, ap, ◌∙◌, ℤ, pos, unsigned_abs}
 use Rattle.std.specs.Prelude.{is_ok, codes}
 use Rattle.std.specs.Result.{result_unwrap_or}

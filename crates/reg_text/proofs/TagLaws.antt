@@ -92,7 +92,7 @@ placed (Some End) = tt
 pub place-of : (last : Option Tag) (t : Tag) → MayFollow last t → IsBetween (from_place t) (to_place t) (place last)
 place-of last t h = each (λ s. IsBetween (from_place s) (to_place s) (place last)) (followers last) (placed last) t h
 
--- where a working day may stand, an account may, and so on to the closing row
+-- if a working day may come here, an account may, and so on to the row end
 pub account-after : (last : Option Tag) → MayFollow last Work → MayFollow last Account
 account-after None h = let p = place-of None Work h in absurd (omega (arith, p.from, p.to))
 account-after (Some Format) h = let p = place-of (Some Format) Work h in absurd (omega (arith, p.from, p.to))

@@ -1,4 +1,4 @@
--- What holds of every draft: its parts are within their limits, and a part that cannot have begun is empty.
+-- What holds of every draft: its parts are within their limits, and a section whose rows cannot have begun is empty.
 use Rattle.std.specs.Prelude.{◌≡◌, ℕ, ◌+◌, ◌<◌, ◌≤◌, List, [], length, map, Option, Some, None}
 use Rattle.std.specs.List.{AllByRecursion}
 use Rattle.reg_base.specs.declared.limits.TheConstants.{MOST_ACCOUNTS, MOST_INSTRUCTIONS, MOST_RECORD, MOST_LAG}
@@ -11,7 +11,7 @@ use Rattle.reg_text.specs.declared.reading.heading_rows.Lags.{Lags as LagsValue}
 use Rattle.reg_text.specs.Drafts.{DraftValue}
 use Rattle.reg_text.specs.Reading.{IsDayNo, IsYearNo, IsNextNo, IsAccountRow, IsInstructionRow}
 
--- the place of the last row among the sections
+-- the section of the last row
 abbrev pub place : Option Tag → ℕ
 place None = 0
 place (Some Format) = 1
@@ -23,7 +23,7 @@ place (Some Account) = 6
 place (Some Do) = 7
 place (Some End) = 8
 
--- the lags and the window, each within its limit
+-- each lag, and the reversal window, is within the limit
 pub record AreLags (lags : LagsValue) : Type 0 where
   pub trusted : lags.trusted ≤ MOST_LAG
   pub other : lags.other ≤ MOST_LAG
@@ -53,7 +53,7 @@ pub record AreDue (next : ℕ) (instructions : List Instruction) : Type 0 where
   pub few : length instructions ≤ MOST_INSTRUCTIONS
   pub numbered : next + length instructions ≤ MOST_RECORD + 1
 
--- a section that cannot have begun at the place is empty
+-- a section that cannot have begun yet is empty
 pub record IsOrderly (at : ℕ) (work : List ℕ) (accounts : List AccountValue) (instructions : List Instruction) : Type 0 where
   pub no_work : at < 5 → work ≡ []
   pub no_accounts : at < 6 → accounts ≡ []

@@ -1,4 +1,4 @@
--- The rows of a text in turn: what each adds, and the first that is wrong, with its cause.
+-- The rows of a text one after another: what each adds to the draft, and the first faulty row with its cause.
 use Rattle.std.specs.Prelude.{◌≡◌, ℕ, ◌+◌, Bool, true, false, ◌&&◌, nat_lt, nat_le, List, [], ◌∷◌, ◌++◌, length, Option, Some, None, Result, Ok, Err, if◌then◌else◌}
 use Rattle.reg_base.specs.declared.limits.TheConstants.{MOST_ACCOUNTS, MOST_INSTRUCTIONS, MOST_RECORD, FIRST_DAY, FIRST_YEAR}
 use Rattle.reg_account.specs.Account.{AccountValue}
@@ -18,7 +18,7 @@ use Rattle.reg_text.specs.RowReaders.{format_of, day_of, period_of, lags_of, wor
 use Rattle.reg_text.specs.Drafts.{DraftValue}
 use Rattle.reg_text.specs.Day.{DayValue, day_said}
 
--- what a call that took a row left is what reading gives, unless memory ran out
+-- a call that added a row left and answered what the definition says, unless memory ran out
 abbrev pub Fails : RowError → Result DraftValue Cause → Type 0
 Fails failure.NoMemory read = Unit {0}
 Fails (failure.Fault c) read = read ≡ Err c
@@ -27,7 +27,7 @@ abbrev pub Takes : {X : Type 0} → DraftValue → Result X RowError → Result 
 Takes new (Ok x) read = read ≡ Ok new
 Takes new (Err e) read = Fails e read
 
--- before the first row
+-- the draft before the first row
 abbrev pub nothing_read : DraftValue
 nothing_read = record {
   last = None;
@@ -41,7 +41,7 @@ nothing_read = record {
   instructions = [];
 }
 
--- there is a record number for one instruction more
+-- one more instruction fits into the batch and has a record number within the limit
 abbrev pub has_room_for : ℕ → ℕ → Bool
 has_room_for next count = nat_lt count MOST_INSTRUCTIONS && nat_le (next + count) MOST_RECORD
 
@@ -60,7 +60,7 @@ with_lags d r = lags_of r >>= λ lags. Ok (record d { last = Some tag.Lags; lags
 abbrev pub with_work : DraftValue → Record → Result DraftValue Cause
 with_work d r = work_of r >>= λ day. test (is_above (last_of d.work) day) cause.Order (record d { last = Some tag.Work; work = d.work ++ day ∷ [] })
 
--- an account more, while there is room for it
+-- the draft with one more account, if there is room for it
 abbrev pub joined : DraftValue → AccountValue → Result DraftValue Cause
 joined d a = test (nat_lt (length d.accounts) MOST_ACCOUNTS) cause.Limit (record d { last = Some tag.Account; accounts = d.accounts ++ a ∷ [] })
 
@@ -84,7 +84,7 @@ with_row tag.Account = with_account
 with_row tag.Do = with_instruction
 with_row tag.End = with_end
 
--- the closing row has come
+-- the row end has been read
 abbrev pub is_over : Option Tag → Bool
 is_over None = false
 is_over (Some tag.Format) = false
@@ -96,23 +96,23 @@ is_over (Some tag.Account) = false
 is_over (Some tag.Do) = false
 is_over (Some tag.End) = true
 
--- what the rows say with one row more, or the first cause against it
+-- the draft with one more row, or the first cause that applies to this row
 abbrev pub next_draft : DraftValue → Record → Result DraftValue Cause
 next_draft d r = if is_over d.last then Err cause.End else (tag_after d.last (field r 0) >>= λ t. with_row t d r)
 
 -- ---- the rows of a text
 
--- a row that is taken, or its number with the cause against it
+-- the draft with this row, or the number of the row with its cause
 abbrev pub at_row : {B : Type 0} → ℕ → Result DraftValue Cause → (DraftValue → Result B (ℕ × Cause)) → Result B (ℕ × Cause)
 at_row number (Ok d) more = more d
 at_row number (Err c) more = Err (number, c)
 
--- what these rows say after a draft, the first of them with this number; the last one of a text is the closing row
+-- the draft after these rows, of which the first has this number; the last row of a text is end
 abbrev pub after_rows : ℕ → DraftValue → List Record → Result DraftValue (ℕ × Cause)
 after_rows number d [] = if is_over d.last then Ok d else Err (number, cause.End)
 after_rows number d (r ∷ rows) = at_row number (next_draft d r) (λ e. after_rows (number + 1) e rows)
 
--- what the rows of a text say, or the first faulty row and its cause
+-- the draft after all rows of a text, or the first faulty row and its cause
 abbrev pub draft_of_rows : List Record → Result DraftValue (ℕ × Cause)
 draft_of_rows rows = after_rows 1 nothing_read rows
 
@@ -120,11 +120,11 @@ abbrev pub said : Result DraftValue (ℕ × Cause) → Result DayValue (ℕ × C
 said (Ok d) = Ok (day_said d)
 said (Err f) = Err f
 
--- the day that the rows of a text say, or the first faulty row and its cause
+-- the day that the rows of a text describe, or the first faulty row and its cause
 abbrev pub day_of_rows : List Record → Result DayValue (ℕ × Cause)
 day_of_rows rows = said (draft_of_rows rows)
 
--- what a call that read rows answered is what they say, unless memory ran out
+-- a call that read rows answered what the definition says, unless memory ran out
 abbrev pub AnswersFault : {Y : Type 0} → DayFault → Result Y (ℕ × Cause) → Type 0
 AnswersFault fault.NoMemory read = Unit {0}
 AnswersFault (fault.Row row c) read = read ≡ Err (row, c)

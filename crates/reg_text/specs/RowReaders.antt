@@ -1,4 +1,4 @@
--- What a record reads as, for each tag: the number of fields first, and then the fields from the left.
+-- How the record of each tag is read: first the number of fields is tested, then the fields are read from the left.
 use Rattle.std.specs.Prelude.{ℕ, List, nat_lt, nat_le, length, Result, Ok, Err, codes, if◌then◌else◌}
 use Rattle.std.specs.Str.{bytes_eq}
 use Rattle.reg_base.specs.declared.instruction.Act.{Act}
@@ -69,11 +69,11 @@ account_of r = counted 10 r (do
 abbrev pub act_name_of : List ℕ → Result ActName Cause
 act_name_of = named cause.Word act_word act_names
 
--- how many fields the row of an instruction has
+-- how many fields the row of an instruction with this act has
 abbrev pub fields_for : ActName → ℕ
 fields_for Transfer = 9
 
--- allowances that move, in the fields after the act
+-- the fields of a move, after the name of the act
 abbrev pub move_of : Record → Result Move Cause
 move_of r = do
   from ← account_no_of (field r 5)
@@ -82,13 +82,13 @@ move_of r = do
   amount ← number_of (field r 8)
   Ok (record { from = from; to = to; kind = kind; amount = amount })
 
--- the act of this name, in the fields after it
+-- the act with this name and the fields after the name
 abbrev pub act_of : ActName → Record → Result Act Cause
 act_of Transfer r = do
   moved ← move_of r
   Ok (act.Transfer moved.from moved.to moved.kind moved.amount)
 
--- an instruction: its act is looked at first
+-- an instruction: the name of its act is read first
 abbrev pub instruction_of : Record → Result Instruction Cause
 instruction_of r = if nat_lt (length r) 5 then Err cause.Fields else (do
   name ← act_name_of (field r 4)

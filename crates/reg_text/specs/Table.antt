@@ -1,4 +1,4 @@
--- The table of causes: the tests of a row in their order, of which the first that applies is its cause.
+-- The table of causes: the tests of a row in order. The first one that applies is the cause.
 use Rattle.std.specs.Prelude.{ℕ, ◌+◌, Bool, true, false, not, ◌&&◌, ◌==◌, nat_lt, nat_le, length, List, [], ◌∷◌, ◌++◌, Option, Some, None, Result, Ok, Err, is_ok, pos, unsigned_abs, codes, if◌then◌else◌}
 use Rattle.std.specs.Result.{result_unwrap_or}
 use Rattle.std.specs.Str.{bytes_eq}
@@ -20,7 +20,7 @@ use Rattle.reg_text.specs.RowReaders.{act_name_of, fields_for}
 use Rattle.reg_text.specs.Drafts.{DraftValue}
 use Rattle.reg_text.specs.Faults.{is_over, has_room_for}
 
--- a cause, where its test applies
+-- a cause, if its test applies
 abbrev pub when : Bool → Cause → Option Cause
 when true c = Some c
 when false c = None
@@ -31,35 +31,35 @@ first_cause [] = None
 first_cause (None ∷ tests) = first_cause tests
 first_cause (Some c ∷ tests) = Some c
 
--- the cause against what was read, if there is one
+-- the cause that reading answered, if there is one
 abbrev pub fault_of : {A : Type 0} → Result A Cause → Option Cause
 fault_of (Ok x) = None
 fault_of (Err c) = Some c
 
--- the value of a number's field, or 0
+-- the number that a field spells, or 0
 abbrev pub value_of : List ℕ → ℕ
 value_of f = result_unwrap_or (number_of f) 0
 
 -- ---- the tests of a field
 
--- it spells no number; the number is outside its limits
+-- the field is not a number; the number is outside its limits
 abbrev pub number_tests : ℕ → ℕ → List ℕ → List (Option Cause)
 number_tests low high f = when (not (is_ok (number_of f))) cause.Number ∷ when (not (nat_le low (value_of f) && nat_le (value_of f) high)) cause.Limit ∷ []
 
--- it spells no signed number; the number is outside the limits of a correction factor
+-- the field is not a signed number; the number is outside the limits of a correction factor
 abbrev pub correction_tests : List ℕ → List (Option Cause)
 correction_tests f = when (not (is_ok (signed_of f))) cause.Number
     ∷ when (not (nat_le (unsigned_abs (result_unwrap_or (signed_of f) (pos 0))) (unsigned_abs MOST_CORRECTION))) cause.Limit ∷ []
 
--- it is no date, or one outside the limits
+-- the field is not a date; the date is outside the limits
 abbrev pub date_tests : List ℕ → List (Option Cause)
 date_tests f = fault_of (date_of f) ∷ []
 
--- it is no word of its list
+-- the field is not one of the words allowed here
 abbrev pub word_tests : {X : Type 0} → Result X Cause → List (Option Cause)
 word_tests read = when (not (is_ok read)) cause.Word ∷ []
 
--- nobody approved, or the field is tested as a number
+-- an empty field means no approver; any other is tested as a user number
 abbrev pub approver_tests : List ℕ → List (Option Cause)
 approver_tests f = if length f == 0 then [] else number_tests 1 MOST_NUMBER f
 
@@ -78,12 +78,12 @@ move_tests r = number_tests 1 MOST_NUMBER (field r 5) ++ (number_tests 1 MOST_NU
 abbrev pub act_tests : ActName → Record → List (Option Cause)
 act_tests Transfer r = move_tests r
 
--- the number of fields for the act, and the fields from the left
+-- the number of fields for the act, then the fields from the left
 abbrev pub named_tests : Result ActName Cause → Record → List (Option Cause)
 named_tests (Err c) r = []
 named_tests (Ok name) r = (count_test (fields_for name) r ∷ []) ++ (date_tests (field r 1) ++ (number_tests 1 MOST_NUMBER (field r 2) ++ (approver_tests (field r 3) ++ act_tests name r)))
 
--- the number of fields, and then the fields from the left; of an instruction the act is looked at first
+-- the number of fields, then the fields from the left; in an instruction the name of the act comes first
 abbrev pub field_tests : Tag → Record → List (Option Cause)
 field_tests tag.Format r = (count_test 2 r ∷ []) ++ (when (not (bytes_eq (field r 1) (codes "1"))) cause.Version ∷ [])
 field_tests tag.Day r = (count_test 3 r ∷ []) ++ (date_tests (field r 1) ++ number_tests 1 (MOST_RECORD + 1) (field r 2))
@@ -96,7 +96,7 @@ field_tests tag.Account r = (count_test 10 r ∷ []) ++ (number_tests 1 MOST_NUM
 field_tests tag.Do r = (when (nat_lt (length r) 5) cause.Fields ∷ []) ++ (word_tests (act_name_of (field r 4)) ++ named_tests (act_name_of (field r 4)) r)
 field_tests tag.End r = count_test 1 r ∷ []
 
--- the row is not after the one before it in its list; the last year of the period is before the first
+-- the row is out of order in its list; the last year of the period is before the first
 abbrev pub order_tests : Tag → DraftValue → Record → List (Option Cause)
 order_tests tag.Format d r = []
 order_tests tag.Day d r = []
@@ -107,7 +107,7 @@ order_tests tag.Account d r = when (not (is_above (number_of_account (last_of d.
 order_tests tag.Do d r = []
 order_tests tag.End d r = []
 
--- one row more than the list may hold, or no record number is left
+-- the list already has the most rows that it may have; no record number is left
 abbrev pub limit_tests : Tag → DraftValue → List (Option Cause)
 limit_tests tag.Format d = []
 limit_tests tag.Day d = []
@@ -122,6 +122,7 @@ abbrev pub tagged_tests : Result Tag Cause → DraftValue → Record → List (O
 tagged_tests (Err c) d r = []
 tagged_tests (Ok t) d r = field_tests t r ++ (order_tests t d r ++ limit_tests t d)
 
--- the tests of a row after a draft, in the table's order: the closing row has come; no tag may stand here; those of its tag
+-- the tests of a row, given the draft before it, in the table's order: end has been read; the tag is unknown or not allowed
+-- here; the tests of its tag
 abbrev pub tests_of : DraftValue → Record → List (Option Cause)
 tests_of d r = (when (is_over d.last) cause.End ∷ []) ++ ((when (not (is_ok (tag_after d.last (field r 0)))) cause.Tag ∷ []) ++ tagged_tests (tag_after d.last (field r 0)) d r)

@@ -1,4 +1,4 @@
--- Tags: the word of each, and which may stand after which.
+-- Tags: the word of each tag, and which tag may follow which.
 use Rattle.std.specs.Prelude.{ℕ, List, [], ◌∷◌, Option, Some, None, Result, codes}
 use Rattle.reg_text.specs.declared.cause.Cause.{Cause}
 use Rattle.reg_text.specs.declared.cause.Cause.TheVariants as cause
@@ -17,7 +17,7 @@ tag_word Account = codes "account"
 tag_word Do = codes "do"
 tag_word End = codes "end"
 
--- the tags that may stand after a row with this tag, or at the start of a text
+-- the tags that may follow a row with this tag, or begin a text
 abbrev pub followers : Option Tag → List Tag
 followers None = Format ∷ []
 followers (Some Format) = Day ∷ []
@@ -29,6 +29,6 @@ followers (Some Account) = Account ∷ Do ∷ End ∷ []
 followers (Some Do) = Do ∷ End ∷ []
 followers (Some End) = []
 
--- the tag that a field names, among those that may stand after the last row
+-- the tag that a field names, if it may follow the last row
 abbrev pub tag_after : Option Tag → List ℕ → Result Tag Cause
 tag_after last f = named cause.Tag tag_word (followers last) f

@@ -1,4 +1,5 @@
-//! What holds of all day texts: laws on the definitions that the readers follow, in the words of the format.
+//! Laws of day texts. They hold for the definitions that the readers implement. Each law is the contract of a
+//! function that does nothing.
 
 ghost use Rattle.std.specs.Prelude.{◌≡◌, ◌↔◌, ◌+◌, ◌<◌, ◌≤◌, ◌^◌, ℕ, ℤ, List, Ok, Err, length, Bool};
 ghost use Rattle.reg_base.specs.declared.limits.TheConstants.{FIRST_DAY, LAST_DAY};
@@ -20,28 +21,29 @@ ghost use Rattle.reg_text.specs.Drafts.{DraftValue};
 ghost use Rattle.reg_text.specs.Faults.{day_of_rows, next_draft};
 ghost use Rattle.reg_text.specs.Table.{fault_of, first_cause, tests_of};
 
-/// A field reads as a number exactly where it is the one spelling of that number, and the number is below 2^64.
+/// A field is read as a number exactly if it is the one spelling of that number and the number is below 2^64.
 pub fn one_spelling_of_a_number()
     ensures { (f : List ℕ) (n : ℕ) → (number_of f ≡ Ok n) ↔ ((f ≡ number n) × (n < 2 ^ 64)) }
 {}
 
-/// A field reads as a correction factor exactly where it is the one spelling of that number, and the number is
-/// within the limits of a correction factor.
+/// A field is read as a correction factor exactly if it is the one spelling of that number and the number is within
+/// the limits of a correction factor.
 pub fn one_spelling_of_a_correction()
     ensures { (f : List ℕ) (z : ℤ) → (correction_of f ≡ Ok z) ↔ ((f ≡ signed z) × CorrectionFits z) }
 {}
 
-/// A field reads as a day exactly where it is the date of that day, and the day is within the limits.
+/// A field is read as a day exactly if it is the date of that day and the day is within the limits.
 pub fn one_spelling_of_a_day()
     ensures { (f : List ℕ) (n : ℕ) → (date_of f ≡ Ok n) ↔ ((f ≡ date n) × IsDayNo n) }
 {}
 
-/// A field reads as a number within limits exactly where it is the one spelling of a number within them.
+/// A field is read as a number within limits exactly if it is the one spelling of that number and the number is
+/// within these limits.
 pub fn one_spelling_within_limits()
     ensures { (low high : ℕ) (f : List ℕ) (n : ℕ) → high < 2 ^ 64 → (bounded_of low high f ≡ Ok n) ↔ ((f ≡ number n) × (low ≤ n) × (n ≤ high)) }
 {}
 
-/// A field reads as a value of a list of words exactly where it is the word of that value.
+/// A field is read as a kind, an account kind, a status, or yes or no exactly if it is the word of that value.
 pub fn one_word_of_each_value()
     ensures kinds { (f : List ℕ) (k : AllowanceKind) → (kind_of f ≡ Ok k) ↔ (f ≡ kind_word k) }
     ensures account_kinds { (f : List ℕ) (k : AccountKind) → (account_kind_of f ≡ Ok k) ↔ (f ≡ account_kind_word k) }
@@ -49,25 +51,25 @@ pub fn one_word_of_each_value()
     ensures yes_or_no { (f : List ℕ) (b : Bool) → (yes_no_of f ≡ Ok b) ↔ (f ≡ yes_no_word b) }
 {}
 
-/// Rows read as a day exactly where they are its spelling, and the day is within the limits.
+/// Rows are read as a day exactly if they are the spelling of that day and the day is within the limits.
 pub fn reads_what_is_spelled()
     ensures { (rows : List Record) (v : DayValue) → (day_of_rows rows ≡ Ok v) ↔ IsReading rows v }
 {}
 
-/// Rows are the spelling of at most one day.
+/// Rows spell at most one day.
 pub fn at_most_one_reading()
     ensures { (rows : List Record) (v w : DayValue) → IsReading rows v → IsReading rows w → v ≡ w }
 {}
 
-/// The row that a fault names is the first with which no day text begins. Where all rows begin one and are none,
-/// it is one more than there are rows, and the cause is that the text ends too early.
+/// A fault names the first row such that no day text begins with the rows up to it. If a day text begins with all the
+/// rows, but they are not a whole one, the fault names the number of rows plus 1, and the cause is `end`.
 pub fn names_the_first_faulty_row()
     ensures first { (rows : List Record) (row : ℕ) (c : Cause) → day_of_rows rows ≡ Err (row, c) → IsFirstFaulty rows row }
     ensures end { (rows : List Record) (row : ℕ) (c : Cause) → day_of_rows rows ≡ Err (row, c) → row ≡ length rows + 1 → c ≡ cause.End }
 {}
 
-/// The cause against a row is the first of the table's causes that applies to it, and a row against which none
-/// applies is taken.
+/// The cause of a faulty row is the first cause of the table that applies to it. A row to which no cause applies is
+/// added to the draft.
 pub fn names_the_first_cause()
     ensures { (d : DraftValue) (r : Record) → fault_of (next_draft d r) ≡ first_cause (tests_of d r) }
 {}

@@ -1,9 +1,9 @@
--- The status with which the program ends after a fault.
+-- The exit status of each fault.
 use Rattle.std.specs.Prelude.{ℕ}
 use Rattle.reg_front.specs.declared.fault.FrontFault.{FrontFault}
 use Rattle.reg_front.specs.declared.fault.FrontFault.TheVariants.{Row, Read, Workers, NoMemory, WriteFailed}
 
--- 2 for what was asked, 3 for what was read, 4 for memory, 5 for a device
+-- 2 for the arguments, 3 for the day text, 4 for memory, 5 for a reader or writer
 abbrev pub status_of : FrontFault → ℕ
 status_of Workers = 2
 status_of (Row row cause) = 3

@@ -1,5 +1,5 @@
-//! Settles one day of an emission allowance registry: reads a day text from standard input, and writes to
-//! standard output what became of its instructions. A fault is one line on standard error.
+//! Settles one day of an emission allowance registry: reads a day text from standard input and writes the report to
+//! standard output. A fault is one line on standard error.
 #![tactic(auto)]
 
 ghost use Rattle.std.specs.Prelude.{◌≡◌};
@@ -13,14 +13,13 @@ use std::process::ExitCode;
 use std::rt::Env;
 use std::{env, io};
 
-// How many workers settle the day, unless the words say otherwise.
+// The number of workers.
 const WORKERS: u32 = 4;
 
-/// Does what the words after the program's name ask for: settles the day text that the reader gives, and
-/// writes its report to the writer. The words are not looked at yet.
+/// Settles the day text from `reader` and writes the report to `writer`. The arguments are ignored in this version.
 ///
-/// Answers the status with which the program ends: 0, or that of the fault, which is told as one line to
-/// `faults`. Where that line can't be written, the status is the same.
+/// Answers the exit status of the program: 0, or the status of the fault. A fault is written as one line to `faults`;
+/// the status is the same if this line can't be written.
 pub fn serve<S: AsStr, R: Read, W: Write, F: Write>(
     alloc: Global,
     _words: &[S],
@@ -34,7 +33,7 @@ pub fn serve<S: AsStr, R: Read, W: Write, F: Write>(
     }
 }
 
-// Writes the line of a fault and answers its status.
+// Writes the line of a fault, and answers its status.
 fn tell<F: Write>(fault: FrontFault, faults: &mut F) -> u8
     ensures { result ≡ status_of fault }
 {
@@ -42,7 +41,7 @@ fn tell<F: Write>(fault: FrontFault, faults: &mut F) -> u8
     status(fault)
 }
 
-// The status with which the program ends after a fault.
+// The exit status of a fault.
 fn status(fault: FrontFault) -> u8
     ensures { result ≡ status_of fault }
 {
@@ -54,7 +53,7 @@ fn status(fault: FrontFault) -> u8
     }
 }
 
-// The words after the program's name. Those that are no text in UTF-8 stand for no words at all.
+// The arguments after the program's name, or none if one of them is not UTF-8.
 fn words<R: Env + AllocGlobal>(rt: &R) -> Result<Vec<String>, AllocError> {
     match env::args(rt) {
         Ok(args) => args.skip(1).collect(rt.alloc()),

@@ -1,4 +1,4 @@
-//! The rows that each stand once, at the head of a text, and the rows of working days.
+//! The heading rows, each of which a text has exactly once, and the rows of working days.
 
 ghost use Rattle.std.specs.Prelude.{◌≡◌, IfOk};
 ghost use Rattle.reg_book.specs.Book.{IsNext};
@@ -20,13 +20,13 @@ pub(crate) struct Lags {
     pub trusted: u16,
     /// The lag of any other transfer.
     pub other: u16,
-    /// How long a new entry of a trusted account list waits.
+    /// How long it takes until a new entry of a trusted account list takes effect.
     pub list: u16,
-    /// How long a retirement can be reversed.
+    /// How long a surrender or a deletion can be reversed.
     pub reversal: u16,
 }
 
-/// `format,1`: the version.
+/// `format,1`: the version of the format.
 pub(crate) fn read_format_row(row: &ByteRecord) -> Result<u8, Cause>
     ensures { result ≡ format_of (fields_of row.now) }
 {
@@ -53,7 +53,7 @@ pub(crate) fn read_day_row(row: &ByteRecord) -> Result<(Day, u64), Cause>
     Ok((day, next))
 }
 
-/// `period,YEAR,YEAR`: the first and the last year.
+/// `period,YEAR,YEAR`: the first and the last year of the period.
 pub(crate) fn read_period_row(row: &ByteRecord) -> Result<(Year, Year), Cause>
     ensures { result ≡ period_of (fields_of row.now) }
 {

@@ -1,4 +1,4 @@
-//! The row of a due instruction.
+//! The row of an instruction.
 
 ghost use Rattle.std.specs.Prelude.{◌≡◌};
 ghost use Rattle.csv.specs.Records.{fields_of};
@@ -16,12 +16,12 @@ use reg_base::{AccountNo, Act, AllowanceKind, Instruction};
 /// The name of an act.
 #[derive(Clone, Copy, Debug, PartialEq, Eq)]
 pub(crate) enum ActName {
-    /// Allowances move from one holder's account to another.
+    /// Allowances move from one account to another.
     Transfer,
 }
 
 impl ActName {
-    // How many fields the row of an instruction has that names this act, its tag among them.
+    // How many fields the row of such an instruction has, including the tag.
     fn fields(self) -> usize
         ensures { result ≡ fields_for self }
     {
@@ -42,7 +42,7 @@ fn read_act_name(field: &[u8]) -> Result<ActName, Cause>
     }
 }
 
-/// What the fields of a move of allowances say.
+/// The fields of an act that moves allowances.
 #[derive(Clone, Copy, Debug, PartialEq, Eq)]
 pub(crate) struct Move {
     /// The account that gives.
@@ -51,11 +51,11 @@ pub(crate) struct Move {
     pub to: AccountNo,
     /// The kind of the allowances.
     pub kind: AllowanceKind,
-    /// How many allowances, any number.
+    /// How many allowances; any number.
     pub amount: u64,
 }
 
-// `FROM,TO,KIND,AMOUNT` in the fields after the act.
+// `FROM,TO,KIND,AMOUNT`: the fields after the name of the act.
 fn read_move(row: &ByteRecord) -> Result<Move, Cause>
     ensures { result ≡ move_of (fields_of row.now) }
 {
@@ -71,7 +71,7 @@ fn read_move(row: &ByteRecord) -> Result<Move, Cause>
     })
 }
 
-// The act of this name in the fields after it.
+// The act with this name and the fields after the name.
 fn read_act(name: ActName, row: &ByteRecord) -> Result<Act, Cause>
     ensures { result ≡ act_of name (fields_of row.now) }
 {
@@ -93,7 +93,7 @@ fn read_act(name: ActName, row: &ByteRecord) -> Result<Act, Cause>
     }
 }
 
-/// `do,PROPOSED,PROPOSER,APPROVER,ACT` and the fields of the act: an instruction.
+/// `do,PROPOSED,PROPOSER,APPROVER,ACT` and the fields of the act.
 pub(crate) fn read_instruction_row(row: &ByteRecord) -> Result<Instruction, Cause>
     ensures { result ≡ instruction_of (fields_of row.now) }
 {

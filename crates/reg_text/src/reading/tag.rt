@@ -1,4 +1,4 @@
-//! Tags: the first field of each row, and which may stand after which.
+//! Tags: the first field of each row, and which tag may follow which.
 
 ghost use Rattle.std.specs.Prelude.{◌≡◌};
 ghost use Rattle.reg_text.specs.Tags.{tag_word, followers, tag_after};
@@ -6,7 +6,7 @@ ghost use Rattle.reg_text.specs.Tags.{tag_word, followers, tag_after};
 use crate::cause::Cause;
 use crate::fields::words::is_word;
 
-/// What a row speaks of.
+/// What a row is, named by its first field.
 #[derive(Clone, Copy, Debug, PartialEq, Eq)]
 pub enum Tag {
     /// The version of the format.
@@ -21,7 +21,7 @@ pub enum Tag {
     Work,
     /// An account.
     Account,
-    /// A due instruction.
+    /// An instruction.
     Do,
     /// The end of the text.
     End,
@@ -45,7 +45,7 @@ impl Tag {
     }
 }
 
-// The tags that may stand after the last row, or at the start.
+// The tags that may follow the last row. `None`: no row has been read.
 fn tags_after(last: Option<Tag>) -> &'static [Tag]
     ensures { result.now ≡ followers last }
 {
@@ -62,7 +62,7 @@ fn tags_after(last: Option<Tag>) -> &'static [Tag]
     }
 }
 
-/// The tag that a field names, one that may stand after the last row.
+/// The tag that a field names, if it may follow the last row.
 pub(crate) fn read_tag(last: Option<Tag>, field: &[u8]) -> Result<Tag, Cause>
     ensures { result ≡ tag_after last field.now }
 {

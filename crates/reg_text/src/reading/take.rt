@@ -1,4 +1,4 @@
-//! What each row adds to the draft.
+//! Adding each row to the draft.
 
 ghost use Rattle.std.specs.Prelude.{◌≡◌, [], map, IsTrue};
 ghost use Rattle.csv.specs.Records.{fields_of};
@@ -23,7 +23,7 @@ use reg_base::{Day, FIRST_DAY, FIRST_YEAR, Instruction, MOST_INSTRUCTIONS, MOST_
 use reg_book::{BookDraft, BookFault};
 use std::alloc::Global;
 
-// The first day that there is.
+// The earliest day.
 fn first_day() -> Day
     ensures { result ≡ FIRST_DAY }
 {
@@ -33,7 +33,7 @@ fn first_day() -> Day
     }
 }
 
-// The first year that there is.
+// The earliest year.
 fn first_year() -> Year
     ensures { result ≡ FIRST_YEAR }
 {
@@ -43,7 +43,7 @@ fn first_year() -> Year
     }
 }
 
-/// What is known before the first row.
+/// The draft before the first row.
 pub(crate) fn nothing_yet(alloc: Global) -> Draft
     ensures { draft_of result ≡ nothing_read }
 {
@@ -74,7 +74,8 @@ fn take_format(draft: &mut Draft, row: &ByteRecord) -> Result<(), RowError>
     Ok(())
 }
 
-// The book is made anew, since it begins with the next record number; no account has come before this row.
+// Makes the draft of the book again, because only this row gives the next record number. No account has been read
+// yet.
 fn take_day(alloc: Global, draft: &mut Draft, row: &ByteRecord) -> Result<(), RowError>
     requires { draft.old.book.accounts ≡ [] }
     ensures { Takes (draft_of draft.new) result (with_day (draft_of draft.old) (fields_of row.now)) }
@@ -120,7 +121,7 @@ fn take_work(draft: &mut Draft, row: &ByteRecord) -> Result<(), RowError>
     Ok(())
 }
 
-// Enters an account above the last one.
+// Adds an account, whose number is above that of the last one.
 fn add_account(draft: &mut Draft, account: Account) -> Result<(), RowError>
     requires rising { IsRising (map (λ a. a.number) draft.old.book.accounts) }
     requires above { IsTrue (is_above draft.old.last_account account.number) }
@@ -131,7 +132,7 @@ fn add_account(draft: &mut Draft, account: Account) -> Result<(), RowError>
         Ok(()) => {}
         Err((_, BookFault::Full)) => return Err(RowError::Fault(Cause::Limit)),
         Err((_, BookFault::NoMemory)) => return Err(RowError::NoMemory),
-        // The numbers of the accounts rise, so that none of them is the new one.
+        // The account numbers rise, so none of them is the new one.
         Err((_, BookFault::Repeated)) => unreachable!(),
     }
     draft.last_account = Some(number);
@@ -152,7 +153,7 @@ fn take_account(draft: &mut Draft, row: &ByteRecord) -> Result<(), RowError>
     add_account(draft, account)
 }
 
-// Whether a record number is left for one instruction more.
+// Whether one more instruction fits into the batch and gets a record number within the limit.
 fn has_room(next: u64, count: usize) -> bool
     ensures { result ≡ has_room_for next count }
 {
@@ -191,7 +192,7 @@ fn take_end(draft: &mut Draft, row: &ByteRecord) -> Result<(), RowError>
     Ok(())
 }
 
-/// Adds what a row says, or answers what is wrong with it first.
+/// Adds a row to the draft, or answers the first cause that applies to it.
 pub(crate) fn take_row(alloc: Global, draft: &mut Draft, row: &ByteRecord) -> Result<(), RowError>
     requires { IsDraft (draft_of draft.old) }
     ensures { Takes (draft_of draft.new) result (next_draft (draft_of draft.old) (fields_of row.now)) }

@@ -1,4 +1,4 @@
--- What the reader has lost is the text so far, which is within the limit.
+-- The reader has given the text so far, which is within the limit.
 use Rattle.std.proofs.Common.{◌≤◌, ◌^◌, vec_len}
 use Rattle.std.specs.Io.KnownBytes.{Consumes}
 use Rattle.reg_front.proofs.device.read_all.Given as goal

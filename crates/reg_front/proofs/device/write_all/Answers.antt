@@ -1,4 +1,4 @@
--- What one more call of `write` took goes from the rest to what the writer has.
+-- The bytes that one more call of `write` took move from the rest to the writer.
 use Rattle.std.proofs.Common.{◌≡◌, ℕ, ◌-◌, List, ◌++◌, length, take, drop, sym, ap, ◌∙◌, append_assoc, take-append-drop}
 use Rattle.std.proofs.lemmas.List.{take_rest}
 use Rattle.std.proofs.KnownBytes.{Appends-trans}

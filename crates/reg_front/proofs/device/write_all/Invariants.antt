@@ -1,4 +1,4 @@
--- What is gone from the rest has come to the writer; each turn leaves less.
+-- What is gone from the rest has come to the writer. Each turn of the loop leaves less.
 use Rattle.std.proofs.Common.{◌≡◌, ℕ, List, ◌++◌, length}
 use Rattle.std.specs.Io.KnownBytes.{Appends}
 use Rattle.reg_front.proofs.device.write_all.Given as goal
