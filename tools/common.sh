@@ -1,0 +1,46 @@
+# What ./run and ./check share. They read this file, with `top` set to the top of the repository.
+
+# The command that runs now, if any.
+child=
+
+# Runs a command of its own (no function), and waits for it in such a way that a signal is answered at once: bash else
+# waits for the command to end first.
+run_child() {
+  local status=0
+  "$@" <&0 &
+  child=$!
+  wait "$child" || status=$?
+  child=
+  return "$status"
+}
+
+# Ends the command that runs now. `rt` takes all that it has started with it.
+stop_child() {
+  [ -n "$child" ] || return 0
+  kill -- "$child" 2>/dev/null || true
+  wait "$child" 2>/dev/null || true
+}
+
+# A number of seconds, as one says it.
+time_of() {
+  if [ "$1" -lt 60 ]; then echo "$1 s"; else echo "$(($1 / 60)) min $(($1 % 60)) s"; fi
+}
+
+# How many checks may run side by side, or how many jobs a proof may have: one a processor, each with so many GB of free
+# memory ($1), and at least one.
+most_at_once() {
+  local by_memory most
+  by_memory=$(awk -v each="$1" '/^MemAvailable:/ { print int($2 / 1000000 / each) }' /proc/meminfo)
+  most=$(nproc)
+  [ "$most" -le "$by_memory" ] || most=$by_memory
+  [ "$most" -ge 1 ] || most=1
+  echo "$most"
+}
+
+# Says that `rt` is missing and fails, or says nothing.
+need_rt() {
+  command -v rt >/dev/null && return
+  echo "the command rt is not on the PATH. It proves and builds the program: install the Rattle kit that README.md"
+  echo "names, or put the folder of its rt on the PATH."
+  return 1
+}

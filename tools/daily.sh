@@ -1,0 +1,126 @@
+# ./check CRATE..: some crates and those above them, over what earlier checks kept. ./check reads this file after
+# common.sh, program.sh and counting.sh.
+
+# Runs `rt` in a crate's folder, counts it as one, and shows what it printed only if it failed.
+try_rt() {
+  local crate=$1 what=$2 begun=$SECONDS status=0
+  shift 2
+  printf '%s: %s ..' "$crate" "$what"
+  run_child env -C "crates/$crate" rt "$@" >"$work/said" 2>&1 </dev/null || status=$?
+  if [ "$status" = 0 ]; then
+    echo " passed, $(time_of $((SECONDS - begun)))"
+    passed=$((passed + 1))
+  else
+    echo " FAILED"
+    failed=$((failed + 1))
+    grep -Ev '^fn .*: proved$' "$work/said" || true
+  fi
+  return "$status"
+}
+
+has_tests() {
+  grep -rqsE '#\s*\[[^]]*\btest\b' "crates/$1/src"
+}
+
+count_edits() {
+  find "crates/$1/must-fail" -maxdepth 1 -name '*.edit' 2>/dev/null | wc -l
+}
+
+# Proves the crates and runs their tests, the lowest crate first. Sets `proved` to those that passed both. A crate above one
+# that is not proved fails with it.
+prove_and_test() {
+  local crate lacking
+  proved=()
+  for crate in "$@"; do
+    lacking=$(tools/crates below "$crate" | grep -Fxf "$work/unproved" | head -n 1 || true)
+    if [ -n "$lacking" ]; then
+      echo "$crate: not tried, since $lacking is not proved"
+      failed=$((failed + 1))
+    elif ! try_rt "$crate" proof check; then
+      echo "$crate" >>"$work/unproved"
+    elif ! has_tests "$crate" || try_rt "$crate" tests test; then
+      proved+=("$crate")
+    fi
+  done
+}
+
+# The runs of `rt must-fail` that were started.
+lanes=()
+
+stop_edits() {
+  [ "${#lanes[@]}" != 0 ] || return 0
+  kill -- "${lanes[@]}" 2>/dev/null || true
+  wait "${lanes[@]}" 2>/dev/null || true
+}
+
+# Tries the edits of these crates, several crates side by side.
+try_edits() {
+  local crate most
+  most=$(most_at_once 3)
+  for crate in "$@"; do
+    [ "$(count_edits "$crate")" != 0 ] || continue
+    while [ "$(jobs -rp | wc -l)" -ge "$most" ]; do wait -n || true; done
+    echo "$crate: trying its edits ($(count_edits "$crate")) .."
+    rt must-fail "$crate" >"$work/edits.$crate" 2>&1 </dev/null &
+    lanes+=("$!")
+  done
+  wait
+  for crate in "$@"; do count_edits_tried "$crate"; done
+}
+
+# Counts the edits that were refused as they must be, and each other one as a failure, which it shows.
+count_edits_tried() {
+  local crate=$1 all refused
+  all=$(count_edits "$crate")
+  [ "$all" != 0 ] || return 0
+  refused=$(grep -cE "^rt: must-fail $crate/.*: refused, as it must be" "$work/edits.$crate" || true)
+  echo "$crate: $refused of $all edits refused"
+  passed=$((passed + refused)) failed=$((failed + all - refused))
+  [ "$refused" = "$all" ] || grep -vE ': refused, as it must be' "$work/edits.$crate" || true
+}
+
+# Builds the program if a source is newer, and tries the cases on it.
+try_program() {
+  local why
+  why=$(reason_to_build)
+  cases="the cases, since the program is as it was when they were tried last"
+  [ -n "$why" ] || return 0
+  echo "check: $why: building the program"
+  if build_program; then
+    try_cases "$program"
+    cases=
+  else
+    failed=$((failed + 1)) cases="the cases, since the program was not built"
+    show_build_log
+  fi
+}
+
+# Says what a whole check does beside.
+say_what_was_left_out() {
+  local others
+  others=$(tools/crates all | grep -Fvxf <(printf '%s\n' "$@") | paste -sd ' ' || true)
+  echo
+  echo "check: this was not the whole check. Left out:"
+  [ -z "$others" ] || echo "  the crates $others"
+  [ -z "$cases" ] || echo "  $cases"
+  echo "  every proof from nothing, the layout of the files and what else rt ci alone looks at"
+}
+
+check_some() {
+  local crates
+  crates=$(tools/crates above "$@") || exit 2
+  need_rt || exit 1
+  mapfile -t crates <<<"$crates"
+  : >"$work/unproved"
+  echo "check: ${crates[*]}"
+  prove_and_test "${crates[@]}"
+  try_edits ${proved[@]+"${proved[@]}"}
+  if [ "${#proved[@]}" != "${#crates[@]}" ]; then
+    cases="the cases, since not all of these crates passed"
+  elif [[ " ${crates[*]} " != *" registry "* ]]; then
+    cases="the cases, since the program uses none of these crates"
+  else
+    try_program
+  fi
+  say_what_was_left_out "${crates[@]}"
+}
