@@ -47,19 +47,20 @@ end_measuring() {
   wait "$watch" 2>/dev/null || true
 }
 
-# The processor seconds, user and system, of this shell and of all that it has waited for.
-processor_seconds() {
-  times >"$work/times"
+# The processor seconds, user and system, that the two lines of the shell's `times` tell: of the shell itself, and of all
+# that it has waited for.
+sum_of_times() {
   LC_ALL=C awk '
     function seconds(text, parts) { split(text, parts, "m"); return parts[1] * 60 + parts[2] }
     { sum += seconds($1) + seconds($2) }
-    END { print sum }' "$work/times"
+    END { print sum }'
 }
 
 # Prints what each crate cost, and warns if the sum is above so many minutes.
 show_costs() {
   local bound=$1 seconds
-  seconds=$(processor_seconds)
+  times >"$work/times"
+  seconds=$(sum_of_times <"$work/times")
   echo
   tools/processor-time table "$work/used" "$seconds" || echo "check: the table of crates could not be made"
   LC_ALL=C awk -v seconds="$seconds" -v bound="$bound" 'BEGIN {

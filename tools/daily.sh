@@ -23,7 +23,9 @@ has_tests() {
 }
 
 count_edits() {
-  find "crates/$1/must-fail" -maxdepth 1 -name '*.edit' 2>/dev/null | wc -l
+  local edits
+  edits=$(find "crates/$1" -path "crates/$1/must-fail/*.edit")
+  [ -z "$edits" ] && echo 0 || wc -l <<<"$edits"
 }
 
 # Proves the crates and runs their tests, the lowest crate first. Sets `proved` to those that passed both. A crate above one
@@ -32,7 +34,7 @@ prove_and_test() {
   local crate lacking
   proved=()
   for crate in "$@"; do
-    lacking=$(tools/crates below "$crate" | grep -Fxf "$work/unproved" | head -n 1 || true)
+    lacking=$(grep -Fxf <(tools/crates below "$crate") -- "$work/unproved" | head -n 1 || true)
     if [ -n "$lacking" ]; then
       echo "$crate: not tried, since $lacking is not proved"
       failed=$((failed + 1))
