@@ -3,8 +3,8 @@
 # The command that runs now, if any.
 child=
 
-# Runs a command of its own (no function), and waits for it in such a way that a signal is answered at once: bash else
-# waits for the command to end first.
+# Runs a command, which is no function of the shell, and waits for it. A signal is answered at
+# once: for a command in the foreground, bash would first wait for its end.
 run_child() {
   local status=0
   "$@" <&0 &
@@ -14,20 +14,20 @@ run_child() {
   return "$status"
 }
 
-# Ends the command that runs now. `rt` takes all that it has started with it.
+# Ends the command that runs now. When `rt` ends, all that it has started ends too.
 stop_child() {
   [ -n "$child" ] || return 0
   kill -- "$child" 2>/dev/null || true
   wait "$child" 2>/dev/null || true
 }
 
-# A number of seconds, as one says it.
+# A number of seconds, in minutes and seconds.
 time_of() {
   if [ "$1" -lt 60 ]; then echo "$1 s"; else echo "$(($1 / 60)) min $(($1 % 60)) s"; fi
 }
 
-# How many checks may run side by side, or how many jobs a proof may have: one a processor, each with so many GB of free
-# memory ($1), and at least one.
+# How many checks may run side by side, or how many jobs a proof may have: one a processor, each
+# with so many GB of free memory ($1), and at least one.
 most_at_once() {
   local by_memory most
   by_memory=$(awk -v each="$1" '/^MemAvailable:/ { print int($2 / 1000000 / each) }' /proc/meminfo)
@@ -37,10 +37,10 @@ most_at_once() {
   echo "$most"
 }
 
-# Says that `rt` is missing and fails, or says nothing.
+# Fails if `rt` is missing, and says so.
 need_rt() {
   command -v rt >/dev/null && return
-  echo "the command rt is not on the PATH. It proves and builds the program: install the Rattle kit that README.md"
-  echo "names, or put the folder of its rt on the PATH."
+  echo "The command rt is not on the PATH. It proves and builds the program: install the Rattle kit"
+  echo "that README.md names, or put the folder of its rt on the PATH."
   return 1
 }

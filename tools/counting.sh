@@ -1,10 +1,10 @@
-# Counts what passed and what failed, and measures what it costs. ./check reads this file after common.sh, and sets `work`
-# to a folder of its own.
+# Counts what passed and what failed, and measures what it costs. ./check reads this file after
+# common.sh, and sets `work` to a folder of its own.
 
 passed=0 failed=0
 
-# Runs a part, shows what it prints, and adds the counts of its last line. A part that fails, or has no such line, counts
-# as one failure at least.
+# Runs a part, shows what it prints, and adds the counts of its last line. A part that fails, or
+# has no such line, counts as one failure at least.
 count_part() {
   local name=$1 status=0 last p=0 f=0 shown
   shift
@@ -28,14 +28,29 @@ count_part() {
   passed=$((passed + p)) failed=$((failed + f))
 }
 
-# Tries all cases on the program.
+# The time of this file says when all cases passed last.
+cases_passed=out/cases-passed
+
+# Tries all cases on a program.
 try_cases() {
+  local failed_before=$failed
+  mkdir -p out
+  : >"$work/cases-begun"
   count_part "cases/run-cases" cases/run-cases "$1" cases
   count_part "cases/run-large-cases" cases/run-large-cases "$1"
   count_part "cases/run-prefixes" cases/run-prefixes "$1"
+  rm -f -- "$cases_passed"
+  [ "$failed" != "$failed_before" ] || mv -- "$work/cases-begun" "$cases_passed"
 }
 
-# Watches from now on which crates the processor time goes to. Nothing but the table is lost if that fails.
+# Whether all cases have passed on this program since it was built, and as they are now.
+have_cases_passed() {
+  [ -e "$cases_passed" ] && [ ! "$1" -nt "$cases_passed" ] &&
+    [ -z "$(find cases examples -newer "$cases_passed" -print -quit)" ]
+}
+
+# Watches from now on which crates the processor time goes to. Nothing but the table is lost if
+# that fails.
 begin_measuring() {
   tools/processor-time watch "$$" "$work/used" 2>"$work/watch-errors" &
   watch=$!
@@ -47,8 +62,8 @@ end_measuring() {
   wait "$watch" 2>/dev/null || true
 }
 
-# The processor seconds, user and system, that the two lines of the shell's `times` tell: of the shell itself, and of all
-# that it has waited for.
+# The processor seconds, user and system, that the two lines of the shell's `times` tell: of the
+# shell itself, and of all that it has waited for.
 sum_of_times() {
   LC_ALL=C awk '
     function seconds(text, parts) { split(text, parts, "m"); return parts[1] * 60 + parts[2] }

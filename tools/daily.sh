@@ -1,5 +1,5 @@
-# ./check CRATE..: some crates and those above them, over what earlier checks kept. ./check reads this file after
-# common.sh, program.sh and counting.sh.
+# ./check CRATE..: some crates and those above them, over what earlier checks kept. ./check reads
+# this file after common.sh, program.sh and counting.sh.
 
 # Runs `rt` in a crate's folder, counts it as one, and shows what it printed only if it failed.
 try_rt() {
@@ -25,11 +25,11 @@ has_tests() {
 count_edits() {
   local edits
   edits=$(find "crates/$1" -path "crates/$1/must-fail/*.edit")
-  [ -z "$edits" ] && echo 0 || wc -l <<<"$edits"
+  if [ -n "$edits" ]; then wc -l <<<"$edits"; else echo 0; fi
 }
 
-# Proves the crates and runs their tests, the lowest crate first. Sets `proved` to those that passed both. A crate above one
-# that is not proved fails with it.
+# Proves the crates and runs their tests, the lowest crate first. Sets `proved` to those that
+# passed both. A crate above one that is not proved fails with it.
 prove_and_test() {
   local crate lacking
   proved=()
@@ -70,7 +70,8 @@ try_edits() {
   for crate in "$@"; do count_edits_tried "$crate"; done
 }
 
-# Counts the edits that were refused as they must be, and each other one as a failure, which it shows.
+# Counts the edits that were refused as they must be, and each other one as a failure, which it
+# shows.
 count_edits_tried() {
   local crate=$1 all refused
   all=$(count_edits "$crate")
@@ -81,19 +82,23 @@ count_edits_tried() {
   [ "$refused" = "$all" ] || grep -vE ': refused, as it must be' "$work/edits.$crate" || true
 }
 
-# Builds the program if a source is newer, and tries the cases on it.
+# Builds the program if a source is newer, and tries the cases if they have not passed on it yet.
 try_program() {
   local why
   why=$(reason_to_build)
-  cases="the cases, since the program is as it was when they were tried last"
-  [ -n "$why" ] || return 0
-  echo "check: $why: building the program"
-  if build_program; then
-    try_cases "$program"
-    cases=
+  if [ -n "$why" ]; then
+    echo "check: $why. The program is built now."
+    build_program || {
+      failed=$((failed + 1))
+      left_out="the cases, since the program was not built"
+      show_build_log
+      return
+    }
+  fi
+  if have_cases_passed "$program"; then
+    left_out="the cases, since they and the program are as they were when all of them passed"
   else
-    failed=$((failed + 1)) cases="the cases, since the program was not built"
-    show_build_log
+    try_cases "$program"
   fi
 }
 
@@ -104,23 +109,26 @@ say_what_was_left_out() {
   echo
   echo "check: this was not the whole check. Left out:"
   [ -z "$others" ] || echo "  the crates $others"
-  [ -z "$cases" ] || echo "  $cases"
-  echo "  every proof from nothing, the layout of the files and what else rt ci alone looks at"
+  [ -z "$left_out" ] || echo "  $left_out"
+  echo "  proofs from nothing, the layout of the files, and what else only rt ci looks at"
 }
 
 check_some() {
-  local crates
+  local crates left_out=
   crates=$(tools/crates above "$@") || exit 2
-  need_rt || exit 1
+  need_rt || {
+    failed=1
+    return
+  }
   mapfile -t crates <<<"$crates"
   : >"$work/unproved"
   echo "check: ${crates[*]}"
   prove_and_test "${crates[@]}"
   try_edits ${proved[@]+"${proved[@]}"}
   if [ "${#proved[@]}" != "${#crates[@]}" ]; then
-    cases="the cases, since not all of these crates passed"
+    left_out="the cases, since not all of these crates passed"
   elif [[ " ${crates[*]} " != *" registry "* ]]; then
-    cases="the cases, since the program uses none of these crates"
+    left_out="the cases, since the program uses none of these crates"
   else
     try_program
   fi

@@ -1,7 +1,8 @@
 # Builds the proved program. ./run and ./check read this file after common.sh.
 #
-# The program that ./run starts is a copy, out/registry at the top of the repository. It is put there in one step, and only
-# after it was proved, built and tried, so that it is whole whatever is interrupted.
+# The program that ./run starts is a copy, out/registry at the top of the repository. It is put
+# there in one step, and only after it was proved, built and tried, so that it is whole whatever is
+# interrupted.
 
 built=$top/crates/registry/out/registry
 program=$top/out/registry
@@ -10,8 +11,8 @@ build_log=$top/out/build.log
 # About how long the first build takes on four idle cores.
 minutes_to_build=8
 
-# Says why the program has to be built. Says nothing if it is there, and newer than all that it is made of: folders count
-# too, so that a removed file is noticed.
+# Says why the program has to be built. Says nothing if it is there, and newer than all that it is
+# made of: folders count too, so that a removed file is noticed.
 reason_to_build() {
   local crate part newer parts=("$top/crates.txt")
   [ -x "$program" ] || {
@@ -35,8 +36,9 @@ log_rt() {
   run_child env -C "$top/crates/$crate" rt "$@" >>"$build_log" 2>&1
 }
 
-# Proves a crate that the program uses, or the program itself, and shows one line for it. `rt run` proves, builds and then
-# runs the program, here on the first example, so that status 0 says that each of these went well.
+# Proves a crate that the program uses, or the program itself, and shows one line for it. `rt run`
+# proves, builds and then runs the program, here on the first example, so that status 0 says that
+# each of these went well.
 prove_one() {
   local crate=$1 place=$2 begun=$SECONDS status=0 jobs
   jobs=$(most_at_once 2)
@@ -52,8 +54,9 @@ prove_one() {
   return "$status"
 }
 
-# Puts a copy of the program that `rt` has built into its place. The copy gets the time of the file $1, which was made
-# before the build: a file that was changed during the build is newer, and the program is built again the next time.
+# Puts a copy of the program that `rt` has built into its place. The copy gets the time of the file
+# $1, which was made before the build: a file that was changed during the build is newer, and the
+# program is built again the next time.
 keep_program() {
   local copy=$program.$$ status=0
   mkdir -p -- "$top/out"
