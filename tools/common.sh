@@ -1,13 +1,14 @@
 # What ./run and ./check share. They read this file, with `top` set to the top of the repository.
 
-# The command that runs now, if any.
+# The command that runs now, if any. Its own output may go to a file, so that the word on an
+# interruption goes to the descriptor 3.
 child=
 
 # Runs a command, which is no function of the shell, and waits for it. A signal is answered at
 # once: for a command in the foreground, bash would first wait for its end.
 run_child() {
   local status=0
-  "$@" <&0 &
+  "$@" <&0 3>&- &
   child=$!
   wait "$child" || status=$?
   child=
