@@ -1,0 +1,88 @@
+# Counts what passed and what failed, and measures what it costs. ./check reads this file after
+# common.sh, and sets `work` to a folder of its own.
+
+passed=0 failed=0
+
+# Runs a part, shows what it prints, and adds the counts of its last line. A part that fails, or
+# has no such line, counts as one failure at least.
+count_part() {
+  local name=$1 status=0 last p=0 f=0 shown
+  shift
+  rm -f -- "$work/pipe"
+  mkfifo -- "$work/pipe"
+  tee -- "$work/said" <"$work/pipe" &
+  shown=$!
+  run_child "$@" >"$work/pipe" 2>&1 || status=$?
+  wait "$shown" || true
+  last=$(tail -n 1 -- "$work/said")
+  if [[ $last =~ ^([0-9]+)\ passed,\ ([0-9]+)\ failed$ ]]; then
+    p=${BASH_REMATCH[1]} f=${BASH_REMATCH[2]}
+  else
+    echo "check: $name ended without its count"
+    f=1
+  fi
+  if [ "$status" != 0 ] && [ "$f" = 0 ]; then
+    echo "check: $name ended with status $status"
+    f=1
+  fi
+  passed=$((passed + p)) failed=$((failed + f))
+}
+
+# The time of this file says when all cases passed last.
+cases_passed=out/cases-passed
+
+# Tries all cases on a program.
+try_cases() {
+  local failed_before=$failed
+  mkdir -p out
+  : >"$work/cases-begun"
+  count_part "cases/run-cases" cases/run-cases "$1" cases
+  count_part "cases/run-large-cases" cases/run-large-cases "$1"
+  count_part "cases/run-prefixes" cases/run-prefixes "$1"
+  rm -f -- "$cases_passed"
+  [ "$failed" != "$failed_before" ] || mv -- "$work/cases-begun" "$cases_passed"
+}
+
+# Whether all cases have passed on this program since it was built, and as they are now.
+have_cases_passed() {
+  [ -e "$cases_passed" ] && [ ! "$1" -nt "$cases_passed" ] &&
+    [ -z "$(find cases examples -newer "$cases_passed" -print -quit)" ]
+}
+
+# Watches from now on which crates the processor time goes to. Nothing but the table is lost if
+# that fails.
+begin_measuring() {
+  tools/processor-time watch "$$" "$work/used" 2>"$work/watch-errors" &
+  watch=$!
+}
+
+end_measuring() {
+  [ -n "${watch-}" ] || return 0
+  kill -- "$watch" 2>/dev/null || true
+  wait "$watch" 2>/dev/null || true
+}
+
+# The processor seconds, user and system, that the two lines of the shell's `times` tell: of the
+# shell itself, and of all that it has waited for.
+sum_of_times() {
+  LC_ALL=C awk '
+    function seconds(text, parts) { split(text, parts, "m"); return parts[1] * 60 + parts[2] }
+    { sum += seconds($1) + seconds($2) }
+    END { print sum }'
+}
+
+# Prints what each crate cost, and warns if the sum is above so many minutes.
+show_costs() {
+  local bound=$1 seconds
+  times >"$work/times"
+  seconds=$(sum_of_times <"$work/times")
+  echo
+  tools/processor-time table "$work/used" "$seconds" || echo "check: the table of crates could not be made"
+  LC_ALL=C awk -v seconds="$seconds" -v bound="$bound" 'BEGIN {
+    printf "in all %.1f processor minutes (user and system)\n", seconds / 60
+    if (seconds > 60 * bound) {
+      printf "WARNING: that is above the bound of %s processor minutes. Make the check cheaper, or raise\n", bound
+      print "most_processor_minutes in ./check in the commit that needs it."
+    }
+  }'
+}
