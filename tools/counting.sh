@@ -39,6 +39,7 @@ try_cases() {
   count_part "cases/run-cases" cases/run-cases "$1" cases
   count_part "cases/run-large-cases" cases/run-large-cases "$1"
   count_part "cases/run-prefixes" cases/run-prefixes "$1"
+  count_part "cases/run-streams" cases/run-streams "$1"
   rm -f -- "$cases_passed"
   [ "$failed" != "$failed_before" ] || mv -- "$work/cases-begun" "$cases_passed"
 }
