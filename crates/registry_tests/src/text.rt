@@ -2,11 +2,10 @@
 
 use crate::fixtures::{account_no, day, holder, parts_of, read, user};
 use crate::rules::carry_out;
-use reg_account::{Account, AccountParts, Holdings};
+use reg_account::{AccountParts, Holdings};
 use reg_base::{AccountKind, Act, AllowanceKind, Instruction, Refusal, Status};
-use reg_rules::{LogRow, Reply};
+use reg_rules::{LogRow, Reply, log_row};
 use reg_text::{write_book, write_report};
-use std::process::Abort;
 
 // A day in which nearly each field has a value of its own.
 const TEXT: &str = "\
@@ -24,18 +23,24 @@ end
 
 #[test]
 fn reads_rules(rt: HostRuntime) {
-    let rules = read(&rt, rt.alloc(), TEXT).rules;
-    assert_eq!(rt; rules.trusted_lag(), 0);
-    assert_eq!(rt; rules.other_lag(), 1);
-    assert_eq!(rt; rules.list_lag(), 3);
-    assert_eq!(rt; rules.reversal_window(), 2);
-    assert_eq!(rt; rules.first_year().get(), 2021);
-    assert_eq!(rt; rules.last_year().get(), 2030);
-    assert!(rt; rules.admins().is_empty());
-    assert!(rt; rules.surrender().is_empty());
-    let monday = day(&rt, 20_178);
-    assert_eq!(rt; rules.calendar().due(monday, 0), Some(monday));
-    assert_eq!(rt; rules.calendar().due(monday, 1), None);
+    let day = read(&rt, rt.alloc(), TEXT);
+    let rules = &day.rules;
+    let lags = [
+        rules.trusted_lag(),
+        rules.other_lag(),
+        rules.list_lag(),
+        rules.reversal_window(),
+    ];
+    assert_eq!(rt; lags, [0, 1, 3, 2]);
+    let years = [rules.first_year().get(), rules.last_year().get()];
+    assert_eq!(rt; years, [2021, 2030]);
+    assert!(rt; rules.admins().is_empty() && rules.surrender().is_empty());
+    let monday = day.batch.day();
+    let due = [
+        rules.calendar().due(monday, 0),
+        rules.calendar().due(monday, 1),
+    ];
+    assert_eq!(rt; due, [Some(monday), None]);
 }
 
 #[test]
@@ -118,31 +123,14 @@ account,2,trading,12,blocked,no,yes,-5,0,7
     assert_eq!(rt; text.as_slice(), wanted.as_bytes());
 }
 
-// A day without accounts; the transfer is refused, since it knows none.
+// A day without accounts, whose report has no rows of its own but the last three.
 const NO_ACCOUNTS: &str = "\
 format,1
 day,2025-03-31,1
 period,2021,2030
 lags,0,1,1,2
-do,2025-03-31,101,,transfer,1,2,general,40
 end
 ";
-
-#[test]
-fn writes_a_refusal_that_no_day_gives_yet(rt: HostRuntime) {
-    let book = read(&rt, rt.alloc(), NO_ACCOUNTS).book;
-    let mut row = carry_out(&rt, rt.alloc(), NO_ACCOUNTS).row;
-    row.reply = Reply::Refused(Refusal::ApprovalMissing);
-    let text = write_report(rt.alloc(), &book, &[row]).expect(&rt, "memory");
-    let wanted = "\
-log,1,2025-03-31,2025-03-31,101,,transfer,1,2,general,40,refused,7,ApprovalMissing
-book,1
-totals,general,0,0,0
-totals,aviation,0,0,0
-end
-";
-    assert_eq!(rt; text.as_slice(), wanted.as_bytes());
-}
 
 // A day that carries its transfer out.
 const DONE: &str = "\
@@ -169,13 +157,21 @@ fn with_figure(reply: Reply, figure: i64) -> Reply {
 }
 
 #[test]
-fn writes_a_figure_that_no_day_gives_yet(rt: HostRuntime) {
+fn writes_replies_that_no_day_gives_yet(rt: HostRuntime) {
     let book = read(&rt, rt.alloc(), NO_ACCOUNTS).book;
-    let mut row = carry_out(&rt, rt.alloc(), DONE).row;
-    row.reply = with_figure(row.reply, -15);
-    let text = write_report(rt.alloc(), &book, &[row]).expect(&rt, "memory");
+    let LogRow {
+        number,
+        day,
+        instruction,
+        reply,
+    } = carry_out(&rt, rt.alloc(), DONE).row;
+    let figure = log_row(number, day, instruction, with_figure(reply, -15));
+    let refusal = Reply::Refused(Refusal::ApprovalMissing);
+    let rows = [figure, log_row(number, day, instruction, refusal)];
+    let text = write_report(rt.alloc(), &book, &rows).expect(&rt, "memory");
     let wanted = "\
 log,1,2025-03-31,2025-03-31,101,,transfer,1,2,general,40,done,-15,1,60,0,2,40,7
+log,1,2025-03-31,2025-03-31,101,,transfer,1,2,general,40,refused,7,ApprovalMissing
 book,1
 totals,general,0,0,0
 totals,aviation,0,0,0
