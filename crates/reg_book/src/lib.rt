@@ -18,8 +18,3 @@ pub use laws::{
 };
 pub use settle::{SettleFault, settle_plain};
 pub use settled::{Log, Settled, Stale};
-
-#[cfg(test)]
-mod tests;
-#[cfg(test)]
-mod tests_settle;

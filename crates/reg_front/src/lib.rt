@@ -9,6 +9,3 @@ mod fault;
 pub use command::Command;
 pub use engine::run;
 pub use fault::FrontFault;
-
-#[cfg(test)]
-mod tests;

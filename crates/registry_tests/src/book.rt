@@ -1,0 +1,250 @@
+//! Books, settled days and their commit: that the calls succeed where memory is left, and worked days.
+
+use crate::fixtures::{account_no, holder, read};
+use reg_account::{Account, AccountParts, Holdings};
+use reg_base::{AccountKind, AllowanceKind, Status};
+use reg_book::{BookDraft, BookFault, SettleFault, Settled, Stale, Totals, settle_plain};
+use reg_text::{DayInput, write_report};
+use std::alloc::Global;
+use std::process::Abort;
+
+const MOST: u64 = 1_000_000_000_000_000;
+
+// A trading account with so many general allowances.
+fn account(rt: &impl Abort, number: u32, general: u64) -> Account {
+    let parts = AccountParts {
+        number: account_no(rt, number),
+        kind: AccountKind::Trading,
+        holder: holder(rt, 11),
+        status: Status::Opened,
+        outside: false,
+        waiver: false,
+        correction: 0,
+        held: Holdings {
+            general,
+            aviation: 0,
+        },
+    };
+    Account::of(parts).expect(rt, "an account")
+}
+
+// Takes an account in.
+fn insert(rt: &impl Abort, draft: &mut BookDraft, account: Account) {
+    draft.insert(account).expect(rt, "room in the draft");
+}
+
+// A draft of the accounts 1 to `count`, each with so many general allowances, whose first record has the number 7.
+fn draft(rt: &impl Abort, alloc: Global, count: u32, general: u64) -> BookDraft {
+    let mut draft = BookDraft::new(alloc, 7);
+    for number in 0..count {
+        insert(rt, &mut draft, account(rt, number + 1, general));
+    }
+    draft
+}
+
+#[test]
+fn accounts_stand_by_rising_number(rt: HostRuntime) {
+    for came in [[3, 1, 2], [1, 2, 3], [2, 3, 1]] {
+        let mut draft = BookDraft::new(rt.alloc(), 7);
+        for number in came {
+            insert(&rt, &mut draft, account(&rt, number, 5));
+        }
+        let book = draft.finish();
+        assert_eq!(rt; book.next_record(), 7);
+        assert_eq!(rt; book.accounts().len(), 3);
+        for (account, number) in book.accounts().iter().zip(1..) {
+            assert_eq!(rt; account.number().get(), number, "{came:?}");
+        }
+    }
+}
+
+#[test]
+fn a_book_finds_its_accounts(rt: HostRuntime) {
+    let book = draft(&rt, rt.alloc(), 3, 5).finish();
+    let listed = Some((AccountKind::Trading, holder(&rt, 11)));
+    for number in 1..4 {
+        let no = account_no(&rt, number);
+        let found = book.get(no).expect(&rt, "an account of the book");
+        assert_eq!(rt; found.number(), no);
+        assert_eq!(rt; book.directory().find(no), listed, "account {number}");
+    }
+    assert!(rt; book.get(account_no(&rt, 4)).is_none());
+    assert_eq!(rt; book.directory().find(account_no(&rt, 4)), None);
+}
+
+#[test]
+fn an_account_comes_once(rt: HostRuntime) {
+    let mut draft = draft(&rt, rt.alloc(), 2, 100);
+    match draft.insert(account(&rt, 1, 5)) {
+        Ok(()) => assert!(rt; false, "taken in twice"),
+        Err((back, fault)) => {
+            assert_eq!(rt; fault, BookFault::Repeated);
+            assert_eq!(rt; back.held(AllowanceKind::General), 5);
+        }
+    }
+    let book = draft.finish();
+    assert_eq!(rt; book.accounts().len(), 2);
+    assert_eq!(rt; book.totals(AllowanceKind::General).held, 200);
+}
+
+#[test]
+fn a_book_has_a_hundred_thousand_accounts(rt: HostRuntime) {
+    let mut draft = draft(&rt, rt.alloc(), 100_000, 0);
+    match draft.insert(account(&rt, 100_001, 5)) {
+        Ok(()) => assert!(rt; false, "one too many"),
+        Err((back, fault)) => {
+            assert_eq!(rt; fault, BookFault::Full);
+            assert_eq!(rt; back.number().get(), 100_001);
+        }
+    }
+    assert_eq!(rt; draft.finish().accounts().len(), 100_000);
+}
+
+#[test]
+fn totals_pass_sixty_four_bits(rt: HostRuntime) {
+    let book = draft(&rt, rt.alloc(), 20_000, MOST).finish();
+    let general = Totals {
+        held: 20_000_000_000_000_000_000,
+        surrendered: 0,
+        deleted: 0,
+    };
+    let aviation = Totals {
+        held: 0,
+        surrendered: 0,
+        deleted: 0,
+    };
+    assert_eq!(rt; book.totals(AllowanceKind::General), general);
+    assert_eq!(rt; book.totals(AllowanceKind::Aviation), aviation);
+}
+
+// A day on which account 1 moves 70 of its 100 to account 2, and then can't do it again.
+const DAY: &str = "\
+format,1
+day,2025-03-31,1
+period,2021,2030
+lags,0,1,1,2
+work,2025-03-31
+account,1,operator,11,open,no,no,0,100,0
+account,2,trading,12,open,no,no,0,0,0
+account,3,aircraft,13,open,no,no,0,50,0
+do,2025-03-31,101,102,transfer,1,2,general,70
+do,2025-03-31,101,102,transfer,1,2,general,70
+end
+";
+
+// Its log, and the book before it.
+const SETTLED: &str = "\
+log,1,2025-03-31,2025-03-31,101,102,transfer,1,2,general,70,done,,1,30,0,2,70,0
+log,2,2025-03-31,2025-03-31,101,102,transfer,1,2,general,70,refused,18,NotEnough
+book,1
+account,1,operator,11,open,no,no,0,100,0
+account,2,trading,12,open,no,no,0,0,0
+account,3,aircraft,13,open,no,no,0,50,0
+totals,general,150,0,0
+totals,aviation,0,0,0
+end
+";
+
+// Its report.
+const COMMITTED: &str = "\
+log,1,2025-03-31,2025-03-31,101,102,transfer,1,2,general,70,done,,1,30,0,2,70,0
+log,2,2025-03-31,2025-03-31,101,102,transfer,1,2,general,70,refused,18,NotEnough
+book,3
+account,1,operator,11,open,no,no,0,30,0
+account,2,trading,12,open,no,no,0,70,0
+account,3,aircraft,13,open,no,no,0,50,0
+totals,general,150,0,0
+totals,aviation,0,0,0
+end
+";
+
+// How many general allowances a settled day leaves on an account, where it touched it.
+fn left(rt: &impl Abort, settled: &Settled, number: u32) -> Option<u64> {
+    let account = settled.account(account_no(rt, number))?;
+    Some(account.held(AllowanceKind::General))
+}
+
+#[test]
+fn settles_a_day(rt: HostRuntime) {
+    let DayInput { rules, book, batch } = read(&rt, rt.alloc(), DAY);
+    let settled = settle_plain(rt.alloc(), &book, &rules, &batch).expect(&rt, "memory");
+    let text = write_report(rt.alloc(), &book, settled.rows()).expect(&rt, "memory");
+    assert_eq!(rt; text.as_slice(), SETTLED.as_bytes());
+    assert_eq!(rt; settled.base(), 0);
+    assert_eq!(rt; left(&rt, &settled, 1), Some(30));
+    assert_eq!(rt; left(&rt, &settled, 2), Some(70));
+    assert_eq!(rt; left(&rt, &settled, 3), None);
+}
+
+#[test]
+fn a_committed_day_is_in_the_book(rt: HostRuntime) {
+    let DayInput {
+        rules,
+        mut book,
+        batch,
+    } = read(&rt, rt.alloc(), DAY);
+    let settled = settle_plain(rt.alloc(), &book, &rules, &batch).expect(&rt, "memory");
+    let log = book.commit(settled).expect(&rt, "a day that follows");
+    let text = write_report(rt.alloc(), &book, log.as_slice()).expect(&rt, "memory");
+    assert_eq!(rt; text.as_slice(), COMMITTED.as_bytes());
+}
+
+// The same accounts on a day without instructions.
+const EMPTY_DAY: &str = "\
+format,1
+day,2025-03-31,7
+period,2021,2030
+lags,0,1,1,2
+account,1,operator,11,open,no,no,0,100,0
+end
+";
+
+#[test]
+fn an_empty_batch_changes_nothing(rt: HostRuntime) {
+    let DayInput {
+        rules,
+        mut book,
+        batch,
+    } = read(&rt, rt.alloc(), EMPTY_DAY);
+    let settled = settle_plain(rt.alloc(), &book, &rules, &batch).expect(&rt, "memory");
+    assert!(rt; settled.rows().is_empty());
+    let log = book.commit(settled).expect(&rt, "a day that follows");
+    assert!(rt; log.as_slice().is_empty());
+    assert_eq!(rt; book.next_record(), 7);
+    assert_eq!(rt; book.totals(AllowanceKind::General).held, 100);
+}
+
+// A day of one transfer.
+const ONE_TRANSFER: &str = "\
+format,1
+day,2025-03-31,1
+period,2021,2030
+lags,0,1,1,2
+work,2025-03-31
+account,1,operator,11,open,no,no,0,100,0
+account,2,trading,12,open,no,no,0,0,0
+do,2025-03-31,101,102,transfer,1,2,general,40
+end
+";
+
+#[test]
+fn of_two_settled_days_one_is_stale(rt: HostRuntime) {
+    let DayInput {
+        rules,
+        mut book,
+        batch,
+    } = read(&rt, rt.alloc(), ONE_TRANSFER);
+    let first = settle_plain(rt.alloc(), &book, &rules, &batch).expect(&rt, "memory");
+    let second = settle_plain(rt.alloc(), &book, &rules, &batch).expect(&rt, "memory");
+    let log = book.commit(first).expect(&rt, "a day that follows");
+    assert_eq!(rt; log.as_slice().len(), 1);
+    assert_eq!(rt; book.next_record(), 2);
+    let refused = book.commit(second).err();
+    let (back, stale) = refused.expect(&rt, "a day that does not follow");
+    assert_eq!(rt; stale, Stale { next: 2 });
+    assert_eq!(rt; left(&rt, &back, 1), Some(60));
+    assert_eq!(rt; back.rows().len(), 1);
+    assert_eq!(rt; book.next_record(), 2);
+    let late = settle_plain(rt.alloc(), &book, &rules, &batch);
+    assert_eq!(rt; late.err(), Some(SettleFault::WrongBase { next: 2 }));
+}

@@ -1,0 +1,19 @@
+//! The tests of all crates below the program: what their proofs cannot see. It has nothing but tests.
+#![tactic(auto)]
+
+#[cfg(test)]
+mod account;
+#[cfg(test)]
+mod base;
+#[cfg(test)]
+mod book;
+#[cfg(test)]
+mod fixtures;
+#[cfg(test)]
+mod front;
+#[cfg(test)]
+mod rules;
+#[cfg(test)]
+mod text;
+#[cfg(test)]
+mod texts;

@@ -1,0 +1,168 @@
+//! One instruction: that deciding and carrying it out succeed where memory is left, and what the log keeps of it.
+
+ghost use Rattle.std.specs.Prelude.{◌≡◌, IsTrue};
+ghost use Rattle.reg_base.specs.Footprint.{footprint};
+ghost use Rattle.reg_rules.specs.State.{numbers};
+
+use crate::fixtures::{account_no, read};
+use reg_account::Account;
+use reg_base::{AccountNo, AllowanceKind, Directory, Instruction, RecordNo, Refusal};
+use reg_rules::{HeldNow, LogRow, Reply, decide, execute, log_row};
+use reg_text::DayInput;
+use std::alloc::Global;
+use std::process::Abort;
+
+// A day on which account 1 moves 40 of its 100 to account 2.
+const ENOUGH: &str = "\
+format,1
+day,2025-03-31,1
+period,2021,2030
+lags,0,1,1,2
+work,2025-03-31
+account,1,operator,11,open,no,no,0,100,0
+account,2,trading,12,open,no,no,0,0,7
+do,2025-03-31,101,102,transfer,1,2,general,40
+end
+";
+
+// The same with one more than there is.
+const NOT_ENOUGH: &str = "\
+format,1
+day,2025-03-31,1
+period,2021,2030
+lags,0,1,1,2
+work,2025-03-31
+account,1,operator,11,open,no,no,0,100,0
+account,2,trading,12,open,no,no,0,0,7
+do,2025-03-31,101,102,transfer,1,2,general,101
+end
+";
+
+/// What is answered to an instruction, and what it leaves.
+#[derive(Drop)]
+pub(crate) struct Answer {
+    /// What `decide` says.
+    decided: Option<Refusal>,
+    /// The row of the log.
+    pub(crate) row: LogRow,
+    /// The general allowances of the touched accounts afterwards.
+    held: Vec<u64>,
+}
+
+fn numbers_of(rt: &impl Abort, alloc: Global, accounts: &[Account]) -> Vec<AccountNo>
+    ensures { result.items ≡ numbers accounts.now }
+{
+    let numbers = accounts.iter().map(|account| account.number());
+    numbers.collect(alloc).expect(rt, "memory")
+}
+
+fn are_same(left: &[AccountNo], right: &[AccountNo]) -> bool
+    ensures { IsTrue result → left.now ≡ right.now }
+{
+    left == right
+}
+
+// Ends the test where these are not the accounts that the instruction touches, in its order.
+fn assert_touched(
+    rt: &impl Abort,
+    alloc: Global,
+    accounts: &[Account],
+    instruction: &Instruction,
+    directory: &Directory,
+)
+    ensures { numbers accounts.now ≡ footprint directory.now instruction.now.act }
+{
+    let numbers = numbers_of(rt, alloc, accounts);
+    let touched = instruction.touches(directory);
+    assert!(rt; are_same(&numbers, touched.as_slice()));
+}
+
+fn copies(rt: &impl Abort, alloc: Global, accounts: &[Account]) -> Vec<Account> {
+    let mut copies = Vec::new(alloc);
+    for account in accounts {
+        let copy = account.copy(alloc).expect(rt, "memory");
+        copies.push(copy).expect(rt, "memory");
+    }
+    copies
+}
+
+fn held_by(rt: &impl Abort, alloc: Global, accounts: &[Account]) -> Vec<u64> {
+    let held = accounts
+        .iter()
+        .map(|account| account.held(AllowanceKind::General));
+    held.collect(alloc).expect(rt, "memory")
+}
+
+/// What is answered to the first instruction of a day, which touches all its accounts in their order.
+pub(crate) fn carry_out(rt: &impl Abort, alloc: Global, text: &str) -> Answer {
+    let DayInput { rules, book, batch } = read(rt, alloc, text);
+    let first = batch.instructions().first();
+    let instruction = *first.expect(rt, "an instruction");
+    let number = RecordNo::new(1).expect(rt, "a record number");
+    let day = batch.day();
+    let directory = book.directory();
+    let mut accounts = copies(rt, alloc, book.accounts());
+    assert_touched(rt, alloc, &accounts, &instruction, directory);
+    let decided = decide(&rules, day, number, &instruction, directory, &accounts);
+    let reply = execute(
+        alloc,
+        &rules,
+        day,
+        number,
+        &instruction,
+        directory,
+        &mut accounts,
+    );
+    let reply = reply.expect(rt, "memory");
+    Answer {
+        decided,
+        row: log_row(number, day, instruction, reply),
+        held: held_by(rt, alloc, &accounts),
+    }
+}
+
+#[test]
+fn carries_out_a_transfer(rt: HostRuntime) {
+    let answer = carry_out(&rt, rt.alloc(), ENOUGH);
+    assert_eq!(rt; answer.decided, None);
+    assert_eq!(rt; answer.held.as_slice(), [60, 40].as_slice());
+    match &answer.row.reply {
+        Reply::Refused(refusal) => assert!(rt; false, "{refusal:?}"),
+        Reply::Done { closing, figure } => {
+            let wanted = [
+                HeldNow {
+                    account: account_no(&rt, 1),
+                    general: 60,
+                    aviation: 0,
+                },
+                HeldNow {
+                    account: account_no(&rt, 2),
+                    general: 40,
+                    aviation: 7,
+                },
+            ];
+            assert_eq!(rt; closing.as_slice(), wanted.as_slice());
+            assert_eq!(rt; *figure, None);
+        }
+    }
+}
+
+#[test]
+fn refuses_a_transfer(rt: HostRuntime) {
+    let answer = carry_out(&rt, rt.alloc(), NOT_ENOUGH);
+    assert_eq!(rt; answer.decided, Some(Refusal::NotEnough));
+    assert_eq!(rt; answer.held.as_slice(), [100, 0].as_slice());
+    match &answer.row.reply {
+        Reply::Refused(refusal) => assert_eq!(rt; *refusal, Refusal::NotEnough),
+        Reply::Done { .. } => assert!(rt; false, "carried out"),
+    }
+}
+
+#[test]
+fn records_the_instruction(rt: HostRuntime) {
+    let row = carry_out(&rt, rt.alloc(), NOT_ENOUGH).row;
+    let batch = read(&rt, rt.alloc(), NOT_ENOUGH).batch;
+    assert_eq!(rt; row.number.get(), 1);
+    assert_eq!(rt; row.day, batch.day());
+    assert_eq!(rt; batch.instructions(), [row.instruction].as_slice());
+}
