@@ -7,30 +7,31 @@ use Rattle.reg_text.specs.declared.reading.tag.Tag.{Tag}
 use Rattle.reg_text.specs.declared.reading.tag.Tag.TheVariants as tag
 use Rattle.reg_text.specs.Records.{Record}
 use Rattle.reg_text.specs.Drafts.{DraftValue}
-use Rattle.reg_text.specs.DraftLimits.{place, IsOrderly, IsDraft}
+use Rattle.reg_text.specs.DraftLimits.{IsOrderly, IsDraft}
+use Rattle.reg_text.specs.Tags.{place}
 use Rattle.reg_text.specs.Day.{DayValue, day_said}
-use Rattle.reg_text.specs.Spelling.{heading, day_text, day_row, period_row, lags_row, work_row, account_row, do_row, end_row}
+use Rattle.reg_text.specs.Spelling.{heading, day_text, day_row, period_row, lags_row, admin_row, work_row, account_row, do_row, end_row}
 use Rattle.reg_text.specs.Reading.{IsReading, Begins, IsFirstFaulty}
 use Rattle.reg_text.specs.Faults.{nothing_read, is_over, next_draft, at_row, after_rows, draft_of_rows, said, day_of_rows}
-use Rattle.reg_text.proofs.DraftFacts.{rows_so_far, head_so_far, end_so_far, in_order, says_a_day, push_end}
+use Rattle.reg_text.proofs.DraftFacts.{all_of, sections, rows_so_far, head_so_far, end_so_far, says_a_day, push}
 use Rattle.reg_text.proofs.DraftSteps.{grows}
 use Rattle.reg_text.proofs.Readings.{nothing-fits, reading-to}
 
 -- ---- the rows of a draft begin the text of its day
 
 abbrev drafted : Option Tag → DraftValue → List Record
-drafted last d = in_order (head_so_far last (day_said d)) (map work_row d.work) (map account_row d.accounts) (map do_row d.instructions) (end_so_far last)
+drafted last d = all_of (head_so_far last (day_said d) ∷ sections d (end_so_far last))
 
-completed : (last : Option Tag) (d : DraftValue) → IsOrderly (place last) d.work d.accounts d.instructions → (more : List Record) × (drafted last d ++ more ≡ day_text (day_said d))
-completed None d o = (heading (day_said d) ++ end_row ∷ [], rw (o.no_work (omega arith), o.no_accounts (omega arith), o.no_instructions (omega arith)) refl)
-completed (Some tag.Format) d o = (day_row d.day d.next ∷ period_row d.first_year d.last_year ∷ lags_row d.lags ∷ end_row ∷ [], rw (o.no_work (omega arith), o.no_accounts (omega arith), o.no_instructions (omega arith)) refl)
-completed (Some tag.Day) d o = (period_row d.first_year d.last_year ∷ lags_row d.lags ∷ end_row ∷ [], rw (o.no_work (omega arith), o.no_accounts (omega arith), o.no_instructions (omega arith)) refl)
-completed (Some tag.Period) d o = (lags_row d.lags ∷ end_row ∷ [], rw (o.no_work (omega arith), o.no_accounts (omega arith), o.no_instructions (omega arith)) refl)
-completed (Some tag.Lags) d o = (end_row ∷ [], sym (push_end (heading (day_said d)) (map work_row d.work) (map account_row d.accounts) (map do_row d.instructions) end_row))
-completed (Some tag.Work) d o = (end_row ∷ [], sym (push_end (heading (day_said d)) (map work_row d.work) (map account_row d.accounts) (map do_row d.instructions) end_row))
-completed (Some tag.Account) d o = (end_row ∷ [], sym (push_end (heading (day_said d)) (map work_row d.work) (map account_row d.accounts) (map do_row d.instructions) end_row))
-completed (Some tag.Do) d o = (end_row ∷ [], sym (push_end (heading (day_said d)) (map work_row d.work) (map account_row d.accounts) (map do_row d.instructions) end_row))
+closing : (d : DraftValue) → all_of (heading (day_said d) ∷ sections d []) ++ end_row ∷ [] ≡ day_text (day_said d)
+closing d = sym (push (heading (day_said d) ∷ map admin_row d.admins ∷ map work_row d.work ∷ map account_row d.accounts ∷ map do_row d.instructions ∷ []) [] end_row [] tt)
+
+completed : (last : Option Tag) (d : DraftValue) → IsOrderly (place last) d.admins d.work d.accounts d.instructions → (more : List Record) × (drafted last d ++ more ≡ day_text (day_said d))
+completed None d o = (heading (day_said d) ++ end_row ∷ [], rw (o.no_admins (omega arith), o.no_work (omega arith), o.no_accounts (omega arith), o.no_instructions (omega arith)) refl)
+completed (Some tag.Format) d o = (day_row d.day d.next ∷ period_row d.first_year d.last_year ∷ lags_row d.lags ∷ end_row ∷ [], rw (o.no_admins (omega arith), o.no_work (omega arith), o.no_accounts (omega arith), o.no_instructions (omega arith)) refl)
+completed (Some tag.Day) d o = (period_row d.first_year d.last_year ∷ lags_row d.lags ∷ end_row ∷ [], rw (o.no_admins (omega arith), o.no_work (omega arith), o.no_accounts (omega arith), o.no_instructions (omega arith)) refl)
+completed (Some tag.Period) d o = (lags_row d.lags ∷ end_row ∷ [], rw (o.no_admins (omega arith), o.no_work (omega arith), o.no_accounts (omega arith), o.no_instructions (omega arith)) refl)
 completed (Some tag.End) d o = ([], append-nil (drafted (Some tag.End) d))
+completed last d o = (end_row ∷ [], closing d)
 
 pub begins-draft : (d : DraftValue) → IsDraft d → Begins (rows_so_far d)
 begins-draft d h = let c = completed d.last d h.orderly in (c.0, day_said d, record { spelled = c.1; fits = says_a_day d h })
@@ -55,12 +56,12 @@ fault_at row c = Err (row, c)
 same_fault : (row row' : ℕ) (c c' : Cause) → fault_at row c ≡ fault_at row' c' → (row ≡ row') × (c ≡ c')
 same_fault row row' c c' e = let pair : ◌≡◌ {A = ℕ × Cause} (row, c) (row', c') = cc in (ap (λ (p : ℕ × Cause). p.0) pair, ap (λ (p : ℕ × Cause). p.1) pair)
 
-faulty_row : (number : ℕ) (read : Result DraftValue Cause) (more : DraftValue → Result DraftValue (ℕ × Cause)) (row : ℕ) (c : Cause) → at_row number read more ≡ Err (row, c)
+pub faulty_row : (number : ℕ) (read : Result DraftValue Cause) (more : DraftValue → Result DraftValue (ℕ × Cause)) (row : ℕ) (c : Cause) → at_row number read more ≡ Err (row, c)
     → ((read ≡ Err c) × (row ≡ number)) ⊎ ((d : DraftValue) × (read ≡ Ok d) × (more d ≡ Err (row, c)))
 faulty_row number (Ok d) more row c e = inr (d, refl, e)
 faulty_row number (Err b) more row c e = let same = same_fault number row b c e in inl (ap (λ (x : Cause). Err x) same.1, sym same.0)
 
-at_end : (over : Bool) (d : DraftValue) (number row : ℕ) (c : Cause) → cond {A = Result DraftValue (ℕ × Cause)} over (Ok d) (Err (number, cause.End)) ≡ Err (row, c) → (row ≡ number) × (c ≡ cause.End)
+pub at_end : (over : Bool) (d : DraftValue) (number row : ℕ) (c : Cause) → cond {A = Result DraftValue (ℕ × Cause)} over (Ok d) (Err (number, cause.End)) ≡ Err (row, c) → (row ≡ number) × (c ≡ cause.End)
 at_end true d number row c e = absurd cc
 at_end false d number row c e = let same = same_fault number row cause.End c e in (sym same.0, sym same.1)
 
@@ -94,7 +95,7 @@ said_err (Err f) row c e = cc
 not_both : (read : Result DayValue (ℕ × Cause)) (v : DayValue) (row : ℕ) (c : Cause) → read ≡ Ok v → read ≡ Err (row, c) → ⊥
 not_both read v row c value fault = cc
 
-faulty : (rows : List Record) (row : ℕ) (c : Cause) → said (draft_of_rows rows) ≡ Err (row, c) → draft_of_rows rows ≡ Err (row, c)
+pub faulty : (rows : List Record) (row : ℕ) (c : Cause) → said (draft_of_rows rows) ≡ Err (row, c) → draft_of_rows rows ≡ Err (row, c)
 faulty rows row c e = said_err (draft_of_rows rows) row c e
 
 no_value : (rows : List Record) (v : DayValue) (row : ℕ) (c : Cause) → draft_of_rows rows ≡ Err (row, c) → IsReading rows v → ⊥

@@ -12,7 +12,7 @@ use Rattle.reg_text.specs.Spelling.{day_text, work_row, account_row, do_row}
 use Rattle.reg_text.specs.Reading.{IsDay, IsReading}
 use Rattle.reg_text.specs.DraftLimits.{IsDraft}
 use Rattle.reg_text.specs.Faults.{nothing_read, is_over, next_draft, at_row, after_rows, draft_of_rows, said, day_of_rows}
-use Rattle.reg_text.proofs.DraftFacts.{rows_so_far, head_so_far, end_so_far, in_order, says_a_day}
+use Rattle.reg_text.proofs.DraftFacts.{all_of, sections, rows_so_far, head_so_far, end_so_far, says_a_day}
 use Rattle.reg_text.proofs.DraftSteps.{grows}
 use Rattle.reg_text.proofs.Taken.{text-taken, draft_for}
 
@@ -27,10 +27,11 @@ nothing-fits = record {
     period = omega arith;
     lags_fit = record { trusted = omega arith; other = omega arith; listed = omega arith; reversal = omega arith };
   };
+  admins = record { all = tt; rise = λ k lt. absurd (omega arith); few = omega arith };
   days = record { all = tt; rise = λ k lt. absurd (omega arith) };
   accounts = record { all = tt; rise = λ k lt. absurd (omega arith); few = omega arith };
   due = record { all = tt; few = omega arith; numbered = omega arith };
-  orderly = record { no_work = λ lt. refl; no_accounts = λ lt. refl; no_instructions = λ lt. refl };
+  orderly = record { no_admins = λ lt. refl; no_work = λ lt. refl; no_accounts = λ lt. refl; no_instructions = λ lt. refl };
 }
 
 -- what rows that were read say
@@ -58,17 +59,9 @@ said-of (r ∷ rows) number d e h eq =
     record { draft = s.draft; over = s.over; rows_are = s.rows_are ∙ ap (λ (x : List Record). x ++ rows) g.rows ∙ append_assoc (rows_so_far d) (r ∷ []) rows }
 
 -- a closed draft stands for the text of its day
-pub closed-text : (d : DraftValue) (last : Option Tag) → is_over last ≡ true
-    → in_order (head_so_far last (day_said d)) (map work_row d.work) (map account_row d.accounts) (map do_row d.instructions) (end_so_far last) ≡ day_text (day_said d)
-closed-text d None h = absurd cc
-closed-text d (Some tag.Format) h = absurd cc
-closed-text d (Some tag.Day) h = absurd cc
-closed-text d (Some tag.Period) h = absurd cc
-closed-text d (Some tag.Lags) h = absurd cc
-closed-text d (Some tag.Work) h = absurd cc
-closed-text d (Some tag.Account) h = absurd cc
-closed-text d (Some tag.Do) h = absurd cc
+pub closed-text : (d : DraftValue) (last : Option Tag) → is_over last ≡ true → all_of (head_so_far last (day_said d) ∷ sections d (end_so_far last)) ≡ day_text (day_said d)
 closed-text d (Some tag.End) h = refl
+closed-text d last h = absurd cc
 
 said_ok : (read : Result DraftValue (ℕ × Cause)) (v : DayValue) → said read ≡ Ok v → (d : DraftValue) × (read ≡ Ok d) × (day_said d ≡ v)
 said_ok (Ok d) v e = (d, refl, cc)
@@ -88,7 +81,7 @@ said_again : (v : DayValue) → IsDay v → day_said (draft_for v) ≡ v
 said_again v h =
     let base = before_is v.batch.base v.book.next h.base in
     λ i. record {
-      rules = record v.rules { admins = sym h.no_admins i; surrender = sym h.no_surrender i };
+      rules = record v.rules { surrender = sym h.no_surrender i };
       book = v.book;
       batch = record v.batch { base = base i };
     }

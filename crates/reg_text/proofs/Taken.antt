@@ -1,29 +1,28 @@
 -- What is spelled is taken: the rows of a day text read as its day.
-use Rattle.std.proofs.Common.{◌≡◌, inl, ℕ, ◌+◌, ◌<◌, ◌≤◌, true, List, [], ◌∷◌, ◌++◌, length, map, Option, Some, Ok, refl, sym, ap, subst, ◌∙◌, arith, length-append, append_assoc}
-use Rattle.std.specs.Prelude.{codes}
+use Rattle.std.proofs.Common.{◌≡◌, ℕ, ◌+◌, ◌<◌, ◌≤◌, true, List, [], ◌∷◌, ◌++◌, length, map, Option, Some, Ok, refl, sym, ap, subst, ◌∙◌, arith, length-append, append_assoc}
 use Rattle.std.specs.List.{AllByRecursion}
 use Rattle.std.proofs.lemmas.Bool.{lt-ltb, le-leb}
 use Rattle.std.proofs.lemmas.List.{append-nil, map-append}
-use Rattle.reg_base.specs.declared.limits.TheConstants.{MOST_ACCOUNTS, MOST_INSTRUCTIONS, MOST_RECORD}
+use Rattle.reg_base.specs.declared.limits.TheConstants.{MOST_ADMINISTRATORS, MOST_ACCOUNTS, MOST_INSTRUCTIONS, MOST_RECORD}
 use Rattle.reg_base.specs.declared.instruction.Instruction.{Instruction}
 use Rattle.reg_base.specs.Rising.{IsRising}
 use Rattle.reg_account.specs.Account.{AccountValue}
 use Rattle.reg_text.specs.declared.reading.tag.Tag.{Tag}
 use Rattle.reg_text.specs.declared.reading.tag.Tag.TheVariants as tag
 use Rattle.reg_text.specs.Records.{Record}
-use Rattle.reg_text.specs.Tags.{tag_word}
+use Rattle.reg_text.specs.Tags.{tag_word, place, rule}
 use Rattle.reg_text.specs.Drafts.{DraftValue}
 use Rattle.reg_text.specs.Day.{DayValue}
-use Rattle.reg_text.specs.Spelling.{format_row, day_row, day_fields, period_row, period_fields, lags_row, lags_fields, lags_in, work_row, account_row, do_row, end_row, heading, day_text}
-use Rattle.reg_text.specs.Reading.{IsDayNo, IsAccountRow, IsInstructionRow, IsDay}
+use Rattle.reg_text.specs.Spelling.{format_row, day_row, period_row, lags_row, lags_in, admin_row, work_row, account_row, do_row, end_row, heading, day_text}
+use Rattle.reg_text.specs.Reading.{IsNo, IsDayNo, IsAccountRow, IsInstructionRow, IsDay}
 use Rattle.reg_text.specs.Lasts.{last_of, is_above, number_of_account}
 use Rattle.reg_text.specs.DraftLimits.{AreLags}
-use Rattle.reg_text.specs.Faults.{nothing_read, with_row, next_draft, after_rows}
+use Rattle.reg_text.specs.Grammar.{Said, row, row_text}
+use Rattle.reg_text.specs.Faults.{nothing_read, with, in_order, has_room, with_row, next_draft, after_rows}
 use Rattle.reg_text.proofs.RisingFacts.{rising-above, last-number}
-use Rattle.reg_text.proofs.HeadingRowLaws.{day-again, period-again, lags-again, work-again}
-use Rattle.reg_text.proofs.AccountRowLaws.{account-again}
-use Rattle.reg_text.proofs.InstructionRowLaws.{instruction-again}
-use Rattle.reg_text.proofs.TagLaws.{MayFollow, tag-again, goes_on, account-after, do-after, end-after}
+use Rattle.reg_text.proofs.GrammarLaws.{each-row}
+use Rattle.reg_text.proofs.RowLaws.{fit-lags, fit-account, fit-instruction, do-text}
+use Rattle.reg_text.proofs.TagLaws.{MayFollow, tag-again, goes_on, place-of, may-at}
 
 -- whatever the number of the first row, these rows take the draft to that one
 abbrev pub Reach : DraftValue → List Record → DraftValue → Type 0
@@ -32,70 +31,74 @@ Reach d rows end = (number : ℕ) → after_rows number d rows ≡ Ok end
 pub reach-row : (d e : DraftValue) (r : Record) (rows : List Record) (end : DraftValue) → next_draft d r ≡ Ok e → Reach e rows end → Reach d (r ∷ rows) end
 reach-row d e r rows end step more number = rw step (more (number + 1))
 
--- a row with its tag is read by its tag
-pub by_tag : (t : Tag) (d e : DraftValue) (fields : Record) → MayFollow d.last t → with_row t d (tag_word t ∷ fields) ≡ Ok e → next_draft d (tag_word t ∷ fields) ≡ Ok e
-by_tag t d e fields may step = rw (goes_on d.last t may, tag-again d.last t may) step
+by_row : (t : Tag) (d : DraftValue) (x : Said t) → (row t).Fits x → in_order t d x ≡ true → has_room t d ≡ true → with_row t d (row_text t x) ≡ Ok (with t d x)
+unfolding with_row
+by_row t d x fits ordered room = rw ((each-row t).again (tag_word t) x fits, ordered, room) refl
 
--- ---- the sections
+-- a row that may stand here, is in order and has room is taken
+pub taken : (t : Tag) (d : DraftValue) (x : Said t) → MayFollow d.last t → (row t).Fits x → in_order t d x ≡ true → has_room t d ≡ true → next_draft d (row_text t x) ≡ Ok (with t d x)
+taken t d x may fits ordered room = rw (goes_on d.last t may, tag-again d.last t may) (by_row t d x fits ordered room)
 
-pub take-work : (d : DraftValue) (day : ℕ) → MayFollow d.last tag.Work → IsDayNo day → is_above (last_of d.work) day ≡ true
-    → next_draft d (work_row day) ≡ Ok (record d { last = Some tag.Work; work = d.work ++ day ∷ [] })
-take-work d day may fits above = by_tag tag.Work d _ _ may (rw (work-again (tag_word tag.Work) day fits, above) refl)
+-- ---- a section: rows of a list, each of which is taken while the whole list is as it should be
 
-pub take-account : (d : DraftValue) (a : AccountValue) → MayFollow d.last tag.Account → IsAccountRow a → is_above (number_of_account (last_of d.accounts)) a.number ≡ true → length d.accounts < MOST_ACCOUNTS
-    → next_draft d (account_row a) ≡ Ok (record d { last = Some tag.Account; accounts = d.accounts ++ a ∷ [] })
-take-account d a may fits above room = by_tag tag.Account d _ _ may (rw (account-again (tag_word tag.Account) a fits, above, lt-ltb _ _ room) refl)
+pub section-taken : {A : Type 0} (t : Tag) (text : A → Record) (state : Option Tag → List A → DraftValue) (Whole : List A → Type 0) → MayFollow (Some t) t
+    → ((last : Option Tag) (xs : List A) (x : A) (others : List A) → MayFollow last t → Whole (xs ++ x ∷ others) → next_draft (state last xs) (text x) ≡ Ok (state (Some t) (xs ++ x ∷ [])))
+    → (others : List A) (last : Option Tag) (xs : List A) (rest : List Record) (end : DraftValue) → MayFollow last t → Whole (xs ++ others)
+    → ((after : Option Tag) → MayFollow after t → Reach (state after (xs ++ others)) rest end) → Reach (state last xs) (map text others ++ rest) end
+section-taken t text state Whole again step [] last xs rest end may whole more = let then = more last may in rw append-nil at then
+section-taken {A = A} t text state Whole again step (x ∷ others) last xs rest end may whole more =
+    let same : (xs ++ x ∷ []) ++ others ≡ xs ++ x ∷ others = append_assoc xs (x ∷ []) others in
+    reach-row (state last xs) (state (Some t) (xs ++ x ∷ [])) (text x) (map text others ++ rest) end (step last xs x others may whole)
+    (section-taken t text state Whole again step others (Some t) (xs ++ x ∷ []) rest end again (subst Whole (sym same) whole)
+    (λ after may'. subst (λ (l : List A). Reach (state after l) rest end) (sym same) (more after may')))
 
-pub take-instruction : (d : DraftValue) (i : Instruction) → MayFollow d.last tag.Do → IsInstructionRow i → length d.instructions < MOST_INSTRUCTIONS → d.next + length d.instructions ≤ MOST_RECORD
-    → next_draft d (do_row i) ≡ Ok (record d { last = Some tag.Do; instructions = d.instructions ++ i ∷ [] })
-take-instruction d i may fits room numbered = by_tag tag.Do d _ _ may (rw (instruction-again (tag_word tag.Do) i fits, lt-ltb _ _ room, le-leb _ _ numbered) refl)
+all-at : {A : Type 0} (P : A → Type 0) (xs : List A) (x : A) (others : List A) → AllByRecursion P (xs ++ x ∷ others) → P x
+all-at P [] x others all = all.0
+all-at P (y ∷ xs) x others all = all-at P xs x others all.1
 
-pub take-end : (d : DraftValue) → MayFollow d.last tag.End → next_draft d end_row ≡ Ok (record d { last = Some tag.End })
-take-end d may = by_tag tag.End d _ [] may refl
+-- the lists as they should be
+record AreAdminRows (admins : List ℕ) : Type 0 where
+  all : AllByRecursion IsNo admins
+  rise : IsRising admins
+  few : length admins ≤ MOST_ADMINISTRATORS
 
--- what is taken after the section, whatever row was the last of it
-abbrev AfterWork : DraftValue → List ℕ → List Record → DraftValue → Type 0
-AfterWork d work rest end = (last : Option Tag) → MayFollow last tag.Work → Reach (record d { last = last; work = work }) rest end
+record AreWorkDays (days : List ℕ) : Type 0 where
+  all : AllByRecursion IsDayNo days
+  rise : IsRising days
 
-pub works : (days : List ℕ) (d : DraftValue) (rest : List Record) (end : DraftValue) → MayFollow d.last tag.Work → AllByRecursion IsDayNo days → IsRising (d.work ++ days) → AfterWork d (d.work ++ days) rest end → Reach d (map work_row days ++ rest) end
-works [] d rest end may all rise more = let then = more d.last may in rw append-nil at then
-works (day ∷ days) d rest end may all rise more =
-    let same : (d.work ++ day ∷ []) ++ days ≡ d.work ++ day ∷ days = append_assoc d.work (day ∷ []) days in
-    let e : DraftValue = record d { last = Some tag.Work; work = d.work ++ day ∷ [] } in
-    reach-row d e (work_row day) (map work_row days ++ rest) end (take-work d day may all.0 (rising-above d.work day days rise))
-    (works days e rest end (inl refl) all.1 (subst IsRising (sym same) rise) (λ last may'. subst (λ (w : List ℕ). Reach (record d { last = last; work = w }) rest end) (sym same) (more last may')))
+record AreAccountRows (accounts : List AccountValue) : Type 0 where
+  all : AllByRecursion IsAccountRow accounts
+  rise : IsRising (map (λ a. a.number) accounts)
+  few : length accounts ≤ MOST_ACCOUNTS
 
-abbrev AfterAccounts : DraftValue → List AccountValue → List Record → DraftValue → Type 0
-AfterAccounts d accounts rest end = (last : Option Tag) → MayFollow last tag.Account → Reach (record d { last = last; accounts = accounts }) rest end
+record AreDoRows (next : ℕ) (due : List Instruction) : Type 0 where
+  all : AllByRecursion IsInstructionRow due
+  few : length due ≤ MOST_INSTRUCTIONS
+  numbered : next + length due ≤ MOST_RECORD + 1
 
-abbrev pub number_in : AccountValue → ℕ
-number_in a = a.number
+admin-step : (d : DraftValue) (n : ℕ) (others : List ℕ) → MayFollow d.last tag.Admin → AreAdminRows (d.admins ++ n ∷ others) → next_draft d (admin_row n) ≡ Ok (with tag.Admin d n)
+admin-step d n others may whole =
+    let fits = all-at IsNo d.admins n others whole.all in
+    taken tag.Admin d n may (fits.from, fits.to) (rising-above d.admins n others whole.rise) (lt-ltb _ _ (omega (arith, length-append d.admins (n ∷ others), whole.few)))
 
-pub accounts-taken : (others : List AccountValue) (d : DraftValue) (rest : List Record) (end : DraftValue) → MayFollow d.last tag.Account → AllByRecursion IsAccountRow others → IsRising (map number_in (d.accounts ++ others)) → length (d.accounts ++ others) ≤ MOST_ACCOUNTS
-    → AfterAccounts d (d.accounts ++ others) rest end → Reach d (map account_row others ++ rest) end
-accounts-taken [] d rest end may all rise few more = let then = more d.last may in rw append-nil at then
-accounts-taken (a ∷ others) d rest end may all rise few more =
-    let same : (d.accounts ++ a ∷ []) ++ others ≡ d.accounts ++ a ∷ others = append_assoc d.accounts (a ∷ []) others in
-    let e : DraftValue = record d { last = Some tag.Account; accounts = d.accounts ++ a ∷ [] } in
-    let numbers : map number_in (d.accounts ++ a ∷ others) ≡ map number_in d.accounts ++ a.number ∷ map number_in others = map-append number_in d.accounts (a ∷ others) in
-    let above = rising-above (map number_in d.accounts) a.number (map number_in others) (subst IsRising numbers rise) in
-    reach-row d e (account_row a) (map account_row others ++ rest) end (take-account d a may all.0 (ap (λ (b : Option ℕ). is_above b a.number) (last-number d.accounts) ∙ above) (omega (arith, length-append d.accounts (a ∷ others))))
-    (accounts-taken others e rest end (inl refl) all.1 (subst (λ (l : List AccountValue). IsRising (map number_in l)) (sym same) rise) (subst (λ (l : List AccountValue). length l ≤ MOST_ACCOUNTS) (sym same) few)
-    (λ last may'. subst (λ (l : List AccountValue). Reach (record d { last = last; accounts = l }) rest end) (sym same) (more last may')))
+work-step : (d : DraftValue) (xs : List ℕ) (x : ℕ) (others : List ℕ) → d.work ≡ xs → MayFollow d.last tag.Work → AreWorkDays (xs ++ x ∷ others) → next_draft d (work_row x) ≡ Ok (with tag.Work d x)
+work-step d xs x others is may whole =
+    let fits = all-at IsDayNo xs x others whole.all in
+    taken tag.Work d x may (fits.from, fits.to) (ap (λ (l : List ℕ). is_above (last_of l) x) is ∙ rising-above xs x others whole.rise) refl
 
-abbrev AfterDue : DraftValue → List Instruction → List Record → DraftValue → Type 0
-AfterDue d due rest end = (last : Option Tag) → MayFollow last tag.Do → Reach (record d { last = last; instructions = due }) rest end
+account-step : (d : DraftValue) (a : AccountValue) (others : List AccountValue) → MayFollow d.last tag.Account → AreAccountRows (d.accounts ++ a ∷ others) → next_draft d (account_row a) ≡ Ok (with tag.Account d a)
+account-step d a others may whole =
+    let numbers : map (λ (x : AccountValue). x.number) (d.accounts ++ a ∷ others) ≡ map (λ (x : AccountValue). x.number) d.accounts ++ a.number ∷ map (λ (x : AccountValue). x.number) others = map-append (λ (x : AccountValue). x.number) d.accounts (a ∷ others) in
+    let above = rising-above (map (λ (x : AccountValue). x.number) d.accounts) a.number (map (λ (x : AccountValue). x.number) others) (subst IsRising numbers whole.rise) in
+    taken tag.Account d a may (fit-account a (all-at IsAccountRow d.accounts a others whole.all)) (ap (λ (b : Option ℕ). is_above b a.number) (last-number d.accounts) ∙ above)
+    (lt-ltb _ _ (omega (arith, length-append d.accounts (a ∷ others), whole.few)))
 
-pub due-taken : (is : List Instruction) (d : DraftValue) (rest : List Record) (end : DraftValue) → MayFollow d.last tag.Do → AllByRecursion IsInstructionRow is → length (d.instructions ++ is) ≤ MOST_INSTRUCTIONS → d.next + length (d.instructions ++ is) ≤ MOST_RECORD + 1
-    → AfterDue d (d.instructions ++ is) rest end → Reach d (map do_row is ++ rest) end
-due-taken [] d rest end may all few numbered more = let then = more d.last may in rw append-nil at then
-due-taken (i ∷ is) d rest end may all few numbered more =
-    let same : (d.instructions ++ i ∷ []) ++ is ≡ d.instructions ++ i ∷ is = append_assoc d.instructions (i ∷ []) is in
-    let e : DraftValue = record d { last = Some tag.Do; instructions = d.instructions ++ i ∷ [] } in
-    let size = length-append d.instructions (i ∷ is) in
-    reach-row d e (do_row i) (map do_row is ++ rest) end (take-instruction d i may all.0 (omega (arith, size)) (omega (arith, size)))
-    (due-taken is e rest end (inl refl) all.1 (subst (λ (l : List Instruction). length l ≤ MOST_INSTRUCTIONS) (sym same) few) (subst (λ (l : List Instruction). d.next + length l ≤ MOST_RECORD + 1) (sym same) numbered)
-    (λ last may'. subst (λ (l : List Instruction). Reach (record d { last = last; instructions = l }) rest end) (sym same) (more last may')))
+do-step : (d : DraftValue) (i : Instruction) (others : List Instruction) → MayFollow d.last tag.Do → AreDoRows d.next (d.instructions ++ i ∷ others) → next_draft d (do_row i) ≡ Ok (with tag.Do d i)
+do-step d i others may whole =
+    let size = length-append d.instructions (i ∷ others) in
+    let few : length d.instructions < MOST_INSTRUCTIONS = omega (arith, size, whole.few) in
+    let numbered : d.next + length d.instructions ≤ MOST_RECORD = omega (arith, size, whole.numbered) in
+    ap (next_draft d) (sym (do-text i)) ∙ taken tag.Do d i may (fit-instruction i (all-at IsInstructionRow d.instructions i others whole.all)) refl (rw (lt-ltb _ _ few, le-leb _ _ numbered) refl)
 
 -- ---- the whole text
 
@@ -108,6 +111,7 @@ draft_for v = record {
   first_year = v.rules.first_year;
   last_year = v.rules.last_year;
   lags = lags_in v.rules;
+  admins = v.rules.admins;
   work = v.rules.calendar;
   accounts = v.book.accounts;
   instructions = v.batch.instructions;
@@ -115,18 +119,22 @@ draft_for v = record {
 
 -- the draft after the head of a day text
 abbrev headed : DayValue → DraftValue
-headed v = record (draft_for v) { last = Some tag.Lags; work = []; accounts = []; instructions = [] }
+headed v = record (draft_for v) { last = Some tag.Lags; admins = []; work = []; accounts = []; instructions = [] }
 
 head-taken : (v : DayValue) (rest : List Record) (end : DraftValue) → IsDay v → Reach (headed v) rest end → Reach nothing_read (heading v ++ rest) end
 head-taken v rest end h more =
     let lags : AreLags (lags_in v.rules) = record { trusted = h.rules.lags_fit.trusted; other = h.rules.lags_fit.other; listed = h.rules.lags_fit.listed; reversal = h.rules.lags_fit.reversal } in
-    let d1 : DraftValue = record nothing_read { last = Some tag.Format } in
-    let d2 : DraftValue = record d1 { last = Some tag.Day; day = v.batch.day; next = v.book.next } in
-    let d3 : DraftValue = record d2 { last = Some tag.Period; first_year = v.rules.first_year; last_year = v.rules.last_year } in
-    reach-row nothing_read d1 format_row (day_row v.batch.day v.book.next ∷ period_row v.rules.first_year v.rules.last_year ∷ lags_row (lags_in v.rules) ∷ rest) end (by_tag tag.Format nothing_read d1 (codes "1" ∷ []) (inl refl) refl)
-    (reach-row d1 d2 (day_row v.batch.day v.book.next) (period_row v.rules.first_year v.rules.last_year ∷ lags_row (lags_in v.rules) ∷ rest) end (by_tag tag.Day d1 d2 (day_fields v.batch.day v.book.next) (inl refl) (rw (day-again (tag_word tag.Day) v.batch.day v.book.next h.day h.next) refl))
-    (reach-row d2 d3 (period_row v.rules.first_year v.rules.last_year) (lags_row (lags_in v.rules) ∷ rest) end (by_tag tag.Period d2 d3 (period_fields v.rules.first_year v.rules.last_year) (inl refl) (rw (period-again (tag_word tag.Period) v.rules.first_year v.rules.last_year h.first_year h.last_year h.rules.period) refl))
-    (reach-row d3 (headed v) (lags_row (lags_in v.rules)) rest end (by_tag tag.Lags d3 (headed v) (lags_fields (lags_in v.rules)) (inl refl) (rw (lags-again (tag_word tag.Lags) (lags_in v.rules) lags) refl)) more)))
+    let d1 : DraftValue = with tag.Format nothing_read 1 in
+    let d2 : DraftValue = with tag.Day d1 (v.batch.day, v.book.next) in
+    let d3 : DraftValue = with tag.Period d2 (v.rules.first_year, v.rules.last_year) in
+    reach-row nothing_read d1 format_row (day_row v.batch.day v.book.next ∷ period_row v.rules.first_year v.rules.last_year ∷ lags_row (lags_in v.rules) ∷ rest) end (taken tag.Format nothing_read 1 refl refl refl refl)
+    (reach-row d1 d2 (day_row v.batch.day v.book.next) (period_row v.rules.first_year v.rules.last_year ∷ lags_row (lags_in v.rules) ∷ rest) end (taken tag.Day d1 (v.batch.day, v.book.next) refl ((h.day.from, h.day.to), (h.next.from, h.next.to)) refl refl)
+    (reach-row d2 d3 (period_row v.rules.first_year v.rules.last_year) (lags_row (lags_in v.rules) ∷ rest) end (taken tag.Period d2 (v.rules.first_year, v.rules.last_year) refl ((h.first_year.from, h.first_year.to), (h.last_year.from, h.last_year.to)) (le-leb _ _ h.rules.period) refl)
+    (reach-row d3 (headed v) (lags_row (lags_in v.rules)) rest end (taken tag.Lags d3 (lags_in v.rules) refl (fit-lags (lags_in v.rules) lags) refl refl) more)))
+
+-- behind one section the next
+later : (last : Option Tag) (t u : Tag) → (rule u).from ≤ (rule t).from → (rule t).to ≤ (rule u).to → MayFollow last t → MayFollow last u
+later last t u low high may = let p = place-of last t may in may-at last u (omega (arith, p.from)) (omega (arith, p.to))
 
 pub text-taken : (v : DayValue) → IsDay v → Reach nothing_read (day_text v) (draft_for v)
 text-taken v h =
@@ -135,8 +143,18 @@ text-taken v h =
     let closing : List Record = end_row ∷ [] in
     let due : List Record = map do_row v.batch.instructions ++ closing in
     let accounts : List Record = map account_row v.book.accounts ++ due in
-    head-taken v (map work_row v.rules.calendar ++ accounts) end h
-    (works v.rules.calendar (headed v) accounts end (inl refl) h.work h.work_rises (λ last may.
-    accounts-taken v.book.accounts (record (headed v) { last = last; work = v.rules.calendar }) due end (account-after last may) h.accounts h.accounts_rise h.few_accounts (λ last2 may2.
-    due-taken v.batch.instructions (record (headed v) { last = last2; work = v.rules.calendar; accounts = v.book.accounts }) closing end (do-after last2 may2) h.instructions h.batch.few (omega (arith, h.base)) (λ last3 may3.
-    reach-row (record (draft_for v) { last = last3 }) end end_row [] end (take-end (record (draft_for v) { last = last3 }) (end-after last3 may3)) (λ number. refl)))))
+    let works : List Record = map work_row v.rules.calendar ++ accounts in
+    head-taken v (map admin_row v.rules.admins ++ works) end h
+    (section-taken tag.Admin admin_row (λ last l. record (headed v) { last = last; admins = l }) AreAdminRows refl
+      (λ last xs x others may whole. admin-step (record (headed v) { last = last; admins = xs }) x others may whole)
+      v.rules.admins (Some tag.Lags) [] works end refl (record { all = h.admins; rise = h.rules.admins_rise; few = h.rules.few_admins }) (λ last0 may0.
+    section-taken tag.Work work_row (λ last l. record (headed v) { last = last; admins = v.rules.admins; work = l }) AreWorkDays refl
+      (λ last xs x others may whole. work-step (record (headed v) { last = last; admins = v.rules.admins; work = xs }) xs x others refl may whole)
+      v.rules.calendar last0 [] accounts end (later last0 tag.Admin tag.Work (omega arith) (omega arith) may0) (record { all = h.work; rise = h.work_rises }) (λ last may.
+    section-taken tag.Account account_row (λ last2 l. record (headed v) { last = last2; admins = v.rules.admins; work = v.rules.calendar; accounts = l }) AreAccountRows refl
+      (λ last2 xs x others may2 whole. account-step (record (headed v) { last = last2; admins = v.rules.admins; work = v.rules.calendar; accounts = xs }) x others may2 whole)
+      v.book.accounts last [] due end (later last tag.Work tag.Account (omega arith) (omega arith) may) (record { all = h.accounts; rise = h.accounts_rise; few = h.few_accounts }) (λ last2 may2.
+    section-taken tag.Do do_row (λ last3 l. record (headed v) { last = last3; admins = v.rules.admins; work = v.rules.calendar; accounts = v.book.accounts; instructions = l }) (AreDoRows v.book.next) refl
+      (λ last3 xs x others may3 whole. do-step (record (headed v) { last = last3; admins = v.rules.admins; work = v.rules.calendar; accounts = v.book.accounts; instructions = xs }) x others may3 whole)
+      v.batch.instructions last2 [] closing end (later last2 tag.Account tag.Do (omega arith) (omega arith) may2) (record { all = h.instructions; few = h.batch.few; numbered = omega (arith, h.base) }) (λ last3 may3.
+    reach-row (record (draft_for v) { last = last3 }) end end_row [] end (taken tag.End (record (draft_for v) { last = last3 }) tt (later last3 tag.Do tag.End (omega arith) (omega arith) may3) tt refl refl) (λ number. refl))))))

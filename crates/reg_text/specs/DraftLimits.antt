@@ -1,27 +1,14 @@
 -- What holds of every draft: its parts are within their limits, and a part that cannot have begun is empty.
-use Rattle.std.specs.Prelude.{◌≡◌, ℕ, ◌+◌, ◌<◌, ◌≤◌, List, [], length, map, Option, Some, None}
+use Rattle.std.specs.Prelude.{◌≡◌, ℕ, ◌+◌, ◌<◌, ◌≤◌, List, [], length, map}
 use Rattle.std.specs.List.{AllByRecursion}
-use Rattle.reg_base.specs.declared.limits.TheConstants.{MOST_ACCOUNTS, MOST_INSTRUCTIONS, MOST_RECORD, MOST_LAG}
+use Rattle.reg_base.specs.declared.limits.TheConstants.{MOST_ADMINISTRATORS, MOST_ACCOUNTS, MOST_INSTRUCTIONS, MOST_RECORD, MOST_LAG}
 use Rattle.reg_base.specs.declared.instruction.Instruction.{Instruction}
 use Rattle.reg_base.specs.Rising.{IsRising}
 use Rattle.reg_account.specs.Account.{AccountValue}
-use Rattle.reg_text.specs.declared.reading.tag.Tag.{Tag}
-use Rattle.reg_text.specs.declared.reading.tag.Tag.TheVariants.{Format, Day, Period, Lags, Work, Account, Do, End}
 use Rattle.reg_text.specs.declared.reading.heading_rows.Lags.{Lags as LagsValue}
+use Rattle.reg_text.specs.Tags.{place}
 use Rattle.reg_text.specs.Drafts.{DraftValue}
-use Rattle.reg_text.specs.Reading.{IsDayNo, IsYearNo, IsNextNo, IsAccountRow, IsInstructionRow}
-
--- the place of the last row among the sections
-abbrev pub place : Option Tag → ℕ
-place None = 0
-place (Some Format) = 1
-place (Some Day) = 2
-place (Some Period) = 3
-place (Some Lags) = 4
-place (Some Work) = 5
-place (Some Account) = 6
-place (Some Do) = 7
-place (Some End) = 8
+use Rattle.reg_text.specs.Reading.{IsNo, IsDayNo, IsYearNo, IsNextNo, IsAccountRow, IsInstructionRow}
 
 -- the lags and the window, each within its limit
 pub record AreLags (lags : LagsValue) : Type 0 where
@@ -39,6 +26,11 @@ pub record IsHead (day next first last : ℕ) (lags : LagsValue) : Type 0 where
   pub period : first ≤ last
   pub lags_fit : AreLags lags
 
+pub record AreAdmins (admins : List ℕ) : Type 0 where
+  pub all : AllByRecursion IsNo admins
+  pub rise : IsRising admins
+  pub few : length admins ≤ MOST_ADMINISTRATORS
+
 pub record AreDays (work : List ℕ) : Type 0 where
   pub all : AllByRecursion IsDayNo work
   pub rise : IsRising work
@@ -54,14 +46,16 @@ pub record AreDue (next : ℕ) (instructions : List Instruction) : Type 0 where
   pub numbered : next + length instructions ≤ MOST_RECORD + 1
 
 -- a section that cannot have begun at the place is empty
-pub record IsOrderly (at : ℕ) (work : List ℕ) (accounts : List AccountValue) (instructions : List Instruction) : Type 0 where
-  pub no_work : at < 5 → work ≡ []
-  pub no_accounts : at < 6 → accounts ≡ []
-  pub no_instructions : at < 7 → instructions ≡ []
+pub record IsOrderly (at : ℕ) (admins work : List ℕ) (accounts : List AccountValue) (instructions : List Instruction) : Type 0 where
+  pub no_admins : at < 5 → admins ≡ []
+  pub no_work : at < 6 → work ≡ []
+  pub no_accounts : at < 7 → accounts ≡ []
+  pub no_instructions : at < 8 → instructions ≡ []
 
 pub record IsDraft (d : DraftValue) : Type 0 where
   pub head : IsHead d.day d.next d.first_year d.last_year d.lags
+  pub admins : AreAdmins d.admins
   pub days : AreDays d.work
   pub accounts : AreAccounts d.accounts
   pub due : AreDue d.next d.instructions
-  pub orderly : IsOrderly (place d.last) d.work d.accounts d.instructions
+  pub orderly : IsOrderly (place d.last) d.admins d.work d.accounts d.instructions

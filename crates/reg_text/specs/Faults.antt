@@ -1,6 +1,6 @@
 -- The rows of a text in turn: what each adds, and the first that is wrong, with its cause.
 use Rattle.std.specs.Prelude.{◌≡◌, ℕ, ◌+◌, Bool, true, false, ◌&&◌, nat_lt, nat_le, List, [], ◌∷◌, ◌++◌, length, Option, Some, None, Result, Ok, Err, if◌then◌else◌}
-use Rattle.reg_base.specs.declared.limits.TheConstants.{MOST_ACCOUNTS, MOST_INSTRUCTIONS, MOST_RECORD, FIRST_DAY, FIRST_YEAR}
+use Rattle.reg_base.specs.declared.limits.TheConstants.{MOST_ADMINISTRATORS, MOST_ACCOUNTS, MOST_INSTRUCTIONS, MOST_RECORD, FIRST_DAY, FIRST_YEAR}
 use Rattle.reg_account.specs.Account.{AccountValue}
 use Rattle.reg_text.specs.declared.cause.Cause.{Cause}
 use Rattle.reg_text.specs.declared.cause.Cause.TheVariants as cause
@@ -14,7 +14,7 @@ use Rattle.reg_text.specs.Lasts.{last_of, is_above, number_of_account}
 use Rattle.reg_text.specs.Causes.{◌>>=◌, test}
 use Rattle.reg_text.specs.Records.{Record, field, counted}
 use Rattle.reg_text.specs.Tags.{tag_after}
-use Rattle.reg_text.specs.RowReaders.{format_of, day_of, period_of, lags_of, work_of, account_of, instruction_of}
+use Rattle.reg_text.specs.Grammar.{Said, row}
 use Rattle.reg_text.specs.Drafts.{DraftValue}
 use Rattle.reg_text.specs.Day.{DayValue, day_said}
 
@@ -36,6 +36,7 @@ nothing_read = record {
   first_year = FIRST_YEAR;
   last_year = FIRST_YEAR;
   lags = record { trusted = 0; other = 0; list = 0; reversal = 0 };
+  admins = [];
   work = [];
   accounts = [];
   instructions = [];
@@ -45,56 +46,58 @@ nothing_read = record {
 abbrev pub has_room_for : ℕ → ℕ → Bool
 has_room_for next count = nat_lt count MOST_INSTRUCTIONS && nat_le (next + count) MOST_RECORD
 
-abbrev pub with_format : DraftValue → Record → Result DraftValue Cause
-with_format d r = format_of r >>= λ version. Ok (record d { last = Some tag.Format })
+-- the draft with what a row says
+abbrev pub with : (t : Tag) → DraftValue → Said t → DraftValue
+with tag.Format d n = record d { last = Some tag.Format }
+with tag.Day d p = record d { last = Some tag.Day; day = p.0; next = p.1 }
+with tag.Period d p = record d { last = Some tag.Period; first_year = p.0; last_year = p.1 }
+with tag.Lags d lags = record d { last = Some tag.Lags; lags = lags }
+with tag.Admin d n = record d { last = Some tag.Admin; admins = d.admins ++ n ∷ [] }
+with tag.Work d day = record d { last = Some tag.Work; work = d.work ++ day ∷ [] }
+with tag.Account d a = record d { last = Some tag.Account; accounts = d.accounts ++ a ∷ [] }
+with tag.Do d i = record d { last = Some tag.Do; instructions = d.instructions ++ i ∷ [] }
+with tag.End d x = record d { last = Some tag.End }
 
-abbrev pub with_day : DraftValue → Record → Result DraftValue Cause
-with_day d r = day_of r >>= λ p. Ok (record d { last = Some tag.Day; day = p.0; next = p.1 })
+-- it is after the row before it in its list; of the period, the last year is not before the first
+abbrev pub in_order : (t : Tag) → DraftValue → Said t → Bool
+in_order tag.Format d n = true
+in_order tag.Day d p = true
+in_order tag.Period d p = nat_le p.0 p.1
+in_order tag.Lags d lags = true
+in_order tag.Admin d n = is_above (last_of d.admins) n
+in_order tag.Work d day = is_above (last_of d.work) day
+in_order tag.Account d a = is_above (number_of_account (last_of d.accounts)) a.number
+in_order tag.Do d i = true
+in_order tag.End d x = true
 
-abbrev pub with_period : DraftValue → Record → Result DraftValue Cause
-with_period d r = period_of r >>= λ p. Ok (record d { last = Some tag.Period; first_year = p.0; last_year = p.1 })
+-- its list may hold one more, and a record number is left
+abbrev pub has_room : (t : Tag) → DraftValue → Bool
+has_room tag.Format d = true
+has_room tag.Day d = true
+has_room tag.Period d = true
+has_room tag.Lags d = true
+has_room tag.Admin d = nat_lt (length d.admins) MOST_ADMINISTRATORS
+has_room tag.Work d = true
+has_room tag.Account d = nat_lt (length d.accounts) MOST_ACCOUNTS
+has_room tag.Do d = has_room_for d.next (length d.instructions)
+has_room tag.End d = true
 
-abbrev pub with_lags : DraftValue → Record → Result DraftValue Cause
-with_lags d r = lags_of r >>= λ lags. Ok (record d { last = Some tag.Lags; lags = lags })
+-- a value, where two tests pass
+abbrev pub placed : {A : Type 0} → Bool → Bool → A → Result A Cause
+placed ordered room x = if ordered then test room cause.Limit x else Err cause.Order
 
-abbrev pub with_work : DraftValue → Record → Result DraftValue Cause
-with_work d r = work_of r >>= λ day. test (is_above (last_of d.work) day) cause.Order (record d { last = Some tag.Work; work = d.work ++ day ∷ [] })
-
--- an account more, while there is room for it
-abbrev pub joined : DraftValue → AccountValue → Result DraftValue Cause
-joined d a = test (nat_lt (length d.accounts) MOST_ACCOUNTS) cause.Limit (record d { last = Some tag.Account; accounts = d.accounts ++ a ∷ [] })
-
-abbrev pub with_account : DraftValue → Record → Result DraftValue Cause
-with_account d r = account_of r >>= λ a. if is_above (number_of_account (last_of d.accounts)) a.number then joined d a else Err cause.Order
-
-abbrev pub with_instruction : DraftValue → Record → Result DraftValue Cause
-with_instruction d r = instruction_of r >>= λ i. test (has_room_for d.next (length d.instructions)) cause.Limit (record d { last = Some tag.Do; instructions = d.instructions ++ i ∷ [] })
-
-abbrev pub with_end : DraftValue → Record → Result DraftValue Cause
-with_end d r = counted 1 r (Ok (record d { last = Some tag.End }))
+-- what a row that says this adds
+abbrev pub adding : (t : Tag) → DraftValue → Said t → Result DraftValue Cause
+adding t d x = placed (in_order t d x) (has_room t d) (with t d x)
 
 -- what a row with this tag adds
-abbrev pub with_row : Tag → DraftValue → Record → Result DraftValue Cause
-with_row tag.Format = with_format
-with_row tag.Day = with_day
-with_row tag.Period = with_period
-with_row tag.Lags = with_lags
-with_row tag.Work = with_work
-with_row tag.Account = with_account
-with_row tag.Do = with_instruction
-with_row tag.End = with_end
+unfoldable pub with_row : Tag → DraftValue → Record → Result DraftValue Cause
+with_row t d r = (row t).read r >>= λ x. adding t d x
 
 -- the closing row has come
 abbrev pub is_over : Option Tag → Bool
-is_over None = false
-is_over (Some tag.Format) = false
-is_over (Some tag.Day) = false
-is_over (Some tag.Period) = false
-is_over (Some tag.Lags) = false
-is_over (Some tag.Work) = false
-is_over (Some tag.Account) = false
-is_over (Some tag.Do) = false
 is_over (Some tag.End) = true
+is_over last = false
 
 -- what the rows say with one row more, or the first cause against it
 abbrev pub next_draft : DraftValue → Record → Result DraftValue Cause
@@ -111,6 +114,11 @@ at_row number (Err c) more = Err (number, c)
 abbrev pub after_rows : ℕ → DraftValue → List Record → Result DraftValue (ℕ × Cause)
 after_rows number d [] = if is_over d.last then Ok d else Err (number, cause.End)
 after_rows number d (r ∷ rows) = at_row number (next_draft d r) (λ e. after_rows (number + 1) e rows)
+
+-- what these rows, each of which is taken, make of a draft
+abbrev pub drafted : DraftValue → List Record → Result DraftValue Cause
+drafted d [] = Ok d
+drafted d (r ∷ rows) = next_draft d r >>= λ e. drafted e rows
 
 -- what the rows of a text say, or the first faulty row and its cause
 abbrev pub draft_of_rows : List Record → Result DraftValue (ℕ × Cause)

@@ -1,6 +1,6 @@
 //! What holds of all day texts: laws on the definitions that the readers follow, in the words of the format.
 
-ghost use Rattle.std.specs.Prelude.{◌≡◌, ◌↔◌, ◌+◌, ◌<◌, ◌≤◌, ◌^◌, ℕ, ℤ, List, Ok, Err, length, Bool};
+ghost use Rattle.std.specs.Prelude.{◌-◌, [], Some, take, slice_index_or, ◌≡◌, ◌↔◌, ◌+◌, ◌<◌, ◌≤◌, ◌^◌, ℕ, ℤ, List, Ok, Err, length, Bool};
 ghost use Rattle.reg_base.specs.declared.limits.TheConstants.{FIRST_DAY, LAST_DAY};
 ghost use Rattle.reg_base.specs.declared.kinds.AccountKind.{AccountKind};
 ghost use Rattle.reg_base.specs.declared.kinds.AllowanceKind.{AllowanceKind};
@@ -17,8 +17,12 @@ ghost use Rattle.reg_text.specs.Records.{Record};
 ghost use Rattle.reg_text.specs.Day.{DayValue};
 ghost use Rattle.reg_text.specs.Reading.{IsDayNo, IsReading, IsFirstFaulty};
 ghost use Rattle.reg_text.specs.Drafts.{DraftValue};
-ghost use Rattle.reg_text.specs.Faults.{day_of_rows, next_draft};
-ghost use Rattle.reg_text.specs.Table.{fault_of, first_cause, tests_of};
+ghost use Rattle.reg_text.specs.Faults.{day_of_rows, next_draft, drafted, nothing_read};
+ghost use Rattle.reg_text.specs.Table.{tests_of};
+ghost use Rattle.reg_text.specs.FieldTests.{fault_of, first_cause};
+ghost use Rattle.reg_text.specs.Codecs.{IsRow};
+ghost use Rattle.reg_text.specs.Grammar.{row, emissions_row};
+ghost use Rattle.reg_text.specs.declared.reading.tag.Tag.{Tag};
 
 /// A field reads as a number exactly where it is the one spelling of that number, and the number is below 2^64.
 pub fn one_spelling_of_a_number()
@@ -70,4 +74,10 @@ pub fn names_the_first_faulty_row()
 /// applies is taken.
 pub fn names_the_first_cause()
     ensures { (d : DraftValue) (r : Record) → fault_of (next_draft d r) ≡ first_cause (tests_of d r) }
+{}
+
+/// The cause by which a text is refused at one of its rows is the first of the table's causes that applies to that row
+/// after what the rows before it made.
+pub fn names_the_cause_of_the_row()
+    ensures { (rows : List Record) (row : ℕ) (c : Cause) → day_of_rows rows ≡ Err (row, c) → row ≤ length rows → (d : DraftValue) × (drafted nothing_read (take (row - 1) rows) ≡ Ok d) × (first_cause (tests_of d (slice_index_or rows (row - 1) [])) ≡ Some c) }
 {}

@@ -3,15 +3,15 @@
 ghost use Rattle.std.specs.Prelude.{◌≡◌, IfOk};
 ghost use Rattle.reg_book.specs.Book.{IsNext};
 ghost use Rattle.csv.specs.Records.{fields_of};
-ghost use Rattle.reg_text.specs.RowReaders.{format_of, day_of, period_of, lags_of, work_of};
+ghost use Rattle.reg_text.specs.RowReaders.{format_of, day_of, period_of, lags_of, admin_of, work_of};
 
 use crate::cause::Cause;
 use crate::fields::dates::read_date;
-use crate::fields::limits::{read_lag, read_next, read_year};
+use crate::fields::limits::{read_lag, read_next, read_user_no, read_year};
 use crate::fields::words::is_word;
 use crate::reading::row::{field_at, has_fields};
 use csv::ByteRecord;
-use reg_base::{Day, Year};
+use reg_base::{Day, UserNo, Year};
 
 /// The lags and the reversal window, in working days.
 #[derive(Clone, Copy, Debug, PartialEq, Eq)]
@@ -62,11 +62,7 @@ pub(crate) fn read_period_row(row: &ByteRecord) -> Result<(Year, Year), Cause>
     }
     let first = read_year(field_at(row, 1))?;
     let last = read_year(field_at(row, 2))?;
-    if first <= last {
-        Ok((first, last))
-    } else {
-        Err(Cause::Order)
-    }
+    Ok((first, last))
 }
 
 /// `lags,TRUSTED,OTHER,LIST,REVERSAL`, each in working days.
@@ -86,6 +82,16 @@ pub(crate) fn read_lags_row(row: &ByteRecord) -> Result<Lags, Cause>
         list,
         reversal,
     })
+}
+
+/// `admin,USER`: an administrator.
+pub(crate) fn read_admin_row(row: &ByteRecord) -> Result<UserNo, Cause>
+    ensures { result ≡ admin_of (fields_of row.now) }
+{
+    if !has_fields(row, 2) {
+        return Err(Cause::Fields);
+    }
+    read_user_no(field_at(row, 1))
 }
 
 /// `work,DATE`: a working day.

@@ -6,20 +6,23 @@ ghost use Rattle.reg_base.specs.Rising.{IsRising};
 ghost use Rattle.reg_text.specs.Lasts.{is_above};
 ghost use Rattle.reg_text.specs.Drafts.{draft_of};
 ghost use Rattle.reg_text.specs.DraftLimits.{IsDraft};
-ghost use Rattle.reg_text.specs.Faults.{Takes, nothing_read, with_format, with_day, with_period, with_lags, with_work, with_account, joined, with_instruction, with_end, next_draft, has_room_for};
+ghost use Rattle.reg_text.specs.Faults.{Takes, nothing_read, with, has_room, with_row, next_draft, has_room_for};
+ghost use Rattle.reg_text.specs.Causes.{test};
+ghost use Rattle.reg_text.specs.declared.cause.Cause.TheVariants as cause;
+ghost use Rattle.reg_text.specs.declared.reading.tag.Tag.TheVariants as tag;
 
 use crate::cause::{Cause, RowError};
 use crate::reading::account_row::read_account_row;
 use crate::reading::draft::Draft;
 use crate::reading::heading_rows::{
-    Lags, read_day_row, read_format_row, read_lags_row, read_period_row, read_work_row,
+    Lags, read_admin_row, read_day_row, read_format_row, read_lags_row, read_period_row, read_work_row,
 };
 use crate::reading::instruction_row::read_instruction_row;
 use crate::reading::row::{field_at, has_fields};
 use crate::reading::tag::{Tag, read_tag};
 use csv::ByteRecord;
 use reg_account::Account;
-use reg_base::{Day, FIRST_DAY, FIRST_YEAR, Instruction, MOST_INSTRUCTIONS, MOST_RECORD, Year};
+use reg_base::{Day, FIRST_DAY, FIRST_YEAR, Instruction, MOST_ADMINISTRATORS, MOST_INSTRUCTIONS, MOST_RECORD, Year};
 use reg_book::{BookDraft, BookFault};
 use std::alloc::Global;
 
@@ -59,6 +62,7 @@ pub(crate) fn nothing_yet(alloc: Global) -> Draft
             list: 0,
             reversal: 0,
         },
+        admins: Vec::new(alloc),
         work: Vec::new(alloc),
         book: BookDraft::new(alloc, 1),
         last_account: None,
@@ -66,8 +70,9 @@ pub(crate) fn nothing_yet(alloc: Global) -> Draft
     }
 }
 
+#[tactic(auto, unfolding(crate::specs::Faults::with_row))]
 fn take_format(draft: &mut Draft, row: &ByteRecord) -> Result<(), RowError>
-    ensures { Takes (draft_of draft.new) result (with_format (draft_of draft.old) (fields_of row.now)) }
+    ensures { Takes (draft_of draft.new) result (with_row tag.Format (draft_of draft.old) (fields_of row.now)) }
 {
     read_format_row(row)?;
     draft.last = Some(Tag::Format);
@@ -75,9 +80,10 @@ fn take_format(draft: &mut Draft, row: &ByteRecord) -> Result<(), RowError>
 }
 
 // The book is made anew, since it begins with the next record number; no account has come before this row.
+#[tactic(auto, unfolding(crate::specs::Faults::with_row))]
 fn take_day(alloc: Global, draft: &mut Draft, row: &ByteRecord) -> Result<(), RowError>
     requires { draft.old.book.accounts ≡ [] }
-    ensures { Takes (draft_of draft.new) result (with_day (draft_of draft.old) (fields_of row.now)) }
+    ensures { Takes (draft_of draft.new) result (with_row tag.Day (draft_of draft.old) (fields_of row.now)) }
 {
     let (day, next) = read_day_row(row)?;
     draft.day = day;
@@ -88,26 +94,50 @@ fn take_day(alloc: Global, draft: &mut Draft, row: &ByteRecord) -> Result<(), Ro
     Ok(())
 }
 
+#[tactic(auto, unfolding(crate::specs::Faults::with_row))]
 fn take_period(draft: &mut Draft, row: &ByteRecord) -> Result<(), RowError>
-    ensures { Takes (draft_of draft.new) result (with_period (draft_of draft.old) (fields_of row.now)) }
+    ensures { Takes (draft_of draft.new) result (with_row tag.Period (draft_of draft.old) (fields_of row.now)) }
 {
     let (first, last) = read_period_row(row)?;
+    if first > last {
+        return Err(RowError::Fault(Cause::Order));
+    }
     draft.first_year = first;
     draft.last_year = last;
     draft.last = Some(Tag::Period);
     Ok(())
 }
 
+#[tactic(auto, unfolding(crate::specs::Faults::with_row))]
 fn take_lags(draft: &mut Draft, row: &ByteRecord) -> Result<(), RowError>
-    ensures { Takes (draft_of draft.new) result (with_lags (draft_of draft.old) (fields_of row.now)) }
+    ensures { Takes (draft_of draft.new) result (with_row tag.Lags (draft_of draft.old) (fields_of row.now)) }
 {
     draft.lags = read_lags_row(row)?;
     draft.last = Some(Tag::Lags);
     Ok(())
 }
 
+#[tactic(auto, unfolding(crate::specs::Faults::with_row))]
+fn take_admin(draft: &mut Draft, row: &ByteRecord) -> Result<(), RowError>
+    ensures { Takes (draft_of draft.new) result (with_row tag.Admin (draft_of draft.old) (fields_of row.now)) }
+{
+    let admin = read_admin_row(row)?;
+    if let Some(before) = draft.admins.last().copied() {
+        if admin <= before {
+            return Err(RowError::Fault(Cause::Order));
+        }
+    }
+    if draft.admins.len() >= MOST_ADMINISTRATORS {
+        return Err(RowError::Fault(Cause::Limit));
+    }
+    draft.admins.push(admin)?;
+    draft.last = Some(Tag::Admin);
+    Ok(())
+}
+
+#[tactic(auto, unfolding(crate::specs::Faults::with_row))]
 fn take_work(draft: &mut Draft, row: &ByteRecord) -> Result<(), RowError>
-    ensures { Takes (draft_of draft.new) result (with_work (draft_of draft.old) (fields_of row.now)) }
+    ensures { Takes (draft_of draft.new) result (with_row tag.Work (draft_of draft.old) (fields_of row.now)) }
 {
     let day = read_work_row(row)?;
     if let Some(before) = draft.work.last().copied() {
@@ -124,7 +154,7 @@ fn take_work(draft: &mut Draft, row: &ByteRecord) -> Result<(), RowError>
 fn add_account(draft: &mut Draft, account: Account) -> Result<(), RowError>
     requires rising { IsRising (map (λ a. a.number) draft.old.book.accounts) }
     requires above { IsTrue (is_above draft.old.last_account account.number) }
-    ensures { Takes (draft_of draft.new) result (joined (draft_of draft.old) account) }
+    ensures { Takes (draft_of draft.new) result (test (has_room tag.Account (draft_of draft.old)) cause.Limit (with tag.Account (draft_of draft.old) account)) }
 {
     let number = account.number();
     match draft.book.insert(account) {
@@ -139,9 +169,10 @@ fn add_account(draft: &mut Draft, account: Account) -> Result<(), RowError>
     Ok(())
 }
 
+#[tactic(auto, unfolding(crate::specs::Faults::with_row))]
 fn take_account(draft: &mut Draft, row: &ByteRecord) -> Result<(), RowError>
     requires { IsRising (map (λ a. a.number) draft.old.book.accounts) }
-    ensures { Takes (draft_of draft.new) result (with_account (draft_of draft.old) (fields_of row.now)) }
+    ensures { Takes (draft_of draft.new) result (with_row tag.Account (draft_of draft.old) (fields_of row.now)) }
 {
     let account = read_account_row(row)?;
     if let Some(before) = draft.last_account {
@@ -159,8 +190,9 @@ fn has_room(next: u64, count: usize) -> bool
     count < MOST_INSTRUCTIONS && next <= MOST_RECORD - count as u64
 }
 
+#[tactic(auto, unfolding(crate::specs::Faults::with_row))]
 fn take_instruction(draft: &mut Draft, row: &ByteRecord) -> Result<(), RowError>
-    ensures { Takes (draft_of draft.new) result (with_instruction (draft_of draft.old) (fields_of row.now)) }
+    ensures { Takes (draft_of draft.new) result (with_row tag.Do (draft_of draft.old) (fields_of row.now)) }
 {
     let Instruction {
         proposed,
@@ -181,8 +213,9 @@ fn take_instruction(draft: &mut Draft, row: &ByteRecord) -> Result<(), RowError>
     Ok(())
 }
 
+#[tactic(auto, unfolding(crate::specs::Faults::with_row))]
 fn take_end(draft: &mut Draft, row: &ByteRecord) -> Result<(), RowError>
-    ensures { Takes (draft_of draft.new) result (with_end (draft_of draft.old) (fields_of row.now)) }
+    ensures { Takes (draft_of draft.new) result (with_row tag.End (draft_of draft.old) (fields_of row.now)) }
 {
     if !has_fields(row, 1) {
         return Err(RowError::Fault(Cause::Fields));
@@ -204,6 +237,7 @@ pub(crate) fn take_row(alloc: Global, draft: &mut Draft, row: &ByteRecord) -> Re
         Tag::Day => take_day(alloc, draft, row),
         Tag::Period => take_period(draft, row),
         Tag::Lags => take_lags(draft, row),
+        Tag::Admin => take_admin(draft, row),
         Tag::Work => take_work(draft, row),
         Tag::Account => take_account(draft, row),
         Tag::Do => take_instruction(draft, row),
