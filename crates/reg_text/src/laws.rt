@@ -20,9 +20,6 @@ ghost use Rattle.reg_text.specs.Drafts.{DraftValue};
 ghost use Rattle.reg_text.specs.Faults.{day_of_rows, next_draft, drafted, nothing_read};
 ghost use Rattle.reg_text.specs.Table.{tests_of};
 ghost use Rattle.reg_text.specs.FieldTests.{fault_of, first_cause};
-ghost use Rattle.reg_text.specs.Codecs.{IsRow};
-ghost use Rattle.reg_text.specs.Grammar.{row, emissions_row};
-ghost use Rattle.reg_text.specs.declared.reading.tag.Tag.{Tag};
 
 /// A field reads as a number exactly where it is the one spelling of that number, and the number is below 2^64.
 pub fn one_spelling_of_a_number()
