@@ -3,10 +3,10 @@ use Rattle.std.proofs.Common.{◌≡◌, ℕ, ◌≤◌, true, false, nat_le, Op
 use Rattle.std.proofs.lemmas.Bool.{and_parts, leb-true, le-leb}
 use Rattle.reg_text.specs.declared.cause.Cause.TheVariants as cause
 use Rattle.reg_text.specs.declared.reading.tag.Tag.{Tag}
-use Rattle.reg_text.specs.declared.reading.tag.Tag.TheVariants.{Format, Day, Period, Lags, Admin, Work, Account, Do, End}
+use Rattle.reg_text.specs.declared.reading.tag.Tag.TheVariants as tag
 use Rattle.reg_text.specs.Words.{named}
 use Rattle.reg_text.specs.Tags.{all_tags, tag_word, rule, place, may_follow, tag_after}
-use Rattle.reg_text.specs.Faults.{is_over}
+use Rattle.reg_text.specs.Day.{is_over}
 use Rattle.reg_text.proofs.Binds.{bind_ok, test_ok}
 use Rattle.reg_text.proofs.WordLaws.{named-spelled}
 
@@ -24,15 +24,8 @@ tag-spelled last f t e =
 
 -- the word of each tag is its own
 word-again : (t : Tag) → named cause.Tag tag_word all_tags (tag_word t) ≡ Ok t
-word-again Format = refl
-word-again Day = refl
-word-again Period = refl
-word-again Lags = refl
-word-again Admin = refl
-word-again Work = refl
-word-again Account = refl
-word-again Do = refl
-word-again End = refl
+word-again tag.Format = refl
+word-again t = refl
 
 -- and the word of a tag that may stand here reads as it
 pub tag-again : (last : Option Tag) (t : Tag) → MayFollow last t → tag_after last (tag_word t) ≡ Ok t
@@ -49,18 +42,18 @@ place-of last t h = let both = and_parts (nat_le (rule t).from (place last)) (na
 pub may-at : (last : Option Tag) (t : Tag) → (rule t).from ≤ place last → place last ≤ (rule t).to → MayFollow last t
 may-at last t h k = rw (le-leb (rule t).from (place last) h, le-leb (place last) (rule t).to k) refl
 
+-- behind one section the next
+pub later : (last : Option Tag) (t u : Tag) → (rule u).from ≤ (rule t).from → (rule t).to ≤ (rule u).to → MayFollow last t → MayFollow last u
+later last t u low high may = let p = place-of last t may in may-at last u (omega (arith, p.from)) (omega (arith, p.to))
+
 -- nothing may stand after the closing row
-before-end : (t : Tag) → (rule t).to ≤ 8
-before-end Format = omega arith
-before-end Day = omega arith
-before-end Period = omega arith
-before-end Lags = omega arith
-before-end Admin = omega arith
-before-end Work = omega arith
-before-end Account = omega arith
-before-end Do = omega arith
-before-end End = omega arith
+end-follows-nothing : (t : Tag) → may_follow (Some tag.End) t ≡ false
+end-follows-nothing tag.Format = refl
+end-follows-nothing t = refl
+
+not_both : (t : Tag) → MayFollow (Some tag.End) t → may_follow (Some tag.End) t ≡ false → ⊥
+not_both t h k = absurd cc
 
 pub goes_on : (last : Option Tag) (t : Tag) → MayFollow last t → is_over last ≡ false
-goes_on (Some End) t h = let p = place-of (Some End) t h in absurd (omega (arith, p.to, before-end t))
+goes_on (Some tag.End) t h = absurd (not_both t h (end-follows-nothing t))
 goes_on last t h = refl

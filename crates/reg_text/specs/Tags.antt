@@ -1,15 +1,16 @@
 -- Tags: the word of each, and where a row with it may stand.
-use Rattle.std.specs.Prelude.{ℕ, Bool, ◌&&◌, nat_le, List, [], ◌∷◌, Option, Some, None, Result, codes}
+use Rattle.std.specs.Prelude.{ℕ, Bool, ◌&&◌, nat_lt, nat_le, List, [], ◌∷◌, Option, Some, None, Result, codes}
 use Rattle.reg_text.specs.declared.cause.Cause.{Cause}
 use Rattle.reg_text.specs.declared.cause.Cause.TheVariants as cause
 use Rattle.reg_text.specs.declared.reading.tag.Rule.{Rule}
 use Rattle.reg_text.specs.declared.reading.tag.Tag.{Tag}
-use Rattle.reg_text.specs.declared.reading.tag.Tag.TheVariants.{Format, Day, Period, Lags, Admin, Work, Account, Do, End}
+use Rattle.reg_text.specs.declared.reading.tag.Tag.TheVariants.{Format, Day, Period, Lags, Surrender, Admin, Work, Account, Do, End}
 use Rattle.reg_text.specs.Causes.{◌>>=◌, test}
 use Rattle.reg_text.specs.Words.{named}
 
+-- all tags, frequent ones first
 abbrev pub all_tags : List Tag
-all_tags = Format ∷ Day ∷ Period ∷ Lags ∷ Admin ∷ Work ∷ Account ∷ Do ∷ End ∷ []
+all_tags = Account ∷ Do ∷ Work ∷ Admin ∷ Surrender ∷ Format ∷ Day ∷ Period ∷ Lags ∷ End ∷ []
 
 -- the word of a tag
 abbrev pub tag_word : Tag → List ℕ
@@ -17,23 +18,29 @@ tag_word Format = codes "format"
 tag_word Day = codes "day"
 tag_word Period = codes "period"
 tag_word Lags = codes "lags"
+tag_word Surrender = codes "surrender"
 tag_word Admin = codes "admin"
 tag_word Work = codes "work"
 tag_word Account = codes "account"
 tag_word Do = codes "do"
 tag_word End = codes "end"
 
--- the grammar: the place of a row with this tag, and between which places the row before it stands
+-- the grammar: the place of a row with this tag, and between which places the row before it stands; places leave gaps for tags to come
 abbrev pub rule : Tag → Rule
-rule Format = record { place = 1; from = 0; to = 0 }
-rule Day = record { place = 2; from = 1; to = 1 }
-rule Period = record { place = 3; from = 2; to = 2 }
-rule Lags = record { place = 4; from = 3; to = 3 }
-rule Admin = record { place = 5; from = 4; to = 5 }
-rule Work = record { place = 6; from = 4; to = 6 }
-rule Account = record { place = 7; from = 4; to = 7 }
-rule Do = record { place = 8; from = 4; to = 8 }
-rule End = record { place = 9; from = 4; to = 8 }
+rule Format = record { place = 10; from = 0; to = 0 }
+rule Day = record { place = 20; from = 10; to = 10 }
+rule Period = record { place = 30; from = 20; to = 20 }
+rule Lags = record { place = 40; from = 30; to = 30 }
+rule Surrender = record { place = 50; from = 40; to = 50 }
+rule Admin = record { place = 60; from = 40; to = 60 }
+rule Work = record { place = 70; from = 40; to = 70 }
+rule Account = record { place = 80; from = 40; to = 80 }
+rule Do = record { place = 90; from = 40; to = 90 }
+rule End = record { place = 100; from = 40; to = 90 }
+
+-- a row with this tag stands there once, since it may not follow itself
+abbrev pub is_once : Tag → Bool
+is_once t = nat_lt (rule t).to (rule t).place
 
 -- the place of the last row; 0 before the first
 abbrev pub place : Option Tag → ℕ

@@ -16,8 +16,8 @@ ghost use Rattle.reg_text.specs.Words.{kind_word, kind_of, account_kind_word, ac
 ghost use Rattle.reg_text.specs.Records.{Record};
 ghost use Rattle.reg_text.specs.Day.{DayValue};
 ghost use Rattle.reg_text.specs.Reading.{IsDayNo, IsReading, IsFirstFaulty};
-ghost use Rattle.reg_text.specs.Drafts.{DraftValue};
-ghost use Rattle.reg_text.specs.Faults.{day_of_rows, next_draft, drafted, nothing_read};
+ghost use Rattle.reg_text.specs.Drafts.{DraftValue, nothing_read};
+ghost use Rattle.reg_text.specs.Faults.{day_of_rows, next_draft, drafted};
 ghost use Rattle.reg_text.specs.Table.{tests_of};
 ghost use Rattle.reg_text.specs.FieldTests.{fault_of, first_cause};
 

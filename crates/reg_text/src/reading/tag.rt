@@ -19,6 +19,8 @@ pub enum Tag {
     Period,
     /// The lags and the reversal window.
     Lags,
+    /// A kind of accounts and a kind of allowances that may be surrendered from them.
+    Surrender,
     /// An administrator.
     Admin,
     /// A working day.
@@ -41,6 +43,7 @@ impl Tag {
             Tag::Day => b"day",
             Tag::Period => b"period",
             Tag::Lags => b"lags",
+            Tag::Surrender => b"surrender",
             Tag::Admin => b"admin",
             Tag::Work => b"work",
             Tag::Account => b"account",
@@ -50,7 +53,7 @@ impl Tag {
     }
 }
 
-/// Where a row with a tag may stand.
+/// Where a row with a tag may stand. Places leave gaps for tags to come.
 #[derive(Clone, Copy, Debug, PartialEq, Eq)]
 pub(crate) struct Rule {
     /// Its place among the rows of a text.
@@ -75,32 +78,34 @@ impl Tag {
         ensures { result ≡ rule self }
     {
         match self {
-            Tag::Format => Rule::new(1, 0, 0),
-            Tag::Day => Rule::new(2, 1, 1),
-            Tag::Period => Rule::new(3, 2, 2),
-            Tag::Lags => Rule::new(4, 3, 3),
-            Tag::Admin => Rule::new(5, 4, 5),
-            Tag::Work => Rule::new(6, 4, 6),
-            Tag::Account => Rule::new(7, 4, 7),
-            Tag::Do => Rule::new(8, 4, 8),
-            Tag::End => Rule::new(9, 4, 8),
+            Tag::Format => Rule::new(10, 0, 0),
+            Tag::Day => Rule::new(20, 10, 10),
+            Tag::Period => Rule::new(30, 20, 20),
+            Tag::Lags => Rule::new(40, 30, 30),
+            Tag::Surrender => Rule::new(50, 40, 50),
+            Tag::Admin => Rule::new(60, 40, 60),
+            Tag::Work => Rule::new(70, 40, 70),
+            Tag::Account => Rule::new(80, 40, 80),
+            Tag::Do => Rule::new(90, 40, 90),
+            Tag::End => Rule::new(100, 40, 90),
         }
     }
 }
 
-// All tags.
+// All tags, frequent ones first.
 fn all_tags() -> &'static [Tag]
     ensures { result.now ≡ every_tag }
 {
     &[
+        Tag::Account,
+        Tag::Do,
+        Tag::Work,
+        Tag::Admin,
+        Tag::Surrender,
         Tag::Format,
         Tag::Day,
         Tag::Period,
         Tag::Lags,
-        Tag::Admin,
-        Tag::Work,
-        Tag::Account,
-        Tag::Do,
         Tag::End,
     ]
 }
