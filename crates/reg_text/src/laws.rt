@@ -1,6 +1,6 @@
 //! What holds of all day texts: laws on the definitions that the readers follow, in the words of the format.
 
-ghost use Rattle.std.specs.Prelude.{◌-◌, [], Some, take, slice_index_or, ◌≡◌, ◌↔◌, ◌+◌, ◌<◌, ◌≤◌, ◌^◌, ℕ, ℤ, List, Ok, Err, length, Bool};
+ghost use Rattle.std.specs.Prelude.{◌≡◌, ◌↔◌, ◌+◌, ◌<◌, ◌≤◌, ◌^◌, ℕ, ℤ, List, Ok, Err, length, Bool};
 ghost use Rattle.reg_base.specs.declared.limits.TheConstants.{FIRST_DAY, LAST_DAY};
 ghost use Rattle.reg_base.specs.declared.kinds.AccountKind.{AccountKind};
 ghost use Rattle.reg_base.specs.declared.kinds.AllowanceKind.{AllowanceKind};
@@ -16,9 +16,10 @@ ghost use Rattle.reg_text.specs.Words.{kind_word, kind_of, account_kind_word, ac
 ghost use Rattle.reg_text.specs.Records.{Record};
 ghost use Rattle.reg_text.specs.Day.{DayValue};
 ghost use Rattle.reg_text.specs.Reading.{IsDayNo, IsReading, IsFirstFaulty};
-ghost use Rattle.reg_text.specs.Drafts.{DraftValue, nothing_read};
-ghost use Rattle.reg_text.specs.Faults.{day_of_rows, next_draft, drafted};
-ghost use Rattle.reg_text.specs.Table.{tests_of};
+ghost use Rattle.reg_text.specs.Drafts.{DraftValue};
+ghost use Rattle.reg_text.specs.Faults.{day_of_rows, next_draft};
+ghost use Rattle.reg_text.specs.Table.{tests_of, IsCauseOf};
+ghost use Rattle.reg_text.specs.FieldFaults.{IsNumberText, IsSignedText, IsDateText, TellsFromLimit};
 ghost use Rattle.reg_text.specs.FieldTests.{fault_of, first_cause};
 
 /// A field reads as a number exactly where it is the one spelling of that number, and the number is below 2^64.
@@ -67,14 +68,17 @@ pub fn names_the_first_faulty_row()
     ensures end { (rows : List Record) (row : ℕ) (c : Cause) → day_of_rows rows ≡ Err (row, c) → row ≡ length rows + 1 → c ≡ cause.End }
 {}
 
-/// The cause against a row is the first of the table's causes that applies to it, and a row against which none
-/// applies is taken.
+/// If the rows of a text have this fault at one of them, the rows before it make a draft, and the cause is the first of
+/// the table of causes that applies to that draft and that row. After any draft, a row to which no cause applies is taken.
 pub fn names_the_first_cause()
-    ensures { (d : DraftValue) (r : Record) → fault_of (next_draft d r) ≡ first_cause (tests_of d r) }
+    ensures of_text { (rows : List Record) (row : ℕ) (c : Cause) → day_of_rows rows ≡ Err (row, c) → row ≤ length rows → IsCauseOf rows row c }
+    ensures of_row { (d : DraftValue) (r : Record) → fault_of (next_draft d r) ≡ first_cause (tests_of d r) }
 {}
 
-/// The cause by which a text is refused at one of its rows is the first of the table's causes that applies to that row
-/// after what the rows before it made.
-pub fn names_the_cause_of_the_row()
-    ensures { (rows : List Record) (row : ℕ) (c : Cause) → day_of_rows rows ≡ Err (row, c) → row ≤ length rows → (d : DraftValue) × (drafted nothing_read (take (row - 1) rows) ≡ Ok d) × (first_cause (tests_of d (slice_index_or rows (row - 1) [])) ≡ Some c) }
+/// A field that is refused is no number, no signed number or no date at all, or it is one and outside the limits, and
+/// the cause says which.
+pub fn tells_other_texts_from_limits()
+    ensures numbers { (low high : ℕ) → TellsFromLimit (bounded_of low high) cause.Number IsNumberText }
+    ensures corrections { TellsFromLimit correction_of cause.Number IsSignedText }
+    ensures dates { TellsFromLimit date_of cause.Date IsDateText }
 {}
