@@ -1,5 +1,5 @@
 -- How the touched accounts of a batch are found: by marks beside the accounts. Private functions are stated in these.
-use Rattle.std.specs.Prelude.{ℕ, Bool, ◌||◌, List, [], ◌∷◌, if◌then◌else◌}
+use Rattle.std.specs.Prelude.{ℕ, ◌+◌, Bool, ◌||◌, List, [], ◌∷◌, if◌then◌else◌}
 use Rattle.reg_base.specs.declared.instruction.Instruction.{Instruction}
 use Rattle.reg_base.specs.Directory.{DirectoryValue}
 use Rattle.reg_base.specs.Footprint.{is_among}
@@ -22,3 +22,8 @@ abbrev pub picked : List Bool → State → State
 picked [] s = []
 picked (m ∷ ms) [] = []
 picked (m ∷ ms) (v ∷ vs) = if m then v ∷ picked ms vs else picked ms vs
+
+-- for each mark, how many are set before it, where so many were set before the first
+abbrev pub ranks_from : ℕ → List Bool → List ℕ
+ranks_from count [] = []
+ranks_from count (m ∷ ms) = count ∷ ranks_from (if m then count + 1 else count) ms
