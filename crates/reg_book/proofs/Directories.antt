@@ -5,6 +5,7 @@ use Rattle.std.specs.List.{IsDistinct, list_any}
 use Rattle.std.specs.Ordering.{nat_cmp, eq_by_cmp}
 use Rattle.std.specs.Cmp.{nat_cmp_total, nat_eq_equiv, unsigned_tied}
 use Rattle.std.specs.FinMap as fin
+use Rattle.std.specs.Bool.{then_some}
 use Rattle.std.proofs.lemmas.Bool.{eq-eqb, ne_eqb, eqb-true, eqb-false, or_from}
 use Rattle.std.proofs.lemmas.List.{map-append, get_or-map, length-append}
 use Rattle.std.proofs.lemmas.List.Sorted.{Contains-permutation, IsPermutation-map, IsPermutation-sym}
@@ -16,8 +17,9 @@ use Rattle.reg_base.specs.declared.limits.TheConstants.{MOST_ACCOUNTS}
 use Rattle.reg_base.specs.Footprint.{is_among}
 use Rattle.reg_account.specs.Account.{AccountValue, IsAccount}
 use Rattle.reg_rules.specs.State.{State, account, numbers}
-use Rattle.reg_book.specs.declared.draft.BookFault.TheVariants.{Repeated, Full}
-use Rattle.reg_book.specs.Book.{entry_of, directory_of, IsNext, IsDraft, first_fault}
+use Rattle.reg_book.specs.declared.draft.BookFault.{BookFault}
+use Rattle.reg_book.specs.declared.draft.BookFault.TheVariants.{Repeated, Full, NoMemory}
+use Rattle.reg_book.specs.Book.{entry_of, directory_of, IsNext, IsDraft, first_fault, IsBookFault}
 
 -- the kind and the holder of an account
 abbrev pub listing : AccountValue → AccountKind × ℕ
@@ -189,6 +191,32 @@ can_take xs v none = by (is_among (numbers xs) v.number) (nat_le MOST_ACCOUNTS (
     by true full r f e = absurd cc
     by false true r f e = absurd cc
     by false false r f e = (r, grind (arith, tests, f))
+
+-- what a look-up says of whether the account is there
+pub found-at : (xs : State) (directory : DirectoryValue) (a n : ℕ) (r : Option (AccountKind × ℕ)) (b : Bool)
+    → directory ≡ directory_of xs → n ≡ a → r ≡ fin.get directory n → b ≡ is_some r → b ≡ is_among (numbers xs) a
+found-at xs directory a n r b listed same found answer =
+    answer ∙ ap is_some (found ∙ ap (λ d. fin.get d n) listed ∙ ap (λ m. fin.get (directory_of xs) m) same) ∙ known-among xs a
+
+pub repeated_fault : (xs : State) (v : AccountValue) → is_among (numbers xs) v.number ≡ true → Some Repeated ≡ first_fault xs v
+repeated_fault xs v h = sym (ap (λ b. cond b (Some Repeated) (cond (nat_le MOST_ACCOUNTS (length xs)) (Some Full) None)) h)
+
+full_by : (b : Bool) → then_some b Full ≡ cond b (Some Full) None
+full_by true = refl
+full_by false = refl
+
+pub full_fault : (xs : State) (v : AccountValue) → is_among (numbers xs) v.number ≡ false → then_some (nat_le MOST_ACCOUNTS (length xs)) Full ≡ first_fault xs v
+full_fault xs v h = full_by (nat_le MOST_ACCOUNTS (length xs)) ∙ sym (ap (λ b. cond b (Some Repeated) (cond (nat_le MOST_ACCOUNTS (length xs)) (Some Full) None)) h)
+
+pub fault_of_book : (xs : State) (v : AccountValue) (q : BookFault) → Some q ≡ first_fault xs v → IsBookFault xs v q
+fault_of_book xs v Repeated e = sym e
+fault_of_book xs v Full e = sym e
+fault_of_book xs v NoMemory e = absurd (no_memory (is_among (numbers xs) v.number) (nat_le MOST_ACCOUNTS (length xs)) e)
+  where
+    no_memory : (b c : Bool) → Some NoMemory ≡ cond b (Some Repeated) (cond c (Some Full) None) → ⊥
+    no_memory true c e = cc
+    no_memory false true e = cc
+    no_memory false false e = cc
 
 -- a draft of one account more
 pub more_draft : (xs ys : State) (v : AccountValue) (directory new : DirectoryValue) (next : ℕ) → IsDraft xs directory next → ys ≡ xs ++ v ∷ [] → new ≡ directory_of (xs ++ v ∷ [])

@@ -1,5 +1,5 @@
 -- Whether numbers rise, and what sorting makes of them.
-use Rattle.std.proofs.Common.{◌≡◌, ℕ, ◌+◌, ◌-◌, ◌<◌, ◌≤◌, true, false, eqb, [], ◌∷◌, length, get_or, sym, ap, ◌∙◌, arith, ⊎_elim, tests, is_le, nat_cmp}
+use Rattle.std.proofs.Common.{◌≡◌, ℕ, ◌+◌, ◌-◌, ◌<◌, ◌≤◌, true, false, eqb, [], ◌∷◌, length, get_or, sym, ap, ◌∙◌, arith, ⊎_elim, tests, is_le, is_gt, nat_cmp}
 use Rattle.std.specs.Prelude.{IsPermutation}
 use Rattle.std.specs.List.{IsDistinct}
 use Rattle.std.specs.List.Sorted.{IsSortedByKey, IsNonDecreasing}
@@ -68,3 +68,6 @@ kept xs ys directory next draft same len rising = record {
   };
   listed = draft.listed ∙ directory_of-permutation xs ys draft.distinct same;
 }
+
+pub gt_of : (x y : ℕ) → true ≡ is_gt (nat_cmp x y) → y < x
+gt_of x y e = grind (arith, tests, e)

@@ -1,12 +1,13 @@
 -- Accounts put in the place of those with their numbers.
-use Rattle.std.proofs.Common.{◌≡◌, ◌≢◌, ℕ, zero, suc, ◌-◌, ◌<◌, ◌≤◌, Bool, true, false, cond, eqb, List, [], ◌∷◌, ◌++◌, map, length, get_or, take, drop, Option, Some, None, ⊎_elim, refl, sym, ap, subst, ◌∙◌, arith, append_assoc}
+use Rattle.std.proofs.Common.{◌≡◌, ◌≢◌, ℕ, zero, suc, ◌+◌, ◌-◌, ◌<◌, ◌≤◌, Bool, true, false, cond, eqb, List, [], ◌∷◌, ◌++◌, map, length, get_or, take, drop, Option, Some, None, ⊎_elim, refl, sym, ap, subst, ◌∙◌, arith, append_assoc, add-one}
 use Rattle.std.specs.Prelude.{All, unwrap_or, option_map, slice_set}
 use Rattle.std.specs.List.{AllByRecursion}
 use Rattle.std.specs.FinMap as fin
 use Rattle.std.proofs.lemmas.List.Elements.{All-contains, All-from_recursion}
 use Rattle.reg_base.specs.Directory.{DirectoryValue}
-use Rattle.std.proofs.lemmas.Bool.{eq-eqb, ne_eqb, cases_lt}
-use Rattle.std.proofs.lemmas.List.{take-append-drop, take_at, drop_at}
+use Rattle.std.proofs.lemmas.Bool.{eq-eqb, ne_eqb, eqb-false, cases_lt}
+use Rattle.std.proofs.Math.Seq.{get_or-append_seam}
+use Rattle.std.proofs.lemmas.List.{take-append-drop, take_at, drop_at, get_or-take, get_or_append_left, length-append}
 use Rattle.std.proofs.lemmas.Option.{same_Some}
 use Rattle.reg_base.specs.declared.kinds.AccountKind.{AccountKind}
 use Rattle.reg_base.specs.Rising.{IsRising}
@@ -14,6 +15,8 @@ use Rattle.reg_base.specs.RisesFrom.{RisesFrom, rises_from}
 use Rattle.reg_account.specs.Account.{AccountValue, IsAccount}
 use Rattle.reg_rules.specs.State.{State, account, numbers}
 use Rattle.reg_book.specs.Book.{overlay, entry_of, directory_of, IsNext, IsKept, AreHigher}
+use Rattle.reg_book.specs.Settled.{SettledValue}
+use Rattle.reg_base.specs.declared.limits.TheConstants.{MOST_RECORD}
 use Rattle.reg_book.proofs.Accounts.{low_number, account_at, ascending}
 use Rattle.reg_book.proofs.Directories.{found_in, eqb-sym, listing, get-directory_of, number_at, length-numbers}
 
@@ -145,3 +148,76 @@ kept_after xs ys others directory next after kept is fit stand fits =
 -- from a place on the numbers are above each of these
 abbrev pub HigherThanEach : List ℕ → ℕ → State → Type 0
 HigherThanEach ns until settled = (j : ℕ) → j < length settled → AreHigher ns until (get_or (numbers settled) j 0)
+
+-- one number more is higher
+pub one_lower : (xs : State) (count a : ℕ) (v : AccountValue) (x : ℕ) → 0 < count → count ≤ length xs → v ≡ get_or xs (count - 1) v → x ≡ v.number → a < x → AreHigher (numbers xs) count a → AreHigher (numbers xs) (count - 1) a
+one_lower xs count a v x some within at is above higher k le lt =
+    ⊎_elim
+    (λ (last : k < count).
+    let k_is : k ≡ count - 1 = omega arith in
+    let here : get_or (numbers xs) (count - 1) 0 ≡ x = number_at xs (count - 1) v (omega arith) ∙ ap (λ (o : AccountValue). o.number) (sym at) ∙ sym is in
+    let there : get_or (numbers xs) k 0 ≡ x = ap (λ m. get_or (numbers xs) m 0) k_is ∙ here in
+    omega (arith, there, above))
+    (λ (later : count ≤ k). higher k later lt)
+    (cases_lt k count)
+
+-- the last of the settled accounts
+pub higher-last : (ns : List ℕ) (cur new : State) (w : AccountValue) (until : ℕ) → HigherThanEach ns until cur → cur ≡ new ++ w ∷ [] → AreHigher ns until w.number
+higher-last ns cur new w until higher parts k le within =
+    let size : length cur ≡ length new + 1 = ap length parts ∙ length-append new (w ∷ []) in
+    let last : get_or (numbers cur) (length new) 0 ≡ w.number =
+    number_at cur (length new) w (omega (arith, size)) ∙ ap (λ (o : AccountValue). o.number) (ap (λ (s : State). get_or s (length new) w) parts ∙ get_or-append_seam new w [] w) in
+    let above = higher (length new) (omega (arith, size)) k le within in
+    omega (arith, above, last)
+
+climbs : (xs : List ℕ) → IsRising xs → (i j : ℕ) → i < j → j < length xs → get_or xs i 0 < get_or xs j 0
+climbs xs rising i zero lt within = absurd (omega arith)
+climbs xs rising i (suc j) lt within =
+    let next : get_or xs j 0 < get_or xs (suc j) 0 = let h = rising j (omega (arith, within)) in rw add-one at h in
+    ⊎_elim
+    (λ (before : i < j). let h = climbs xs rising i j before (omega (arith, within)) in omega (arith, h, next))
+    (λ (here : j ≤ i). let same : i ≡ j = omega arith in let e : get_or xs i 0 ≡ get_or xs j 0 = ap (λ m. get_or xs m 0) same in omega (arith, e, next))
+    (cases_lt i j)
+
+take_few : (n : ℕ) (xs : State) → length (take n xs) ≡ n → n ≤ length xs
+take_few zero xs e = omega arith
+take_few (suc n) [] e = absurd (omega (arith, e))
+take_few (suc n) (x ∷ xs) e = let h = take_few n xs (omega (arith, e)) in omega (arith, h)
+
+-- what is left of the settled accounts is below what was put in place
+pub lower-left : (ns : List ℕ) (all cur new : State) (w : AccountValue) (until : ℕ) → IsRising (numbers all) → cur ≡ take (length cur) all → cur ≡ new ++ w ∷ []
+    → AreHigher ns until w.number → HigherThanEach ns until new
+lower-left ns all cur new w until rising front parts higher j lt k le within =
+    let size : length cur ≡ length new + 1 = ap length parts ∙ length-append new (w ∷ []) in
+    let few : length cur ≤ length all = take_few (length cur) all (sym (ap length front)) in
+    let all_at : (m : ℕ) → m < length cur → get_or (numbers cur) m 0 ≡ get_or (numbers all) m 0 =
+    λ m below. number_at cur m w below ∙ ap (λ (o : AccountValue). o.number) (ap (λ (s : State). get_or s m w) front ∙ get_or-take (length cur) all m w below) ∙ sym (number_at all m w (omega (arith, few, below))) in
+    let here : get_or (numbers new) j 0 ≡ get_or (numbers all) j 0 =
+    number_at new j w lt ∙ ap (λ (o : AccountValue). o.number) (sym (get_or_append_left new (w ∷ []) w j lt) ∙ ap (λ (s : State). get_or s j w) (sym parts)) ∙ sym (number_at cur j w (omega (arith, size, lt))) ∙ all_at j (omega (arith, size, lt)) in
+    let last : w.number ≡ get_or (numbers all) (length new) 0 =
+    ap (λ (o : AccountValue). o.number) (sym (get_or-append_seam new w [] w) ∙ ap (λ (s : State). get_or s (length new) w) (sym parts)) ∙ sym (number_at cur (length new) w (omega (arith, size))) ∙ all_at (length new) (omega (arith, size)) in
+    let rise : get_or (numbers all) j 0 < get_or (numbers all) (length new) 0 = climbs (numbers all) rising j (length new) lt (omega (arith, few, size, length-numbers all)) in
+    let above = higher k le within in
+    omega (arith, here, last, rise, above)
+
+-- the number before a place is not above
+abbrev pub numbers_below : State → ℕ → ℕ → Type 0
+numbers_below s count a = get_or (numbers s) (count - 1) 0 ≤ a
+
+pub lower_than : (xs : State) (w : AccountValue) (count : ℕ) (v : AccountValue) (x a : ℕ) → 0 < count → count ≤ length xs → v ≡ get_or xs (count - 1) v → x ≡ v.number → a ≡ w.number
+    → eqb x a ≡ false → numbers_below xs count a → get_or (numbers xs) (count - 1) 0 < w.number
+lower_than xs w count v x a some within at is named differs below =
+    let here : get_or (numbers xs) (count - 1) 0 ≡ x = number_at xs (count - 1) v (omega arith) ∙ ap (λ (o : AccountValue). o.number) (sym at) ∙ sym is in
+    let not_same : x ≢ a = eqb-false x a differs in
+    omega (arith, here, not_same, named, below)
+
+-- the number after the settled day's records is one that a book may go on with
+pub next_fits : (settled : SettledValue) (next count : ℕ) → IsNext next → settled.base + 1 ≡ next → count ≡ length settled.rows
+    → (0 < length settled.rows → settled.base + length settled.rows ≤ MOST_RECORD) → IsNext (next + count)
+next_fits settled next count fits begins counted numbered = record {
+  from_one = omega (arith, fits.from_one);
+  to_the_end = ⊎_elim
+      (λ (some : 0 < length settled.rows). let h = numbered some in omega (arith, h, begins, counted))
+      (λ (none : length settled.rows ≤ 0). let h = fits.to_the_end in omega (arith, h, none, counted))
+      (cases_lt 0 (length settled.rows));
+}

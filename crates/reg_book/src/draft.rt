@@ -1,12 +1,11 @@
 //! A book that is being put together.
 
-ghost use Rattle.std.specs.Prelude.{◌≡◌, ◌<◌, [], ◌∷◌, ◌++◌, false, length, vec_len, vec_capacity, MatchResult, OnOk, OnErr, None, IsTrue, ◌↔◌, nat_eq, IsPermutation};
+ghost use Rattle.std.specs.Prelude.{◌≡◌, ◌<◌, [], ◌∷◌, ◌++◌, length, vec_len, vec_capacity, MatchResult, OnOk, OnErr, None, IsTrue, ◌↔◌, nat_eq, IsPermutation};
 ghost use Rattle.std.specs.List.{IsDistinct};
 ghost use Rattle.reg_base.specs.Rising.{IsRising};
 ghost use Rattle.reg_rules.specs.State.{numbers};
 ghost use Rattle.reg_account.specs.Account.{IsAccount};
-ghost use Rattle.reg_base.specs.Footprint.{is_among};
-ghost use Rattle.reg_book.specs.Book.{directory_of, first_fault};
+ghost use Rattle.reg_book.specs.Book.{directory_of, first_fault, IsBookFault};
 
 use crate::book::Book;
 use reg_account::Account;
@@ -71,14 +70,13 @@ impl BookDraft {
             (λ _. (self.new ≡ with_account self.old account) × (first_fault self.old.accounts account ≡ None))
             (λ e. (self.new ≡ self.old) × (e.0 ≡ account) × IsBookFault self.old.accounts account e.1) }
     {
-        if let Some(fault) = find_fault(&self.accounts, &self.directory, &account) {
-            return Err((account, fault));
+        match take_place(&mut self.accounts, &mut self.directory, &account) {
+            Err(fault) => Err((account, fault)),
+            Ok(()) => {
+                self.accounts.push(account).unwrap();
+                Ok(())
+            }
         }
-        if make_room(&mut self.accounts, &mut self.directory, &account).is_err() {
-            return Err((account, BookFault::NoMemory));
-        }
-        self.accounts.push(account).unwrap();
-        Ok(())
     }
 
     /// The book of these accounts, in the order of their numbers. Takes no memory.
@@ -118,6 +116,30 @@ fn has_rising_numbers(accounts: &[Account]) -> bool
     true
 }
 
+// Makes room for the account and enters it into the directory, or says why it can't be taken in.
+fn take_place(
+    accounts: &mut Vec<Account>,
+    directory: &mut Directory,
+    account: &Account,
+) -> Result<(), BookFault>
+    requires listed { directory.old ≡ directory_of accounts.old.items }
+    ensures items { accounts.new.items ≡ accounts.old.items }
+    ensures room { OnOk result (vec_len accounts.new < vec_capacity accounts.new) }
+    ensures entered { OnOk result (directory.new ≡ directory_of (accounts.old.items ++ account.now ∷ [])) }
+    ensures fault { MatchResult result (λ _. first_fault accounts.old.items account.now ≡ None) (IsBookFault accounts.old.items account.now) }
+    ensures err { OnErr result (directory.new ≡ directory.old) }
+    ensures within_limits { IsAccount account.now }
+{
+    account.is_within_limits();
+    if let Some(fault) = find_fault(accounts, directory, account) {
+        return Err(fault);
+    }
+    match make_room(accounts, directory, account) {
+        Ok(()) => Ok(()),
+        Err(NoMemory) => Err(BookFault::NoMemory),
+    }
+}
+
 // What is wrong with taking the account in, if anything is.
 fn find_fault(
     accounts: &[Account],
@@ -140,14 +162,12 @@ fn make_room(
     account: &Account,
 ) -> Result<(), NoMemory>
     requires listed { directory.old ≡ directory_of accounts.old.items }
-    requires is_new { is_among (numbers accounts.old.items) account.now.number ≡ false }
+    requires is_new { first_fault accounts.old.items account.now ≡ None }
     ensures items { accounts.new.items ≡ accounts.old.items }
     ensures room { OnOk result (vec_len accounts.new < vec_capacity accounts.new) }
     ensures entered { OnOk result (directory.new ≡ directory_of (accounts.old.items ++ account.now ∷ [])) }
     ensures err { OnErr result (directory.new ≡ directory.old) }
-    ensures within_limits { IsAccount account.now }
 {
-    account.is_within_limits();
     accounts.reserve(1)?;
     directory.insert(account.number(), account.kind(), account.holder())?;
     Ok(())
