@@ -29,6 +29,3 @@ pub use limits::{
 pub use numbers::{AccountNo, Day, HolderNo, RecordNo, UserNo, Year};
 pub use refusals::Refusal;
 pub use rules::{Rules, RulesFault, RulesParts};
-
-#[cfg(test)]
-mod tests;

@@ -11,6 +11,3 @@ pub use checks::decide;
 pub use laws::{step_laws, transfer_moves};
 pub use reply::{Closing, HeldNow, LogRow, Reply};
 pub use settle::{execute, log_row};
-
-#[cfg(test)]
-mod tests;
