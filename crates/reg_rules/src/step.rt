@@ -1,12 +1,11 @@
-//! Carrying out one instruction.
+//! One step: carrying out an instruction, or refusing it.
 
-ghost use Rattle.std.specs.Prelude.{◌≡◌, ◌≢◌, ◌≤◌, None, IfOk, OnErr, length, map, vec_len, vec_capacity};
-ghost use Rattle.std.specs.List.{AllByRecursion};
+ghost use Rattle.std.specs.Prelude.{◌≡◌, ℕ, ◌∷◌, ◌≤◌, None, IfOk, OnErr, length, map, find, nat_eq, vec_len, vec_capacity};
+ghost use Rattle.std.specs.List.{AllByRecursion, IsDistinct};
 ghost use Rattle.reg_base.specs.Footprint.{footprint};
-ghost use Rattle.reg_account.specs.Account.{credited, debited};
-ghost use Rattle.reg_rules.specs.State.{Setting, numbers, change};
+ghost use Rattle.reg_rules.specs.State.{numbers};
 ghost use Rattle.reg_rules.specs.Checks.{refusal};
-ghost use Rattle.reg_rules.specs.Effect.{changed_by, after_move, CanMove, HoldAtLeast, HaveRoom, CanApply};
+ghost use Rattle.reg_rules.specs.Effect.{share_of, given, moved, CanReceive, CanMove};
 ghost use Rattle.reg_rules.specs.Step.{step, holdings_of};
 
 use crate::checks::decide;
@@ -14,7 +13,8 @@ use crate::reply::{Closing, HeldNow, LogRow, Reply};
 use reg_account::Account;
 use reg_base::laws::each_footprint_is_sound;
 use reg_base::{
-    AccountNo, Act, AllowanceKind, Day, Directory, Instruction, NoMemory, RecordNo, Rules,
+    AccountNo, AllowanceKind, Day, Directory, Instruction, Movement, NoMemory, RecordNo, Rules,
+    Share,
 };
 use std::alloc::Global;
 
@@ -43,9 +43,9 @@ pub fn execute(
         return Ok(Reply::Refused(refusal));
     }
     each_footprint_is_sound();
-    // The room comes first, so that want of memory finds the accounts as they were.
+    // The room comes first, so that a refused growth leaves the accounts as they were.
     let room = Vec::with_capacity(alloc, accounts.len())?;
-    apply(number, &instruction.act, accounts);
+    apply(&instruction.act.movement(), accounts);
     Ok(Reply::Done {
         closing: closing_of(room, accounts),
         figure: None,
@@ -64,59 +64,43 @@ pub fn log_row(number: RecordNo, day: Day, instruction: Instruction, reply: Repl
     }
 }
 
-// The change of an act that no check refuses.
-fn apply(number: RecordNo, act: &Act, accounts: &mut [Account])
-    requires { CanApply accounts.old act.now }
-    ensures { (c : Setting) → accounts.new ≡ map (changed_by c number act.now) accounts.old }
+// The movement of an act that no check refuses: allowances leave the first account, and the others get their shares.
+fn apply(movement: &Movement, accounts: &mut [Account])
+    requires own { numbers accounts.old ≡ movement.now.first ∷ map (λ share. share.to) movement.now.shares }
+    requires distinct { IsDistinct nat_eq (numbers accounts.old) }
+    requires can { AllByRecursion (CanMove movement.now) accounts.old }
+    ensures { accounts.new ≡ map (moved movement.now) accounts.old }
 {
-    match *act {
-        Act::Transfer {
-            from,
-            to,
-            kind,
-            amount,
-        } => move_allowances(accounts, from, to, kind, amount),
-    }
+    prove!(movement.leaves <= u128::from(accounts[0].held(movement.kind)));
+    accounts[0].debit(movement.kind, movement.leaves as u64);
+    give_shares(movement.kind, movement.shares.as_slice(), accounts);
 }
 
-// Takes the amount from the one account and gives it to the other.
-fn move_allowances(
-    accounts: &mut [Account],
-    from: AccountNo,
-    to: AccountNo,
-    kind: AllowanceKind,
-    amount: u64,
-)
-    requires apart { from ≢ to }
-    requires can { AllByRecursion (CanMove from to kind amount) accounts.old }
-    ensures { accounts.new ≡ map (after_move from to kind amount) accounts.old }
-{
-    take_from(accounts, from, kind, amount);
-    give_to(accounts, to, kind, amount);
-}
-
-// Lowers the holding of the account of this number.
-fn take_from(accounts: &mut [Account], number: AccountNo, kind: AllowanceKind, amount: u64)
-    requires { HoldAtLeast accounts.old number kind amount }
-    ensures { accounts.new ≡ change accounts.old number (λ v. debited v kind amount) }
+// Gives each account its share.
+fn give_shares(kind: AllowanceKind, shares: &[Share], accounts: &mut [Account])
+    requires { AllByRecursion (CanReceive kind shares.now) accounts.old }
+    ensures { accounts.new ≡ map (given kind shares.now) accounts.old }
 {
     for account in accounts.iter_mut() {
-        if account.number() == number {
-            account.debit(kind, amount);
-        }
+        give_share(kind, shares, account);
     }
 }
 
-// Raises the holding of the account of this number.
-fn give_to(accounts: &mut [Account], number: AccountNo, kind: AllowanceKind, amount: u64)
-    requires { HaveRoom accounts.old number kind amount }
-    ensures { accounts.new ≡ change accounts.old number (λ v. credited v kind amount) }
+// Gives the account its share, if it has one.
+fn give_share(kind: AllowanceKind, shares: &[Share], account: &mut Account)
+    requires { CanReceive kind shares.now account.old }
+    ensures { account.new ≡ given kind shares.now account.old }
 {
-    for account in accounts.iter_mut() {
-        if account.number() == number {
-            account.credit(kind, amount);
-        }
+    match find_share(shares, account.number()) {
+        Some(share) => account.credit(kind, share.amount),
+        None => {}
     }
+}
+
+fn find_share(shares: &[Share], number: AccountNo) -> Option<Share>
+    ensures { result ≡ share_of shares.now number }
+{
+    shares.iter().copied().find(|share| share.to == number)
 }
 
 // What the accounts hold now, in the room that was made for it.
