@@ -6,6 +6,3 @@ mod parts;
 
 pub use account::Account;
 pub use parts::{AccountFault, AccountParts, Holdings};
-
-#[cfg(test)]
-mod tests;

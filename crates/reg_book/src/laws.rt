@@ -1,15 +1,20 @@
-//! What is true of instructions one after another. Each law is the contract of a function that does nothing;
+//! What is true of a day's instructions one after another. Each law is the contract of a function that does nothing;
 //! whoever needs a law calls its function.
 
-ghost use Rattle.reg_book.specs.FirstDay.{FirstStep, RefusedStep, FirstFold, FirstClosing};
-ghost use Rattle.reg_book.specs.Laws.{FoldKeepsNumbers, UntouchedStay, ValueIsLastTouchers, LastToucherIsLast, FoldKeepsLimits, CommittedIsClosing};
+ghost use Rattle.reg_book.specs.Laws.{EachIsAStep, NumbersStay, UntouchedStay, ValueIsLastTouchers, LastToucherIsLast, LimitsStay, SettledAreTouched, CommittedIsClosing};
 
 use reg_rules::step_laws;
+
+/// Each instruction is carried out on what the ones before it left.
+pub fn each_is_a_step()
+    ensures { EachIsAStep }
+{
+}
 
 /// No account comes, goes or moves, and one that no instruction touches stays as it is.
 pub fn untouched_stay()
     ensures accounts { UntouchedStay }
-    ensures numbers { FoldKeepsNumbers }
+    ensures numbers { NumbersStay }
 {
     step_laws();
 }
@@ -23,24 +28,17 @@ pub fn value_is_last_touchers()
 }
 
 /// Accounts within their limits stay within them.
-pub fn fold_keeps_limits()
-    ensures { FoldKeepsLimits }
+pub fn limits_stay()
+    ensures { LimitsStay }
 {
     step_laws();
 }
 
-/// A settled day that is put into its book leaves what its instructions leave one after another.
-pub fn committed_is_closing()
-    ensures { CommittedIsClosing }
+/// A settled day has the accounts that an instruction touched as the last one left them. Put into its book it leaves
+/// what all instructions leave one after another.
+pub fn settled_is_closing()
+    ensures settled { SettledAreTouched }
+    ensures committed { CommittedIsClosing }
 {
     step_laws();
 }
-
-/// Worked values of the step and of the instructions one after another: 40 of an account with 100 move, 101 are not
-/// enough; 40, 61 and 60 after one another are done, refused and done.
-pub fn first_day_is_decided()
-    ensures moves { FirstStep }
-    ensures refuses { RefusedStep }
-    ensures rows { FirstFold }
-    ensures closing { FirstClosing }
-{}
