@@ -1,10 +1,11 @@
--- One account as plain data, and its changes.
-use Rattle.std.specs.Prelude.{◌⊎◌, ℕ, ◌+◌, ◌-◌, ◌<◌, ◌≤◌, ℤ, pos, ◌≤ℤ◌, ◌<ℤ◌, ◌-ℤ◌, Bool}
+-- The value of one account, what is read of it, and the changes to it.
+use Rattle.std.specs.Prelude.{ℕ, ◌+◌, ◌-◌, ◌≤◌, ℤ, pos, ◌≤ℤ◌, ◌-ℤ◌, Bool, ◌||◌, nat_lt, int_lt, List, [], ◌∷◌, find, Option}
 use Rattle.reg_base.specs.declared.limits.TheConstants.{MOST_HELD, MOST_CORRECTION}
 use Rattle.reg_base.specs.declared.kinds.AccountKind.{AccountKind}
 use Rattle.reg_base.specs.declared.kinds.AllowanceKind.{AllowanceKind}
 use Rattle.reg_base.specs.declared.kinds.AllowanceKind.TheVariants.{General, Aviation}
 use Rattle.reg_base.specs.declared.kinds.Status.{Status}
+use Rattle.reg_base.specs.Numbers.{IsAccountNo, IsHolderNo}
 use Rattle.reg_account.specs.declared.parts.Holdings.{Holdings}
 use Rattle.reg_account.specs.declared.parts.AccountParts.{AccountParts}
 use Rattle.reg_account.specs.declared.parts.AccountFault.{AccountFault}
@@ -68,10 +69,20 @@ pub record HoldingsFit (h : Holdings) : Type 0 where
 
 -- what holds of every account
 pub record IsAccount (a : AccountValue) : Type 0 where
-  pub correction : CorrectionFits a.correction
-  pub holdings : HoldingsFit a.held
+  pub own_number : IsAccountNo a.number
+  pub own_holder : IsHolderNo a.holder
+  pub correction_fits : CorrectionFits a.correction
+  pub holdings_fit : HoldingsFit a.held
 
--- why parts are not an account: the first fault that applies
-abbrev pub FaultOf : AccountValue → AccountFault → Type 0
-FaultOf a Correction = (a.correction <ℤ (pos 0 -ℤ MOST_CORRECTION)) ⊎ (MOST_CORRECTION <ℤ a.correction)
-FaultOf a Holding = CorrectionFits a.correction × ((MOST_HELD < a.held.general) ⊎ (MOST_HELD < a.held.aviation))
+-- the account has this fault
+abbrev pub account_has : AccountValue → AccountFault → Bool
+account_has a Correction = int_lt a.correction (pos 0 -ℤ MOST_CORRECTION) || int_lt MOST_CORRECTION a.correction
+account_has a Holding = nat_lt MOST_HELD a.held.general || nat_lt MOST_HELD a.held.aviation
+
+-- the faults that an account can have, in the order in which they are named
+abbrev pub account_faults : List AccountFault
+account_faults = Correction ∷ Holding ∷ []
+
+-- the first fault that the account has
+abbrev pub first_account_fault : AccountValue → Option AccountFault
+first_account_fault a = find (account_has a) account_faults

@@ -1,6 +1,9 @@
 //! An account within its limits.
 
-ghost use Rattle.std.specs.Prelude.{◌≡◌, ◌+◌, ◌≤◌, IfOk, MatchResult};
+ghost use Rattle.std.specs.Prelude.{◌≡◌, ◌+◌, ◌≤◌, find, IfOk, MatchResult};
+ghost use Rattle.std.specs.Option.{option_map};
+ghost use Rattle.std.specs.Result.{result_err};
+ghost use Rattle.reg_account.specs.Account.{account_of, account_has, first_account_fault};
 ghost use Rattle.reg_base.specs.declared.limits.TheConstants.{MOST_HELD};
 
 use crate::parts::{AccountFault, AccountParts};
@@ -28,22 +31,29 @@ impl Model for Account {
 }
 
 impl Account {
-    ghost use Rattle.reg_account.specs.Account.{account_of, held_by, credited, debited, IsAccount, CorrectionFits, FaultOf};
+    ghost use Rattle.reg_account.specs.Account.{held_by, credited, debited, IsAccount, CorrectionFits};
 
-    /// The account with these parts, if no fault applies to them. Takes no memory.
+    /// The account that these parts make: they make one exactly if they have no fault. Takes no memory.
     ///
     /// # Errors
     /// The parts as they were, and the first fault that applies, in the order of [`AccountFault`].
     pub fn of(parts: AccountParts) -> Result<Self, (AccountParts, AccountFault)>
-        ensures { MatchResult result (λ a. (a ≡ account_of parts) × IsAccount (account_of parts)) (λ e. (e.0 ≡ parts) × FaultOf (account_of parts) e.1) }
+        ensures fault { option_map (λ e. e.1) (result_err result) ≡ first_account_fault (account_of parts) }
+        ensures value { MatchResult result (λ a. (a ≡ account_of parts) × IsAccount (account_of parts)) (λ e. e.0 ≡ parts) }
     {
-        if parts.correction < -MOST_CORRECTION || parts.correction > MOST_CORRECTION {
-            return Err((parts, AccountFault::Correction));
+        if let Some(fault) = find_fault(&parts) {
+            return Err((parts, fault));
         }
-        if parts.held.general > MOST_HELD || parts.held.aviation > MOST_HELD {
-            return Err((parts, AccountFault::Holding));
-        }
+        parts.number.get();
+        parts.holder.get();
         Ok(Account { parts })
+    }
+
+    /// Every account is within its limits. Does nothing: whoever needs the fact calls it.
+    pub fn is_within_limits(&self)
+        ensures { IsAccount self.now }
+    {
+        let _ = &self.parts;
     }
 
     /// Its number.
@@ -139,5 +149,31 @@ impl Account {
         ensures { IfOk result (λ a. a ≡ self.now) }
     {
         Ok(Account { parts: self.parts })
+    }
+}
+
+// The faults that parts can have, in the order in which they are named.
+const FAULTS: [AccountFault; 2] = [AccountFault::Correction, AccountFault::Holding];
+
+// The first fault of the parts.
+fn find_fault(parts: &AccountParts) -> Option<AccountFault>
+    ensures { result ≡ first_account_fault (account_of parts.now) }
+{
+    FAULTS
+        .iter()
+        .copied()
+        .find(|fault| has_fault(parts, *fault))
+}
+
+fn has_fault(parts: &AccountParts, fault: AccountFault) -> bool
+    ensures { result ≡ account_has (account_of parts.now) fault }
+{
+    match fault {
+        AccountFault::Correction => {
+            parts.correction < -MOST_CORRECTION || MOST_CORRECTION < parts.correction
+        }
+        AccountFault::Holding => {
+            MOST_HELD < parts.held.general || MOST_HELD < parts.held.aviation
+        }
     }
 }

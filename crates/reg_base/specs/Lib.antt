@@ -1,8 +1,14 @@
+pub mod Numbers
+pub mod Limits
 pub mod Rising
 pub mod RisesFrom
 pub mod Calendar
 pub mod Refusals
 pub mod Rules
 pub mod Directory
+pub mod Padding
+pub mod Acts
+pub mod Instructions
 pub mod Footprint
+pub mod Touches
 pub mod Batch

@@ -1,29 +1,17 @@
-//! Instructions, and the accounts that each reads or changes.
+//! Due instructions.
 
-ghost use Rattle.std.specs.Prelude.{◌≡◌, [], ◌∷◌};
-ghost use Rattle.reg_base.specs.Footprint.{footprint};
+ghost use Rattle.std.specs.Prelude.{◌≡◌, ◌≤◌, ◌&&◌, ◌∷◌, All, length, map};
+ghost use Rattle.std.specs.List.{list_all};
+ghost use Rattle.reg_base.specs.Directory.{is_known};
+ghost use Rattle.reg_base.specs.Footprint.{each_once, footprint};
+ghost use Rattle.reg_base.specs.declared.limits.TheConstants.{MOST_SHARES};
+ghost use Rattle.reg_base.specs.Instructions.{IsInstruction};
 
+use crate::act::Act;
 use crate::directory::Directory;
-use crate::kinds::AllowanceKind;
-use crate::limits::MOST_TOUCHED;
+use crate::footprint::Footprint;
+use crate::movement::{Movement, Share};
 use crate::numbers::{AccountNo, Day, UserNo};
-use std::marker::Model;
-
-/// What an instruction asks for.
-#[derive(Clone, Copy, Debug, PartialEq, Eq)]
-pub enum Act {
-    /// Allowances move from one account to another.
-    Transfer {
-        /// The account that gives.
-        from: AccountNo,
-        /// The account that receives.
-        to: AccountNo,
-        /// The kind of the allowances.
-        kind: AllowanceKind,
-        /// How many allowances. It may be any number; checks refuse 0 and amounts that are too large.
-        amount: u64,
-    },
-}
 
 /// An instruction. One user proposed it, and another may have approved it.
 #[derive(Clone, Copy, Debug, PartialEq, Eq)]
@@ -39,79 +27,64 @@ pub struct Instruction {
 }
 
 impl Instruction {
-    /// The accounts that the instruction reads or changes: those that its act names, in this order, each of them
-    /// once. No accounts at all if one of them is not in the directory.
+    /// The accounts that the instruction reads or changes: its act's first account and those that receive, each
+    /// once, or none if the directory lacks one of them.
     pub fn touches(&self, directory: &Directory) -> Footprint
         ensures { result ≡ footprint directory.now self.now.act }
     {
-        match self.act {
-            Act::Transfer { from, to, .. } => {
-                if directory.find(from).is_none() || directory.find(to).is_none() {
-                    Footprint::none()
-                } else if from == to {
-                    Footprint::of_one(from)
-                } else {
-                    Footprint::of_two(from, to)
-                }
-            }
+        let movement = self.act.movement();
+        if knows_all(directory, &movement) {
+            footprint_of(movement.first, movement.shares.as_slice())
+        } else {
+            Footprint::none()
         }
     }
 }
 
-/// The accounts that an instruction reads or changes, in the order in which it names them, each of them once. A
-/// contract sees the list of their numbers.
-#[derive(Clone, Copy, Debug)]
-pub struct Footprint {
-    accounts: [AccountNo; MOST_TOUCHED],
-    count: usize,
+// The first account and those that receive, each once.
+fn footprint_of(first: AccountNo, shares: &[Share]) -> Footprint
+    requires { length shares.now ≤ MOST_SHARES }
+    ensures { result ≡ each_once (first ∷ map (λ share. share.to) shares.now) }
+{
+    let mut footprint = Footprint::none().with(first);
+    for share in shares {
+        footprint = footprint.with(share.to);
+    }
+    footprint
 }
 
-impl Model for Footprint {
-    ghost use Rattle.std.specs.Prelude.{ℕ, List, ◌++◌, ◌-◌, length, take, replicate};
-    ghost use Rattle.reg_base.specs.declared.limits.TheConstants.{MOST_TOUCHED};
-    ghost use Rattle.reg_base.specs.Footprint.{IsPadded};
-
-    ghost Value = { List ℕ };
-
-    ghost view = { λ f. take f.count f.accounts };
-
-    ghost invariant = { λ f. IsPadded f.accounts f.count };
-
-    ghost inverse = { λ xs. record { accounts = xs ++ replicate (MOST_TOUCHED - length xs) 1; count = length xs } };
+// Whether each account that has to be in the directory is there.
+fn knows_all(directory: &Directory, movement: &Movement) -> bool
+    ensures { result ≡ (is_known directory.now movement.now.first && list_all (λ share. is_known directory.now share.to) movement.now.shares) }
+{
+    directory.find(movement.first).is_some() && knows_each(directory, movement.shares.as_slice())
 }
 
-impl Footprint {
-    fn none() -> Self
-        ensures { result ≡ [] }
-    {
-        Footprint {
-            accounts: [AccountNo::LOWEST; MOST_TOUCHED],
-            count: 0,
-        }
-    }
+fn knows_each(directory: &Directory, shares: &[Share]) -> bool
+    ensures { result ≡ list_all (λ share. is_known directory.now share.to) shares.now }
+{
+    shares
+        .iter()
+        .all(|share| directory.find(share.to).is_some())
+}
 
-    fn of_one(account: AccountNo) -> Self
-        ensures { result ≡ account ∷ [] }
-    {
-        Footprint {
-            accounts: [account, AccountNo::LOWEST],
-            count: 1,
-        }
-    }
+// The ranges of the numbers in these instructions, which nothing but their readers tells a proof.
 
-    fn of_two(first: AccountNo, second: AccountNo) -> Self
-        ensures { result ≡ first ∷ second ∷ [] }
-    {
-        Footprint {
-            accounts: [first, second],
-            count: 2,
-        }
+pub(crate) fn know_instructions(instructions: &[Instruction])
+    ensures { All IsInstruction instructions.now }
+{
+    for instruction in instructions {
+        know_instruction(instruction);
     }
+}
 
-    /// The accounts, in the order in which the instruction names them.
-    pub fn as_slice(&self) -> &[AccountNo]
-        ensures { result.now ≡ self.now }
-    {
-        &self.accounts[..self.count]
+fn know_instruction(instruction: &Instruction)
+    ensures { IsInstruction instruction.now }
+{
+    instruction.proposed.get();
+    instruction.proposer.get();
+    if let Some(approver) = instruction.approver {
+        approver.get();
     }
+    instruction.act.know_numbers();
 }

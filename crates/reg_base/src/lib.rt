@@ -5,27 +5,33 @@
 //! refuses its arguments drops them.
 #![tactic(auto)]
 
+mod act;
 mod batch;
 mod calendar;
 mod directory;
+mod footprint;
 mod instruction;
 mod kinds;
 pub mod laws;
 mod limits;
+mod movement;
 mod numbers;
 mod refusals;
 mod rules;
 
+pub use act::Act;
 pub use batch::{Batch, BatchFault};
 pub use calendar::{Calendar, CalendarFault};
 pub use directory::{Directory, NoMemory};
-pub use instruction::{Act, Footprint, Instruction};
+pub use footprint::Footprint;
+pub use instruction::Instruction;
 pub use kinds::{AccountKind, AllowanceKind, Right, Status};
 pub use limits::{
     FIRST_DAY, FIRST_YEAR, LAST_DAY, LAST_YEAR, MOST_ACCOUNTS, MOST_ADMINISTRATORS,
-    MOST_CORRECTION, MOST_HELD, MOST_INSTRUCTIONS, MOST_LAG, MOST_NUMBER, MOST_RECORD,
+    MOST_CORRECTION, MOST_HELD, MOST_INSTRUCTIONS, MOST_LAG, MOST_NUMBER, MOST_RECORD, MOST_SHARES,
     MOST_TOUCHED,
 };
+pub use movement::{Movement, Share, Shares};
 pub use numbers::{AccountNo, Day, HolderNo, RecordNo, UserNo, Year};
 pub use refusals::Refusal;
 pub use rules::{Rules, RulesFault, RulesParts};

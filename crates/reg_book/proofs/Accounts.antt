@@ -33,7 +33,7 @@ account_none (v ∷ vs) a other =
     rw (ne_eqb v.number a (other 0 v (omega arith))) (account_none vs a (λ p d lt. other (suc p) d (omega arith)))
 
 -- a later place has a later number
-ascending : (low : ℕ) (xs : State) → RisesFrom low (numbers xs) → (i j : ℕ) (d : AccountValue) → i ≤ j → j < length xs → (get_or xs i d).number ≤ (get_or xs j d).number
+pub ascending : (low : ℕ) (xs : State) → RisesFrom low (numbers xs) → (i j : ℕ) (d : AccountValue) → i ≤ j → j < length xs → (get_or xs i d).number ≤ (get_or xs j d).number
 ascending low [] rises i j d le lt = absurd (omega arith)
 ascending low (v ∷ vs) rises zero zero d le lt = omega arith
 ascending low (v ∷ vs) rises zero (suc j) d le lt = let h = low_number (suc v.number) vs rises.1 j d (omega arith) in omega arith

@@ -7,14 +7,13 @@ use Rattle.reg_account.specs.Account.{AccountValue}
 use Rattle.reg_rules.specs.State.{State, Setting, account, numbers}
 use Rattle.reg_rules.specs.Laws.{StepLaws}
 use Rattle.reg_book.specs.Book.{overlay}
-use Rattle.reg_book.specs.Fold.{state_after, rows_of, is_touched}
-use Rattle.reg_book.specs.Laws.{CommittedIsClosing}
-use Rattle.reg_book.specs.Settled.{setting_of}
-use Rattle.reg_book.specs.Touched.{touched_of}
-use Rattle.reg_book.proofs.Days.{touched-account, untouched-account, listing-fold}
+use Rattle.reg_book.specs.Fold.{state_after, rows_of, is_touched, touched_of}
+use Rattle.reg_book.specs.Laws.{CommittedIsClosing, SettledAreTouched}
+use Rattle.reg_book.specs.Day.{setting, closing_state, log_of}
+use Rattle.reg_book.proofs.Days.{touched-account, untouched-account, listing-fold, closing-all}
 use Rattle.reg_book.proofs.Directories.{listing, found_in}
 use Rattle.reg_book.proofs.Folds.{numbers-fold, others-fold, size-rows_of}
-use Rattle.reg_book.proofs.Lookups.{rising-distinct}
+use Rattle.reg_book.proofs.Lookups.{account-filter, rising-distinct}
 use Rattle.reg_book.proofs.Overlays.{numbers-overlay, placed_number}
 use Rattle.reg_book.proofs.Turns.{same-state}
 
@@ -69,7 +68,15 @@ module _ (laws : StepLaws) where
           ∙ sym (others-fold laws c s n is a untouched)
 
   pub committed-closing : CommittedIsClosing
-  committed-closing book rules batch kept begins =
-      let size = size-rows_of (setting_of book rules batch) book.accounts (batch.base + 1) batch.instructions in
-      let counted : batch.base + length (rows_of (setting_of book rules batch) book.accounts (batch.base + 1) batch.instructions) + 1 ≡ book.next + length batch.instructions = omega (arith, size, begins) in
-      λ i. record { accounts = overlay-closing (setting_of book rules batch) book.accounts (batch.base + 1) batch.instructions (rising-distinct book.accounts kept.rising) i; next = counted i }
+  committed-closing day kept begins =
+      let size = size-rows_of (setting day) day.book.accounts (day.batch.base + 1) day.batch.instructions in
+      let counted : day.batch.base + length (log_of day) + 1 ≡ day.book.next + length day.batch.instructions = omega (arith, size, begins) in
+      let laid : overlay day.book.accounts (touched_of (setting day).directory day.batch.instructions (closing_state day)) ≡ closing_state day =
+      ap (λ (s : State). overlay day.book.accounts (touched_of (setting day).directory day.batch.instructions s)) (closing-all day)
+      ∙ overlay-closing (setting day) day.book.accounts (day.batch.base + 1) day.batch.instructions (rising-distinct day.book.accounts kept.rising)
+      ∙ sym (closing-all day) in
+      λ i. record { accounts = laid i; next = counted i }
+
+-- a touched account is among the settled ones, and no other
+pub settled-touched : SettledAreTouched
+settled-touched day a = account-filter (is_touched (setting day).directory day.batch.instructions) (closing_state day) a

@@ -1,19 +1,25 @@
--- The directory gives what a search in the accounts gives, whatever their order.
-use Rattle.std.proofs.Common.{◌≡◌, ℕ, zero, suc, ◌<◌, Bool, true, false, cond, eqb, List, [], ◌∷◌, ◌++◌, map, length, get_or, Option, Some, None, refl, sym, ap, ◌∙◌, arith, inl, inr, ◌⊎◌}
-use Rattle.std.specs.Prelude.{option_map, is_some, is_none, Contains, IsPermutation}
+-- The directory of accounts answers as the accounts do, whatever their order.
+use Rattle.std.proofs.Common.{◌≡◌, ℕ, zero, suc, ◌<◌, Bool, true, false, cond, eqb, ◌||◌, List, [], ◌∷◌, ◌++◌, map, length, get_or, Option, Some, None, refl, sym, ap, ◌∙◌, arith, tests, inl, inr, ◌⊎◌}
+use Rattle.std.specs.Prelude.{option_map, is_some, is_none, nat_le, Contains, IsPermutation}
 use Rattle.std.specs.List.{IsDistinct, list_any}
 use Rattle.std.specs.Ordering.{nat_cmp, eq_by_cmp}
 use Rattle.std.specs.Cmp.{nat_cmp_total, nat_eq_equiv, unsigned_tied}
 use Rattle.std.specs.FinMap as fin
+use Rattle.std.specs.Bool.{then_some}
 use Rattle.std.proofs.lemmas.Bool.{eq-eqb, ne_eqb, eqb-true, eqb-false, or_from}
 use Rattle.std.proofs.lemmas.List.{map-append, get_or-map, length-append}
 use Rattle.std.proofs.lemmas.List.Sorted.{Contains-permutation, IsPermutation-map, IsPermutation-sym}
+use Rattle.std.proofs.lemmas.List.Elements.{All-from_recursion, All-push}
 use Rattle.std.proofs.lemmas.Map.Keys.{IsDistinct-push, IsDistinct-IsPermutation, IsDistinct-tail, apart_from_distinct}
 use Rattle.reg_base.specs.declared.kinds.AccountKind.{AccountKind}
 use Rattle.reg_base.specs.Directory.{DirectoryValue}
-use Rattle.reg_account.specs.Account.{AccountValue}
+use Rattle.reg_base.specs.declared.limits.TheConstants.{MOST_ACCOUNTS}
+use Rattle.reg_base.specs.Footprint.{is_among}
+use Rattle.reg_account.specs.Account.{AccountValue, IsAccount}
 use Rattle.reg_rules.specs.State.{State, account, numbers}
-use Rattle.reg_book.specs.Book.{entry_of, directory_of, IsNext, IsDraft, CanTake}
+use Rattle.reg_book.specs.declared.draft.BookFault.{BookFault}
+use Rattle.reg_book.specs.declared.draft.BookFault.TheVariants.{Repeated, Full, NoMemory}
+use Rattle.reg_book.specs.Book.{entry_of, directory_of, IsNext, IsDraft, first_fault, IsBookFault}
 
 -- the kind and the holder of an account
 abbrev pub listing : AccountValue → AccountKind × ℕ
@@ -108,25 +114,29 @@ known_by xs a (Some v) e h =
 pub known : (xs : State) (a : ℕ) → is_some (fin.get (directory_of xs) a) ≡ true → Contains (numbers xs) a
 known xs a h = known_by xs a (account xs a) refl (ap is_some (sym (get-directory_of xs a)) ∙ h)
 
-unknown_by : (xs : State) (a : ℕ) (o : Option AccountValue) → account xs a ≡ o → is_some (option_map listing o) ≡ false → account xs a ≡ None
-unknown_by xs a None e h = e
-unknown_by xs a (Some v) e h = absurd cc
+some_by : (b : Bool) (w : AccountValue) (o : Option AccountValue) → is_some (cond b (Some w) o) ≡ (b || is_some o)
+some_by true w o = refl
+some_by false w o = refl
 
-none_later : (b : Bool) (w : AccountValue) (rest : Option AccountValue) → cond b (Some w) rest ≡ None → (b ≡ false) × (rest ≡ None)
-none_later true w rest e = absurd cc
-none_later false w rest e = (refl, e)
+-- an account is found exactly where its number stands in the list
+pub found-among : (xs : State) (a : ℕ) → is_some (account xs a) ≡ is_among (numbers xs) a
+found-among [] a = refl
+found-among (w ∷ ws) a = some_by (eqb w.number a) w (account ws a) ∙ ap (λ b. eqb w.number a || b) (found-among ws a)
 
-not_among : (xs : State) (a k : ℕ) → account xs a ≡ None → k < length xs → get_or (numbers xs) k a ≡ a → ⊥
-not_among [] a k none lt is = omega arith
-not_among (w ∷ ws) a zero none lt is =
-    let differs = (none_later (eqb w.number a) w (account ws a) none).0 in
-    eqb-false w.number a differs is
-not_among (w ∷ ws) a (suc k) none lt is = not_among ws a k (none_later (eqb w.number a) w (account ws a) none).1 (omega arith) is
+listed_by : (o : Option AccountValue) → is_some (option_map listing o) ≡ is_some o
+listed_by None = refl
+listed_by (Some v) = refl
 
-pub unknown : (xs : State) (a : ℕ) → is_some (fin.get (directory_of xs) a) ≡ false → account xs a ≡ None × ¬ (Contains (numbers xs) a)
-unknown xs a h =
-    let none = unknown_by xs a (account xs a) refl (ap is_some (sym (get-directory_of xs a)) ∙ h) in
-    (none, λ there. let (k, lt, is) = there in not_among xs a k none (omega (arith, length-numbers xs, lt)) is)
+-- and the directory knows a number exactly where an account has it
+pub known-among : (xs : State) (a : ℕ) → is_some (fin.get (directory_of xs) a) ≡ is_among (numbers xs) a
+known-among xs a = ap is_some (get-directory_of xs a) ∙ listed_by (account xs a) ∙ found-among xs a
+
+pub none-absent : (xs : State) (a : ℕ) → is_among (numbers xs) a ≡ false → account xs a ≡ None
+none-absent xs a absent = by (account xs a) (found-among xs a ∙ absent)
+  where
+    by : (o : Option AccountValue) → is_some o ≡ false → o ≡ None
+    by None h = refl
+    by (Some v) h = absurd cc
 
 -- the directory of one account more
 pub directory_of-push : (xs : State) (v : AccountValue) → account xs v.number ≡ None → fin.insert (directory_of xs) v.number (v.kind, v.holder) ≡ directory_of (xs ++ v ∷ [])
@@ -135,21 +145,11 @@ directory_of-push xs v none =
     ∙ fin.from_entries_push nat_cmp_total fin.nat_cmp-IsAntisymmetric (map entry_of xs) v.number (v.kind, v.holder)
     (find_listing v.number xs ∙ ap (λ (o : Option AccountValue). option_map listing o) none))
 
--- the same, as a look-up answers it
-pub known_at : (xs : State) (directory : DirectoryValue) (a n : ℕ) (r : Option (AccountKind × ℕ)) (b : Bool)
-    → directory ≡ directory_of xs → n ≡ a → r ≡ fin.get directory n → b ≡ is_some r → b ≡ true → Contains (numbers xs) a
-known_at xs directory a n r b listed same found answer there =
-    known xs a (sym (ap is_some (found ∙ ap (λ d. fin.get d n) listed ∙ ap (λ m. fin.get (directory_of xs) m) same)) ∙ sym answer ∙ there)
-
-pub unknown_at : (xs : State) (directory : DirectoryValue) (a n : ℕ) (r : Option (AccountKind × ℕ)) (b : Bool)
-    → directory ≡ directory_of xs → n ≡ a → r ≡ fin.get directory n → b ≡ is_some r → b ≡ false → account xs a ≡ None × ¬ (Contains (numbers xs) a)
-unknown_at xs directory a n r b listed same found answer gone =
-    unknown xs a (sym (ap is_some (found ∙ ap (λ d. fin.get d n) listed ∙ ap (λ m. fin.get (directory_of xs) m) same)) ∙ sym answer ∙ gone)
-
 pub pushed_at : (xs : State) (v : AccountValue) (directory new : DirectoryValue) (n : ℕ) (k : AccountKind) (h : ℕ) (b : Bool)
-    → directory ≡ directory_of xs → n ≡ v.number → k ≡ v.kind → h ≡ v.holder → account xs v.number ≡ None
+    → directory ≡ directory_of xs → n ≡ v.number → k ≡ v.kind → h ≡ v.holder → is_among (numbers xs) v.number ≡ false
     → b ≡ is_none (fin.get directory n) → new ≡ cond b (fin.insert directory n (k, h)) directory → new ≡ directory_of (xs ++ v ∷ [])
-pushed_at xs v directory new n k h b listed same kind holder none answer made =
+pushed_at xs v directory new n k h b listed same kind holder absent answer made =
+    let none = none-absent xs v.number absent in
     let added : b ≡ true = answer ∙ ap (λ d. is_none (fin.get d n)) listed ∙ ap (λ m. is_none (fin.get (directory_of xs) m)) same
     ∙ ap is_none (get-directory_of xs v.number ∙ ap (λ (o : Option AccountValue). option_map listing o) none) in
     made
@@ -161,16 +161,14 @@ pushed_at xs v directory new n k h b listed same kind holder none answer made =
     ∙ directory_of-push xs v none
 
 -- a number that no account has makes the numbers differ still
-pub distinct_push : (xs : State) (v : AccountValue) → IsDistinct eqb (numbers xs) → ¬ (Contains (numbers xs) v.number) → IsDistinct eqb (numbers (xs ++ v ∷ []))
+pub distinct_push : (xs : State) (v : AccountValue) → IsDistinct eqb (numbers xs) → is_among (numbers xs) v.number ≡ false → IsDistinct eqb (numbers (xs ++ v ∷ []))
 distinct_push xs v distinct absent =
-    rw (map-append (λ (o : AccountValue). o.number) xs (v ∷ [])) (IsDistinct-push nat_eq_equiv (numbers xs) v.number distinct (none_equal (numbers xs) absent))
+    rw (map-append (λ (o : AccountValue). o.number) xs (v ∷ []))
+    (IsDistinct-push nat_eq_equiv (numbers xs) v.number distinct (list_any_same (numbers xs) ∙ absent))
   where
-    none_equal : (ns : List ℕ) → ¬ (Contains ns v.number) → list_any (eqb v.number) ns ≡ false
-    none_equal [] gone = refl
-    none_equal (n ∷ ns) gone =
-        or_from (eqb v.number n) (list_any (eqb v.number) ns)
-        (ne_eqb v.number n (λ e. gone (0, omega arith, sym e)))
-        (none_equal ns (λ there. let (k, lt, is) = there in gone (suc k, omega arith, is)))
+    list_any_same : (ns : List ℕ) → list_any (eqb v.number) ns ≡ is_among ns v.number
+    list_any_same [] = refl
+    list_any_same (n ∷ ns) = ap (λ b. b || list_any (eqb v.number) ns) (eqb-sym v.number n) ∙ ap (λ b. eqb n v.number || b) (list_any_same ns)
 
 -- a draft of no account
 pub empty_draft : (xs : State) (directory : DirectoryValue) (next : ℕ) → xs ≡ [] → directory ≡ fin.empty → IsNext next → IsDraft xs directory next
@@ -179,16 +177,56 @@ empty_draft xs directory next none empty fits =
     rw (none, empty) (record {
       distinct = tt;
       few = omega arith;
+      within_limits = All-from_recursion IsAccount [] tt;
       next_fits = fits;
       listed = fin.same_map nat_cmp_total fin.nat_cmp-IsAntisymmetric _ _ (λ a. fin.get-empty nat_cmp a ∙ sym (get-directory_of [] a));
     })
 
+-- an account with which nothing is wrong is new, and there is room for it
+pub can_take : (xs : State) (v : AccountValue) → first_fault xs v ≡ None → (is_among (numbers xs) v.number ≡ false) × (length xs < MOST_ACCOUNTS)
+can_take xs v none = by (is_among (numbers xs) v.number) (nat_le MOST_ACCOUNTS (length xs)) refl refl none
+  where
+    by : (repeated full : Bool) → is_among (numbers xs) v.number ≡ repeated → nat_le MOST_ACCOUNTS (length xs) ≡ full
+        → cond repeated (Some Repeated) (cond full (Some Full) None) ≡ None → (is_among (numbers xs) v.number ≡ false) × (length xs < MOST_ACCOUNTS)
+    by true full r f e = absurd cc
+    by false true r f e = absurd cc
+    by false false r f e = (r, grind (arith, tests, f))
+
+-- what a look-up says of whether the account is there
+pub found-at : (xs : State) (directory : DirectoryValue) (a n : ℕ) (r : Option (AccountKind × ℕ)) (b : Bool)
+    → directory ≡ directory_of xs → n ≡ a → r ≡ fin.get directory n → b ≡ is_some r → b ≡ is_among (numbers xs) a
+found-at xs directory a n r b listed same found answer =
+    answer ∙ ap is_some (found ∙ ap (λ d. fin.get d n) listed ∙ ap (λ m. fin.get (directory_of xs) m) same) ∙ known-among xs a
+
+pub repeated_fault : (xs : State) (v : AccountValue) → is_among (numbers xs) v.number ≡ true → Some Repeated ≡ first_fault xs v
+repeated_fault xs v h = sym (ap (λ b. cond b (Some Repeated) (cond (nat_le MOST_ACCOUNTS (length xs)) (Some Full) None)) h)
+
+full_by : (b : Bool) → then_some b Full ≡ cond b (Some Full) None
+full_by true = refl
+full_by false = refl
+
+pub full_fault : (xs : State) (v : AccountValue) → is_among (numbers xs) v.number ≡ false → then_some (nat_le MOST_ACCOUNTS (length xs)) Full ≡ first_fault xs v
+full_fault xs v h = full_by (nat_le MOST_ACCOUNTS (length xs)) ∙ sym (ap (λ b. cond b (Some Repeated) (cond (nat_le MOST_ACCOUNTS (length xs)) (Some Full) None)) h)
+
+pub fault_of_book : (xs : State) (v : AccountValue) (q : BookFault) → Some q ≡ first_fault xs v → IsBookFault xs v q
+fault_of_book xs v Repeated e = sym e
+fault_of_book xs v Full e = sym e
+fault_of_book xs v NoMemory e = absurd (no_memory (is_among (numbers xs) v.number) (nat_le MOST_ACCOUNTS (length xs)) e)
+  where
+    no_memory : (b c : Bool) → Some NoMemory ≡ cond b (Some Repeated) (cond c (Some Full) None) → ⊥
+    no_memory true c e = cc
+    no_memory false true e = cc
+    no_memory false false e = cc
+
 -- a draft of one account more
-pub more_draft : (xs ys : State) (v : AccountValue) (directory new : DirectoryValue) (next : ℕ) → IsDraft xs directory next → ys ≡ xs ++ v ∷ [] → new ≡ directory_of (xs ++ v ∷ []) → CanTake xs v → IsDraft ys new next
-more_draft xs ys v directory new next draft more listed can =
+pub more_draft : (xs ys : State) (v : AccountValue) (directory new : DirectoryValue) (next : ℕ) → IsDraft xs directory next → ys ≡ xs ++ v ∷ [] → new ≡ directory_of (xs ++ v ∷ [])
+    → first_fault xs v ≡ None → IsAccount v → IsDraft ys new next
+more_draft xs ys v directory new next draft more listed none fits =
+    let (absent, room) = can_take xs v none in
     rw more (record {
-      distinct = distinct_push xs v draft.distinct can.is_new;
-      few = omega (arith, length-append xs (v ∷ []), can.is_room);
+      distinct = distinct_push xs v draft.distinct absent;
+      few = omega (arith, length-append xs (v ∷ []), room);
+      within_limits = All-push IsAccount xs v draft.within_limits fits;
       next_fits = draft.next_fits;
       listed = listed;
     })

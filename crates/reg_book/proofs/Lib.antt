@@ -4,10 +4,10 @@ pub mod Days
 pub mod Directories
 pub mod StepFacts
 pub mod Folds
-pub mod FirstDays
 pub mod Lookups
 pub mod Marks
 pub mod Orders
 pub mod Overlays
+pub mod Ranks
 pub mod Turns
 pub mod Values

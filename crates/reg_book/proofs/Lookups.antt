@@ -12,11 +12,8 @@ use Rattle.std.proofs.lemmas.Bool.{eq-eqb, ne_eqb, eqb-true}
 use Rattle.std.proofs.lemmas.List.{get_or-map}
 use Rattle.reg_account.specs.Account.{AccountValue}
 use Rattle.reg_rules.specs.State.{State, account, numbers}
-use Rattle.reg_book.specs.Places.{StandsAt, HasTouched}
-use Rattle.reg_base.specs.declared.instruction.Instruction.{Instruction}
-use Rattle.reg_base.specs.Directory.{DirectoryValue}
-use Rattle.reg_base.specs.Footprint.{footprint, is_among}
-use Rattle.std.proofs.lemmas.List.Elements.{All-from_recursion}
+use Rattle.reg_book.specs.Places.{StandsAt}
+use Rattle.reg_base.specs.Footprint.{is_among}
 
 -- the place that a binary search found
 pub searched_place : (s : State) (a p : ℕ) → p < length s → HoldsAt (λ y. nat_cmp y.number a ≡ Equal) s p → StandsAt s p a
@@ -134,13 +131,12 @@ none_there (x ∷ xs) a among none = by (eqb x.number a) among none (none_there 
     by false h e more = more h e
 
 -- a number that stands in the list is an account's
-pub is_there : (s : State) (a : ℕ) (r : Option ℕ) → Contains (numbers s) a → MatchOption r (account s a ≡ None) (λ place. StandsAt s place a) → IsSome r
+pub is_there : (s : State) (a : ℕ) (r : Option ℕ) → is_among (numbers s) a ≡ true → MatchOption r (account s a ≡ None) (λ place. StandsAt s place a) → IsSome r
 is_there s a (Some place) there found = refl
-is_there s a None there found = absurd (none_there s a (is_among-contained (numbers s) a there) found)
+is_there s a None there found = absurd (none_there s a there found)
 
--- the account at a place of the footprint is there
-pub touched_there : (directory : DirectoryValue) (s : State) (i : Instruction) (touched : List ℕ) (k a : ℕ)
-    → touched ≡ footprint directory i.act → HasTouched directory s i → k < length touched → a ≡ get_or touched k a → Contains (numbers s) a
-touched_there directory s i touched k a same present lt at =
-    subst (Contains (numbers s)) (sym (at ∙ ap (λ ns. get_or ns k a) same))
-    (All-from_recursion (Contains (numbers s)) (footprint directory i.act) present k a (omega (arith, lt, ap length same)))
+-- each number of a list of present ones is there
+pub at-index : (s : State) (wanted : List ℕ) (k a : ℕ) → AllByRecursion (λ n. is_among (numbers s) n ≡ true) wanted → k < length wanted → a ≡ get_or wanted k a → is_among (numbers s) a ≡ true
+at-index s [] k a all lt at = absurd (omega arith)
+at-index s (n ∷ ns) zero a all lt at = ap (is_among (numbers s)) at ∙ all.0
+at-index s (n ∷ ns) (suc k) a all lt at = at-index s ns k a all.1 (omega arith) at

@@ -12,10 +12,9 @@ use Rattle.reg_base.specs.Rising.{IsRising}
 use Rattle.reg_base.specs.RisesFrom.{RisesFrom, rises_from}
 use Rattle.reg_account.specs.Account.{AccountValue}
 use Rattle.reg_rules.specs.State.{State, account, numbers}
-use Rattle.reg_book.specs.Fold.{is_touched}
+use Rattle.reg_book.specs.Fold.{is_touched, touched_of}
 use Rattle.reg_book.specs.Places.{StandsAt}
-use Rattle.reg_book.specs.Touched.{touched_of}
-use Rattle.reg_book.specs.TouchedMarks.{marked, touched_marks, picked}
+use Rattle.reg_book.specs.Marks.{marked, touched_marks, picked}
 
 -- no account has this number
 abbrev Lacks : State → ℕ → Type 0

@@ -1,15 +1,15 @@
--- Rising numbers, and sorting.
-use Rattle.std.proofs.Common.{◌≡◌, ℕ, ◌+◌, ◌-◌, ◌<◌, ◌≤◌, true, false, eqb, [], ◌∷◌, length, get_or, sym, ap, ◌∙◌, arith, ⊎_elim, tests, is_le, nat_cmp}
+-- Whether numbers rise, and what sorting makes of them.
+use Rattle.std.proofs.Common.{◌≡◌, ℕ, ◌+◌, ◌-◌, ◌<◌, ◌≤◌, true, false, eqb, [], ◌∷◌, length, get_or, sym, ap, ◌∙◌, arith, ⊎_elim, tests, is_le, is_gt, nat_cmp}
 use Rattle.std.specs.Prelude.{IsPermutation}
 use Rattle.std.specs.List.{IsDistinct}
 use Rattle.std.specs.List.Sorted.{IsSortedByKey, IsNonDecreasing}
 use Rattle.std.proofs.lemmas.Bool.{cases_lt}
-use Rattle.std.proofs.lemmas.List.Sorted.{IsPermutation-map, IsNonDecreasingBy-from_sort}
+use Rattle.std.proofs.lemmas.List.Sorted.{IsPermutation-map, IsNonDecreasingBy-from_sort, All-permutation}
 use Rattle.std.proofs.lemmas.List.{get_or-map}
 use Rattle.std.proofs.lemmas.Map.Keys.{IsDistinct-IsPermutation, IsStrictlyIncreasing-from_distinct}
 use Rattle.reg_base.specs.Rising.{IsRising}
 use Rattle.reg_base.specs.Directory.{DirectoryValue}
-use Rattle.reg_account.specs.Account.{AccountValue}
+use Rattle.reg_account.specs.Account.{AccountValue, IsAccount}
 use Rattle.reg_rules.specs.State.{State, numbers}
 use Rattle.reg_book.specs.Book.{IsKept, IsDraft}
 use Rattle.reg_book.proofs.Directories.{eqb-sym, length-numbers, number_at, directory_of-permutation}
@@ -60,6 +60,14 @@ sorted_rise xs ys distinct same sorted =
 -- a draft in order is a book
 pub kept : (xs ys : State) (directory : DirectoryValue) (next : ℕ) → IsDraft xs directory next → IsPermutation xs ys → length ys ≡ length xs → IsRising (numbers ys) → IsKept ys directory next
 kept xs ys directory next draft same len rising = record {
-  book = record { rising = rising; few = omega (arith, len, draft.few); next = draft.next_fits };
+  book = record {
+    rising = rising;
+    few = omega (arith, len, draft.few);
+    within_limits = All-permutation IsAccount xs ys same draft.within_limits;
+    next = draft.next_fits;
+  };
   listed = draft.listed ∙ directory_of-permutation xs ys draft.distinct same;
 }
+
+pub gt_of : (x y : ℕ) → true ≡ is_gt (nat_cmp x y) → y < x
+gt_of x y e = grind (arith, tests, e)

@@ -1,23 +1,24 @@
--- Replacing accounts by those with the same numbers.
-use Rattle.std.proofs.Common.{◌≡◌, ◌≢◌, ℕ, zero, suc, ◌<◌, Bool, true, false, cond, eqb, List, [], ◌∷◌, ◌++◌, map, length, get_or, take, drop, Option, Some, None, Ok, Err, refl, sym, ap, subst, ◌∙◌, arith, append_assoc}
-use Rattle.std.specs.Prelude.{unwrap_or, option_map, slice_set, IsSomeAnd}
+-- Accounts put in the place of those with their numbers.
+use Rattle.std.proofs.Common.{◌≡◌, ◌≢◌, ℕ, zero, suc, ◌+◌, ◌-◌, ◌<◌, ◌≤◌, Bool, true, false, cond, eqb, List, [], ◌∷◌, ◌++◌, map, length, get_or, take, drop, Option, Some, None, ⊎_elim, refl, sym, ap, subst, ◌∙◌, arith, append_assoc, add-one}
+use Rattle.std.specs.Prelude.{All, unwrap_or, option_map, slice_set}
 use Rattle.std.specs.List.{AllByRecursion}
 use Rattle.std.specs.FinMap as fin
 use Rattle.std.proofs.lemmas.List.Elements.{All-contains, All-from_recursion}
 use Rattle.reg_base.specs.Directory.{DirectoryValue}
-use Rattle.std.proofs.lemmas.Bool.{eq-eqb, ne_eqb}
-use Rattle.std.proofs.lemmas.List.{take-append-drop, take_at, drop_at}
-use Rattle.std.specs.Ordering.{nat_cmp}
+use Rattle.std.proofs.lemmas.Bool.{eq-eqb, ne_eqb, eqb-false, cases_lt}
+use Rattle.std.proofs.Math.Seq.{get_or-append_seam}
+use Rattle.std.proofs.lemmas.List.{take-append-drop, take_at, drop_at, get_or-take, get_or_append_left, length-append}
 use Rattle.std.proofs.lemmas.Option.{same_Some}
 use Rattle.reg_base.specs.declared.kinds.AccountKind.{AccountKind}
-use Rattle.std.specs.List.Sorted.{IsBinarySearchResult}
 use Rattle.reg_base.specs.Rising.{IsRising}
 use Rattle.reg_base.specs.RisesFrom.{RisesFrom, rises_from}
-use Rattle.reg_account.specs.Account.{AccountValue}
+use Rattle.reg_account.specs.Account.{AccountValue, IsAccount}
 use Rattle.reg_rules.specs.State.{State, account, numbers}
-use Rattle.reg_book.specs.Book.{overlay, entry_of, directory_of, IsNext, IsKept}
-use Rattle.reg_book.proofs.Accounts.{low_number, account_at, number_found, searched_err}
-use Rattle.reg_book.proofs.Directories.{found_in, eqb-sym, listing, get-directory_of}
+use Rattle.reg_book.specs.Book.{overlay, entry_of, directory_of, IsNext, IsKept, AreHigher}
+use Rattle.reg_book.specs.Settled.{SettledValue}
+use Rattle.reg_base.specs.declared.limits.TheConstants.{MOST_RECORD}
+use Rattle.reg_book.proofs.Accounts.{low_number, account_at, ascending}
+use Rattle.reg_book.proofs.Directories.{found_in, eqb-sym, listing, get-directory_of, number_at, length-numbers}
 
 -- accounts of other numbers stay
 over_others : (xs : State) (w : AccountValue) → ((p : ℕ) (d : AccountValue) → p < length xs → (get_or xs p d).number ≢ w.number) → overlay xs (w ∷ []) ≡ xs
@@ -78,18 +79,27 @@ pub over_nothing : (xs : State) → overlay xs [] ≡ xs
 over_nothing [] = refl
 over_nothing (v ∷ vs) = ap (λ (ys : State). v ∷ ys) (over_nothing vs)
 
--- what a binary search by number says about the place of an account
-pub set_found : (xs ys : State) (w : AccountValue) (n p : ℕ) → ys ≡ xs → n ≡ w.number → IsRising (numbers xs) → p < length ys → IsBinarySearchResult (λ y. nat_cmp y.number n) ys (Ok p) → slice_set xs p w ≡ overlay xs (w ∷ [])
-set_found xs ys w n p same number rising within found =
-    let rises = rises_from 0 (numbers xs) rising (λ some. omega arith) in
-    let at : (get_or xs p w).number ≡ w.number = ap (λ (zs : State). (get_or zs p w).number) (sym same) ∙ number_found ys n p w found ∙ number in
-    set_over 0 xs rises p w w (omega (arith, within, ap (λ (zs : State). length zs) same)) at
+-- an account whose number stands at this place
+pub set_at : (xs : State) (w v : AccountValue) (p : ℕ) → IsRising (numbers xs) → p < length xs → v ≡ get_or xs p v → v.number ≡ w.number → slice_set xs p w ≡ overlay xs (w ∷ [])
+set_at xs w v p rising within is same =
+    set_over 0 xs (rises_from 0 (numbers xs) rising (λ some. omega arith)) p w v within (ap (λ (o : AccountValue). o.number) (sym is) ∙ same)
 
-pub set_absent : (xs ys : State) (w : AccountValue) (n i : ℕ) → ys ≡ xs → n ≡ w.number → IsRising (numbers xs) → IsBinarySearchResult (λ y. nat_cmp y.number n) ys (Err i) → xs ≡ overlay xs (w ∷ [])
-set_absent xs ys w n i same number rising searched =
-    let rises = rises_from 0 (numbers ys) (subst (λ (zs : State). IsRising (numbers zs)) (sym same) rising) (λ some. omega arith) in
-    let none : account xs w.number ≡ None = ap (λ (zs : State). account zs w.number) (sym same) ∙ ap (λ m. account ys m) (sym number) ∙ searched_err ys n i rises searched in
-    sym (none_stays xs w none)
+-- a number that is below those of all later places, and above those of all earlier ones
+pub not_there : (xs : State) (w : AccountValue) (count : ℕ) → IsRising (numbers xs) → count ≤ length xs → AreHigher (numbers xs) count w.number
+    → (0 < count → get_or (numbers xs) (count - 1) 0 < w.number) → xs ≡ overlay xs (w ∷ [])
+not_there xs w count rising within higher lower =
+    let rises = rises_from 0 (numbers xs) rising (λ some. omega arith) in
+    sym (over_others xs w (λ p d lt. ⊎_elim
+    (λ (before : p < count).
+    let last = lower (omega arith) in
+    let le = ascending 0 xs rises p (count - 1) d (omega arith) (omega arith) in
+    let at = number_at xs (count - 1) d (omega arith) in
+    λ e. omega (arith, last, le, at, e))
+    (λ (after : count ≤ p).
+    let h = higher p after (omega (arith, length-numbers xs)) in
+    let at = number_at xs p d lt in
+    λ e. omega (arith, h, at, e))
+    (cases_lt p count)))
 
 -- an account taken from the end
 pub popped : (all cur new : State) (w : AccountValue) → cur ≡ take (length cur) all → cur ≡ new ++ w ∷ [] → (new ≡ take (length new) all) × (drop (length new) all ≡ w ∷ drop (length cur) all)
@@ -102,19 +112,17 @@ popped all cur new w front parts =
 
 -- each of these accounts stands among the others with the same kind and holder
 abbrev pub StandIn : State → State → Type 0
-StandIn xs others = AllByRecursion (λ v. IsSomeAnd (account xs v.number) (λ o. (o.kind ≡ v.kind) × (o.holder ≡ v.holder))) others
+StandIn xs others = AllByRecursion (λ v. fin.get (directory_of xs) v.number ≡ Some (v.kind, v.holder)) others
 
 entry_by : (xs others : State) (v : AccountValue) (o : Option AccountValue) → StandIn xs others → account xs v.number ≡ Some v → account others v.number ≡ o → entry_of (unwrap_or o v) ≡ entry_of v
 entry_by xs others v None stand there e = refl
 entry_by xs others v (Some w) stand there e =
     let (among, number) = found_in others v.number w e in
-    let Stands : AccountValue → Type 0 = λ u. IsSomeAnd (account xs u.number) (λ o. (o.kind ≡ u.kind) × (o.holder ≡ u.holder)) in
-    let same : IsSomeAnd (account xs w.number) (λ o. (o.kind ≡ w.kind) × (o.holder ≡ w.holder)) = All-contains Stands others w (All-from_recursion Stands others stand) among in
-    let at : account xs w.number ≡ Some v = ap (λ n. account xs n) number ∙ there in
-    let h : IsSomeAnd (Some v) (λ o. (o.kind ≡ w.kind) × (o.holder ≡ w.holder)) = rw at at same in
-    let kind : w.kind ≡ v.kind = sym h.0 in
-    let holder : w.holder ≡ v.holder = sym h.1 in
-    cc
+    let Stands : AccountValue → Type 0 = λ u. fin.get (directory_of xs) u.number ≡ Some (u.kind, u.holder) in
+    let listed : fin.get (directory_of xs) w.number ≡ Some (w.kind, w.holder) = All-contains Stands others w (All-from_recursion Stands others stand) among in
+    let is : ◌≡◌ {A = AccountKind × ℕ} (listing w) (listing v) =
+    same_Some (listing w) (listing v) (sym listed ∙ ap (λ n. fin.get (directory_of xs) n) number ∙ get-directory_of xs v.number ∙ ap (option_map listing) there) in
+    λ i. (number i, is i)
 
 entries_same : (xs others ys : State) → StandIn xs others → ((p : ℕ) (d : AccountValue) → p < length ys → account xs (get_or ys p d).number ≡ Some (get_or ys p d)) → map entry_of (overlay ys others) ≡ map entry_of ys
 entries_same xs others [] stand at = refl
@@ -123,32 +131,93 @@ entries_same xs others (v ∷ vs) stand at =
     (ap (λ es. entry_of v ∷ es) (entries_same xs others vs stand (λ p d lt. at (suc p) d (omega arith))))
 
 -- a book in which accounts were put in place is a book, with the directory that it had
-pub kept_after : (xs ys others : State) (directory : DirectoryValue) (next after : ℕ) → IsKept xs directory next → ys ≡ overlay xs others → StandIn xs others → IsNext after → IsKept ys directory after
-kept_after xs ys others directory next after kept is stand fits =
+pub kept_after : (xs ys others : State) (directory : DirectoryValue) (next after : ℕ) → IsKept xs directory next → ys ≡ overlay xs others → All IsAccount ys → StandIn xs others → IsNext after → IsKept ys directory after
+kept_after xs ys others directory next after kept is fit stand fits =
     let rises = rises_from 0 (numbers xs) kept.book.rising (λ some. omega arith) in
     let entries = entries_same xs others xs stand (λ p d lt. account_at 0 xs rises p (get_or xs p d).number d lt refl) in
-    rw is (record {
+    record {
       book = record {
-        rising = subst (λ (ns : List ℕ). IsRising ns) (sym (numbers-overlay xs others)) kept.book.rising;
-        few = omega (arith, length-overlay xs others, kept.book.few);
+        rising = subst IsRising (sym (ap numbers is ∙ numbers-overlay xs others)) kept.book.rising;
+        few = omega (arith, ap length is, length-overlay xs others, kept.book.few);
+        within_limits = fit;
         next = fits;
       };
-      listed = kept.listed ∙ ap (λ es. fin.from_entries es) (sym entries);
-    })
+      listed = kept.listed ∙ sym (ap (λ es. fin.from_entries es) (ap (map entry_of) is ∙ entries));
+    }
 
--- an account of the same kind and holder
-same_listing : (v : AccountValue) (o p : Option AccountValue) → option_map listing p ≡ option_map listing o
-    → IsSomeAnd o (λ w. (w.kind ≡ v.kind) × (w.holder ≡ v.holder)) → IsSomeAnd p (λ w. (w.kind ≡ v.kind) × (w.holder ≡ v.holder))
-same_listing v None p same stands = absurd stands
-same_listing v (Some w) None same stands = absurd cc
-same_listing v (Some w) (Some u) same stands =
-    let is : ◌≡◌ {A = AccountKind × ℕ} (listing u) (listing w) = same_Some (listing u) (listing w) same in
-    (ap (λ (l : AccountKind × ℕ). l.0) is ∙ stands.0, ap (λ (l : AccountKind × ℕ). l.1) is ∙ stands.1)
+-- from a place on the numbers are above each of these
+abbrev pub HigherThanEach : List ℕ → ℕ → State → Type 0
+HigherThanEach ns until settled = (j : ℕ) → j < length settled → AreHigher ns until (get_or (numbers settled) j 0)
 
--- if the directory stays, accounts that were in the book are in it
-pub stand_still : (xs ys others : State) → directory_of ys ≡ directory_of xs → StandIn xs others → StandIn ys others
-stand_still xs ys [] same stand = tt
-stand_still xs ys (v ∷ vs) same stand =
-    let listed : option_map listing (account ys v.number) ≡ option_map listing (account xs v.number) =
-    sym (get-directory_of ys v.number) ∙ ap (λ d. fin.get d v.number) same ∙ get-directory_of xs v.number in
-    (same_listing v (account xs v.number) (account ys v.number) listed stand.0, stand_still xs ys vs same stand.1)
+-- one number more is higher
+pub one_lower : (xs : State) (count a : ℕ) (v : AccountValue) (x : ℕ) → 0 < count → count ≤ length xs → v ≡ get_or xs (count - 1) v → x ≡ v.number → a < x → AreHigher (numbers xs) count a → AreHigher (numbers xs) (count - 1) a
+one_lower xs count a v x some within at is above higher k le lt =
+    ⊎_elim
+    (λ (last : k < count).
+    let k_is : k ≡ count - 1 = omega arith in
+    let here : get_or (numbers xs) (count - 1) 0 ≡ x = number_at xs (count - 1) v (omega arith) ∙ ap (λ (o : AccountValue). o.number) (sym at) ∙ sym is in
+    let there : get_or (numbers xs) k 0 ≡ x = ap (λ m. get_or (numbers xs) m 0) k_is ∙ here in
+    omega (arith, there, above))
+    (λ (later : count ≤ k). higher k later lt)
+    (cases_lt k count)
+
+-- the last of the settled accounts
+pub higher-last : (ns : List ℕ) (cur new : State) (w : AccountValue) (until : ℕ) → HigherThanEach ns until cur → cur ≡ new ++ w ∷ [] → AreHigher ns until w.number
+higher-last ns cur new w until higher parts k le within =
+    let size : length cur ≡ length new + 1 = ap length parts ∙ length-append new (w ∷ []) in
+    let last : get_or (numbers cur) (length new) 0 ≡ w.number =
+    number_at cur (length new) w (omega (arith, size)) ∙ ap (λ (o : AccountValue). o.number) (ap (λ (s : State). get_or s (length new) w) parts ∙ get_or-append_seam new w [] w) in
+    let above = higher (length new) (omega (arith, size)) k le within in
+    omega (arith, above, last)
+
+climbs : (xs : List ℕ) → IsRising xs → (i j : ℕ) → i < j → j < length xs → get_or xs i 0 < get_or xs j 0
+climbs xs rising i zero lt within = absurd (omega arith)
+climbs xs rising i (suc j) lt within =
+    let next : get_or xs j 0 < get_or xs (suc j) 0 = let h = rising j (omega (arith, within)) in rw add-one at h in
+    ⊎_elim
+    (λ (before : i < j). let h = climbs xs rising i j before (omega (arith, within)) in omega (arith, h, next))
+    (λ (here : j ≤ i). let same : i ≡ j = omega arith in let e : get_or xs i 0 ≡ get_or xs j 0 = ap (λ m. get_or xs m 0) same in omega (arith, e, next))
+    (cases_lt i j)
+
+take_few : (n : ℕ) (xs : State) → length (take n xs) ≡ n → n ≤ length xs
+take_few zero xs e = omega arith
+take_few (suc n) [] e = absurd (omega (arith, e))
+take_few (suc n) (x ∷ xs) e = let h = take_few n xs (omega (arith, e)) in omega (arith, h)
+
+-- what is left of the settled accounts is below what was put in place
+pub lower-left : (ns : List ℕ) (all cur new : State) (w : AccountValue) (until : ℕ) → IsRising (numbers all) → cur ≡ take (length cur) all → cur ≡ new ++ w ∷ []
+    → AreHigher ns until w.number → HigherThanEach ns until new
+lower-left ns all cur new w until rising front parts higher j lt k le within =
+    let size : length cur ≡ length new + 1 = ap length parts ∙ length-append new (w ∷ []) in
+    let few : length cur ≤ length all = take_few (length cur) all (sym (ap length front)) in
+    let all_at : (m : ℕ) → m < length cur → get_or (numbers cur) m 0 ≡ get_or (numbers all) m 0 =
+    λ m below. number_at cur m w below ∙ ap (λ (o : AccountValue). o.number) (ap (λ (s : State). get_or s m w) front ∙ get_or-take (length cur) all m w below) ∙ sym (number_at all m w (omega (arith, few, below))) in
+    let here : get_or (numbers new) j 0 ≡ get_or (numbers all) j 0 =
+    number_at new j w lt ∙ ap (λ (o : AccountValue). o.number) (sym (get_or_append_left new (w ∷ []) w j lt) ∙ ap (λ (s : State). get_or s j w) (sym parts)) ∙ sym (number_at cur j w (omega (arith, size, lt))) ∙ all_at j (omega (arith, size, lt)) in
+    let last : w.number ≡ get_or (numbers all) (length new) 0 =
+    ap (λ (o : AccountValue). o.number) (sym (get_or-append_seam new w [] w) ∙ ap (λ (s : State). get_or s (length new) w) (sym parts)) ∙ sym (number_at cur (length new) w (omega (arith, size))) ∙ all_at (length new) (omega (arith, size)) in
+    let rise : get_or (numbers all) j 0 < get_or (numbers all) (length new) 0 = climbs (numbers all) rising j (length new) lt (omega (arith, few, size, length-numbers all)) in
+    let above = higher k le within in
+    omega (arith, here, last, rise, above)
+
+-- the number before a place is not above
+abbrev pub numbers_below : State → ℕ → ℕ → Type 0
+numbers_below s count a = get_or (numbers s) (count - 1) 0 ≤ a
+
+pub lower_than : (xs : State) (w : AccountValue) (count : ℕ) (v : AccountValue) (x a : ℕ) → 0 < count → count ≤ length xs → v ≡ get_or xs (count - 1) v → x ≡ v.number → a ≡ w.number
+    → eqb x a ≡ false → numbers_below xs count a → get_or (numbers xs) (count - 1) 0 < w.number
+lower_than xs w count v x a some within at is named differs below =
+    let here : get_or (numbers xs) (count - 1) 0 ≡ x = number_at xs (count - 1) v (omega arith) ∙ ap (λ (o : AccountValue). o.number) (sym at) ∙ sym is in
+    let not_same : x ≢ a = eqb-false x a differs in
+    omega (arith, here, not_same, named, below)
+
+-- the number after the settled day's records is one that a book may go on with
+pub next_fits : (settled : SettledValue) (next count : ℕ) → IsNext next → settled.base + 1 ≡ next → count ≡ length settled.rows
+    → (0 < length settled.rows → settled.base + length settled.rows ≤ MOST_RECORD) → IsNext (next + count)
+next_fits settled next count fits begins counted numbered = record {
+  from_one = omega (arith, fits.from_one);
+  to_the_end = ⊎_elim
+      (λ (some : 0 < length settled.rows). let h = numbered some in omega (arith, h, begins, counted))
+      (λ (none : length settled.rows ≤ 0). let h = fits.to_the_end in omega (arith, h, none, counted))
+      (cases_lt 0 (length settled.rows));
+}

@@ -1,10 +1,10 @@
--- An instruction on accounts in another order, and on only the first of them.
-use Rattle.std.proofs.Common.{Result, Ok, Err, ◌≡◌, ◌≢◌, ℕ, ◌<◌, ◌≤◌, Bool, true, false, eqb, List, [], ◌∷◌, ◌++◌, map, length, get_or, set, take, drop, refl, sym, ap, subst, ◌∙◌, inl, inr, ◌⊎◌, arith}
+-- An instruction on accounts in another order, and on the first of them alone.
+use Rattle.std.proofs.Common.{Result, Ok, Err, ◌≡◌, ◌≢◌, ℕ, zero, suc, ◌+◌, ◌<◌, ◌≤◌, Bool, true, false, cond, eqb, List, [], ◌∷◌, ◌++◌, map, length, get_or, set, take, drop, refl, sym, ap, subst, ◌∙◌, inl, inr, ◌⊎◌, arith}
 use Rattle.std.specs.List.{IsDistinct, AllByRecursion, swap}
-use Rattle.std.proofs.lemmas.Bool.{cases_eq}
+use Rattle.std.proofs.lemmas.Bool.{cases_eq, eqb-true, eqb-false, ne_eqb}
 use Rattle.std.specs.Result.{IfOk}
-use Rattle.std.proofs.lemmas.List.{map-append, map-set, take-append-drop, take-map, same_lists, length-map, get_or-map}
-use Rattle.std.proofs.lemmas.List.Edits.{length-swap, swapped_from_swap}
+use Rattle.std.proofs.lemmas.List.{map-append, map-set, take-append-drop, take-map, take-set-le, take_more, append-nil, append_assoc, same_lists, length-map, get_or-map}
+use Rattle.std.proofs.lemmas.List.Edits.{length-swap, swapped_from_swap, map_over_more}
 use Rattle.std.specs.Cmp.{nat_eq_equiv}
 use Rattle.std.proofs.lemmas.List.Sorted.{IsPermutation-swap, IsPermutation-map}
 use Rattle.std.proofs.lemmas.Map.Keys.{IsDistinct-IsPermutation}
@@ -15,6 +15,8 @@ use Rattle.reg_rules.specs.declared.reply.Reply.{Reply}
 use Rattle.reg_rules.specs.State.{State, Setting, account, numbers}
 use Rattle.reg_rules.specs.Step.{step}
 use Rattle.reg_rules.specs.Laws.{StepLaws}
+use Rattle.reg_book.specs.Places.{StandAt, each_at}
+use Rattle.reg_book.specs.Turns.{AreLeft, IsLeft, renamed}
 use Rattle.reg_book.proofs.Directories.{account-permutation}
 use Rattle.reg_book.proofs.StepFacts.{reply-local, after-local, one-state}
 use Rattle.reg_book.proofs.Lookups.{account-append_left, account-append_right, all_among, not_contained}
@@ -99,10 +101,10 @@ map-swap f (d ∷ ys) a b a_in b_in =
     ∙ ap (λ y. set (set (f d ∷ map f ys) a y) b (f (get_or (d ∷ ys) a d))) (sym (get_or-map f (d ∷ ys) b d (f d) b_in))
     ∙ ap (λ y. set (set (f d ∷ map f ys) a (get_or (f d ∷ map f ys) b (f d))) b y) (sym (get_or-map f (d ∷ ys) a d (f d) a_in))
 
-numbers-swap : (s t : State) (a b : ℕ) → a < length s → b < length s → t ≡ swap s a b → numbers t ≡ swap (numbers s) a b
+pub numbers-swap : (s t : State) (a b : ℕ) → a < length s → b < length s → t ≡ swap s a b → numbers t ≡ swap (numbers s) a b
 numbers-swap s t a b a_in b_in is = ap numbers is ∙ map-swap (λ (v : AccountValue). v.number) s a b a_in b_in
 
-size-numbers : (s : State) → length (numbers s) ≡ length s
+pub size-numbers : (s : State) → length (numbers s) ≡ length s
 size-numbers s = length-map s (λ (v : AccountValue). v.number)
 
 module _ (laws : StepLaws) where
@@ -145,32 +147,127 @@ distinct-swap s t a b a_in b_in distinct there =
     IsDistinct-IsPermutation eqb (λ x y. nat_eq_equiv.symm x y) (numbers s) (numbers t)
     (IsPermutation-map (λ (v : AccountValue). v.number) s t (IsPermutation-swap s t a b a_in b_in there)) distinct
 
-two_first : (ns : List ℕ) → 2 ≤ length ns → take 2 ns ≡ get_or ns 0 0 ∷ get_or ns 1 0 ∷ []
-two_first [] le = absurd (omega arith)
-two_first (x ∷ []) le = absurd (omega arith)
-two_first (x ∷ y ∷ ns) le = refl
+-- the numbers differ from the one of the first place, and from each other
+abbrev Others : ℕ → List ℕ → Type 0
+Others p qs = AllByRecursion (λ y. eqb p y ≡ false) qs
 
--- two places of a list, swapped to its front
-pub front-pair : (s t u : State) (first second now : ℕ)
-    → first < length s → second < length s → first ≢ second
-    → ((second ≡ 0) × (now ≡ first)) ⊎ ((second ≢ 0) × (now ≡ second))
-    → t ≡ swap s 0 first → u ≡ swap t 1 now
-    → take 2 (numbers u) ≡ get_or (numbers s) first 0 ∷ get_or (numbers s) second 0 ∷ []
-front-pair s t u first second now first_in second_in apart moved there here =
-    let size_t : length t ≡ length s = ap length there ∙ length-swap s 0 first in
-    let size_u : length u ≡ length t = ap length here ∙ length-swap t 1 now in
-    let now_in : now < length s = elim moved [ inl m ↦ omega (arith, m.1, first_in) | inr m ↦ omega (arith, m.1, second_in) ] in
-    let now_not : now ≢ 0 = elim moved [ inl m ↦ λ e. apart (sym m.1 ∙ e ∙ sym m.0) | inr m ↦ λ e. m.0 (sym m.1 ∙ e) ] in
-    let numbers_t : numbers t ≡ swap (numbers s) 0 first = numbers-swap s t 0 first (omega arith) first_in there in
-    let numbers_u : numbers u ≡ swap (numbers t) 1 now = numbers-swap t u 1 now (omega (arith, size_t)) (omega (arith, size_t)) here in
-    let once = swapped_from_swap (numbers s) (numbers t) 0 first 0 (omega (arith, size-numbers s)) (omega (arith, size-numbers s)) numbers_t in
-    let twice = swapped_from_swap (numbers t) (numbers u) 1 now 0 (omega (arith, size-numbers t, size_t)) (omega (arith, size-numbers t, size_t)) numbers_u in
-    let at_zero : get_or (numbers u) 0 0 ≡ get_or (numbers s) first 0 = twice.2 0 (λ e. omega arith) (λ e. now_not (sym e)) ∙ once.0 in
-    let at_now : get_or (numbers t) now 0 ≡ get_or (numbers s) second 0 =
-    elim moved [
-      | inl m ↦ ap (λ k. get_or (numbers t) k 0) m.1 ∙ once.1 ∙ ap (λ k. get_or (numbers s) k 0) (sym m.0)
-      | inr m ↦ ap (λ k. get_or (numbers t) k 0) m.1 ∙ once.2 second m.0 (λ e. apart (sym e))
-    ] in
-    two_first (numbers u) (omega (arith, size-numbers u, size_u, size_t))
-    ∙ ap (λ x. x ∷ get_or (numbers u) 1 0 ∷ []) at_zero
-    ∙ ap (λ y. get_or (numbers s) first 0 ∷ y ∷ []) (twice.0 ∙ at_now)
+apart-of : (p : ℕ) (qs : List ℕ) → IsDistinct eqb (p ∷ qs) → Others p qs × IsDistinct eqb qs
+unfolding IsDistinct
+apart-of p qs distinct = (distinct.0, distinct.1)
+
+eqb-flip : (x y : ℕ) → eqb x y ≡ eqb y x
+eqb-flip x y = nat_eq_equiv.symm x y
+
+-- what a swap does to the numbers at places
+moved-at : (ns ms : List ℕ) (k p q : ℕ) → k < length ns → p < length ns → ms ≡ swap ns k p → eqb p q ≡ false → get_or ms (renamed k p q) 0 ≡ get_or ns q 0
+moved-at ns ms k p q k_in p_in there other = by (eqb q k) refl
+  where
+    by : (b : Bool) → eqb q k ≡ b → get_or ms (cond b p q) 0 ≡ get_or ns q 0
+    by true same = (swapped_from_swap ns ms k p 0 k_in p_in there).1 ∙ ap (λ m. get_or ns m 0) (sym (eqb-true q k same))
+    by false apart =
+        (swapped_from_swap ns ms k p 0 k_in p_in there).2 q (λ e. eqb-false q k apart e) (λ e. eqb-false p q other (sym e))
+
+moved-each : (ns ms : List ℕ) (k p : ℕ) (qs : List ℕ) → k < length ns → p < length ns → ms ≡ swap ns k p → Others p qs → each_at ms (map (renamed k p) qs) ≡ each_at ns qs
+moved-each ns ms k p [] k_in p_in there others = refl
+moved-each ns ms k p (q ∷ qs) k_in p_in there others =
+    ap (λ x. x ∷ each_at ms (map (renamed k p) qs)) (moved-at ns ms k p q k_in p_in there others.0)
+    ∙ ap (λ xs. get_or ns q 0 ∷ xs) (moved-each ns ms k p qs k_in p_in there others.1)
+
+take-swap : (ns : List ℕ) (k p : ℕ) → k ≤ p → take k (swap ns k p) ≡ take k ns
+take-swap [] k p le = refl
+take-swap (x ∷ xs) k p le =
+    take-set-le k (set (x ∷ xs) k (get_or (x ∷ xs) p x)) p (get_or (x ∷ xs) k x) le
+    ∙ take-set-le k (x ∷ xs) k (get_or (x ∷ xs) p x) (omega arith)
+
+moved-front : (ns ms : List ℕ) (k p : ℕ) → k ≤ p → p < length ns → ms ≡ swap ns k p → take (k + 1) ms ≡ take k ns ++ get_or ns p 0 ∷ []
+moved-front ns ms k p le p_in there =
+    take_more ms k 0 (omega (arith, p_in, ap length there ∙ length-swap ns k p))
+    ∙ ap (λ x. take k ms ++ x ∷ []) ((swapped_from_swap ns ms k p 0 (omega arith) p_in there).0)
+    ∙ ap (λ l. l ++ get_or ns p 0 ∷ []) (ap (take k) there ∙ take-swap ns k p le)
+
+-- the places that are left after a swap are places of their own, behind the front
+renamed-apart : (k p q y : ℕ) → eqb p q ≡ false → eqb p y ≡ false → eqb q y ≡ false → eqb (renamed k p q) (renamed k p y) ≡ false
+renamed-apart k p q y pq py qy = by (eqb q k) (eqb y k) refl refl
+  where
+    by : (b c : Bool) → eqb q k ≡ b → eqb y k ≡ c → eqb (cond b p q) (cond c p y) ≡ false
+    by true true e h = absurd (eqb-false q y qy (eqb-true q k e ∙ sym (eqb-true y k h)))
+    by true false e h = py
+    by false true e h = eqb-flip q p ∙ pq
+    by false false e h = qy
+
+renamed-others : (k p q : ℕ) (ys : List ℕ) → eqb p q ≡ false → Others p ys → Others q ys → Others (renamed k p q) (map (renamed k p) ys)
+renamed-others k p q [] pq py qy = tt
+renamed-others k p q (y ∷ ys) pq py qy = (renamed-apart k p q y pq py.0 qy.0, renamed-others k p q ys pq py.1 qy.1)
+
+renamed-distinct : (k p : ℕ) (qs : List ℕ) → Others p qs → IsDistinct eqb qs → IsDistinct eqb (map (renamed k p) qs)
+unfolding IsDistinct
+renamed-distinct k p [] others distinct = tt
+renamed-distinct k p (q ∷ qs) others distinct =
+    (renamed-others k p q qs others.0 others.1 distinct.0, renamed-distinct k p qs others.1 distinct.1)
+
+renamed-left : (k n p : ℕ) (qs : List ℕ) → IsLeft k n p → Others p qs → AllByRecursion (IsLeft k n) qs → AllByRecursion (IsLeft (k + 1) n) (map (renamed k p) qs)
+renamed-left k n p [] left others all = tt
+renamed-left k n p (q ∷ qs) left others all = (by (eqb q k) refl, renamed-left k n p qs left others.1 all.1)
+  where
+    by : (b : Bool) → eqb q k ≡ b → IsLeft (k + 1) n (cond b p q)
+    by true same =
+        let q_is : q ≡ k = eqb-true q k same in
+        let not_p : p ≢ q = eqb-false p q others.0 in
+        record { behind = omega (arith, left.behind, not_p, q_is); within = left.within }
+    by false apart =
+        let not_k : q ≢ k = eqb-false q k apart in
+        record { behind = omega (arith, all.0.behind, not_k); within = all.0.within }
+
+-- one account more is at the front
+pub left-more : (k : ℕ) (ns ms wanted : List ℕ) (p : ℕ) (qs : List ℕ) → ms ≡ swap ns k p → AreLeft k ns (p ∷ qs) wanted → AreLeft (k + 1) ms (map (renamed k p) qs) wanted
+left-more k ns ms wanted p qs there left =
+    let size : length ms ≡ length ns = ap length there ∙ length-swap ns k p in
+    let first = left.are_left.0 in
+    let (others, distinct) = apart-of p qs left.distinct in
+    record {
+      fits = omega (arith, size, first.behind, first.within);
+      are_left = subst (λ n. AllByRecursion (IsLeft (k + 1) n) (map (renamed k p) qs)) (sym size) (renamed-left k (length ns) p qs first others left.are_left.1);
+      distinct = renamed-distinct k p qs others distinct;
+      are_there = ap (λ l. l ++ each_at ms (map (renamed k p) qs)) (moved-front ns ms k p first.behind first.within there)
+          ∙ ap (λ l. (take k ns ++ get_or ns p 0 ∷ []) ++ l) (moved-each ns ms k p qs (omega (arith, first.behind, first.within)) first.within there others)
+          ∙ append_assoc (take k ns) (get_or ns p 0 ∷ []) (each_at ns qs)
+          ∙ left.are_there;
+    }
+
+-- all accounts are at the front
+pub left-none : (k : ℕ) (ns places wanted : List ℕ) → length places ≡ 0 → AreLeft k ns places wanted → take k ns ≡ wanted
+left-none k ns [] wanted none left = sym (append-nil (take k ns)) ∙ left.are_there
+left-none k ns (p ∷ ps) wanted none left = absurd (omega (arith, none))
+
+-- places of different numbers differ
+places-others : (ns : List ℕ) (p : ℕ) (qs : List ℕ) → Others (get_or ns p 0) (each_at ns qs) → Others p qs
+places-others ns p [] others = tt
+places-others ns p (q ∷ qs) others =
+    (ne_eqb p q (λ e. eqb-false (get_or ns p 0) (get_or ns q 0) others.0 (ap (λ m. get_or ns m 0) e)), places-others ns p qs others.1)
+
+places-distinct : (ns places : List ℕ) → IsDistinct eqb (each_at ns places) → IsDistinct eqb places
+unfolding IsDistinct
+places-distinct ns [] distinct = tt
+places-distinct ns (p ∷ ps) distinct = (places-others ns p ps distinct.0, places-distinct ns ps distinct.1)
+
+all-left : (n : ℕ) (places : List ℕ) → AllByRecursion (λ p. p < n) places → AllByRecursion (IsLeft 0 n) places
+all-left n [] within = tt
+all-left n (p ∷ ps) within = (record { behind = omega arith; within = within.0 }, all-left n ps within.1)
+
+-- none is at the front yet
+pub left-all : (ns places wanted : List ℕ) → IsDistinct eqb wanted → StandAt ns places wanted → AreLeft 0 ns places wanted
+left-all ns places wanted distinct there = record {
+  fits = omega arith;
+  are_left = all-left (length ns) places there.within;
+  distinct = places-distinct ns places (subst (IsDistinct eqb) (sym there.are_there) distinct);
+  are_there = there.are_there;
+}
+
+any_default : (xs : List ℕ) (i d e : ℕ) → i < length xs → get_or xs i d ≡ get_or xs i e
+any_default [] i d e lt = absurd (omega arith)
+any_default (x ∷ xs) zero d e lt = refl
+any_default (x ∷ xs) (suc i) d e lt = any_default xs i d e (omega arith)
+
+-- one place more is renamed
+pub renamed-more : (f : ℕ → ℕ) (xs ys : List ℕ) (i r : ℕ) → i < length xs → i < length ys → ys ≡ map f (take i xs) ++ drop i xs → r ≡ f (get_or ys i 0) → set ys i r ≡ map f (take (i + 1) xs) ++ drop (i + 1) xs
+renamed-more f xs ys i r lt in_ys so_far is = ap (set ys i) is ∙ map_over_more f xs ys i (get_or ys i 0) lt so_far (any_default ys i 0 (get_or ys i 0) in_ys)

@@ -1,14 +1,22 @@
--- An account has the value that its last toucher gave it.
-use Rattle.std.proofs.Common.{◌≡◌, ℕ, zero, suc, ◌+◌, Bool, true, false, cond, eqb, List, [], ◌∷◌, refl, sym, ap, subst, ◌∙◌, inl, inr, arith}
+-- What each instruction makes of a day's accounts, and an account as its last toucher left it.
+use Rattle.std.proofs.Common.{◌≡◌, ℕ, zero, suc, ◌+◌, Bool, true, false, cond, eqb, ◌||◌, List, [], ◌∷◌, take, Some, refl, sym, ap, subst, ◌∙◌, inl, inr, arith}
+use Rattle.std.specs.Prelude.{All, slice_get}
 use Rattle.std.specs.List.{IsDistinct}
 use Rattle.std.proofs.lemmas.Bool.{cases_lt}
+use Rattle.std.proofs.lemmas.Option.{same_Some}
 use Rattle.reg_base.specs.declared.instruction.Instruction.{Instruction}
-use Rattle.reg_base.specs.Footprint.{footprint}
-use Rattle.reg_rules.specs.State.{State, Setting}
-use Rattle.reg_rules.specs.Step.{step}
+use Rattle.reg_base.specs.Directory.{DirectoryValue}
+use Rattle.reg_base.specs.Footprint.{footprint, is_among}
+use Rattle.reg_account.specs.Account.{IsAccount}
+use Rattle.reg_rules.specs.State.{State, Setting, account, numbers}
+use Rattle.reg_rules.specs.Step.{step, row_of}
 use Rattle.reg_rules.specs.Laws.{StepLaws}
-use Rattle.reg_book.specs.Laws.{value_at, touches_after, last_toucher, IsLastToucher, ValueIsLastTouchers, LastToucherIsLast, FoldKeepsLimits}
-use Rattle.reg_book.proofs.Lookups.{not_contained}
+use Rattle.reg_book.specs.Book.{directory_of}
+use Rattle.reg_book.specs.Fold.{state_after, rows_of, is_touched}
+use Rattle.reg_book.specs.Day.{setting, state_at, value_at}
+use Rattle.reg_book.specs.Laws.{touches_after, last_toucher, IsLastToucher, LastToucherIsLast, EachIsAStep, NumbersStay, UntouchedStay, ValueIsLastTouchers, LimitsStay}
+use Rattle.reg_book.proofs.Folds.{numbers-fold, others-fold}
+use Rattle.reg_book.proofs.Lookups.{not_contained, or_cases, rising-distinct}
 
 pub last_toucher-last : LastToucherIsLast
 last_toucher-last d is a zero = record {
@@ -33,24 +41,80 @@ last_toucher-last d is a (suc j) = by (touches_after d is a j) refl (last_touche
       ];
     }
 
+-- the state after the first instructions, and the one after
+state-more : (c : Setting) (s : State) (n k : ℕ) (is : List Instruction) (i : Instruction) → slice_get is k ≡ Some i
+    → state_after c s n (take (suc k) is) ≡ (step c (state_after c s n (take k is)) (n + k) i).0
+state-more c s n zero [] i at = absurd cc
+state-more c s n (suc k) [] i at = absurd cc
+state-more c s n zero (x ∷ is) i at =
+    let first : n ≡ n + zero = omega arith in
+    ap (λ (y : Instruction). (step c s n y).0) (same_Some x i at) ∙ ap (λ m. (step c s m i).0) first
+state-more c s n (suc k) (x ∷ is) i at =
+    let later : n + 1 + k ≡ n + suc k = omega arith in
+    state-more c (step c s n x).0 (n + 1) k is i at
+    ∙ ap (λ m. (step c (state_after c (step c s n x).0 (n + 1) (take k is)) m i).0) later
+
+row-more : (c : Setting) (s : State) (n k : ℕ) (is : List Instruction) (i : Instruction) → slice_get is k ≡ Some i
+    → slice_get (rows_of c s n is) k ≡ Some (row_of c (n + k) i (step c (state_after c s n (take k is)) (n + k) i).1)
+row-more c s n zero [] i at = absurd cc
+row-more c s n (suc k) [] i at = absurd cc
+row-more c s n zero (x ∷ is) i at =
+    let first : n ≡ n + zero = omega arith in
+    ap (λ (y : Instruction). Some (row_of c n y (step c s n y).1)) (same_Some x i at) ∙ ap (λ m. Some (row_of c m i (step c s m i).1)) first
+row-more c s n (suc k) (x ∷ is) i at =
+    let later : n + 1 + k ≡ n + suc k = omega arith in
+    row-more c (step c s n x).0 (n + 1) k is i at
+    ∙ ap (λ m. Some (row_of c m i (step c (state_after c (step c s n x).0 (n + 1) (take k is)) m i).1)) later
+
+pub each-step : EachIsAStep
+each-step day k i at =
+    let same : day.batch.base + 1 + k ≡ day.batch.base + suc k = omega arith in
+    record {
+      state = state-more (setting day) day.book.accounts (day.batch.base + 1) k day.batch.instructions i at
+          ∙ ap (λ m. (step (setting day) (state_at day k) m i).0) same;
+      row = row-more (setting day) day.book.accounts (day.batch.base + 1) k day.batch.instructions i at
+          ∙ ap (λ m. Some (row_of (setting day) m i (step (setting day) (state_at day k) m i).1)) same;
+    }
+
+-- of the first instructions none touches what no instruction touches
+take-untouched : (d : DirectoryValue) (is : List Instruction) (a j : ℕ) → is_touched d is a ≡ false → is_touched d (take j is) a ≡ false
+take-untouched d is a zero none = refl
+take-untouched d [] a (suc j) none = refl
+take-untouched d (i ∷ is) a (suc j) none =
+    let apart = or_cases (is_among (footprint d i.act) a) (is_touched d is a) none in
+    ap (λ b. b || is_touched d (take j is) a) apart.0 ∙ take-untouched d is a j apart.1
+
 module _ (laws : StepLaws) where
+  pub numbers-day : NumbersStay
+  numbers-day day j = numbers-fold laws (setting day) day.book.accounts (day.batch.base + 1) (take j day.batch.instructions)
+
+  pub others-day : UntouchedStay
+  others-day day a none j =
+      others-fold laws (setting day) day.book.accounts (day.batch.base + 1) (take j day.batch.instructions) a
+      (take-untouched (directory_of day.book.accounts) day.batch.instructions a j none)
+
   -- the instruction after k others, if it does not touch the account, leaves it
-  passed_by : (c : Setting) (s : State) (n : ℕ) (is : List Instruction) (a k : ℕ) → touches_after c.directory is a k ≡ false → value_at c s n is a (suc k) ≡ value_at c s n is a k
+  passed_by : (c : Setting) (s : State) (n : ℕ) (is : List Instruction) (a k : ℕ) → touches_after c.directory is a k ≡ false
+      → account (state_after c s n (take (suc k) is)) a ≡ account (state_after c s n (take k is)) a
   passed_by c s n [] a zero apart = refl
   passed_by c s n [] a (suc k) apart = refl
   passed_by c s n (i ∷ is) a zero apart = laws.others_stay c s n i a (not_contained (footprint c.directory i.act) a apart)
   passed_by c s n (i ∷ is) a (suc k) apart = passed_by c (step c s n i).0 (n + 1) is a k apart
 
   pub value-last_toucher : ValueIsLastTouchers
-  value-last_toucher c s n is a zero = refl
-  value-last_toucher c s n is a (suc k) = by (touches_after c.directory is a k) refl (value-last_toucher c s n is a k)
+  value-last_toucher day a zero = refl
+  value-last_toucher day a (suc k) = by (touches_after (directory_of day.book.accounts) day.batch.instructions a k) refl (value-last_toucher day a k)
     where
-      by : (b : Bool) → touches_after c.directory is a k ≡ b → value_at c s n is a k ≡ value_at c s n is a (last_toucher c.directory is a k)
-          → value_at c s n is a (suc k) ≡ value_at c s n is a (cond b (suc k) (last_toucher c.directory is a k))
+      by : (b : Bool) → touches_after (directory_of day.book.accounts) day.batch.instructions a k ≡ b → value_at day a k ≡ value_at day a (last_toucher (directory_of day.book.accounts) day.batch.instructions a k)
+          → value_at day a (suc k) ≡ value_at day a (cond b (suc k) (last_toucher (directory_of day.book.accounts) day.batch.instructions a k))
       by true touched before = refl
-      by false apart before = passed_by c s n is a k apart ∙ before
+      by false apart before = passed_by (setting day) day.book.accounts (day.batch.base + 1) day.batch.instructions a k apart ∙ before
 
-  pub limits-fold : FoldKeepsLimits
+  limits-fold : (c : Setting) (s : State) (n : ℕ) (is : List Instruction) → IsDistinct eqb (numbers s) → All IsAccount s → All IsAccount (state_after c s n is)
   limits-fold c s n [] distinct all = all
   limits-fold c s n (i ∷ is) distinct all =
       limits-fold c (step c s n i).0 (n + 1) is (subst (IsDistinct eqb) (sym (laws.numbers_stay c s n i)) distinct) (laws.limits_stay c s n i distinct all)
+
+  pub limits-day : LimitsStay
+  limits-day day kept j =
+      limits-fold (setting day) day.book.accounts (day.batch.base + 1) (take j day.batch.instructions) (rising-distinct day.book.accounts kept.rising) kept.within_limits

@@ -1,5 +1,5 @@
--- A book: the accounts of a registry by rising number, and the next record number.
-use Rattle.std.specs.Prelude.{◌≡◌, ℕ, ◌+◌, ◌<◌, ◌≤◌, List, [], ◌∷◌, ◌++◌, map, length, Contains, sum_by, nat_eq, IsPermutation, unwrap_or}
+-- A book: the accounts of a registry in the order of their numbers, and the next record number.
+use Rattle.std.specs.Prelude.{◌≡◌, ℕ, ◌+◌, ◌<◌, ◌≤◌, Bool, false, List, [], ◌∷◌, ◌++◌, All, map, find, length, slice_index, sum_by, nat_eq, nat_le, IsPermutation, Option, Some, None, unwrap_or}
 use Rattle.std.specs.List.{IsDistinct}
 use Rattle.std.specs.FinMap as fin
 use Rattle.reg_base.specs.declared.limits.TheConstants.{MOST_ACCOUNTS, MOST_RECORD}
@@ -7,7 +7,8 @@ use Rattle.reg_base.specs.declared.kinds.AllowanceKind.{AllowanceKind}
 use Rattle.reg_base.specs.declared.kinds.AccountKind.{AccountKind}
 use Rattle.reg_base.specs.Rising.{IsRising}
 use Rattle.reg_base.specs.Directory.{DirectoryValue}
-use Rattle.reg_account.specs.Account.{AccountValue, held_by}
+use Rattle.reg_base.specs.Footprint.{is_among}
+use Rattle.reg_account.specs.Account.{AccountValue, IsAccount, held_by}
 use Rattle.reg_rules.specs.State.{account, numbers}
 use Rattle.reg_book.specs.declared.draft.BookFault.{BookFault}
 use Rattle.reg_book.specs.declared.draft.BookFault.TheVariants.{Repeated, Full, NoMemory}
@@ -34,6 +35,7 @@ pub record IsNext (next : ℕ) : Type 0 where
 pub record IsBook (b : BookValue) : Type 0 where
   pub rising : IsRising (numbers b.accounts)
   pub few : length b.accounts ≤ MOST_ACCOUNTS
+  pub within_limits : All IsAccount b.accounts
   pub next : IsNext b.next
 
 -- what holds of a book and its directory
@@ -45,6 +47,7 @@ pub record IsKept (accounts : List AccountValue) (directory : DirectoryValue) (n
 pub record IsDraft (accounts : List AccountValue) (directory : DirectoryValue) (next : ℕ) : Type 0 where
   pub distinct : IsDistinct nat_eq (numbers accounts)
   pub few : length accounts ≤ MOST_ACCOUNTS
+  pub within_limits : All IsAccount accounts
   pub next_fits : IsNext next
   pub listed : directory ≡ directory_of accounts
 
@@ -53,23 +56,30 @@ pub record IsFinished (draft book : BookValue) : Type 0 where
   pub same : IsPermutation draft.accounts book.accounts
   pub rising : IsRising (numbers book.accounts)
   pub next_stays : book.next ≡ draft.next
-  -- accounts that were inserted by rising number stay in this order
-  pub in_order : IsRising (numbers draft.accounts) → book.accounts ≡ draft.accounts
 
 -- the book with one more account
 abbrev pub with_account : BookValue → AccountValue → BookValue
 with_account b a = record b { accounts = b.accounts ++ a ∷ [] }
 
--- the draft can take the account: no other account has its number, and the draft has fewer than 100,000 accounts
-pub record CanTake (accounts : List AccountValue) (a : AccountValue) : Type 0 where
-  pub is_new : ¬ (Contains (numbers accounts) a.number)
-  pub is_room : length accounts < MOST_ACCOUNTS
+-- what is wrong with taking an account in: another has its number, or there are as many as may be
+abbrev pub has : List AccountValue → AccountValue → BookFault → Bool
+has accounts a Repeated = is_among (numbers accounts) a.number
+has accounts a Full = nat_le MOST_ACCOUNTS (length accounts)
+has accounts a NoMemory = false
 
--- why a draft refuses an account: the first fault that applies
-abbrev pub FaultOf : List AccountValue → AccountValue → BookFault → Type 0
-FaultOf accounts a Repeated = Contains (numbers accounts) a.number
-FaultOf accounts a Full = ¬ (Contains (numbers accounts) a.number) × (length accounts ≡ MOST_ACCOUNTS)
-FaultOf accounts a NoMemory = CanTake accounts a
+-- the faults that are looked for, in their order
+abbrev pub faults : List BookFault
+faults = Repeated ∷ Full ∷ []
+
+-- the first thing that is wrong with taking an account in
+abbrev pub first_fault : List AccountValue → AccountValue → Option BookFault
+first_fault accounts a = find (has accounts a) faults
+
+-- why an account is not taken in: the first thing that is wrong, or a refused growth where nothing is
+abbrev pub IsBookFault : List AccountValue → AccountValue → BookFault → Type 0
+IsBookFault accounts a Repeated = first_fault accounts a ≡ Some Repeated
+IsBookFault accounts a Full = first_fault accounts a ≡ Some Full
+IsBookFault accounts a NoMemory = first_fault accounts a ≡ None
 
 -- how many allowances of a kind all accounts hold
 abbrev pub total_held : BookValue → AllowanceKind → ℕ
@@ -78,3 +88,7 @@ total_held b kind = sum_by (λ v. held_by v kind) b.accounts
 -- the accounts, each replaced by the account of the other list that has the same number, if there is one
 abbrev pub overlay : List AccountValue → List AccountValue → List AccountValue
 overlay accounts others = map (λ v. unwrap_or (account others v.number) v) accounts
+
+-- from this place on each number is higher
+abbrev pub AreHigher : List ℕ → ℕ → ℕ → Type 0
+AreHigher ns from a = (k : ℕ) → from ≤ k → k < length ns → a < slice_index ns k

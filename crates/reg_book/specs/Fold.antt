@@ -1,5 +1,5 @@
 -- Executing the instructions one after another.
-use Rattle.std.specs.Prelude.{ℕ, ◌+◌, Bool, List, [], ◌∷◌}
+use Rattle.std.specs.Prelude.{ℕ, ◌+◌, Bool, List, [], ◌∷◌, filter}
 use Rattle.std.specs.List.{list_any}
 use Rattle.reg_base.specs.declared.instruction.Instruction.{Instruction}
 use Rattle.reg_base.specs.Directory.{DirectoryValue}
@@ -21,3 +21,7 @@ rows_of c s number (i ∷ is) = row_of c number i (step c s number i).1 ∷ rows
 -- some instruction touches the account
 abbrev pub is_touched : DirectoryValue → List Instruction → ℕ → Bool
 is_touched directory is a = list_any (λ i. is_among (footprint directory i.act) a) is
+
+-- the accounts that some instruction touches, in their order
+abbrev pub touched_of : DirectoryValue → List Instruction → State → State
+touched_of directory is s = filter (λ v. is_touched directory is v.number) s

@@ -1,9 +1,9 @@
 pub mod Book
 pub mod Fold
-pub mod Places
-pub mod Touched
-pub mod TouchedMarks
 pub mod Settled
+pub mod Day
 pub mod Settling
 pub mod Laws
-pub mod FirstDay
+pub mod Places
+pub mod Marks
+pub mod Turns

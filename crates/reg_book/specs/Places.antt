@@ -1,6 +1,7 @@
--- Places among accounts.
-use Rattle.std.specs.Prelude.{◌≡◌, ℕ, ◌<◌, List, Contains, length, slice_index}
+-- Places among accounts, counted from 0. Private functions are stated in these.
+use Rattle.std.specs.Prelude.{◌≡◌, ℕ, ◌<◌, List, map, length, slice_index}
 use Rattle.std.specs.List.{AllByRecursion}
+use Rattle.arrayvec.specs.ArrayVec.{ArrayVec}
 use Rattle.reg_base.specs.declared.instruction.Instruction.{Instruction}
 use Rattle.reg_base.specs.Directory.{DirectoryValue}
 use Rattle.reg_base.specs.Footprint.{footprint}
@@ -11,10 +12,29 @@ pub record StandsAt (s : State) (place a : ℕ) : Type 0 where
   pub within : place < length s
   pub has_number : slice_index (numbers s) place ≡ a
 
--- each account that the instruction touches is in the list
-abbrev pub HasTouched : DirectoryValue → State → Instruction → Type 0
-HasTouched directory s i = AllByRecursion (Contains (numbers s)) (footprint directory i.act)
+-- what stands at each of these places of a list of numbers
+abbrev pub each_at : List ℕ → List ℕ → List ℕ
+each_at ns places = map (λ p. slice_index ns p) places
 
--- each account that some instruction touches is in the list
-abbrev pub HaveTouched : DirectoryValue → State → List Instruction → Type 0
-HaveTouched directory s is = AllByRecursion (HasTouched directory s) is
+-- these numbers stand at these places of a list, in this order
+pub record StandAt (ns places wanted : List ℕ) : Type 0 where
+  pub within : AllByRecursion (λ p. p < length ns) places
+  pub are_there : each_at ns places ≡ wanted
+
+-- the places of each instruction
+abbrev pub lists_of : List (ArrayVec ℕ) → List (List ℕ)
+lists_of places = map (λ p. p.items) places
+
+-- the footprint of each instruction
+abbrev pub footprints : DirectoryValue → List Instruction → List (List ℕ)
+footprints directory is = map (λ i. footprint directory i.act) is
+
+-- for each instruction the places at which the accounts that it touches stand
+pub record AllStandAt (directory : DirectoryValue) (ns : List ℕ) (places : List (List ℕ)) (is : List Instruction) : Type 0 where
+  pub within : AllByRecursion (AllByRecursion (λ p. p < length ns)) places
+  pub are_there : map (each_at ns) places ≡ footprints directory is
+
+-- the same, where the places are ranks: each instruction's places in a first list lead to its places in a second one
+pub record AllRanked (directory : DirectoryValue) (ns ranks : List ℕ) (places : List (List ℕ)) (is : List Instruction) : Type 0 where
+  pub within : AllByRecursion (AllByRecursion (λ p. p < length ranks)) places
+  pub stand_at : AllStandAt directory ns (map (each_at ranks) places) is

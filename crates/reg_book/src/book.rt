@@ -1,16 +1,17 @@
 //! The book of all accounts.
 
-ghost use Rattle.std.specs.Prelude.{◌≡◌, ◌≢◌, ◌+◌, ◌≤◌, [], ◌∷◌, length, sum_by, MatchResult};
+ghost use Rattle.std.specs.Prelude.{◌≡◌, ◌≢◌, ◌+◌, ◌-◌, ◌<◌, ◌≤◌, [], ◌∷◌, All, length, slice_index, sum_by, MatchResult};
 ghost use Rattle.std.specs.Option.{option_copied};
 ghost use Rattle.reg_base.specs.declared.limits.TheConstants.{MOST_ACCOUNTS};
 ghost use Rattle.reg_base.specs.Rising.{IsRising};
-ghost use Rattle.reg_account.specs.Account.{held_by};
+ghost use Rattle.reg_account.specs.Account.{IsAccount, held_by};
 ghost use Rattle.reg_rules.specs.State.{account, numbers};
-ghost use Rattle.reg_book.specs.Book.{overlay};
+ghost use Rattle.reg_book.specs.Book.{overlay, AreHigher};
 
-use crate::settled::{Log, Settled, Stale};
+use crate::settled::{Settled, Stale};
 use reg_account::Account;
 use reg_base::{AccountNo, AllowanceKind, Directory};
+use reg_rules::LogRow;
 use std::marker::Model;
 
 /// How many allowances of one kind all accounts together hold, have surrendered and have deleted.
@@ -44,7 +45,7 @@ impl Model for Book {
 
 impl Book {
     ghost use Rattle.reg_book.specs.Book.{directory_of, IsBook, IsKept, total_held};
-    ghost use Rattle.reg_book.specs.Settled.{SettledValue, IsOfBook, committed};
+    ghost use Rattle.reg_book.specs.Settled.{IsOfBook, committed};
 
     /// The book of these accounts, which must be in the order of their numbers and in the directory.
     pub(crate) fn from_sorted(accounts: Vec<Account>, directory: Directory, next: u64) -> Self
@@ -102,47 +103,77 @@ impl Book {
     /// Replaces the settled accounts in the book, raises the next record number by the number of log rows, and
     /// answers these rows. All other accounts stay as they are. Takes no memory.
     ///
+    /// The time is linear in the book's accounts.
+    ///
     /// # Errors
-    /// The settled day as it was, and the book's next record number, if the first record of the day does not have
-    /// this number. The book is unchanged.
-    pub fn commit(&mut self, settled: Settled) -> Result<Log, (Settled, Stale)>
+    /// The settled day as it was, with the book's next record number, where the day does not begin with that
+    /// number; the book is unchanged.
+    pub fn commit(&mut self, settled: Settled) -> Result<Vec<LogRow>, (Settled, Stale)>
         requires { settled.base + 1 ≡ self.old.next → IsOfBook self.old settled }
         ensures answer { MatchResult result
-            (λ log. (settled.base + 1 ≡ self.old.next) × (self.new ≡ committed self.old settled) × (log ≡ settled.rows))
+            (λ rows. (settled.base + 1 ≡ self.old.next) × (self.new ≡ committed self.old settled) × (rows.items ≡ settled.rows))
             (λ e. (settled.base + 1 ≢ self.old.next) × (self.new ≡ self.old) × (e.0 ≡ settled) × (e.1.next ≡ self.old.next)) }
         ensures directory { directory_of self.new.accounts ≡ directory_of self.old.accounts }
-        ensures of_book { (other : SettledValue) → IsOfBook self.old other → IsOfBook self.new other }
     {
         let next = self.next;
-        if settled.base() + 1 != next {
+        if settled.base() != next - 1 {
             return Err((settled, Stale { next }));
         }
-        let (base, rows, accounts) = settled.into_parts();
-        self.next = base + rows.len() as u64 + 1;
+        let (rows, accounts) = settled.into_parts();
+        self.next = next + rows.len() as u64;
         replace_accounts(&mut self.accounts, accounts);
-
-        Ok(Log::new(rows))
+        Ok(rows)
     }
 }
 
-// Replaces each account that has the number of a settled one.
+// Puts each account in the place of the one with its number. Both lists are walked once, from their ends.
 fn replace_accounts(accounts: &mut Vec<Account>, mut settled: Vec<Account>)
     requires rising { IsRising (numbers accounts.old.items) }
-    ensures { accounts.new.items ≡ overlay accounts.old.items settled.items }
+    requires settled_rising { IsRising (numbers settled.items) }
+    requires within_limits { All IsAccount accounts.old.items }
+    ensures items { accounts.new.items ≡ overlay accounts.old.items settled.items }
+    ensures within_limits { All IsAccount accounts.new.items }
 {
+    let mut until = accounts.len();
     while let Some(account) = settled.pop() {
-        replace_account(accounts, account);
+        until = replace_account(accounts, until, account);
     }
 }
 
-// Replaces the account with the same number, if there is one.
-fn replace_account(accounts: &mut Vec<Account>, account: Account)
-    requires { IsRising (numbers accounts.old.items) }
-    ensures { accounts.new.items ≡ overlay accounts.old.items (account ∷ []) }
+// Puts the account in the place of the one with its number, if there is one. From `until` on all numbers are higher.
+// Answers a place from which on none is lower.
+fn replace_account(accounts: &mut Vec<Account>, until: usize, account: Account) -> usize
+    requires rising { IsRising (numbers accounts.old.items) }
+    requires within_limits { All IsAccount accounts.old.items }
+    requires within { until ≤ length accounts.old.items }
+    requires higher { AreHigher (numbers accounts.old.items) until account.number }
+    ensures items { accounts.new.items ≡ overlay accounts.old.items (account ∷ []) }
+    ensures within_limits { All IsAccount accounts.new.items }
+    ensures within { result ≤ length accounts.old.items }
+    ensures higher { AreHigher (numbers accounts.old.items) result account.number }
 {
-    if let Ok(place) = accounts.binary_search_by_key(&account.number(), |other| other.number()) {
-        accounts[place] = account;
+    account.is_within_limits();
+    let number = account.number();
+    let count = count_not_higher(accounts, until, number);
+    if count > 0 && accounts[count - 1].number() == number {
+        accounts[count - 1] = account;
     }
+    count
+}
+
+// How many of the first accounts have a number that is not higher.
+fn count_not_higher(accounts: &[Account], until: usize, number: AccountNo) -> usize
+    requires within { until ≤ length accounts.now }
+    requires higher { AreHigher (numbers accounts.now) until number }
+    ensures within { result ≤ length accounts.now }
+    ensures higher { AreHigher (numbers accounts.now) result number }
+    ensures last { 0 < result → slice_index (numbers accounts.now) (result - 1) ≤ number }
+{
+    let mut count = until;
+    while count > 0 && accounts[count - 1].number() > number {
+        count -= 1;
+    }
+    count
 }
 
 // The account with this number, found by binary search.

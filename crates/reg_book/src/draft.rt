@@ -1,11 +1,11 @@
 //! A book in the making.
 
-ghost use Rattle.std.specs.Prelude.{◌≡◌, ◌<◌, ◌≤◌, [], ◌∷◌, ◌++◌, length, vec_len, vec_capacity, MatchResult, OnOk, IfErr, IsTrue, ◌↔◌, nat_eq, IsPermutation};
+ghost use Rattle.std.specs.Prelude.{◌≡◌, ◌<◌, [], ◌∷◌, ◌++◌, length, vec_len, vec_capacity, MatchResult, OnOk, OnErr, None, IsTrue, ◌↔◌, nat_eq, IsPermutation};
 ghost use Rattle.std.specs.List.{IsDistinct};
 ghost use Rattle.reg_base.specs.Rising.{IsRising};
 ghost use Rattle.reg_rules.specs.State.{numbers};
-ghost use Rattle.reg_base.specs.declared.limits.TheConstants.{MOST_ACCOUNTS};
-ghost use Rattle.reg_book.specs.Book.{directory_of, CanTake, FaultOf};
+ghost use Rattle.reg_account.specs.Account.{IsAccount};
+ghost use Rattle.reg_book.specs.Book.{directory_of, first_fault, IsBookFault};
 
 use crate::book::Book;
 use reg_account::Account;
@@ -47,7 +47,7 @@ impl Model for BookDraft {
 }
 
 impl BookDraft {
-    ghost use Rattle.reg_book.specs.Book.{with_account, IsNext, CanTake, FaultOf, IsFinished};
+    ghost use Rattle.reg_book.specs.Book.{with_account, IsNext, IsFinished, IsBookFault, first_fault};
 
     /// A draft without accounts. `next` is the next record number, 1 to 10^15 + 1. Takes no memory.
     pub fn new(alloc: Global, next: u64) -> Self
@@ -68,10 +68,10 @@ impl BookDraft {
     /// changed.
     pub fn insert(&mut self, account: Account) -> Result<(), (Account, BookFault)>
         ensures { MatchResult result
-            (λ _. (self.new ≡ with_account self.old account) × CanTake self.old.accounts account)
-            (λ e. (self.new ≡ self.old) × (e.0 ≡ account) × FaultOf self.old.accounts account e.1) }
+            (λ _. (self.new ≡ with_account self.old account) × (first_fault self.old.accounts account ≡ None))
+            (λ e. (self.new ≡ self.old) × (e.0 ≡ account) × IsBookFault self.old.accounts account e.1) }
     {
-        match make_room(&mut self.accounts, &mut self.directory, &account) {
+        match take_place(&mut self.accounts, &mut self.directory, &account) {
             Err(fault) => Err((account, fault)),
             Ok(()) => {
                 self.accounts.push(account).unwrap();
@@ -100,7 +100,6 @@ fn put_in_order(accounts: &mut Vec<Account>)
     ensures same { IsPermutation accounts.old.items accounts.new.items }
     ensures len { length accounts.new.items ≡ length accounts.old.items }
     ensures rising { IsRising (numbers accounts.new.items) }
-    ensures in_order { IsRising (numbers accounts.old.items) → accounts.new.items ≡ accounts.old.items }
 {
     if !has_rising_numbers(accounts) {
         accounts.sort_unstable_by_key(|account| account.number());
@@ -118,31 +117,59 @@ fn has_rising_numbers(accounts: &[Account]) -> bool
     true
 }
 
-// Enters the account into the directory and makes room for it in the list, or answers why the draft refuses it.
-fn make_room(
+// Makes room for the account and enters it into the directory, or says why it can't be taken in.
+fn take_place(
     accounts: &mut Vec<Account>,
     directory: &mut Directory,
     account: &Account,
 ) -> Result<(), BookFault>
     requires listed { directory.old ≡ directory_of accounts.old.items }
-    requires few { length accounts.old.items ≤ MOST_ACCOUNTS }
     ensures items { accounts.new.items ≡ accounts.old.items }
-    ensures ok { OnOk result (vec_len accounts.new < vec_capacity accounts.new) }
+    ensures room { OnOk result (vec_len accounts.new < vec_capacity accounts.new) }
     ensures entered { OnOk result (directory.new ≡ directory_of (accounts.old.items ++ account.now ∷ [])) }
-    ensures may { OnOk result (CanTake accounts.old.items account.now) }
-    ensures err { IfErr result (λ e. (directory.new ≡ directory.old) × FaultOf accounts.old.items account.now e) }
+    ensures fault { MatchResult result (λ _. first_fault accounts.old.items account.now ≡ None) (IsBookFault accounts.old.items account.now) }
+    ensures err { OnErr result (directory.new ≡ directory.old) }
+    ensures within_limits { IsAccount account.now }
 {
-    if directory.find(account.number()).is_some() {
-        return Err(BookFault::Repeated);
+    account.is_within_limits();
+    if let Some(fault) = find_fault(accounts, directory, account) {
+        return Err(fault);
     }
-    if accounts.len() == MOST_ACCOUNTS {
-        return Err(BookFault::Full);
-    }
-    if accounts.reserve(1).is_err() {
-        return Err(BookFault::NoMemory);
-    }
-    match directory.insert(account.number(), account.kind(), account.holder()) {
-        Ok(_) => Ok(()),
+    match make_room(accounts, directory, account) {
+        Ok(()) => Ok(()),
         Err(NoMemory) => Err(BookFault::NoMemory),
     }
+}
+
+// What is wrong with taking the account in, if anything is.
+fn find_fault(
+    accounts: &[Account],
+    directory: &Directory,
+    account: &Account,
+) -> Option<BookFault>
+    requires listed { directory.now ≡ directory_of accounts.now }
+    ensures { result ≡ first_fault accounts.now account.now }
+{
+    if directory.find(account.number()).is_some() {
+        return Some(BookFault::Repeated);
+    }
+    (accounts.len() >= MOST_ACCOUNTS).then_some(BookFault::Full)
+}
+
+// Makes room for the account among the others, and enters it into the directory.
+fn make_room(
+    accounts: &mut Vec<Account>,
+    directory: &mut Directory,
+    account: &Account,
+) -> Result<(), NoMemory>
+    requires listed { directory.old ≡ directory_of accounts.old.items }
+    requires is_new { first_fault accounts.old.items account.now ≡ None }
+    ensures items { accounts.new.items ≡ accounts.old.items }
+    ensures room { OnOk result (vec_len accounts.new < vec_capacity accounts.new) }
+    ensures entered { OnOk result (directory.new ≡ directory_of (accounts.old.items ++ account.now ∷ [])) }
+    ensures err { OnErr result (directory.new ≡ directory.old) }
+{
+    accounts.reserve(1)?;
+    directory.insert(account.number(), account.kind(), account.holder())?;
+    Ok(())
 }

@@ -1,15 +1,20 @@
-//! Laws of instructions that are executed one after another. Each law is the contract of a function that does
-//! nothing. A function whose proof needs a law calls it.
+//! What is true of a day's instructions one after another. Each law is the contract of a function that does nothing;
+//! whoever needs a law calls its function.
 
-ghost use Rattle.reg_book.specs.FirstDay.{FirstStep, RefusedStep, FirstFold, FirstClosing};
-ghost use Rattle.reg_book.specs.Laws.{FoldKeepsNumbers, UntouchedStay, ValueIsLastTouchers, LastToucherIsLast, FoldKeepsLimits, CommittedIsClosing};
+ghost use Rattle.reg_book.specs.Laws.{EachIsAStep, NumbersStay, UntouchedStay, ValueIsLastTouchers, LastToucherIsLast, LimitsStay, SettledAreTouched, CommittedIsClosing};
 
 use reg_rules::step_laws;
 
-/// No account is added, removed or moved in the list. An account that no instruction touches stays as it is.
+/// Each instruction is carried out on what the ones before it left.
+pub fn each_is_a_step()
+    ensures { EachIsAStep }
+{
+}
+
+/// No account comes, goes or moves, and one that no instruction touches stays as it is.
 pub fn untouched_stay()
     ensures accounts { UntouchedStay }
-    ensures numbers { FoldKeepsNumbers }
+    ensures numbers { NumbersStay }
 {
     step_laws();
 }
@@ -22,25 +27,18 @@ pub fn value_is_last_touchers()
     step_laws();
 }
 
-/// Accounts that are within their limits stay within them.
-pub fn fold_keeps_limits()
-    ensures { FoldKeepsLimits }
+/// Accounts within their limits stay within them.
+pub fn limits_stay()
+    ensures { LimitsStay }
 {
     step_laws();
 }
 
-/// After a settled day is committed, the book holds what the instructions give one after another.
-pub fn committed_is_closing()
-    ensures { CommittedIsClosing }
+/// A settled day has the accounts that an instruction touched as the last one left them. Put into its book it leaves
+/// what all instructions leave one after another.
+pub fn settled_is_closing()
+    ensures settled { SettledAreTouched }
+    ensures committed { CommittedIsClosing }
 {
     step_laws();
 }
-
-/// Worked values. From an account that holds 100, a transfer of 40 is done and a transfer of 101 is refused as
-/// `NotEnough`. Transfers of 40, 61 and 60 one after another are done, refused and done.
-pub fn first_day_is_decided()
-    ensures moves { FirstStep }
-    ensures refuses { RefusedStep }
-    ensures rows { FirstFold }
-    ensures closing { FirstClosing }
-{}

@@ -13,8 +13,7 @@ mod turn;
 pub use book::{Book, Totals};
 pub use draft::{BookDraft, BookFault};
 pub use laws::{
-    committed_is_closing, first_day_is_decided, fold_keeps_limits, untouched_stay,
-    value_is_last_touchers,
+    each_is_a_step, limits_stay, settled_is_closing, untouched_stay, value_is_last_touchers,
 };
 pub use settle::{SettleFault, settle_plain};
-pub use settled::{Log, Settled, Stale};
+pub use settled::{Settled, Stale};

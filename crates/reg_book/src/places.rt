@@ -1,12 +1,19 @@
-//! The place of an account among accounts that are sorted by number.
+//! Where accounts stand among accounts in the order of their numbers.
 
-ghost use Rattle.std.specs.Prelude.{◌≡◌, None, MatchOption};
+ghost use Rattle.std.specs.Prelude.{◌≡◌, ◌<◌, None, IfOk, MatchOption, length};
+ghost use Rattle.std.specs.List.{AllByRecursion};
 ghost use Rattle.reg_base.specs.Rising.{IsRising};
 ghost use Rattle.reg_rules.specs.State.{account, numbers};
-ghost use Rattle.reg_book.specs.Places.{StandsAt};
+ghost use Rattle.reg_book.specs.Places.{StandsAt, each_at};
+ghost use Rattle.reg_book.specs.Marks.{ranks_from};
 
+use arrayvec::ArrayVec;
 use reg_account::Account;
-use reg_base::AccountNo;
+use reg_base::{AccountNo, MOST_TOUCHED, NoMemory};
+use std::alloc::Global;
+
+/// Places of the accounts that one instruction touches, in its order, each counted from 0.
+pub(crate) type Places = ArrayVec<usize, MOST_TOUCHED>;
 
 /// The place of the account with this number, counted from 0.
 pub(crate) fn place_of(accounts: &[Account], number: AccountNo) -> Option<usize>
@@ -17,4 +24,29 @@ pub(crate) fn place_of(accounts: &[Account], number: AccountNo) -> Option<usize>
         Ok(place) => Some(place),
         Err(_) => None,
     }
+}
+
+/// For each mark, how many are set before it: the place that the account there has among the marked ones.
+pub(crate) fn ranks_of(alloc: Global, marks: &[bool]) -> Result<Vec<usize>, NoMemory>
+    ensures { IfOk result (λ ranks. ranks.items ≡ ranks_from 0 marks.now) }
+{
+    let mut ranks = Vec::with_capacity(alloc, marks.len())?;
+    let mut count = 0;
+    for mark in marks {
+        ranks.push(count)?;
+        count += usize::from(*mark);
+    }
+    Ok(ranks)
+}
+
+/// The ranks at these places.
+pub(crate) fn ranks_at(places: &Places, ranks: &[usize]) -> Places
+    requires { AllByRecursion (λ place. place < length ranks.now) places.now.items }
+    ensures { result.items ≡ each_at ranks.now places.now.items }
+{
+    let mut own = Places::new();
+    for place in places.as_slice() {
+        own.push(ranks[*place]);
+    }
+    own
 }

@@ -1,19 +1,20 @@
 //! The plain settlement of a day.
 
-ghost use Rattle.std.specs.Prelude.{◌≡◌, ◌+◌, IfOk, OnOk, MatchResult};
-ghost use Rattle.reg_base.specs.Rising.{IsRising};
+ghost use Rattle.std.specs.Prelude.{◌≡◌, ◌+◌, IfOk, OnOk, MatchResult, nat_eq};
+ghost use Rattle.std.specs.List.{IsDistinct};
 ghost use Rattle.reg_rules.specs.State.{Setting, numbers};
 ghost use Rattle.reg_book.specs.Fold.{state_after, rows_of};
-ghost use Rattle.reg_book.specs.Places.{HaveTouched};
-ghost use Rattle.reg_book.specs.Settled.{settled_day, IsOfBook};
-ghost use Rattle.reg_book.specs.Settling.{FaultOf};
+ghost use Rattle.reg_book.specs.Settled.{IsOfBook};
+ghost use Rattle.reg_book.specs.Day.{day_of, settled_day};
+ghost use Rattle.reg_book.specs.Settling.{IsSettleFault};
+ghost use Rattle.reg_book.specs.Places.{AllRanked, lists_of};
 
 use crate::book::Book;
+use crate::places::{Places, ranks_at};
 use crate::settled::Settled;
-use crate::touched::copy_touched;
+use crate::touched::{Touched, find_touched};
 use crate::turn::{Turn, take_turn};
 use reg_account::Account;
-use reg_base::laws::each_footprint_is_sound;
 use reg_base::{Batch, Directory, NoMemory, RecordNo, Rules};
 use reg_rules::{LogRow, log_row, step_laws};
 use std::alloc::Global;
@@ -36,8 +37,8 @@ pub enum SettleFault {
 /// Settles a batch: executes its instructions one after another, each on the accounts as the instructions before it
 /// left them. The book is not changed.
 ///
-/// The time is linear in the accounts of the book and the instructions of the batch, except for searches by account
-/// number. Each touched account is copied once.
+/// The time is linear in the book's accounts and in the batch, except for the look-ups: an instruction looks each account
+/// that it touches up once. Each touched account is copied once.
 ///
 /// # Errors
 /// `WrongBase` if the first record number of the batch is not the book's next record number. Otherwise `NoMemory` if
@@ -48,7 +49,9 @@ pub fn settle_plain(
     rules: &Rules,
     batch: &Batch,
 ) -> Result<Settled, SettleFault>
-    ensures settled { MatchResult result (λ s. (batch.now.base + 1 ≡ book.now.next) × (s ≡ settled_day book.now rules.now batch.now)) (FaultOf book.now batch.now) }
+    ensures settled { MatchResult result
+        (λ s. (batch.now.base + 1 ≡ book.now.next) × (s ≡ settled_day (day_of book.now rules.now batch.now)))
+        (IsSettleFault book.now batch.now) }
     ensures of_book { IfOk result (λ s. IsOfBook book.now s) }
 {
     let next = book.next_record();
@@ -68,28 +71,34 @@ fn settle_batch(
     rules: &Rules,
     batch: &Batch,
 ) -> Result<Settled, NoMemory>
-    ensures settled { IfOk result (λ s. s ≡ settled_day book.now rules.now batch.now) }
+    ensures settled { IfOk result (λ s. s ≡ settled_day (day_of book.now rules.now batch.now)) }
     ensures of_book { IfOk result (λ s. IsOfBook book.now s) }
 {
     // By the laws, settling the touched accounts gives what settling all accounts would give.
     step_laws();
-    each_footprint_is_sound();
     let directory = book.directory();
-    let mut accounts = copy_touched(alloc, book.accounts(), directory, batch.instructions())?;
-    let rows = settle_all(alloc, rules, batch, directory, &mut accounts)?;
+    let Touched {
+        mut accounts,
+        places,
+        ranks,
+    } = find_touched(alloc, book.accounts(), directory, batch.instructions())?;
+    let rows = settle_all(alloc, rules, batch, directory, &mut accounts, &places, &ranks)?;
     Ok(Settled::new(batch.base(), rows, accounts))
 }
 
-// Executes all instructions on copies of the accounts that they touch, and answers the log.
+// Carries all instructions out on the accounts that they touch, and answers the log. The accounts that an
+// instruction touches stand at the ranks of its places.
 fn settle_all(
     alloc: Global,
     rules: &Rules,
     batch: &Batch,
     directory: &Directory,
     accounts: &mut [Account],
+    places: &[Places],
+    ranks: &[usize],
 ) -> Result<Vec<LogRow>, NoMemory>
-    requires rising { IsRising (numbers accounts.old) }
-    requires present { HaveTouched directory.now accounts.old batch.now.instructions }
+    requires distinct { IsDistinct nat_eq (numbers accounts.old) }
+    requires ranked { AllRanked directory.now (numbers accounts.old) ranks.now (lists_of places.now) batch.now.instructions }
     ensures rows { IfOk result (λ rows. rows.items ≡ rows_of (record { rules = rules.now; day = batch.now.day; directory = directory.now }) accounts.old (batch.now.base + 1) batch.now.instructions) }
     ensures accounts { OnOk result (accounts.new ≡ state_after (record { rules = rules.now; day = batch.now.day; directory = directory.now }) accounts.old (batch.now.base + 1) batch.now.instructions) }
 {
@@ -98,7 +107,7 @@ fn settle_all(
     let instructions = batch.instructions();
     let mut rows = Vec::with_capacity(alloc, instructions.len())?;
     let mut last = batch.base();
-    for instruction in instructions {
+    for (place, instruction) in instructions.iter().enumerate() {
         last += 1;
         let number = RecordNo::new(last).unwrap();
         let turn = Turn {
@@ -108,7 +117,8 @@ fn settle_all(
             number,
             instruction,
         };
-        let reply = take_turn(alloc, &turn, accounts)?;
+        let mut own = ranks_at(&places[place], ranks);
+        let reply = take_turn(alloc, &turn, accounts, own.as_mut_slice())?;
         rows.push(log_row(number, day, *instruction, reply))?;
     }
     Ok(rows)

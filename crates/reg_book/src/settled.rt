@@ -11,38 +11,7 @@ use reg_rules::LogRow;
 use std::marker::Model;
 use thiserror::Error;
 
-/// The log of a day, by rising record number. A contract sees the list of its rows.
-#[derive(Debug, Drop)]
-pub struct Log {
-    rows: Vec<LogRow>,
-}
-
-impl Model for Log {
-    ghost use Rattle.std.specs.Prelude.{List};
-    ghost use Rattle.reg_rules.specs.declared.reply.LogRow.{LogRow};
-
-    ghost Value = { List LogRow };
-
-    ghost view = { λ l. l.rows.items };
-}
-
-impl Log {
-    /// The log with these rows. Takes no memory.
-    pub fn new(rows: Vec<LogRow>) -> Self
-        ensures { result ≡ rows.items }
-    {
-        Log { rows }
-    }
-
-    /// The rows, by rising record number.
-    pub fn as_slice(&self) -> &[LogRow]
-        ensures { result.now ≡ self.now }
-    {
-        &self.rows
-    }
-}
-
-/// The settled day does not begin with the book's next record number, because another day was committed in between.
+/// The settled day does not follow on the book: another day came between.
 #[derive(Clone, Copy, Debug, PartialEq, Eq, Error)]
 #[error("the next record number is {next}")]
 pub struct Stale {
@@ -83,7 +52,7 @@ impl Settled {
         }
     }
 
-    /// The last record number before the day, 0 to 10^15.
+    /// The record number before the day's first.
     pub fn base(&self) -> u64
         ensures value { result ≡ self.now.base }
         ensures kept { IsSettled self.now }
@@ -105,18 +74,13 @@ impl Settled {
         get_account(&self.accounts, number)
     }
 
-    /// Its parts.
-    pub(crate) fn into_parts(self) -> (u64, Vec<LogRow>, Vec<Account>)
-        ensures base { result.0 ≡ self.base }
-        ensures rows { result.1.items ≡ self.rows }
-        ensures accounts { result.2.items ≡ self.accounts }
+    /// Its log and its accounts.
+    pub(crate) fn into_parts(self) -> (Vec<LogRow>, Vec<Account>)
+        ensures rows { result.0.items ≡ self.rows }
+        ensures accounts { result.1.items ≡ self.accounts }
         ensures kept { IsSettled self }
     {
-        let Settled {
-            base,
-            rows,
-            accounts,
-        } = self;
-        (base, rows, accounts)
+        let Settled { rows, accounts, .. } = self;
+        (rows, accounts)
     }
 }

@@ -1,76 +1,98 @@
 //! The accounts that a batch touches.
 
-ghost use Rattle.std.specs.Prelude.{◌≡◌, [], IfOk, length};
+ghost use Rattle.std.specs.Prelude.{◌≡◌, ◌≤◌, [], IsTrue, IfOk, OnOk, length};
+ghost use Rattle.std.specs.List.{AllByRecursion};
+ghost use Rattle.reg_base.specs.declared.limits.TheConstants.{MOST_TOUCHED};
+ghost use Rattle.reg_base.specs.Footprint.{is_among};
 ghost use Rattle.reg_base.specs.Rising.{IsRising};
 ghost use Rattle.reg_rules.specs.State.{numbers};
-ghost use Rattle.reg_book.specs.Touched.{touched_of};
-ghost use Rattle.reg_book.specs.TouchedMarks.{touched_marks, marked, picked};
+ghost use Rattle.reg_book.specs.Book.{directory_of};
+ghost use Rattle.reg_book.specs.Fold.{touched_of};
+ghost use Rattle.reg_book.specs.Places.{StandAt, AllStandAt, AllRanked, lists_of};
+ghost use Rattle.reg_book.specs.Marks.{touched_marks, marked, picked};
 
-use crate::places::place_of;
+use crate::places::{Places, place_of, ranks_of};
 use reg_account::Account;
+use reg_base::laws::each_footprint_is_sound;
 use reg_base::{AccountNo, Directory, Instruction, NoMemory};
 use std::alloc::Global;
 
-/// Copies of the accounts that the instructions touch, in the order of the book. Each is copied once, however many
-/// instructions touch it.
+/// The accounts that a batch touches: copies of them in their order, and where those of each instruction stand.
+pub(crate) struct Touched {
+    /// Copies of the accounts, in their order.
+    pub accounts: Vec<Account>,
+    /// For each instruction the places of its accounts among all accounts.
+    pub places: Vec<Places>,
+    /// For each of all accounts, how many touched ones stand before it.
+    pub ranks: Vec<usize>,
+}
+
+/// Finds the accounts that some instruction touches, and copies each of them once. An account is looked up once an
+/// instruction that touches it.
 ///
 /// # Errors
-/// `NoMemory` if memory ran out.
-pub(crate) fn copy_touched(
+/// `NoMemory` where a growth was refused.
+pub(crate) fn find_touched(
     alloc: Global,
     accounts: &[Account],
     directory: &Directory,
     instructions: &[Instruction],
-) -> Result<Vec<Account>, NoMemory>
-    requires { IsRising (numbers accounts.now) }
-    ensures { IfOk result (λ copies. copies.items ≡ touched_of directory.now instructions.now accounts.now) }
-{
-    let marks = mark_touched(alloc, accounts, directory, instructions)?;
-    copy_marked(alloc, accounts, &marks)
-}
-
-// One mark for each account: whether some instruction touches it.
-fn mark_touched(
-    alloc: Global,
-    accounts: &[Account],
-    directory: &Directory,
-    instructions: &[Instruction],
-) -> Result<Vec<bool>, NoMemory>
-    requires { IsRising (numbers accounts.now) }
-    ensures { IfOk result (λ marks. marks.items ≡ touched_marks directory.now instructions.now accounts.now) }
+) -> Result<Touched, NoMemory>
+    requires rising { IsRising (numbers accounts.now) }
+    requires listed { directory.now ≡ directory_of accounts.now }
+    ensures accounts { IfOk result (λ t. t.accounts.items ≡ touched_of directory.now instructions.now accounts.now) }
+    ensures ranked { IfOk result (λ t. AllRanked directory.now (numbers t.accounts.items) t.ranks.items (lists_of t.places.items) instructions.now) }
 {
     let mut marks = vec![in alloc; false; accounts.len()]?;
-    mark_all(&mut marks, accounts, directory, instructions);
-    Ok(marks)
+    let places = mark_all(alloc, &mut marks, accounts, directory, instructions)?;
+    let ranks = ranks_of(alloc, &marks)?;
+    let accounts = copy_marked(alloc, accounts, &marks)?;
+    Ok(Touched {
+        accounts,
+        places,
+        ranks,
+    })
 }
 
-// Marks each account that some instruction touches.
+// Marks the accounts that some instruction touches, and answers for each instruction where those stand that it
+// touches.
 fn mark_all(
+    alloc: Global,
     marks: &mut [bool],
     accounts: &[Account],
     directory: &Directory,
     instructions: &[Instruction],
-)
+) -> Result<Vec<Places>, NoMemory>
     requires rising { IsRising (numbers accounts.now) }
+    requires listed { directory.now ≡ directory_of accounts.now }
     requires none { marks.old ≡ touched_marks directory.now [] accounts.now }
-    ensures { marks.new ≡ touched_marks directory.now instructions.now accounts.now }
+    ensures marks { OnOk result (marks.new ≡ touched_marks directory.now instructions.now accounts.now) }
+    ensures places { IfOk result (λ places. AllStandAt directory.now (numbers accounts.now) (lists_of places.items) instructions.now) }
 {
+    each_footprint_is_sound();
+    let mut places = Vec::with_capacity(alloc, instructions.len())?;
     for instruction in instructions {
-        mark(marks, accounts, instruction.touches(directory).as_slice());
+        places.push(mark(marks, accounts, instruction.touches(directory).as_slice()))?;
     }
+    Ok(places)
 }
 
-// Marks the accounts with these numbers.
-fn mark(marks: &mut [bool], accounts: &[Account], wanted: &[AccountNo])
+// Marks the accounts of these numbers, which are there, and answers their places.
+fn mark(marks: &mut [bool], accounts: &[Account], wanted: &[AccountNo]) -> Places
     requires rising { IsRising (numbers accounts.now) }
     requires size { length marks.old ≡ length accounts.now }
-    ensures { marks.new ≡ marked marks.old accounts.now wanted.now }
+    requires present { AllByRecursion (λ a. IsTrue (is_among (numbers accounts.now) a)) wanted.now }
+    requires few { length wanted.now ≤ MOST_TOUCHED }
+    ensures marks { marks.new ≡ marked marks.old accounts.now wanted.now }
+    ensures places { StandAt (numbers accounts.now) result.items wanted.now }
 {
+    let mut places = Places::new();
     for number in wanted {
-        if let Some(place) = place_of(accounts, *number) {
-            marks[place] = true;
-        }
+        let place = place_of(accounts, *number).unwrap();
+        marks[place] = true;
+        places.push(place);
     }
+    places
 }
 
 // Copies of the marked accounts, in the same order.

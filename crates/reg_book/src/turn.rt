@@ -1,15 +1,15 @@
-//! One instruction, executed on accounts that are sorted by number.
+//! One instruction at its turn, on accounts among which are those that it touches.
 
-ghost use Rattle.std.specs.Prelude.{◌≡◌, ◌≢◌, ◌<◌, ◌≤◌, [], ◌∷◌, IfOk, length, take, nat_eq, slice_index};
-ghost use Rattle.std.specs.List.{IsDistinct};
-ghost use Rattle.reg_base.specs.Rising.{IsRising};
+ghost use Rattle.std.specs.Prelude.{◌≡◌, ◌+◌, ◌<◌, ◌≤◌, ◌++◌, IfOk, length, map, take, nat_eq};
+ghost use Rattle.std.specs.List.{AllByRecursion, IsDistinct};
 ghost use Rattle.reg_base.specs.Footprint.{footprint};
 ghost use Rattle.reg_rules.specs.State.{Setting, numbers};
 ghost use Rattle.reg_rules.specs.Step.{step};
-ghost use Rattle.reg_book.specs.Places.{HasTouched};
+ghost use Rattle.reg_book.specs.Places.{StandAt};
+ghost use Rattle.reg_book.specs.Turns.{AreLeft, renamed};
 
-use crate::places::place_of;
 use reg_account::Account;
+use reg_base::laws::each_footprint_is_sound;
 use reg_base::{Day, Directory, Instruction, NoMemory, RecordNo, Rules};
 use reg_rules::{Reply, execute, step_laws};
 use std::alloc::Global;
@@ -29,9 +29,11 @@ pub(crate) struct Turn<'a> {
     pub instruction: &'a Instruction,
 }
 
-/// Executes the instruction. `accounts` must contain all accounts that it touches.
+/// Carries the instruction out on accounts among which those that it touches stand at these places, in its order.
+/// What stands in `places` afterwards is of no use.
 ///
-/// The touched accounts are swapped to the front for this and then back, so that no account is copied.
+/// The touched accounts are moved to the front for it and then back, so that none is copied and no room is needed
+/// for them.
 ///
 /// # Errors
 /// `NoMemory` if there was no memory for the closing holdings.
@@ -39,67 +41,56 @@ pub(crate) fn take_turn(
     alloc: Global,
     turn: &Turn,
     accounts: &mut [Account],
+    places: &mut [usize],
 ) -> Result<Reply, NoMemory>
-    requires rising { IsRising (numbers accounts.old) }
-    requires present { HasTouched turn.now.directory.now accounts.old turn.now.instruction.now }
+    requires distinct { IsDistinct nat_eq (numbers accounts.old) }
+    requires there { StandAt (numbers accounts.old) places.old (footprint turn.now.directory.now turn.now.instruction.now.act) }
     ensures { IfOk result (λ reply. (accounts.new, reply) ≡ step (record { rules = turn.now.rules.now; day = turn.now.day; directory = turn.now.directory.now }) accounts.old turn.now.number turn.now.instruction.now) }
 {
-    let footprint = turn.instruction.touches(turn.directory);
-    let touched = footprint.as_slice();
-    if touched.is_empty() {
-        return turn_at_front(alloc, turn, accounts, 0);
-    }
-    let first = place_of(accounts, touched[0]).unwrap();
-    if touched.len() == 1 {
-        return turn_of_one(alloc, turn, accounts, first);
-    }
-    let second = place_of(accounts, touched[1]).unwrap();
-    turn_of_two(alloc, turn, accounts, first, second)
+    each_footprint_is_sound();
+    turn_from(alloc, turn, accounts, places, 0)
 }
 
-// Executes an instruction that touches only the account at this place.
-fn turn_of_one(
+// Carries the instruction out where its first `count` accounts are at the front already, and the others stand at
+// these places. Each further one is swapped to the front, and back after the instruction.
+fn turn_from(
     alloc: Global,
     turn: &Turn,
     accounts: &mut [Account],
-    place: usize,
+    places: &mut [usize],
+    count: usize,
 ) -> Result<Reply, NoMemory>
     requires distinct { IsDistinct nat_eq (numbers accounts.old) }
-    requires within { place < length accounts.old }
-    requires touches { footprint turn.now.directory.now turn.now.instruction.now.act ≡ slice_index (numbers accounts.old) place ∷ [] }
+    requires left { AreLeft count (numbers accounts.old) places.old (footprint turn.now.directory.now turn.now.instruction.now.act) }
     ensures { IfOk result (λ reply. (accounts.new, reply) ≡ step (record { rules = turn.now.rules.now; day = turn.now.day; directory = turn.now.directory.now }) accounts.old turn.now.number turn.now.instruction.now) }
 {
     step_laws();
-    accounts.swap(0, place);
-    let reply = turn_at_front(alloc, turn, accounts, 1);
-    accounts.swap(0, place);
-    reply
+    match places.split_first_mut() {
+        None => turn_at_front(alloc, turn, accounts, count),
+        Some((first, later)) => {
+            let place = *first;
+            accounts.swap(count, place);
+            rename(later, count, place);
+            let reply = turn_from(alloc, turn, accounts, later, count + 1);
+            accounts.swap(count, place);
+            reply
+        }
+    }
 }
 
-// Executes an instruction that touches the accounts at these two places, in this order.
-fn turn_of_two(
-    alloc: Global,
-    turn: &Turn,
-    accounts: &mut [Account],
-    first: usize,
-    second: usize,
-) -> Result<Reply, NoMemory>
-    requires distinct { IsDistinct nat_eq (numbers accounts.old) }
-    requires first_within { first < length accounts.old }
-    requires second_within { second < length accounts.old }
-    requires apart { first ≢ second }
-    requires touches { footprint turn.now.directory.now turn.now.instruction.now.act ≡ slice_index (numbers accounts.old) first ∷ slice_index (numbers accounts.old) second ∷ [] }
-    ensures { IfOk result (λ reply. (accounts.new, reply) ≡ step (record { rules = turn.now.rules.now; day = turn.now.day; directory = turn.now.directory.now }) accounts.old turn.now.number turn.now.instruction.now) }
+fn renamed(place: usize, from: usize, to: usize) -> usize
+    ensures { result ≡ renamed from to place }
 {
-    step_laws();
-    // If the second account was at the front, the first swap moves it.
-    let second_now = if second == 0 { first } else { second };
-    accounts.swap(0, first);
-    accounts.swap(1, second_now);
-    let reply = turn_at_front(alloc, turn, accounts, 2);
-    accounts.swap(1, second_now);
-    accounts.swap(0, first);
-    reply
+    if place == from { to } else { place }
+}
+
+// A swap has moved what stood at the place `from` to the place `to`.
+fn rename(places: &mut [usize], from: usize, to: usize)
+    ensures { places.new ≡ map (renamed from to) places.old }
+{
+    for place in places.iter_mut() {
+        *place = renamed(*place, from, to);
+    }
 }
 
 // Executes the instruction. The first `count` accounts are those that it touches, in its order.

@@ -1,11 +1,12 @@
-pub mod Changes
 pub mod Numbers
 pub mod Passed
-pub mod Acts
 pub mod Effects
-pub mod Movements
 pub mod Steps
 pub mod Locality
-pub mod Moves
-pub mod Limits
 pub mod Constants
+pub mod Loops
+pub mod Mapped
+pub mod Repeats
+pub mod Applied
+pub mod Limits
+pub mod Moves

@@ -1,33 +1,69 @@
--- A step reads and changes only the accounts of its footprint.
-use Rattle.std.proofs.Common.{◌≡◌, ℕ, false, cond, eqb, List, [], ◌∷◌, get_or, map, Option, Some, None, refl, sym, ap, ◌∙◌}
-use Rattle.std.specs.Prelude.{find}
-use Rattle.std.specs.Option.{option_map}
-use Rattle.std.specs.List.{AllByRecursion, Contains}
-use Rattle.std.proofs.lemmas.Bool.{ne_eqb, or_from}
+-- A step reads and changes the accounts of its footprint alone.
+use Rattle.std.proofs.Common.{◌≡◌, ℕ, Bool, true, false, cond, eqb, List, [], ◌∷◌, get_or, map, drop, Option, Some, None, refl, sym, ap, subst, ◌∙◌}
+use Rattle.std.specs.Prelude.{find, filter, not}
+use Rattle.std.specs.Option.{option_map, option_map_or}
+use Rattle.std.specs.List.{AllByRecursion}
+use Rattle.std.proofs.lemmas.Bool.{eqb-true, eqb-false, ne_eqb, not-false}
 use Rattle.std.proofs.lemmas.List.{get_or_default}
 use Rattle.std.proofs.lemmas.List.Elements.{recursion_from_All}
+use Rattle.reg_base.specs.declared.movement.Share.{Share}
+use Rattle.reg_base.specs.declared.act.Act.{Act}
 use Rattle.reg_base.specs.declared.instruction.Instruction.{Instruction}
 use Rattle.reg_base.specs.declared.refusals.Refusal.{Refusal}
-use Rattle.reg_base.specs.Footprint.{footprint, is_among}
-use Rattle.reg_account.specs.Account.{AccountValue}
+use Rattle.reg_base.specs.declared.refusals.Refusal.TheVariants.{UnknownAccount}
+use Rattle.reg_base.specs.Refusals.{checks}
+use Rattle.reg_base.specs.Acts.{first, shares, kind_of, leaves, parties}
+use Rattle.reg_base.specs.Footprint.{all_known, each_once, footprint}
+use Rattle.reg_account.specs.Account.{AccountValue, credited, debited}
 use Rattle.reg_rules.specs.declared.reply.HeldNow.{HeldNow}
 use Rattle.reg_rules.specs.declared.reply.Reply.TheVariants.{Done}
-use Rattle.reg_rules.specs.State.{State, Setting, numbers, account}
-use Rattle.reg_rules.specs.Checks.{fails, checks, refusal}
-use Rattle.reg_rules.specs.Effect.{changed_by, effect}
+use Rattle.reg_rules.specs.State.{State, Setting, Seen, Receiver, seen, numbers, account}
+use Rattle.reg_rules.specs.Checks.{fails, refusal}
+use Rattle.reg_rules.specs.Effect.{given, with_changes, changed_by, effect}
 use Rattle.reg_rules.specs.Step.{step, step_by, held_now, closing}
 use Rattle.reg_rules.specs.Laws.{StepIsLocal, OthersStay, NumbersStay, RefusedChangesNothing}
-use Rattle.reg_rules.proofs.Effects.{after, account-effect, numbers-effect}
-use Rattle.reg_rules.proofs.Numbers.{account-number, accounts_at-same}
+use Rattle.reg_rules.proofs.Effects.{account-effect, numbers-effect}
+use Rattle.reg_rules.proofs.Numbers.{account-number}
+use Rattle.reg_rules.proofs.Passed.{passed}
 use Rattle.reg_rules.proofs.Steps.{now-of}
 
--- the accounts of the footprint decide the refusal
+-- what holds at each number where it first stands holds at each
+at-each : (P : ℕ → Type 0) (x : ℕ) (ys : List ℕ) → P x → AllByRecursion P (filter (λ y. not (eqb y x)) ys) → AllByRecursion P ys
+at-each P x [] here all = tt
+at-each P x (y ∷ ys) here all = go (eqb y x) refl all (at-each P x ys here) where
+  go : (b : Bool) → eqb y x ≡ b → AllByRecursion P (cond (not b) (y ∷ filter (λ z. not (eqb z x)) ys) (filter (λ z. not (eqb z x)) ys))
+      → (AllByRecursion P (filter (λ z. not (eqb z x)) ys) → AllByRecursion P ys) → P y × AllByRecursion P ys
+  go true same kept more = (subst P (sym (eqb-true y x same)) here, more kept)
+  go false other kept more = (kept.0, more kept.1)
+
+at-all : (P : ℕ → Type 0) (xs : List ℕ) → AllByRecursion P (each_once xs) → AllByRecursion P xs
+at-all P [] all = tt
+at-all P (x ∷ xs) all = (all.0, at-all P xs (at-each P x (each_once xs) all.0 all.1))
+
+-- states that agree on an act's accounts look the same to it
+receivers-same : (s t : State) (shared : List Share) → AllByRecursion (λ a. account s a ≡ account t a) (map (λ share. share.to) shared)
+    → ◌≡◌ {A = List Receiver} (map (λ share. record { account = account s share.to; amount = share.amount }) shared) (map (λ share. record { account = account t share.to; amount = share.amount }) shared)
+receivers-same s t [] same = refl
+receivers-same s t (x ∷ xs) same = λ i. record { account = same.0 i; amount = x.amount } ∷ receivers-same s t xs same.1 i
+
+seen-same : (s t : State) (act : Act) → AllByRecursion (λ a. account s a ≡ account t a) (parties act) → ◌≡◌ {A = Seen} (seen s act) (seen t act)
+seen-same s t act same = λ i. record { first = same.0 i; receivers = receivers-same s t (shares act) same.1 i }
+
+-- the accounts of the footprint decide the refusal: where one that the act names is unknown that alone, else what the act sees
 pub refusal-local : (c : Setting) (s t : State) (i : Instruction) → AllByRecursion (λ a. account s a ≡ account t a) (footprint c.directory i.act) → refusal c s i ≡ refusal c t i
-refusal-local c s t i same = ap (λ (own : State). find (fails c own i) checks) (accounts_at-same s t (footprint c.directory i.act) same)
+refusal-local c s t i same = go (all_known c.directory i.act) refl where
+  go : (b : Bool) → all_known c.directory i.act ≡ b → refusal c s i ≡ refusal c t i
+  go true known =
+      let at = at-all (λ a. account s a ≡ account t a) (parties i.act)
+      (subst (λ b. AllByRecursion (λ a. account s a ≡ account t a) (cond b (each_once (parties i.act)) [])) known same) in
+      ap (λ (e : Seen). find (fails c e i) checks) (seen-same s t i.act at)
+  go false unknown =
+      ap (λ b. cond (not b) (Some UnknownAccount) (find (fails c (seen s i.act) i) (drop 1 checks))) unknown
+      ∙ sym (ap (λ b. cond (not b) (Some UnknownAccount) (find (fails c (seen t i.act) i) (drop 1 checks))) unknown)
 
 -- an effect reads no other account
 pub effect-local : (c : Setting) (s t : State) (n : ℕ) (i : Instruction) (a : ℕ) → account s a ≡ account t a → account (effect c s n i) a ≡ account (effect c t n i) a
-effect-local c s t n i a same = account-effect c s n i a ∙ ap (option_map (after c n i)) same ∙ sym (account-effect c t n i a)
+effect-local c s t n i a same = account-effect c s n i a ∙ ap (option_map (changed_by c n i.act)) same ∙ sym (account-effect c t n i a)
 
 map-same : {X Y : Type 0} (f g : X → Y) (xs : List X) → AllByRecursion (λ x. f x ≡ g x) xs → map f xs ≡ map g xs
 map-same f g [] same = refl
@@ -73,25 +109,32 @@ step-local c s t n i agree =
     let same = recursion_from_All (λ a. account s a ≡ account t a) (footprint c.directory i.act) agree in
     (reply-local c s t n i same, after-local c s t n i same)
 
-absent-among : (ns : List ℕ) (a : ℕ) → (Contains ns a → ⊥) → is_among ns a ≡ false
-absent-among ns a absent =
-    go ns (recursion_from_All (λ n. eqb n a ≡ false) ns (λ k d lt. ne_eqb (get_or ns k d) a (λ same. absent (k, lt, get_or_default ns k a d lt ∙ same)))) where
-      go : (ms : List ℕ) → AllByRecursion (λ n. eqb n a ≡ false) ms → is_among ms a ≡ false
-      go [] others = refl
-      go (m ∷ ms) others = or_from (eqb m a) (is_among ms a) others.0 (go ms others.1)
+-- an act leaves an account that has no part in it
+no-part : (c : Setting) (n : ℕ) (act : Act) (v : AccountValue) → AllByRecursion (λ a. eqb a v.number ≡ false) (parties act) → changed_by c n act v ≡ v
+no-part c n act v others =
+    ap (λ b. with_changes v (cond b (debited v (kind_of act) (leaves act)) (given (kind_of act) (shares act) v)))
+    (ne_eqb v.number (first act) (λ same. eqb-false (first act) v.number others.0 (sym same)))
+    ∙ ap (λ o. with_changes v (option_map_or (λ share. credited v (kind_of act) share.amount) o v)) (no-share (shares act) others.1) where
+      no-share : (shared : List Share) → AllByRecursion (λ a. eqb a v.number ≡ false) (map (λ share. share.to) shared) → find (λ share. eqb share.to v.number) shared ≡ None
+      no-share [] all = refl
+      no-share (x ∷ xs) all = ap (λ b. cond b (Some x) (find (λ share. eqb share.to v.number) xs)) all.0 ∙ no-share xs all.1
 
 -- an account that is not touched stays
 pub other-stays : OthersStay
-other-stays c s n i a absent = go (refusal c s i) where
-  stays : (o : Option AccountValue) → ((v : AccountValue) → o ≡ Some v → v.number ≡ a) → option_map (after c n i) o ≡ o
-  stays None named = refl
-  stays (Some v) named =
-      ap (λ b. Some (cond b (changed_by c n i.act v) v))
-      (ap (is_among (footprint c.directory i.act)) (named v refl) ∙ absent-among (footprint c.directory i.act) a absent)
+other-stays c s n i a absent = go (refusal c s i) refl where
+  apart : AllByRecursion (λ m. eqb m a ≡ false) (footprint c.directory i.act)
+  apart = recursion_from_All (λ m. eqb m a ≡ false) (footprint c.directory i.act) (λ k d lt. ne_eqb (get_or (footprint c.directory i.act) k d) a (λ same. absent (k, lt, get_or_default (footprint c.directory i.act) k a d lt ∙ same)))
 
-  go : (r : Option Refusal) → account (step_by c s n i r).0 a ≡ account s a
-  go None = account-effect c s n i a ∙ stays (account s a) (account-number s a)
-  go (Some q) = refl
+  stays : AllByRecursion (λ m. eqb m a ≡ false) (parties i.act) → (o : Option AccountValue) → ((v : AccountValue) → o ≡ Some v → v.number ≡ a) → option_map (changed_by c n i.act) o ≡ o
+  stays others None named = refl
+  stays others (Some v) named = ap Some (no-part c n i.act v (subst (λ b. AllByRecursion (λ m. eqb m b ≡ false) (parties i.act)) (sym (named v refl)) others))
+
+  go : (r : Option Refusal) → refusal c s i ≡ r → account (step_by c s n i r).0 a ≡ account s a
+  go None none =
+      let known : all_known c.directory i.act ≡ true = not-false (all_known c.directory i.act) (passed c s i UnknownAccount none refl) in
+      account-effect c s n i a
+      ∙ stays (at-all (λ m. eqb m a ≡ false) (parties i.act) (subst (λ b. AllByRecursion (λ m. eqb m a ≡ false) (cond b (each_once (parties i.act)) [])) known apart)) (account s a) (account-number s a)
+  go (Some q) refused = refl
 
 pub numbers-stay : NumbersStay
 numbers-stay c s n i = go (refusal c s i) where

@@ -1,25 +1,27 @@
--- Each account after an accepted transfer.
-use Rattle.std.proofs.Common.{◌≡◌, ℕ, ◌+◌, ◌-◌, ◌≤◌, Bool, true, false, cond, ◌||◌, eqb, [], ◌∷◌, Option, Some, None, refl, sym, ap, ◌∙◌, subst}
-use Rattle.std.specs.Prelude.{◌≢◌, not}
+-- What an accepted act that moves allowances from one account to another makes of the state.
+use Rattle.std.proofs.Common.{◌≡◌, ℕ, ◌+◌, ◌-◌, ◌≤◌, Bool, true, false, cond, ◌||◌, ◌&&◌, eqb, ◌∷◌, map, Option, Some, None, refl, sym, ap, ◌∙◌, subst}
+use Rattle.std.specs.Prelude.{◌≢◌}
 use Rattle.std.specs.Option.{option_map, option_map_or}
 use Rattle.std.proofs.lemmas.Bool.{eq-eqb, ne_eqb, eqb-false, ltb-false, not-false, and_parts}
 use Rattle.reg_base.specs.declared.kinds.AllowanceKind.{AllowanceKind}
 use Rattle.reg_base.specs.declared.kinds.AllowanceKind.TheVariants.{General, Aviation}
-use Rattle.reg_base.specs.declared.instruction.Act.TheVariants.{Transfer}
-use Rattle.reg_base.specs.declared.refusals.Refusal.TheVariants.{UnknownAccount, SameAccount, WrongAccountKind, NotEnough}
+use Rattle.reg_base.specs.declared.movement.Share.{Share}
+use Rattle.reg_base.specs.declared.movement.Movement.{Movement}
+use Rattle.reg_base.specs.declared.refusals.Refusal.TheVariants.{SameAccount, WrongAccountKind, NotEnough}
 use Rattle.reg_base.specs.declared.instruction.Instruction.{Instruction}
-use Rattle.reg_base.specs.Directory.{DirectoryValue}
-use Rattle.reg_base.specs.Footprint.{all_known, each_once, footprint, is_among}
+use Rattle.reg_base.specs.Acts.{between, movement_of}
 use Rattle.reg_account.specs.declared.parts.Holdings.{Holdings}
 use Rattle.reg_account.specs.Account.{AccountValue, amount_of, with_amount, held_by, credited, debited}
-use Rattle.reg_rules.specs.State.{State, Setting, account, account_passes, held}
-use Rattle.reg_rules.specs.Checks.{touched_accounts, refusal, is_holder_kind, names_one_account, has_right_kinds, is_short}
-use Rattle.reg_rules.specs.Effect.{changed_by, effect}
+use Rattle.reg_rules.specs.ActRules.{rule_of, fits_first, fits_receiver}
+use Rattle.reg_rules.specs.State.{State, Setting, seen_by, account, held, passes}
+use Rattle.reg_rules.specs.Checks.{has_repeat, has_right_kinds, is_short, refusal}
+use Rattle.reg_rules.specs.Effect.{moved, with_changes, effect}
 use Rattle.reg_rules.specs.Step.{step_by}
-use Rattle.reg_rules.specs.Laws.{set_aside, IsMoved, TransferMoves}
-use Rattle.reg_rules.proofs.Numbers.{account-number, account-at}
+use Rattle.reg_rules.specs.Laws.{set_aside, after_step, IsMoved}
+use Rattle.reg_rules.proofs.Numbers.{account-number}
 use Rattle.reg_rules.proofs.Passed.{passed}
-use Rattle.reg_rules.proofs.Effects.{after, account-effect, or-true-left, or-true-right}
+use Rattle.reg_rules.proofs.Effects.{account-effect}
+use Rattle.reg_rules.proofs.Applied.{or-left}
 
 -- the kind that was set, and the other one
 amount-with : (h : Holdings) (kind : AllowanceKind) (n : ℕ) → amount_of (with_amount h kind n) kind ≡ n
@@ -33,9 +35,9 @@ amount-without h Aviation General n apart = refl
 amount-without h Aviation Aviation n apart = absurd (apart refl)
 
 -- a test that passes passes at an account
-there : (test : AccountValue → Bool) (o : Option AccountValue) → option_map_or test o false ≡ true → (v : AccountValue) × (o ≡ Some v)
-there test None passes = absurd (let h : false ≡ true = passes in cc)
-there test (Some v) passes = (v, refl)
+there : (test : AccountValue → Bool) (o : Option AccountValue) → passes test o ≡ true → (v : AccountValue) × (o ≡ Some v)
+there test None h = absurd (let e : false ≡ true = h in cc)
+there test (Some v) h = (v, refl)
 
 held-mapped : (f : AccountValue → AccountValue) (k : AllowanceKind) (o : Option AccountValue) → ((v : AccountValue) → held_by (f v) k ≡ held_by v k)
     → option_map_or (λ v. held_by v k) (option_map f o) 0 ≡ option_map_or (λ v. held_by v k) o 0
@@ -46,133 +48,106 @@ aside-mapped : (f : AccountValue → AccountValue) (o : Option AccountValue) →
 aside-mapped f None same = refl
 aside-mapped f (Some v) same = ap Some (same v)
 
-or-left-false : (a b : Bool) → (a || b) ≡ false → a ≡ false
-or-left-false true b h = h
-or-left-false false b h = refl
+module _ (from to : ℕ) (kind : AllowanceKind) (amount : ℕ) where
+  after : AccountValue → AccountValue
+  after v = with_changes v (moved (between from to kind amount) v)
 
-or-right-false : (a b : Bool) → (a || b) ≡ false → b ≡ false
-or-right-false true b h = absurd (let e : true ≡ false = h in cc)
-or-right-false false b h = h
+  -- an account after the movement, by whether it gives and whether it receives
+  after-by : Bool → Bool → AccountValue → AccountValue
+  after-by gives takes v = with_changes v (cond gives (debited v kind amount) (option_map_or (λ (share : Share). credited v kind share.amount) (cond takes (Some (record { to = to; amount = amount })) None) v))
 
-module _ (c : Setting) (n from to : ℕ) (kind : AllowanceKind) (amount : ℕ) where
-  changed-other_kind : (other : AllowanceKind) → other ≢ kind → (v : AccountValue) → held_by (changed_by c n (Transfer from to kind amount) v) other ≡ held_by v other
-  changed-other_kind other apart v = go (eqb v.number from) (eqb v.number to) where
-    go : (b d : Bool) → amount_of (cond b (debited v kind amount).held (cond d (credited v kind amount).held v.held)) other ≡ amount_of v.held other
-    go true d = amount-without v.held kind other (held_by v kind - amount) apart
-    go false true = amount-without v.held kind other (held_by v kind + amount) apart
-    go false false = refl
+  after-is : (v : AccountValue) (gives takes : Bool) → eqb v.number from ≡ gives → eqb to v.number ≡ takes → after v ≡ after-by gives takes v
+  unfolding after after-by
+  after-is v gives takes g t = ap (λ b. after-by b (eqb to v.number) v) g ∙ ap (λ b. after-by gives b v) t
 
-  -- an account that the transfer does not name stays as it is
-  unchanged : (v : AccountValue) → eqb v.number from ≡ false → eqb v.number to ≡ false → changed_by c n (Transfer from to kind amount) v ≡ v
-  unchanged v not-from not-to =
-      ap (λ b. record v { held = cond b (debited v kind amount).held (cond (eqb v.number to) (credited v kind amount).held v.held) }) not-from
-      ∙ ap (λ b. record v { held = cond b (credited v kind amount).held v.held }) not-to
+  kept-other_kind : (other : AllowanceKind) → other ≢ kind → (gives takes : Bool) (v : AccountValue) → held_by (after-by gives takes v) other ≡ held_by v other
+  unfolding after-by
+  kept-other_kind other apart true takes v = amount-without v.held kind other (held_by v kind - amount) apart
+  kept-other_kind other apart false true v = amount-without v.held kind other (held_by v kind + amount) apart
+  kept-other_kind other apart false false v = refl
 
-  -- a state t in which each account of the state s is changed by the transfer
-  module _ (s t : State) (two : from ≢ to) (changed : (a : ℕ) → account t a ≡ option_map (changed_by c n (Transfer from to kind amount)) (account s a)) where
-    lowered-at : (v : AccountValue) → account s from ≡ Some v → held t from kind ≡ held s from kind - amount
-    lowered-at v found =
-        let at : eqb v.number from ≡ true = eq-eqb v.number from (account-number s from v found) in
-        ap (λ o. option_map_or (λ w. held_by w kind) o 0) (changed from ∙ ap (option_map (changed_by c n (Transfer from to kind amount))) found)
-        ∙ ap (λ b. amount_of (cond b (debited v kind amount).held (cond (eqb v.number to) (credited v kind amount).held v.held)) kind) at
-        ∙ amount-with v.held kind (held_by v kind - amount)
-        ∙ ap (λ o. option_map_or (λ w. held_by w kind) o 0 - amount) (sym found)
+  after-other_kind : (other : AllowanceKind) → other ≢ kind → (v : AccountValue) → held_by (after v) other ≡ held_by v other
+  after-other_kind other apart v =
+      ap (λ (w : AccountValue). held_by w other) (after-is v (eqb v.number from) (eqb to v.number) refl refl) ∙ kept-other_kind other apart (eqb v.number from) (eqb to v.number) v
 
-    raised-at : (v : AccountValue) → account s to ≡ Some v → held t to kind ≡ held s to kind + amount
-    raised-at v found =
-        let number : v.number ≡ to = account-number s to v found in
-        let not-from : eqb v.number from ≡ false = ne_eqb v.number from (λ same. two (sym same ∙ number)) in
-        ap (λ o. option_map_or (λ w. held_by w kind) o 0) (changed to ∙ ap (option_map (changed_by c n (Transfer from to kind amount))) found)
-        ∙ ap (λ b. amount_of (cond b (debited v kind amount).held (cond (eqb v.number to) (credited v kind amount).held v.held)) kind) not-from
-        ∙ ap (λ b. amount_of (cond b (credited v kind amount).held v.held) kind) (eq-eqb v.number to number)
-        ∙ amount-with v.held kind (held_by v kind + amount)
-        ∙ ap (λ o. option_map_or (λ w. held_by w kind) o 0 + amount) (sym found)
+  after-aside : (v : AccountValue) → set_aside (after v) ≡ set_aside v
+  unfolding after
+  after-aside v = refl
 
-    other-account : (a : ℕ) → a ≢ from → a ≢ to → account t a ≡ account s a
-    other-account a not-from not-to =
-        changed a ∙ go (account s a) refl where
-          go : (o : Option AccountValue) → account s a ≡ o → option_map (changed_by c n (Transfer from to kind amount)) o ≡ o
-          go None found = refl
-          go (Some v) found =
-              let number : v.number ≡ a = account-number s a v found in
-              ap Some (unchanged v (ne_eqb v.number from (λ same. not-from (sym number ∙ same))) (ne_eqb v.number to (λ same. not-to (sym number ∙ same))))
+  after-giver : (v : AccountValue) → v.number ≡ from → held_by (after v) kind ≡ held_by v kind - amount
+  unfolding after-by
+  after-giver v is =
+      ap (λ (w : AccountValue). held_by w kind) (after-is v true (eqb to v.number) (eq-eqb v.number from is) refl) ∙ amount-with v.held kind (held_by v kind - amount)
 
-    moved : (giver taker : AccountValue) → account s from ≡ Some giver → account s to ≡ Some taker → amount ≤ held s from kind → IsMoved s t from to kind amount
-    moved giver taker gives takes enough = record {
-      enough = enough;
-      lowered = lowered-at giver gives;
-      raised = raised-at taker takes;
-      other_kinds = λ a other differs.
-          ap (λ o. option_map_or (λ w. held_by w other) o 0) (changed a)
-          ∙ held-mapped (changed_by c n (Transfer from to kind amount)) other (account s a) (changed-other_kind other differs);
-      other_accounts = other-account;
-      rest = λ a.
-          ap (option_map set_aside) (changed a)
-          ∙ aside-mapped (changed_by c n (Transfer from to kind amount)) (account s a) (λ v. refl);
-    }
+  after-taker : (v : AccountValue) → v.number ≢ from → v.number ≡ to → held_by (after v) kind ≡ held_by v kind + amount
+  unfolding after-by
+  after-taker v differs is =
+      ap (λ (w : AccountValue). held_by w kind) (after-is v false true (ne_eqb v.number from differs) (eq-eqb to v.number (sym is))) ∙ amount-with v.held kind (held_by v kind + amount)
 
--- both accounts of a transfer that the directory knows are touched
-footprint-transfer : (d : DirectoryValue) (from to : ℕ) (kind : AllowanceKind) (amount : ℕ) → all_known d (Transfer from to kind amount) ≡ true → from ≢ to
-    → footprint d (Transfer from to kind amount) ≡ from ∷ to ∷ []
-footprint-transfer d from to kind amount known two =
-    ap (λ b. cond b (each_once (from ∷ to ∷ [])) []) known
-    ∙ ap (λ b. from ∷ cond (not b) (to ∷ []) []) (ne_eqb to from (λ same. two (sym same)))
+  after-neither : (v : AccountValue) → v.number ≢ from → v.number ≢ to → after v ≡ v
+  unfolding after-by
+  after-neither v not-from not-to = after-is v false false (ne_eqb v.number from not-from) (ne_eqb to v.number (λ same. not-to (sym same)))
+
+  -- a state t in which each account of the state s is as the movement leaves it
+  moved-state : (s t : State) → from ≢ to → ((a : ℕ) → account t a ≡ option_map after (account s a)) → (giver taker : AccountValue) → account s from ≡ Some giver → account s to ≡ Some taker
+      → amount ≤ held s from kind → IsMoved s t from to kind amount
+  moved-state s t two changed giver taker gives takes enough = record {
+    enough = enough;
+    lowered =
+        ap (λ o. option_map_or (λ w. held_by w kind) o 0) (changed from ∙ ap (option_map after) gives)
+        ∙ after-giver giver (account-number s from giver gives)
+        ∙ ap (λ o. option_map_or (λ w. held_by w kind) o 0 - amount) (sym gives);
+    raised =
+        ap (λ o. option_map_or (λ w. held_by w kind) o 0) (changed to ∙ ap (option_map after) takes)
+        ∙ after-taker taker (λ same. two (sym same ∙ account-number s to taker takes)) (account-number s to taker takes)
+        ∙ ap (λ o. option_map_or (λ w. held_by w kind) o 0 + amount) (sym takes);
+    other_kinds = λ a other differs. ap (λ o. option_map_or (λ w. held_by w other) o 0) (changed a) ∙ held-mapped after other (account s a) (after-other_kind other differs);
+    other_accounts = λ a not-from not-to. changed a ∙ stays a not-from not-to (account s a) refl;
+    rest = λ a. ap (option_map set_aside) (changed a) ∙ aside-mapped after (account s a) after-aside;
+  } where
+    stays : (a : ℕ) → a ≢ from → a ≢ to → (o : Option AccountValue) → account s a ≡ o → option_map after o ≡ o
+    stays a not-from not-to None found = refl
+    stays a not-from not-to (Some v) found =
+        let number = account-number s a v found in
+        ap Some (after-neither v (λ same. not-from (sym number ∙ same)) (λ same. not-to (sym number ∙ same)))
 
 module _ (c : Setting) (s : State) (n : ℕ) (i : Instruction) (from to : ℕ) (kind : AllowanceKind) (amount : ℕ)
-    (is-transfer : i.act ≡ Transfer from to kind amount) (none : refusal c s i ≡ None) where
+    (is : movement_of i.act ≡ between from to kind amount) (none : refusal c s i ≡ None) where
   two : from ≢ to
-  two = eqb-false from to (ap names_one_account (sym is-transfer) ∙ passed c s i SameAccount none refl)
+  two = λ same.
+      eqb-false to from (or-left (eqb to from) false (or-left (eqb to from || false) false
+      (ap (λ (m : Movement). has_repeat (m.first ∷ map (λ share. share.to) m.shares)) (sym is) ∙ passed c s i SameAccount none refl))) (sym same)
 
-  touches : footprint c.directory i.act ≡ from ∷ to ∷ []
-  touches =
-      ap (footprint c.directory) is-transfer
-      ∙ footprint-transfer c.directory from to kind amount
-      (ap (all_known c.directory) (sym is-transfer) ∙ not-false (all_known c.directory i.act) (passed c s i UnknownAccount none refl)) two
+  kinds : has_right_kinds (rule_of i.act) (seen_by (between from to kind amount) s) ≡ true
+  kinds =
+      ap (λ m. has_right_kinds (rule_of i.act) (seen_by m s)) (sym is)
+      ∙ not-false (has_right_kinds (rule_of i.act) (seen_by (movement_of i.act) s)) (passed c s i WrongAccountKind none refl)
 
-  from-at : account (touched_accounts c s i) from ≡ account s from
-  from-at =
-      account-at s (footprint c.directory i.act) from
-      ∙ ap (λ b. cond b (account s from) None) (ap (λ ns. is_among ns from) touches ∙ or-true-left (eqb from from) (eqb to from || false) (eq-eqb from from refl))
+  first-fits : AccountValue → Bool
+  first-fits v = fits_first (rule_of i.act).kinds v.kind
 
-  to-at : account (touched_accounts c s i) to ≡ account s to
-  to-at =
-      account-at s (footprint c.directory i.act) to
-      ∙ ap (λ b. cond b (account s to) None)
-      (ap (λ ns. is_among ns to) touches ∙ or-true-right (eqb from to) (eqb to to || false) (or-true-left (eqb to to) false (eq-eqb to to refl)))
+  receiver-fits : AccountValue → Bool
+  receiver-fits v = fits_receiver (rule_of i.act).kinds v.kind
 
-  changed-after : (v : AccountValue) → after c n i v ≡ changed_by c n (Transfer from to kind amount) v
-  changed-after v = go (is_among (footprint c.directory i.act) v.number) refl where
-    go : (b : Bool) → is_among (footprint c.directory i.act) v.number ≡ b → cond b (changed_by c n i.act v) v ≡ changed_by c n (Transfer from to kind amount) v
-    go true touched = ap (λ act. changed_by c n act v) is-transfer
-    go false untouched =
-        let neither : (eqb from v.number || (eqb to v.number || false)) ≡ false = ap (λ ns. is_among ns v.number) (sym touches) ∙ untouched in
-        let not-from = or-left-false (eqb from v.number) (eqb to v.number || false) neither in
-        let not-to = or-left-false (eqb to v.number) false (or-right-false (eqb from v.number) (eqb to v.number || false) neither) in
-        sym (unchanged c n from to kind amount v
-        (ne_eqb v.number from (λ same. eqb-false from v.number not-from (sym same)))
-        (ne_eqb v.number to (λ same. eqb-false to v.number not-to (sym same))))
+  both : (passes first-fits (account s from) ≡ true) × ((passes receiver-fits (account s to) && true) ≡ true)
+  unfolding first-fits receiver-fits
+  both = let p = and_parts (passes first-fits (account s from)) (passes receiver-fits (account s to) && true) kinds in (p.0, p.1)
 
-  account-after : (a : ℕ) → account (effect c s n i) a ≡ option_map (changed_by c n (Transfer from to kind amount)) (account s a)
-  account-after a = account-effect c s n i a ∙ go (account s a) where
-    go : (o : Option AccountValue) → option_map (after c n i) o ≡ option_map (changed_by c n (Transfer from to kind amount)) o
-    go None = refl
-    go (Some v) = ap Some (changed-after v)
+  enough : amount ≤ held s from kind
+  enough = ltb-false (held s from kind) amount (ap (λ m. is_short m (seen_by m s)) (sym is) ∙ passed c s i NotEnough none refl)
 
-  transfer-moved : IsMoved s (effect c s n i) from to kind amount
-  transfer-moved =
-      let kinds : has_right_kinds (touched_accounts c s i) (Transfer from to kind amount) ≡ true =
-      ap (has_right_kinds (touched_accounts c s i)) (sym is-transfer) ∙ not-false (has_right_kinds (touched_accounts c s i) i.act) (passed c s i WrongAccountKind none refl) in
-      let both = and_parts (account_passes (λ v. is_holder_kind v.kind) (touched_accounts c s i) from) (account_passes (λ v. is_holder_kind v.kind) (touched_accounts c s i) to) kinds in
-      let giver = there (λ v. is_holder_kind v.kind) (account (touched_accounts c s i) from) both.0 in
-      let taker = there (λ v. is_holder_kind v.kind) (account (touched_accounts c s i) to) both.1 in
-      let enough : amount ≤ held (touched_accounts c s i) from kind =
-      ltb-false (held (touched_accounts c s i) from kind) amount (ap (is_short (touched_accounts c s i)) (sym is-transfer) ∙ passed c s i NotEnough none refl) in
-      moved c n from to kind amount s (effect c s n i) two account-after giver.0 taker.0 (sym from-at ∙ giver.1) (sym to-at ∙ taker.1)
-      (subst (λ (o : Option AccountValue). amount ≤ option_map_or (λ w. held_by w kind) o 0) from-at enough)
+  changed : (a : ℕ) → account (effect c s n i) a ≡ option_map (after from to kind amount) (account s a)
+  unfolding after
+  changed a = account-effect c s n i a ∙ ap (λ (m : Movement). option_map (λ v. with_changes v (moved m v)) (account s a)) is
 
--- an accepted transfer moves its amount
-pub transfer-moves : TransferMoves
-transfer-moves c s n i from to kind amount is-transfer none =
-    subst (λ (r : State). IsMoved s r from to kind amount)
-    (ap (λ r. (step_by c s n i r).0) (sym none))
-    (transfer-moved c s n i from to kind amount is-transfer none)
+  moved-effect : IsMoved s (effect c s n i) from to kind amount
+  moved-effect =
+      let giver = there first-fits (account s from) both.0 in
+      let taker = there receiver-fits (account s to) (and_parts (passes receiver-fits (account s to)) true both.1).0 in
+      moved-state from to kind amount s (effect c s n i) two changed giver.0 taker.0 giver.1 taker.1 enough
+
+-- an accepted act with such a movement moves its amount
+pub moves : (c : Setting) (s : State) (n : ℕ) (i : Instruction) (from to : ℕ) (kind : AllowanceKind) (amount : ℕ)
+    → movement_of i.act ≡ between from to kind amount → refusal c s i ≡ None → IsMoved s (after_step c s n i) from to kind amount
+moves c s n i from to kind amount is none =
+    subst (λ (r : State). IsMoved s r from to kind amount) (ap (λ r. (step_by c s n i r).0) (sym none)) (moved-effect c s n i from to kind amount is none)

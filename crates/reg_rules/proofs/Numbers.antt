@@ -1,13 +1,11 @@
--- Accounts by their numbers: if each number occurs once, looking it up finds its account.
-use Rattle.std.proofs.Common.{◌≡◌, ℕ, Bool, true, false, cond, eqb, List, [], ◌∷◌, map, ◌||◌, Option, Some, None, refl, sym, ap, ◌∙◌, subst}
+-- Accounts by their numbers: where each number stands once, it leads to its account.
+use Rattle.std.proofs.Common.{◌≡◌, ℕ, Bool, true, false, cond, eqb, List, [], ◌∷◌, map, Option, Some, refl, sym, ap, ◌∙◌, subst}
 use Rattle.std.specs.Option.{option_map}
 use Rattle.std.specs.List.{IsDistinct, AllByRecursion}
 use Rattle.std.proofs.lemmas.Bool.{cond_both, eqb-true, eq-eqb}
 use Rattle.std.proofs.lemmas.Option.{same_Some, none-some}
 use Rattle.reg_account.specs.Account.{AccountValue}
-use Rattle.std.specs.List.{filter_map, cons_option}
-use Rattle.reg_base.specs.Footprint.{is_among}
-use Rattle.reg_rules.specs.State.{State, numbers, account, accounts_at}
+use Rattle.reg_rules.specs.State.{State, numbers, account}
 
 -- the account that a number leads to has it
 pub account-number : (s : State) (a : ℕ) (v : AccountValue) → account s a ≡ Some v → v.number ≡ a
@@ -39,41 +37,6 @@ map-by_number {Y} f g same s d = go s (found-by_number s d) where
   go [] found = refl
   go (y ∷ ys) found = let here : f y.number (account s y.number) ≡ g y = ap (f y.number) found.0 ∙ same y in
       ap (λ z. z ∷ map (λ a. f a (account s a)) (numbers ys)) here ∙ ap (λ zs. g y ∷ zs) (go ys found.1)
-
-none-either : (b : Bool) → ◌≡◌ {A = Option AccountValue} (cond b None None) None
-none-either true = refl
-none-either false = refl
-
--- among the accounts of some numbers, one of these numbers leads to its account, and another to none
-pub account-at : (s : State) (ns : List ℕ) (a : ℕ) → account (accounts_at s ns) a ≡ cond (is_among ns a) (account s a) None
-account-at s [] a = refl
-account-at s (n ∷ ns) a = go (account s n) refl (account-at s ns a) where
-  go : (o : Option AccountValue) → account s n ≡ o → account (accounts_at s ns) a ≡ cond (is_among ns a) (account s a) None
-      → account (cons_option o (accounts_at s ns)) a ≡ cond (eqb n a || is_among ns a) (account s a) None
-  go None none more = more ∙ by (eqb n a) refl where
-    by : (b : Bool) → eqb n a ≡ b → cond (is_among ns a) (account s a) None ≡ cond (b || is_among ns a) (account s a) None
-    by true same =
-        let gone : account s a ≡ None = ap (account s) (sym (eqb-true n a same)) ∙ none in
-        ap (λ (o : Option AccountValue). cond (is_among ns a) o None) gone ∙ none-either (is_among ns a) ∙ sym gone
-    by false other = refl
-  go (Some v) found more =
-      ap (λ m. cond (eqb m a) (Some v) (account (accounts_at s ns) a)) (account-number s n v found) ∙ by (eqb n a) refl where
-        by : (b : Bool) → eqb n a ≡ b → cond b (Some v) (account (accounts_at s ns) a) ≡ cond (b || is_among ns a) (account s a) None
-        by true same = sym (ap (account s) (sym (eqb-true n a same)) ∙ found)
-        by false other = more
-
--- a state's accounts at its own numbers are the state
-pub accounts_at-own : (s : State) → IsDistinct eqb (numbers s) → accounts_at s (numbers s) ≡ s
-accounts_at-own s d = go s (found-by_number s d) where
-  go : (ys : State) → AllByRecursion (λ v. account s v.number ≡ Some v) ys → filter_map (account s) (numbers ys) ≡ ys
-  go [] found = refl
-  go (y ∷ ys) found = ap (λ o. cons_option o (filter_map (account s) (numbers ys))) found.0 ∙ ap (λ zs. y ∷ zs) (go ys found.1)
-
--- states that agree at some numbers have the same accounts there
-pub accounts_at-same : (s t : State) (ns : List ℕ) → AllByRecursion (λ a. account s a ≡ account t a) ns → accounts_at s ns ≡ accounts_at t ns
-accounts_at-same s t [] same = refl
-accounts_at-same s t (n ∷ ns) same =
-    ap (λ o. cons_option o (accounts_at s ns)) same.0 ∙ ap (λ vs. cons_option (account t n) vs) (accounts_at-same s t ns same.1)
 
 -- a change that keeps each number is a change of what the numbers lead to
 pub account-map : (f : AccountValue → AccountValue) → ((v : AccountValue) → (f v).number ≡ v.number) → (s : State) (a : ℕ) → account (map f s) a ≡ option_map f (account s a)

@@ -5,7 +5,8 @@ use Rattle.std.specs.List.{All, Contains, IsDistinct}
 use Rattle.reg_base.specs.declared.kinds.AccountKind.{AccountKind}
 use Rattle.reg_base.specs.declared.kinds.AllowanceKind.{AllowanceKind}
 use Rattle.reg_base.specs.declared.refusals.Refusal.{Refusal}
-use Rattle.reg_base.specs.declared.instruction.Act.TheVariants.{Transfer}
+use Rattle.reg_base.specs.declared.act.Act.{Act}
+use Rattle.reg_base.specs.declared.act.Act.TheVariants.{Transfer, ReturnExcess}
 use Rattle.reg_base.specs.declared.instruction.Instruction.{Instruction}
 use Rattle.reg_base.specs.Footprint.{footprint}
 use Rattle.reg_account.specs.Account.{AccountValue, IsAccount}
@@ -16,8 +17,8 @@ use Rattle.reg_rules.specs.Checks.{refusal}
 use Rattle.reg_rules.specs.Step.{step}
 
 -- the state after an instruction
-abbrev pub state_after : Setting → State → ℕ → Instruction → State
-state_after c s number i = (step c s number i).0
+abbrev pub after_step : Setting → State → ℕ → Instruction → State
+after_step c s number i = (step c s number i).0
 
 -- the reply to an instruction
 abbrev pub reply_to : Setting → State → ℕ → Instruction → Reply
@@ -47,26 +48,29 @@ set_aside v = record v { held = record { general = 0; aviation = 0 } }
 abbrev pub account_aside : State → ℕ → Option AccountValue
 account_aside s a = option_map set_aside (account s a)
 
--- if two states agree on the accounts that the instruction touches, its reply is the same in both, and afterwards the
--- states agree wherever they agreed before
+-- the accounts that an instruction touches decide its refusal
+abbrev pub RefusalIsLocal : Type 0
+RefusalIsLocal = (c : Setting) (s t : State) (i : Instruction) → AgreeOn (footprint c.directory i.act) s t → refusal c s i ≡ refusal c t i
+
+-- where two states agree on the accounts that the instruction touches, its reply is one, and they agree afterwards wherever they did before
 abbrev pub StepIsLocal : Type 0
 StepIsLocal = (c : Setting) (s t : State) (number : ℕ) (i : Instruction) → AgreeOn (footprint c.directory i.act) s t
     → (reply_to c s number i ≡ reply_to c t number i)
-    × ((a : ℕ) → account s a ≡ account t a → account (state_after c s number i) a ≡ account (state_after c t number i) a)
+    × ((a : ℕ) → account s a ≡ account t a → account (after_step c s number i) a ≡ account (after_step c t number i) a)
 
 -- an account that the instruction does not touch stays as it is
 abbrev pub OthersStay : Type 0
 OthersStay = (c : Setting) (s : State) (number : ℕ) (i : Instruction) (a : ℕ)
-    → (Contains (footprint c.directory i.act) a → ⊥) → account (state_after c s number i) a ≡ account s a
+    → (Contains (footprint c.directory i.act) a → ⊥) → account (after_step c s number i) a ≡ account s a
 
 -- no account is added, removed or moved in the list
 abbrev pub NumbersStay : Type 0
-NumbersStay = (c : Setting) (s : State) (number : ℕ) (i : Instruction) → numbers (state_after c s number i) ≡ numbers s
+NumbersStay = (c : Setting) (s : State) (number : ℕ) (i : Instruction) → numbers (after_step c s number i) ≡ numbers s
 
 -- an account keeps its kind, its holder, its two switches and its correction factor
 abbrev pub ConstantsStay : Type 0
 ConstantsStay = (c : Setting) (s : State) (number : ℕ) (i : Instruction) (a : ℕ)
-    → option_map constants_of (account (state_after c s number i) a) ≡ option_map constants_of (account s a)
+    → option_map constants_of (account (after_step c s number i) a) ≡ option_map constants_of (account s a)
 
 -- a refused instruction changes nothing, and its reply is the refusal
 abbrev pub RefusedChangesNothing : Type 0
@@ -82,10 +86,15 @@ pub record IsMoved (s t : State) (from to : ℕ) (kind : AllowanceKind) (amount 
   pub other_accounts : (a : ℕ) → a ≢ from → a ≢ to → account t a ≡ account s a
   pub rest : (a : ℕ) → account_aside t a ≡ account_aside s a
 
--- an accepted transfer moves its amount and changes nothing else
-abbrev pub TransferMoves : Type 0
-TransferMoves = (c : Setting) (s : State) (number : ℕ) (i : Instruction) (from to : ℕ) (kind : AllowanceKind) (amount : ℕ)
-    → i.act ≡ Transfer from to kind amount → refusal c s i ≡ None → IsMoved s (state_after c s number i) from to kind amount
+-- an accepted instruction with such an act moves the amount, and does nothing else
+abbrev pub Moves : (ℕ → ℕ → AllowanceKind → ℕ → Act) → Type 0
+Moves act = (c : Setting) (s : State) (number : ℕ) (i : Instruction) (from to : ℕ) (kind : AllowanceKind) (amount : ℕ)
+    → i.act ≡ act from to kind amount → refusal c s i ≡ None → IsMoved s (after_step c s number i) from to kind amount
+
+-- what each act makes of the state
+pub record ActLaws : Type 0 where
+  pub transfer : Moves (λ from to kind amount. Transfer from to kind amount)
+  pub return_excess : Moves (λ from to kind amount. ReturnExcess from to kind amount)
 
 -- two states are equal if they list the same account numbers, each once, with the same account at each number
 abbrev pub SameState : Type 0
@@ -94,10 +103,11 @@ SameState = (s t : State) → IsDistinct nat_eq (numbers s) → numbers s ≡ nu
 -- if each number occurs once, accounts that are within their limits stay within them
 abbrev pub LimitsStay : Type 0
 LimitsStay = (c : Setting) (s : State) (number : ℕ) (i : Instruction)
-    → IsDistinct nat_eq (numbers s) → All IsAccount s → All IsAccount (state_after c s number i)
+    → IsDistinct nat_eq (numbers s) → All IsAccount s → All IsAccount (after_step c s number i)
 
 -- what holds of every step, whatever its act
 pub record StepLaws : Type 0 where
+  pub refusal_local : RefusalIsLocal
   pub local : StepIsLocal
   pub others_stay : OthersStay
   pub numbers_stay : NumbersStay

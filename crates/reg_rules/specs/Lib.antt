@@ -1,4 +1,5 @@
 pub mod State
+pub mod ActRules
 pub mod Checks
 pub mod Effect
 pub mod Step

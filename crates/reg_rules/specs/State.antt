@@ -1,7 +1,10 @@
--- A state is the list of its accounts. The rules read it as maps from account numbers.
-use Rattle.std.specs.Prelude.{ℕ, Bool, false, ◌==◌, List, map, find, filter_map, Option, if◌then◌else◌}
+-- A state is the list of its accounts' values. What the rules read of it are maps from account numbers.
+use Rattle.std.specs.Prelude.{ℕ, Bool, false, ◌==◌, List, map, find, Option}
 use Rattle.std.specs.Option.{option_map_or}
 use Rattle.reg_base.specs.declared.kinds.AllowanceKind.{AllowanceKind}
+use Rattle.reg_base.specs.declared.act.Act.{Act}
+use Rattle.reg_base.specs.declared.movement.Movement.{Movement}
+use Rattle.reg_base.specs.Acts.{movement_of}
 use Rattle.reg_base.specs.Rules.{RulesValue}
 use Rattle.reg_base.specs.Directory.{DirectoryValue}
 use Rattle.reg_account.specs.Account.{AccountValue, held_by}
@@ -23,18 +26,28 @@ numbers s = map (λ v. v.number) s
 abbrev pub account : State → ℕ → Option AccountValue
 account s a = find (λ v. v.number == a) s
 
--- the accounts with these numbers, in the order of the numbers
-abbrev pub accounts_at : State → List ℕ → State
-accounts_at s numbers = filter_map (account s) numbers
-
--- whether there is an account with this number and it passes the test
-abbrev pub account_passes : (AccountValue → Bool) → State → ℕ → Bool
-account_passes test s a = option_map_or test (account s a) false
-
--- how many allowances of a kind the account holds; 0 if there is no such account
+-- how many allowances of a kind the account holds, 0 where it is not there
 abbrev pub held : State → ℕ → AllowanceKind → ℕ
 held s a kind = option_map_or (λ v. held_by v kind) (account s a) 0
 
--- the state in which the account with this number is changed by f
-abbrev pub change : State → ℕ → (AccountValue → AccountValue) → State
-change s a f = map (λ v. if v.number == a then f v else v) s
+-- an account that is to receive, and how many allowances
+pub record Receiver : Type 0 where
+  pub account : Option AccountValue
+  pub amount : ℕ
+
+-- all that an act may look at: its first account, and those that receive
+pub record Seen : Type 0 where
+  pub first : Option AccountValue
+  pub receivers : List Receiver
+
+-- the accounts of a movement in a state
+abbrev pub seen_by : Movement → State → Seen
+seen_by m s = record { first = account s m.first; receivers = map (λ share. record { account = account s share.to; amount = share.amount }) m.shares }
+
+-- what an act sees of a state
+abbrev pub seen : State → Act → Seen
+seen s act = seen_by (movement_of act) s
+
+-- the account is there and passes the test
+abbrev pub passes : (AccountValue → Bool) → Option AccountValue → Bool
+passes test found = option_map_or test found false

@@ -1,31 +1,57 @@
 //! The checks of an instruction, in the order of the table of checks.
 
-ghost use Rattle.std.specs.Prelude.{◌≡◌, ◌≤◌, find};
-ghost use Rattle.std.specs.Option.{option_copied};
+ghost use Rattle.std.specs.Prelude.{◌≡◌, ◌≤◌, ◌∷◌, ◌==◌, false, nat_lt, map, find};
+ghost use Rattle.std.specs.Option.{option_copied, option_map_or};
+ghost use Rattle.std.specs.List.{list_any, list_all};
 ghost use Rattle.reg_base.specs.declared.limits.TheConstants.{MOST_HELD};
-ghost use Rattle.reg_base.specs.Footprint.{footprint, all_known};
-ghost use Rattle.reg_rules.specs.State.{Setting, numbers, account, held};
-ghost use Rattle.reg_rules.specs.Checks.{is_holder_kind, is_opened, is_closed, names_one_account, has_right_kinds, source_allows, destination_allows, due_day, moves_nothing, is_short, overfills, fails, checks, refusal};
+ghost use Rattle.reg_base.specs.Acts.{movement_of};
+ghost use Rattle.reg_base.specs.Calendar.{due};
+ghost use Rattle.reg_base.specs.Footprint.{footprint};
+ghost use Rattle.reg_base.specs.Refusals.{checks};
+ghost use Rattle.reg_rules.specs.ActRules.{fits_first, fits_receiver, is_not_closed, rule_of};
+ghost use Rattle.reg_rules.specs.State.{numbers, account, held, seen, seen_by, passes};
+ghost use Rattle.reg_rules.specs.Checks.{has_repeat, has_right_kinds, source_allows, destination_allows, lag_by, is_short, overfills, overfills_some, fails, refusal};
 
+use crate::rule::{
+    ActRule, KindRule, LagRule, fits_first, fits_receiver, fits_status, is_not_closed, rule_of,
+};
+use crate::setting::Setting;
 use reg_account::Account;
-use reg_base::laws::each_footprint_is_sound;
 use reg_base::{
-    AccountKind, AccountNo, Act, AllowanceKind, Day, Directory, Instruction, MOST_HELD, RecordNo,
-    Refusal, Rules, Status,
+    AccountNo, AllowanceKind, Day, Directory, Instruction, MOST_HELD, Movement, RecordNo, Refusal,
+    Rules, Share,
 };
 
-/// The checks that this version asks, in order.
-const CHECKS: [Refusal; 10] = [
+/// The checks, in their order.
+const CHECKS: [Refusal; 28] = [
     Refusal::UnknownAccount,
     Refusal::SameAccount,
     Refusal::WrongAccountKind,
     Refusal::SourceStatus,
     Refusal::DestinationStatus,
+    Refusal::NotProposer,
+    Refusal::ApprovalMissing,
+    Refusal::SameRepresentative,
+    Refusal::NotApprover,
+    Refusal::NotTrusted,
     Refusal::OutsideCalendar,
     Refusal::NotDue,
+    Refusal::KindNotAllowed,
     Refusal::ZeroAmount,
+    Refusal::UnknownTransaction,
+    Refusal::AlreadyReversed,
+    Refusal::WindowClosed,
     Refusal::NotEnough,
     Refusal::HoldingTooLarge,
+    Refusal::RetiredTooLarge,
+    Refusal::RowsFull,
+    Refusal::WouldBecomeNonCompliant,
+    Refusal::AlreadyTrusted,
+    Refusal::NotOnList,
+    Refusal::ListFull,
+    Refusal::YearOutsidePeriod,
+    Refusal::AmountTooLarge,
+    Refusal::EmissionsMissing,
 ];
 
 /// The first check that fails, or `None` if no check fails. Takes no memory.
@@ -43,53 +69,55 @@ pub fn decide(
     ensures { result ≡ refusal (record { rules = rules.now; day = day; directory = directory.now }) accounts.now instruction.now }
 {
     let _unused_yet = number;
-    each_footprint_is_sound();
-    first_failing(rules, day, instruction, directory, accounts)
+    let setting = Setting {
+        rules,
+        day,
+        directory,
+    };
+    let movement = instruction.act.movement();
+    first_failing(&setting, instruction, &movement, accounts)
 }
 
 // The first check that fails for these accounts.
 fn first_failing(
-    rules: &Rules,
-    day: Day,
+    setting: &Setting,
     instruction: &Instruction,
-    directory: &Directory,
+    movement: &Movement,
     accounts: &[Account],
 ) -> Option<Refusal>
-    ensures { result ≡ find (fails (record { rules = rules.now; day = day; directory = directory.now }) accounts.now instruction.now) checks }
+    requires own { numbers accounts.now ≡ footprint setting.now.directory instruction.now.act }
+    requires movement { movement.now ≡ movement_of instruction.now.act }
+    ensures { result ≡ find (fails setting.now (seen accounts.now instruction.now.act) instruction.now) checks }
 {
-    CHECKS.iter().copied().find(|check| refuses(
-        *check,
-        rules,
-        day,
-        instruction,
-        directory,
-        accounts,
-    ))
+    CHECKS.iter().copied().find(|check| refuses(*check, setting, instruction, movement, accounts))
 }
 
 // Whether this check fails. A check that this version does not ask never fails.
 fn refuses(
     check: Refusal,
-    rules: &Rules,
-    day: Day,
+    setting: &Setting,
     instruction: &Instruction,
-    directory: &Directory,
+    movement: &Movement,
     accounts: &[Account],
 ) -> bool
-    ensures { result ≡ fails (record { rules = rules.now; day = day; directory = directory.now }) accounts.now instruction.now check }
+    requires own { numbers accounts.now ≡ footprint setting.now.directory instruction.now.act }
+    requires movement { movement.now ≡ movement_of instruction.now.act }
+    ensures { result ≡ fails setting.now (seen accounts.now instruction.now.act) instruction.now check }
 {
-    let act = &instruction.act;
     match check {
-        Refusal::UnknownAccount => !knows_all(directory, act),
-        Refusal::SameAccount => is_one_account(act),
-        Refusal::WrongAccountKind => !fits_kinds(accounts, act),
-        Refusal::SourceStatus => !may_leave(accounts, act),
-        Refusal::DestinationStatus => !may_arrive(accounts, act),
-        Refusal::OutsideCalendar => falls_due(rules, instruction).is_none(),
-        Refusal::NotDue => falls_due(rules, instruction).is_some_and(|due| due > day),
-        Refusal::ZeroAmount => is_empty_move(act),
-        Refusal::NotEnough => lacks_amount(accounts, act),
-        Refusal::HoldingTooLarge => passes_limit(accounts, act),
+        // The footprint is empty exactly if an account that has to be known is not.
+        Refusal::UnknownAccount => accounts.is_empty(),
+        Refusal::SameAccount => has_repeat(movement.first, movement.shares.as_slice()),
+        Refusal::WrongAccountKind => {
+            !has_right_kinds(rule_of(&instruction.act), movement, accounts)
+        }
+        Refusal::SourceStatus => !source_allows(rule_of(&instruction.act), movement, accounts),
+        Refusal::DestinationStatus => !destination_allows(movement, accounts),
+        Refusal::OutsideCalendar => due_day(setting, instruction).is_none(),
+        Refusal::NotDue => is_after(due_day(setting, instruction), setting.day),
+        Refusal::ZeroAmount => instruction.act.names_zero(),
+        Refusal::NotEnough => is_short(movement, accounts),
+        Refusal::HoldingTooLarge => overfills_some(movement, accounts),
         Refusal::NotProposer
         | Refusal::ApprovalMissing
         | Refusal::SameRepresentative
@@ -126,120 +154,122 @@ fn held_at(accounts: &[Account], number: AccountNo, kind: AllowanceKind) -> u64
     find_account(accounts, number).map_or(0, |account| account.held(kind))
 }
 
-fn knows_all(directory: &Directory, act: &Act) -> bool
-    ensures { result ≡ all_known directory.now act.now }
+// Whether this account stands among those that receive, or one of these twice.
+fn has_repeat(first: AccountNo, shares: &[Share]) -> bool
+    ensures { result ≡ has_repeat (first ∷ map (λ share. share.to) shares.now) }
 {
-    match *act {
-        Act::Transfer { from, to, .. } => {
-            directory.find(from).is_some() && directory.find(to).is_some()
-        }
+    match shares.split_first() {
+        None => false,
+        Some((share, rest)) => receives(first, shares) || has_repeat(share.to, rest),
     }
 }
 
-fn is_one_account(act: &Act) -> bool
-    ensures { result ≡ names_one_account act.now }
+fn receives(account: AccountNo, shares: &[Share]) -> bool
+    ensures { result ≡ list_any (λ share. share.to == account) shares.now }
 {
-    match *act {
-        Act::Transfer { from, to, .. } => from == to,
+    shares.iter().any(|share| share.to == account)
+}
+
+fn has_right_kinds(rule: ActRule, movement: &Movement, accounts: &[Account]) -> bool
+    ensures { result ≡ has_right_kinds rule (seen_by movement.now accounts.now) }
+{
+    first_fits(rule.kinds, movement.first, accounts)
+        && receivers_fit(rule.kinds, movement.shares.as_slice(), accounts)
+}
+
+fn first_fits(rule: KindRule, first: AccountNo, accounts: &[Account]) -> bool
+    ensures { result ≡ passes (λ v. fits_first rule v.kind) (account accounts.now first) }
+{
+    find_account(accounts, first).is_some_and(|account| fits_first(rule, account.kind()))
+}
+
+fn receivers_fit(rule: KindRule, shares: &[Share], accounts: &[Account]) -> bool
+    ensures { result ≡ list_all (λ share. passes (λ v. fits_receiver rule v.kind) (account accounts.now share.to)) shares.now }
+{
+    shares
+        .iter()
+        .all(|share| receiver_fits(rule, share.to, accounts))
+}
+
+fn receiver_fits(rule: KindRule, to: AccountNo, accounts: &[Account]) -> bool
+    ensures { result ≡ passes (λ v. fits_receiver rule v.kind) (account accounts.now to) }
+{
+    find_account(accounts, to).is_some_and(|account| fits_receiver(rule, account.kind()))
+}
+
+fn source_allows(rule: ActRule, movement: &Movement, accounts: &[Account]) -> bool
+    ensures { result ≡ source_allows rule (seen_by movement.now accounts.now) }
+{
+    find_account(accounts, movement.first).is_some_and(|first| fits_status(
+        rule.status,
+        first.status(),
+    ))
+}
+
+fn destination_allows(movement: &Movement, accounts: &[Account]) -> bool
+    ensures { result ≡ destination_allows (seen_by movement.now accounts.now) }
+{
+    none_is_closed(movement.shares.as_slice(), accounts)
+}
+
+fn none_is_closed(shares: &[Share], accounts: &[Account]) -> bool
+    ensures { result ≡ list_all (λ share. passes (λ v. is_not_closed v.status) (account accounts.now share.to)) shares.now }
+{
+    shares.iter().all(|share| may_receive(share.to, accounts))
+}
+
+fn may_receive(to: AccountNo, accounts: &[Account]) -> bool
+    ensures { result ≡ passes (λ v. is_not_closed v.status) (account accounts.now to) }
+{
+    find_account(accounts, to).is_some_and(|account| is_not_closed(account.status()))
+}
+
+// The day on which the instruction falls due.
+fn due_day(setting: &Setting, instruction: &Instruction) -> Option<Day>
+    ensures { result ≡ due setting.now.rules.calendar instruction.now.proposed (lag_by setting.now (rule_of instruction.now.act).lag) }
+{
+    let lag = lag_by(setting, rule_of(&instruction.act).lag);
+    setting.rules.calendar().due(instruction.proposed, lag)
+}
+
+// Whether there is a due day, and it is later than this one.
+fn is_after(due: Option<Day>, day: Day) -> bool
+    ensures { result ≡ option_map_or (λ w. nat_lt day w) due false }
+{
+    due.is_some_and(|due| due > day)
+}
+
+// How many working days lie between the proposal and the due day.
+fn lag_by(setting: &Setting, lag: LagRule) -> u16
+    ensures { result ≡ lag_by setting.now lag }
+{
+    match lag {
+        LagRule::ByTrust => setting.rules.trusted_lag(),
+        LagRule::NoLag => 0,
     }
 }
 
-fn is_holder_account(account: &Account) -> bool
-    ensures { result ≡ is_holder_kind account.now.kind }
+fn is_short(movement: &Movement, accounts: &[Account]) -> bool
+    ensures { result ≡ is_short movement.now (seen_by movement.now accounts.now) }
 {
-    match account.kind() {
-        AccountKind::Operator | AccountKind::Aircraft | AccountKind::Trading => true,
-        AccountKind::Total | AccountKind::Allocation => false,
-    }
+    u128::from(held_at(accounts, movement.first, movement.kind)) < movement.leaves
 }
 
-fn fits_kinds(accounts: &[Account], act: &Act) -> bool
-    ensures { result ≡ has_right_kinds accounts.now act.now }
+fn overfills_some(movement: &Movement, accounts: &[Account]) -> bool
+    ensures { result ≡ overfills_some movement.now (seen_by movement.now accounts.now) }
 {
-    match *act {
-        Act::Transfer { from, to, .. } => {
-            find_account(accounts, from).is_some_and(is_holder_account)
-                && find_account(accounts, to).is_some_and(is_holder_account)
-        }
-    }
+    overfills_one(movement.kind, movement.shares.as_slice(), accounts)
 }
 
-fn is_account_opened(account: &Account) -> bool
-    ensures { result ≡ is_opened account.now.status }
+fn overfills_one(kind: AllowanceKind, shares: &[Share], accounts: &[Account]) -> bool
+    ensures { result ≡ list_any (λ share. overfills kind (record { account = account accounts.now share.to; amount = share.amount })) shares.now }
 {
-    match account.status() {
-        Status::Opened => true,
-        Status::Blocked | Status::Excluded | Status::Closed => false,
-    }
+    shares.iter().any(|share| overfills(kind, share, accounts))
 }
 
-fn is_account_closed(account: &Account) -> bool
-    ensures { result ≡ is_closed account.now.status }
+// Whether the account would hold more allowances than it may with its share.
+fn overfills(kind: AllowanceKind, share: &Share, accounts: &[Account]) -> bool
+    ensures { result ≡ overfills kind (record { account = account accounts.now share.now.to; amount = share.now.amount }) }
 {
-    match account.status() {
-        Status::Closed => true,
-        Status::Opened | Status::Blocked | Status::Excluded => false,
-    }
-}
-
-fn may_leave(accounts: &[Account], act: &Act) -> bool
-    ensures { result ≡ source_allows accounts.now act.now }
-{
-    match *act {
-        Act::Transfer { from, .. } => find_account(accounts, from).is_some_and(is_account_opened),
-    }
-}
-
-fn may_arrive(accounts: &[Account], act: &Act) -> bool
-    ensures { result ≡ destination_allows accounts.now act.now }
-{
-    match *act {
-        Act::Transfer { to, .. } => {
-            find_account(accounts, to).is_some_and(|account| !is_account_closed(account))
-        }
-    }
-}
-
-// The due day of the instruction. In this version every destination counts as trusted.
-fn falls_due(rules: &Rules, instruction: &Instruction) -> Option<Day>
-    ensures { result ≡ due_day rules.now instruction.now }
-{
-    let lag = match instruction.act {
-        Act::Transfer { .. } => rules.trusted_lag(),
-    };
-    rules.calendar().due(instruction.proposed, lag)
-}
-
-fn is_empty_move(act: &Act) -> bool
-    ensures { result ≡ moves_nothing act.now }
-{
-    match *act {
-        Act::Transfer { amount, .. } => amount == 0,
-    }
-}
-
-fn lacks_amount(accounts: &[Account], act: &Act) -> bool
-    ensures { result ≡ is_short accounts.now act.now }
-{
-    match *act {
-        Act::Transfer {
-            from,
-            kind,
-            amount,
-            ..
-        } => held_at(accounts, from, kind) < amount,
-    }
-}
-
-fn passes_limit(accounts: &[Account], act: &Act) -> bool
-    ensures { result ≡ overfills accounts.now act.now }
-{
-    match *act {
-        Act::Transfer {
-            to,
-            kind,
-            amount,
-            ..
-        } => MOST_HELD - held_at(accounts, to, kind) < amount,
-    }
+    MOST_HELD - held_at(accounts, share.to, kind) < share.amount
 }

@@ -1,21 +1,19 @@
 //! Laws of every step. Each law is the contract of a function that does nothing. A function whose proof needs a law
 //! calls it.
 
-ghost use Rattle.reg_rules.specs.Laws.{StepLaws, TransferMoves};
+ghost use Rattle.reg_rules.specs.Laws.{StepLaws, ActLaws};
 
-/// The laws of every step, whatever its act:
-///
-/// - The reply of an instruction and the values that it gives to its accounts depend only on the accounts that it
-///   touches. Every other account stays as it is.
-/// - No account is added, removed or moved in the list. None changes its kind, its holder, its two switches
-///   (transfers outside its list, waiver) or its correction factor. Each stays within its limits.
-/// - A refused instruction changes nothing.
-/// - Two states are equal if they list the same account numbers, each once, with the same account at each number.
+/// The laws of every step, whatever its act. The accounts that an instruction touches decide its refusal, its reply
+/// and what it makes of each account. An account that it does not touch stays as it is; no account comes, goes or
+/// moves, none changes its kind, holder, permissions or correction factor, and none leaves its limits. A refused
+/// instruction changes nothing. States with the same numbers, each once, and the same account at each of them are
+/// one.
 pub fn step_laws()
     ensures { StepLaws }
 {}
 
-/// A transfer that is done moves its amount from one account to the other and changes nothing else.
-pub fn transfer_moves()
-    ensures { TransferMoves }
+/// What each act makes of the state: a transfer and a return of excess move their amount from the one account to
+/// the other, and do nothing else.
+pub fn act_laws()
+    ensures { ActLaws }
 {}

@@ -5,9 +5,12 @@
 mod checks;
 mod laws;
 mod reply;
-mod settle;
+mod rule;
+mod setting;
+mod step;
 
 pub use checks::decide;
-pub use laws::{step_laws, transfer_moves};
+pub use laws::{act_laws, step_laws};
 pub use reply::{Closing, HeldNow, LogRow, Reply};
-pub use settle::{execute, log_row};
+pub use setting::Setting;
+pub use step::{execute, log_row};

@@ -1,39 +1,63 @@
--- The faulty row is the first one with which no day text begins.
-use Rattle.std.proofs.Common.{◌≡◌, ◌⊎◌, inl, inr, ℕ, suc, ◌+◌, ◌-◌, ◌<◌, ◌≤◌, Bool, true, false, cond, List, [], ◌∷◌, ◌++◌, length, map, take, Option, Some, None, Result, Ok, Err, refl, sym, ap, subst, ◌∙◌, arith, append_assoc}
+-- The row that a fault names is the first with which no day text begins.
+use Rattle.std.proofs.Common.{◌≡◌, ◌⊎◌, inl, inr, ℕ, suc, ◌+◌, ◌-◌, ◌<◌, ◌≤◌, Bool, true, false, List, [], ◌∷◌, ◌++◌, length, take, Option, Some, None, Result, Ok, Err, refl, sym, ap, subst, ◌∙◌, arith, append_assoc}
 use Rattle.std.proofs.lemmas.List.{append-nil}
+use Rattle.reg_base.specs.declared.limits.TheConstants.{FIRST_DAY, FIRST_YEAR}
 use Rattle.reg_text.specs.declared.cause.Cause.{Cause}
 use Rattle.reg_text.specs.declared.cause.Cause.TheVariants as cause
 use Rattle.reg_text.specs.declared.reading.tag.Tag.{Tag}
 use Rattle.reg_text.specs.declared.reading.tag.Tag.TheVariants as tag
 use Rattle.reg_text.specs.Records.{Record}
-use Rattle.reg_text.specs.Drafts.{DraftValue}
-use Rattle.reg_text.specs.DraftLimits.{place, IsOrderly, IsDraft}
-use Rattle.reg_text.specs.Day.{DayValue, day_said}
-use Rattle.reg_text.specs.Spelling.{heading, day_text, day_row, period_row, lags_row, work_row, account_row, do_row, end_row}
+use Rattle.reg_text.specs.Grammar.{Said, row, row_text}
+use Rattle.reg_text.specs.Drafts.{DraftValue, nothing_read}
+use Rattle.reg_text.specs.Day.{DayValue, is_over, day_said}
+use Rattle.reg_text.specs.DraftLimits.{IsDraft}
 use Rattle.reg_text.specs.Reading.{IsReading, Begins, IsFirstFaulty}
-use Rattle.reg_text.specs.Faults.{nothing_read, is_over, next_draft, at_row, after_rows, draft_of_rows, said, day_of_rows}
-use Rattle.reg_text.proofs.DraftFacts.{rows_so_far, head_so_far, end_so_far, in_order, says_a_day, push_end}
-use Rattle.reg_text.proofs.DraftSteps.{grows}
-use Rattle.reg_text.proofs.Readings.{nothing-fits, reading-to}
+use Rattle.reg_text.specs.Faults.{with, in_order, has_room, next_draft, at_row, at_end, after_rows, day_of_rows}
+use Rattle.reg_text.proofs.TagLaws.{MayFollow}
+use Rattle.reg_text.proofs.DraftSteps.{rows_so_far, Grows, grows, grows-with, nothing-fits}
+use Rattle.reg_text.proofs.Readings.{closes, reading-to}
 
--- ---- the rows of a draft begin the text of its day
+-- ---- the rows of a draft begin a day text
 
-abbrev drafted : Option Tag → DraftValue → List Record
-drafted last d = in_order (head_so_far last (day_said d)) (map work_row d.work) (map account_row d.accounts) (map do_row d.instructions) (end_so_far last)
+begin-with : (rows : List Record) (r : Record) (all : List Record) → all ≡ rows ++ r ∷ [] → Begins all → Begins rows
+begin-with rows r all e begins = (r ∷ begins.0, begins.1, subst (λ (text : List Record). IsReading text begins.1) (ap (λ (x : List Record). x ++ begins.0) e ∙ append_assoc rows (r ∷ []) begins.0) begins.2)
 
-completed : (last : Option Tag) (d : DraftValue) → IsOrderly (place last) d.work d.accounts d.instructions → (more : List Record) × (drafted last d ++ more ≡ day_text (day_said d))
-completed None d o = (heading (day_said d) ++ end_row ∷ [], rw (o.no_work (omega arith), o.no_accounts (omega arith), o.no_instructions (omega arith)) refl)
-completed (Some tag.Format) d o = (day_row d.day d.next ∷ period_row d.first_year d.last_year ∷ lags_row d.lags ∷ end_row ∷ [], rw (o.no_work (omega arith), o.no_accounts (omega arith), o.no_instructions (omega arith)) refl)
-completed (Some tag.Day) d o = (period_row d.first_year d.last_year ∷ lags_row d.lags ∷ end_row ∷ [], rw (o.no_work (omega arith), o.no_accounts (omega arith), o.no_instructions (omega arith)) refl)
-completed (Some tag.Period) d o = (lags_row d.lags ∷ end_row ∷ [], rw (o.no_work (omega arith), o.no_accounts (omega arith), o.no_instructions (omega arith)) refl)
-completed (Some tag.Lags) d o = (end_row ∷ [], sym (push_end (heading (day_said d)) (map work_row d.work) (map account_row d.accounts) (map do_row d.instructions) end_row))
-completed (Some tag.Work) d o = (end_row ∷ [], sym (push_end (heading (day_said d)) (map work_row d.work) (map account_row d.accounts) (map do_row d.instructions) end_row))
-completed (Some tag.Account) d o = (end_row ∷ [], sym (push_end (heading (day_said d)) (map work_row d.work) (map account_row d.accounts) (map do_row d.instructions) end_row))
-completed (Some tag.Do) d o = (end_row ∷ [], sym (push_end (heading (day_said d)) (map work_row d.work) (map account_row d.accounts) (map do_row d.instructions) end_row))
-completed (Some tag.End) d o = ([], append-nil (drafted (Some tag.End) d))
+-- one row more
+with-one : (t : Tag) (d : DraftValue) (x : Said t) → IsDraft d → MayFollow d.last t → (row t).Fits x → in_order t d x ≡ true → has_room t d ≡ true
+    → (IsDraft (with t d x) → Begins (rows_so_far (with t d x))) → Begins (rows_so_far d)
+with-one t d x h may fits order room more =
+    let g = grows-with t d x h may fits order room in
+    begin-with (rows_so_far d) (row_text t x) (rows_so_far (with t d x)) g.rows (more g.draft)
+
+over-begins : (d : DraftValue) → IsDraft d → is_over d.last ≡ true → Begins (rows_so_far d)
+over-begins d h over = let c = closes d h over in ([], c.day, subst (λ (text : List Record). IsReading text c.day) (sym (append-nil (rows_so_far d))) c.reading)
+
+from-lags : (d : DraftValue) → IsDraft d → MayFollow d.last tag.End → Begins (rows_so_far d)
+from-lags d h may = with-one tag.End d tt h may tt refl refl (λ k. over-begins (with tag.End d tt) k refl)
+
+from-period : (d : DraftValue) → IsDraft d → MayFollow d.last tag.Lags → Begins (rows_so_far d)
+from-period d h may =
+    with-one tag.Lags d (record { trusted = 0; other = 0; list = 0; reversal = 0 }) h may ((omega arith, omega arith), ((omega arith, omega arith), ((omega arith, omega arith), (omega arith, omega arith)))) refl refl (λ k. from-lags _ k refl)
+
+from-day : (d : DraftValue) → IsDraft d → MayFollow d.last tag.Period → Begins (rows_so_far d)
+from-day d h may = with-one tag.Period d (FIRST_YEAR, FIRST_YEAR) h may (((omega arith, omega arith), (omega arith, omega arith)), refl) refl refl (λ k. from-period _ k refl)
+
+from-format : (d : DraftValue) → IsDraft d → MayFollow d.last tag.Day → Begins (rows_so_far d)
+from-format d h may = with-one tag.Day d (FIRST_DAY, 1) h may ((omega arith, omega arith), (omega arith, omega arith)) refl refl (λ k. from-day _ k refl)
+
+from-nothing : (d : DraftValue) → IsDraft d → MayFollow d.last tag.Format → Begins (rows_so_far d)
+from-nothing d h may = with-one tag.Format d 1 h may refl refl refl (λ k. from-format _ k refl)
+
+begins-by : (last : Option Tag) (d : DraftValue) → d.last ≡ last → IsDraft d → Begins (rows_so_far d)
+begins-by None d e h = from-nothing d h (rw e refl)
+begins-by (Some tag.Format) d e h = from-format d h (rw e refl)
+begins-by (Some tag.Day) d e h = from-day d h (rw e refl)
+begins-by (Some tag.Period) d e h = from-period d h (rw e refl)
+begins-by (Some tag.End) d e h = over-begins d h (rw e refl)
+begins-by last d e h = from-lags d h (rw e refl)
 
 pub begins-draft : (d : DraftValue) → IsDraft d → Begins (rows_so_far d)
-begins-draft d h = let c = completed d.last d h.orderly in (c.0, day_said d, record { spelled = c.1; fits = says_a_day d h })
+begins-draft d h = begins-by d.last d refl h
 
 -- ---- where reading stops
 
@@ -49,24 +73,24 @@ pub record Stops (number : ℕ) (d : DraftValue) (rows : List Record) (row : ℕ
   pub stays : count < length rows → (more : List Record) → after_rows number d (take (count + 1) rows ++ more) ≡ Err (row, c)
   pub too_short : count ≡ length rows → c ≡ cause.End
 
-abbrev fault_at : ℕ → Cause → Result DraftValue (ℕ × Cause)
+abbrev fault_at : ℕ → Cause → Result DayValue (ℕ × Cause)
 fault_at row c = Err (row, c)
 
 same_fault : (row row' : ℕ) (c c' : Cause) → fault_at row c ≡ fault_at row' c' → (row ≡ row') × (c ≡ c')
 same_fault row row' c c' e = let pair : ◌≡◌ {A = ℕ × Cause} (row, c) (row', c') = cc in (ap (λ (p : ℕ × Cause). p.0) pair, ap (λ (p : ℕ × Cause). p.1) pair)
 
-faulty_row : (number : ℕ) (read : Result DraftValue Cause) (more : DraftValue → Result DraftValue (ℕ × Cause)) (row : ℕ) (c : Cause) → at_row number read more ≡ Err (row, c)
+pub faulty_row : (number : ℕ) (read : Result DraftValue Cause) (more : DraftValue → Result DayValue (ℕ × Cause)) (row : ℕ) (c : Cause) → at_row number read more ≡ Err (row, c)
     → ((read ≡ Err c) × (row ≡ number)) ⊎ ((d : DraftValue) × (read ≡ Ok d) × (more d ≡ Err (row, c)))
 faulty_row number (Ok d) more row c e = inr (d, refl, e)
 faulty_row number (Err b) more row c e = let same = same_fault number row b c e in inl (ap (λ (x : Cause). Err x) same.1, sym same.0)
 
-at_end : (over : Bool) (d : DraftValue) (number row : ℕ) (c : Cause) → cond {A = Result DraftValue (ℕ × Cause)} over (Ok d) (Err (number, cause.End)) ≡ Err (row, c) → (row ≡ number) × (c ≡ cause.End)
-at_end true d number row c e = absurd cc
-at_end false d number row c e = let same = same_fault number row cause.End c e in (sym same.0, sym same.1)
+pub fault_at_end : (number : ℕ) (o : Option DayValue) (row : ℕ) (c : Cause) → at_end number o ≡ Err (row, c) → (row ≡ number) × (c ≡ cause.End)
+fault_at_end number (Some v) row c e = absurd cc
+fault_at_end number None row c e = let same = same_fault number row cause.End c e in (sym same.0, sym same.1)
 
 pub stops : (rows : List Record) (number : ℕ) (d : DraftValue) (row : ℕ) (c : Cause) → IsDraft d → after_rows number d rows ≡ Err (row, c) → Stops number d rows row c
 stops [] number d row c h e =
-    let a = at_end (is_over d.last) d number row c e in
+    let a = fault_at_end number (day_said d) row c e in
     record { count = 0; at = omega (arith, a.0); within = omega arith; last_draft = d; fits = h; stands = sym (append-nil (rows_so_far d)); stays = λ lt more. absurd (omega arith); too_short = λ same. a.1 }
 stops (r ∷ rows) number d row c h e = elim (faulty_row number (next_draft d r) (λ x. after_rows (number + 1) x rows) row c e) [
   | inl here ↦ record { count = 0; at = omega (arith, here.1); within = omega arith; last_draft = d; fits = h; stands = sym (append-nil (rows_so_far d)); stays = λ lt more. rw here.0 (ap (λ (n : ℕ). Err (n, c)) (sym here.1)); too_short = λ same. absurd (omega arith) }
@@ -87,23 +111,15 @@ stops (r ∷ rows) number d row c h e = elim (faulty_row number (next_draft d r)
 
 -- ---- the law
 
-said_err : (read : Result DraftValue (ℕ × Cause)) (row : ℕ) (c : Cause) → said read ≡ Err (row, c) → read ≡ Err (row, c)
-said_err (Ok d) row c e = absurd cc
-said_err (Err f) row c e = cc
-
 not_both : (read : Result DayValue (ℕ × Cause)) (v : DayValue) (row : ℕ) (c : Cause) → read ≡ Ok v → read ≡ Err (row, c) → ⊥
 not_both read v row c value fault = cc
 
-faulty : (rows : List Record) (row : ℕ) (c : Cause) → said (draft_of_rows rows) ≡ Err (row, c) → draft_of_rows rows ≡ Err (row, c)
-faulty rows row c e = said_err (draft_of_rows rows) row c e
-
-no_value : (rows : List Record) (v : DayValue) (row : ℕ) (c : Cause) → draft_of_rows rows ≡ Err (row, c) → IsReading rows v → ⊥
-no_value rows v row c e reading = let read = reading-to rows v reading in let fault : day_of_rows rows ≡ Err (row, c) = ap said e in not_both (day_of_rows rows) v row c read fault
+no_value : (rows : List Record) (v : DayValue) (row : ℕ) (c : Cause) → day_of_rows rows ≡ Err (row, c) → IsReading rows v → ⊥
+no_value rows v row c e reading = not_both (day_of_rows rows) v row c (reading-to rows v reading) e
 
 pub first-faulty : (rows : List Record) (row : ℕ) (c : Cause) → day_of_rows rows ≡ Err (row, c) → IsFirstFaulty rows row × (row ≡ length rows + 1 → c ≡ cause.End)
 first-faulty rows row c e =
-    let d = faulty rows row c e in
-    let s = stops rows 1 nothing_read row c nothing-fits d in
+    let s = stops rows 1 nothing_read row c nothing-fits e in
     let before : row - 1 ≡ s.count = omega (arith, s.at) in
     let with_it : row ≡ s.count + 1 = omega (arith, s.at) in (
       record {
@@ -113,8 +129,8 @@ first-faulty rows row c e =
         none_with_it = λ le begins.
             let longer = s.stays (omega (arith, s.at)) begins.0 in
             let same : take (s.count + 1) rows ++ begins.0 ≡ take row rows ++ begins.0 = ap (λ (k : ℕ). take k rows ++ begins.0) (sym with_it) in
-            no_value (take row rows ++ begins.0) begins.1 row c (ap draft_of_rows (sym same) ∙ longer) begins.2;
-        none_at_the_end = λ same v reading. no_value rows v row c d reading;
+            no_value (take row rows ++ begins.0) begins.1 row c (ap day_of_rows (sym same) ∙ longer) begins.2;
+        none_at_the_end = λ same v reading. no_value rows v row c e reading;
       },
       λ same. s.too_short (omega (arith, s.at)),
     )

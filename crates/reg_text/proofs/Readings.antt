@@ -1,103 +1,160 @@
--- The laws of reading: rows are read as a day exactly if they are its spelling.
-use Rattle.std.proofs.Common.{◌≡◌, ℕ, ◌+◌, ◌-◌, Bool, true, false, cond, List, [], ◌∷◌, ◌++◌, map, Option, Some, None, Result, Ok, Err, refl, sym, ap, subst, ◌∙◌, arith, append_assoc}
+-- The laws of reading: the rows read as a day exactly where they are its spelling.
+use Rattle.std.proofs.Common.{◌≡◌, ℕ, ◌+◌, ◌-◌, ◌≤◌, Bool, true, false, cond, List, [], ◌∷◌, ◌++◌, length, map, Option, Some, None, Result, Ok, Err, refl, sym, ap, subst, ◌∙◌, arith, append_assoc}
+use Rattle.std.proofs.lemmas.Bool.{leb-true}
 use Rattle.std.proofs.lemmas.List.{append-nil}
+use mathlib.Core.List.{map-id}
+use Rattle.std.specs.Prelude.{IfSome}
+use Rattle.std.specs.List.{AllByRecursion}
+use Rattle.reg_base.specs.declared.limits.TheConstants.{MOST_RECORD}
+use Rattle.reg_base.specs.Rising.{IsRising}
+use Rattle.reg_base.specs.declared.kinds.AccountKind.{AccountKind}
+use Rattle.reg_base.specs.declared.kinds.AllowanceKind.{AllowanceKind}
 use Rattle.reg_text.specs.declared.cause.Cause.{Cause}
 use Rattle.reg_text.specs.declared.cause.Cause.TheVariants as cause
 use Rattle.reg_text.specs.declared.reading.tag.Tag.{Tag}
 use Rattle.reg_text.specs.declared.reading.tag.Tag.TheVariants as tag
 use Rattle.reg_text.specs.Records.{Record}
-use Rattle.reg_text.specs.Drafts.{DraftValue}
-use Rattle.reg_text.specs.Day.{DayValue, day_said}
-use Rattle.reg_text.specs.Spelling.{day_text, work_row, account_row, do_row}
-use Rattle.reg_text.specs.Reading.{IsDay, IsReading}
+use Rattle.reg_text.specs.Tags.{place}
+use Rattle.reg_text.specs.Grammar.{Said, row}
+use Rattle.reg_text.specs.Drafts.{DraftValue, ended, nothing_read}
+use Rattle.reg_text.specs.Day.{DayValue, day_with, is_over, day_said}
+use Rattle.reg_text.specs.Spelling.{day_text}
+use Rattle.reg_text.specs.Reading.{IsNo, IsDayNo, IsPair, IsAccountRow, IsInstructionRow, IsDay, IsReading}
 use Rattle.reg_text.specs.DraftLimits.{IsDraft}
-use Rattle.reg_text.specs.Faults.{nothing_read, is_over, next_draft, at_row, after_rows, draft_of_rows, said, day_of_rows}
-use Rattle.reg_text.proofs.DraftFacts.{rows_so_far, head_so_far, end_so_far, in_order, says_a_day}
-use Rattle.reg_text.proofs.DraftSteps.{grows}
-use Rattle.reg_text.proofs.Taken.{text-taken, draft_for}
+use Rattle.reg_text.specs.Faults.{next_in, next_draft, at_row, at_end, after_rows, day_of_rows}
+use Rattle.reg_text.proofs.ListFacts.{all-weaker}
+use Rattle.reg_text.proofs.RowLaws.{lags-fit, account-fits, instruction-fits}
+use Rattle.reg_text.proofs.DraftSteps.{rows_so_far, grows, nothing-fits}
+use Rattle.reg_text.proofs.Taken.{text-taken}
 
--- nothing is within all limits
-pub nothing-fits : IsDraft nothing_read
-nothing-fits = record {
-  head = record {
-    day_fits = record { from = omega arith; to = omega arith };
-    next_fits = record { from = omega arith; to = omega arith };
-    first_fits = record { from = omega arith; to = omega arith };
-    last_fits = record { from = omega arith; to = omega arith };
-    period = omega arith;
-    lags_fit = record { trusted = omega arith; other = omega arith; listed = omega arith; reversal = omega arith };
-  };
-  days = record { all = tt; rise = λ k lt. absurd (omega arith) };
-  accounts = record { all = tt; rise = λ k lt. absurd (omega arith); few = omega arith };
-  due = record { all = tt; few = omega arith; numbered = omega arith };
-  orderly = record { no_work = λ lt. refl; no_accounts = λ lt. refl; no_instructions = λ lt. refl };
-}
+-- ---- what a closed draft says
 
--- what rows that were read say
-pub record Said (d : DraftValue) (rows : List Record) (e : DraftValue) : Type 0 where
-  pub draft : IsDraft e
-  pub over : is_over e.last ≡ true
-  pub rows_are : rows_so_far e ≡ rows_so_far d ++ rows
+over-last : (last : Option Tag) → is_over last ≡ true → last ≡ Some tag.End
+over-last (Some tag.End) e = refl
+over-last last e = absurd cc
 
-taken_row : (number : ℕ) (read : Result DraftValue Cause) (more : DraftValue → Result DraftValue (ℕ × Cause)) (e : DraftValue) → at_row number read more ≡ Ok e → (d : DraftValue) × (read ≡ Ok d) × (more d ≡ Ok e)
-taken_row number (Ok d) more e h = (d, refl, h)
-taken_row number (Err c) more e h = absurd cc
+-- the one value of a row that stands once
+the_one : {X : Type 0} (P : X → Type 0) (xs : List X) (x : X) → xs ≡ x ∷ [] → AllByRecursion P xs → P x
+the_one P xs x e h = let one = subst (AllByRecursion P) e h in one.0
 
-closed : (over : Bool) (d e : DraftValue) (number : ℕ) → cond {A = Result DraftValue (ℕ × Cause)} over (Ok d) (Err (number, cause.End)) ≡ Ok e → (over ≡ true) × (d ≡ e)
-closed true d e number h = (refl, cc)
-closed false d e number h = absurd cc
+-- the rows of the heading of a closed draft, each of which has come once
+record IsHeaded (d : DraftValue) : Type 0 where
+  version : ℕ
+  day : ℕ × ℕ
+  period : ℕ × ℕ
+  lags : Said tag.Lags
+  one_version : d.versions ≡ version ∷ []
+  one_day : d.days ≡ day ∷ []
+  one_period : d.periods ≡ period ∷ []
+  one_lags : d.lags ≡ lags ∷ []
 
-pub said-of : (rows : List Record) (number : ℕ) (d e : DraftValue) → IsDraft d → after_rows number d rows ≡ Ok e → Said d rows e
-said-of [] number d e h eq =
-    let c = closed (is_over d.last) d e number eq in
-    subst (λ (x : DraftValue). Said d [] x) c.1 (record { draft = h; over = c.0; rows_are = sym (append-nil (rows_so_far d)) })
-said-of (r ∷ rows) number d e h eq =
-    let t = taken_row number (next_draft d r) (λ x. after_rows (number + 1) x rows) e eq in
+headed : (d : DraftValue) → IsDraft d → is_over d.last ≡ true → IsHeaded d
+headed d h over =
+    let at : place d.last ≡ 100 = ap place (over-last d.last over) in
+    let f = h.stand.0.come (omega (arith, at)) refl in
+    let a = h.stand.1.0.come (omega (arith, at)) refl in
+    let p = h.stand.1.1.0.come (omega (arith, at)) refl in
+    let l = h.stand.1.1.1.0.come (omega (arith, at)) refl in
+    record { version = f.0; day = a.0; period = p.0; lags = l.0; one_version = f.1; one_day = a.1; one_period = p.1; one_lags = l.1 }
+
+numbered-day : (o : Option ℕ) (next count : ℕ) → o ≡ Some next → IfSome o (λ n. n + count ≤ MOST_RECORD + 1) → next + count ≤ MOST_RECORD + 1
+numbered-day o next count e h = rw e at h
+
+-- it says a day within the limits
+says-a-day : (d : DraftValue) (h : IsDraft d) (k : IsHeaded d) → IsDay (day_with k.day k.period k.lags d)
+says-a-day d h k =
+    let day = the_one (row tag.Day).Fits d.days k.day k.one_day h.within.1.0.fits in
+    let period = the_one (row tag.Period).Fits d.periods k.period k.one_period h.within.1.1.0.fits in
+    let lags = lags-fit k.lags (the_one (row tag.Lags).Fits d.lags k.lags k.one_lags h.within.1.1.1.0.fits) in
+    let surrender = h.within.1.1.1.1.0 in
+    let admins = h.within.1.1.1.1.1.0 in
+    let work = h.within.1.1.1.1.1.1.0 in
+    let accounts = h.within.1.1.1.1.1.1.1.0 in
+    let due = h.within.1.1.1.1.1.1.1.1.0 in
+    let numbered = numbered-day (next_in d.days) k.day.1 (length d.instructions) (ap next_in k.one_day) h.numbered in
+    let from = day.1.0 in
+    record {
+      day = record { from = day.0.0; to = day.0.1 };
+      next = record { from = day.1.0; to = day.1.1 };
+      base = omega arith;
+      first_year = record { from = period.0.0.0; to = period.0.0.1 };
+      last_year = record { from = period.0.1.0; to = period.0.1.1 };
+      rules = record { few_admins = admins.few; admins_rise = subst IsRising (map-id d.admins) admins.ordered; lags_fit = record { trusted = lags.trusted; other = lags.other; listed = lags.listed; reversal = lags.reversal }; period = leb-true _ _ period.1 };
+      admins = all-weaker (row tag.Admin).Fits IsNo (λ n f. record { from = f.0; to = f.1 }) d.admins admins.fits;
+      surrender = all-weaker (row tag.Surrender).Fits IsPair (λ p f. f.1) d.surrender surrender.fits;
+      surrender_rises = surrender.ordered;
+      work = all-weaker (row tag.Work).Fits IsDayNo (λ n f. record { from = f.0; to = f.1 }) d.work work.fits;
+      work_rises = subst IsRising (map-id d.work) work.ordered;
+      accounts = all-weaker (row tag.Account).Fits IsAccountRow account-fits d.accounts accounts.fits;
+      accounts_rise = accounts.ordered;
+      few_accounts = accounts.few;
+      instructions = all-weaker (row tag.Do).Fits IsInstructionRow instruction-fits d.instructions due.fits;
+      batch = record { few = due.few; numbered = omega (arith, numbered, from) };
+    }
+
+-- a closed draft says a day, and stands for the day's rows
+pub record Closes (d : DraftValue) : Type 0 where
+  pub day : DayValue
+  pub said : day_said d ≡ Some day
+  pub reading : IsReading (rows_so_far d) day
+
+said-day : (d : DraftValue) (version : ℕ) (day period : ℕ × ℕ) (lags : Said tag.Lags) → is_over d.last ≡ true → d.versions ≡ version ∷ [] → d.days ≡ day ∷ [] → d.periods ≡ period ∷ [] → d.lags ≡ lags ∷ []
+    → day_said d ≡ Some (day_with day period lags d)
+said-day d version day period lags over v a p l = rw (over, v, a, p, l) refl
+
+said-rows : (d : DraftValue) (version : ℕ) (day period : ℕ × ℕ) (lags : Said tag.Lags) → ended d.last ≡ tt ∷ [] → d.versions ≡ version ∷ [] → d.days ≡ day ∷ [] → d.periods ≡ period ∷ [] → d.lags ≡ lags ∷ []
+    → rows_so_far d ≡ day_text version (day_with day period lags d)
+said-rows d version day period lags closed v a p l = rw (closed, v, a, p, l) refl
+
+pub closes : (d : DraftValue) → IsDraft d → is_over d.last ≡ true → Closes d
+closes d h over =
+    let k = headed d h over in
+    let closed = ap ended (over-last d.last over) in
+    record {
+      day = day_with k.day k.period k.lags d;
+      said = said-day d k.version k.day k.period k.lags over k.one_version k.one_day k.one_period k.one_lags;
+      reading = record {
+        version = k.version;
+        is_known = the_one (row tag.Format).Fits d.versions k.version k.one_version h.within.0.fits;
+        spelled = said-rows d k.version k.day k.period k.lags closed k.one_version k.one_day k.one_period k.one_lags;
+        fits = says-a-day d h k;
+      };
+    }
+
+-- ---- from rows to the day
+
+taken_row : (number : ℕ) (read : Result DraftValue Cause) (more : DraftValue → Result DayValue (ℕ × Cause)) (v : DayValue) → at_row number read more ≡ Ok v → (d : DraftValue) × (read ≡ Ok d) × (more d ≡ Ok v)
+taken_row number (Ok d) more v h = (d, refl, h)
+taken_row number (Err c) more v h = absurd cc
+
+said_at_end : (number : ℕ) (o : Option DayValue) (v : DayValue) → at_end number o ≡ Ok v → o ≡ Some v
+said_at_end number (Some w) v e = cc
+said_at_end number None v e = absurd cc
+
+some_is : (v w : DayValue) → ◌≡◌ {A = Option DayValue} (Some v) (Some w) → v ≡ w
+some_is v w e = cc
+
+said_over : (last : Bool) (o : Option DayValue) (v : DayValue) → cond last o None ≡ Some v → last ≡ true
+said_over true o v e = refl
+said_over false o v e = absurd cc
+
+pub said-of : (rows : List Record) (number : ℕ) (d : DraftValue) (v : DayValue) → IsDraft d → after_rows number d rows ≡ Ok v → IsReading (rows_so_far d ++ rows) v
+said-of [] number d v h e =
+    let said = said_at_end number (day_said d) v e in
+    let c = closes d h (said_over (is_over d.last) _ v said) in
+    subst (λ (rows : List Record). IsReading rows v) (sym (append-nil (rows_so_far d))) (subst (IsReading (rows_so_far d)) (some_is c.day v (sym c.said ∙ said)) c.reading)
+said-of (r ∷ rows) number d v h e =
+    let t = taken_row number (next_draft d r) (λ x. after_rows (number + 1) x rows) v e in
     let g = grows d t.0 r h t.1 in
-    let s = said-of rows (number + 1) t.0 e g.draft t.2 in
-    record { draft = s.draft; over = s.over; rows_are = s.rows_are ∙ ap (λ (x : List Record). x ++ rows) g.rows ∙ append_assoc (rows_so_far d) (r ∷ []) rows }
-
--- a closed draft stands for the text of its day
-pub closed-text : (d : DraftValue) (last : Option Tag) → is_over last ≡ true
-    → in_order (head_so_far last (day_said d)) (map work_row d.work) (map account_row d.accounts) (map do_row d.instructions) (end_so_far last) ≡ day_text (day_said d)
-closed-text d None h = absurd cc
-closed-text d (Some tag.Format) h = absurd cc
-closed-text d (Some tag.Day) h = absurd cc
-closed-text d (Some tag.Period) h = absurd cc
-closed-text d (Some tag.Lags) h = absurd cc
-closed-text d (Some tag.Work) h = absurd cc
-closed-text d (Some tag.Account) h = absurd cc
-closed-text d (Some tag.Do) h = absurd cc
-closed-text d (Some tag.End) h = refl
-
-said_ok : (read : Result DraftValue (ℕ × Cause)) (v : DayValue) → said read ≡ Ok v → (d : DraftValue) × (read ≡ Ok d) × (day_said d ≡ v)
-said_ok (Ok d) v e = (d, refl, cc)
-said_ok (Err f) v e = absurd cc
+    subst (λ (all : List Record). IsReading all v) (ap (λ (x : List Record). x ++ rows) g.rows ∙ append_assoc (rows_so_far d) (r ∷ []) rows) (said-of rows (number + 1) t.0 v g.draft t.2)
 
 -- what the rows say is what they spell
 pub reading-from : (rows : List Record) (v : DayValue) → day_of_rows rows ≡ Ok v → IsReading rows v
-reading-from rows v e =
-    let d = said_ok (draft_of_rows rows) v e in
-    let s = said-of rows 1 nothing_read d.0 nothing-fits d.1 in
-    subst (IsReading rows) d.2 (record { spelled = sym s.rows_are ∙ closed-text d.0 d.0.last s.over; fits = says_a_day d.0 s.draft })
-
-before_is : (base next : ℕ) → base + 1 ≡ next → next - 1 ≡ base
-before_is base next h = omega arith
-
-said_again : (v : DayValue) → IsDay v → day_said (draft_for v) ≡ v
-said_again v h =
-    let base = before_is v.batch.base v.book.next h.base in
-    λ i. record {
-      rules = record v.rules { admins = sym h.no_admins i; surrender = sym h.no_surrender i };
-      book = v.book;
-      batch = record v.batch { base = base i };
-    }
+reading-from rows v e = said-of rows 1 nothing_read v nothing-fits e
 
 -- and what they spell is what they say
 pub reading-to : (rows : List Record) (v : DayValue) → IsReading rows v → day_of_rows rows ≡ Ok v
-reading-to rows v h =
-    let taken : draft_of_rows (day_text v) ≡ Ok (draft_for v) = text-taken v h.fits 1 in
-    ap day_of_rows h.spelled ∙ ap said taken ∙ ap (λ (w : DayValue). Ok w) (said_again v h.fits)
+reading-to rows v h = ap day_of_rows h.spelled ∙ text-taken h.version v h.is_known h.fits 1
 
 abbrev value : DayValue → Result DayValue (ℕ × Cause)
 value v = Ok v

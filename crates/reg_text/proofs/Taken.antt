@@ -1,142 +1,152 @@
--- What is spelled is read: the rows of a day text are read as its day.
-use Rattle.std.proofs.Common.{◌≡◌, inl, ℕ, ◌+◌, ◌<◌, ◌≤◌, true, List, [], ◌∷◌, ◌++◌, length, map, Option, Some, Ok, refl, sym, ap, subst, ◌∙◌, arith, length-append, append_assoc}
-use Rattle.std.specs.Prelude.{codes}
+-- What is spelled is taken: the rows of a day text read as its day.
+use Rattle.std.proofs.Common.{◌≡◌, ℕ, ◌+◌, ◌-◌, ◌<◌, ◌≤◌, true, List, [], ◌∷◌, ◌++◌, length, map, Option, Some, Ok, refl, sym, ap, subst, ◌∙◌, arith, length-append, append_assoc}
+use mathlib.Core.List.{map-id}
 use Rattle.std.specs.List.{AllByRecursion}
 use Rattle.std.proofs.lemmas.Bool.{lt-ltb, le-leb}
 use Rattle.std.proofs.lemmas.List.{append-nil, map-append}
-use Rattle.reg_base.specs.declared.limits.TheConstants.{MOST_ACCOUNTS, MOST_INSTRUCTIONS, MOST_RECORD}
-use Rattle.reg_base.specs.declared.instruction.Instruction.{Instruction}
+use Rattle.reg_base.specs.declared.limits.TheConstants.{MOST_INSTRUCTIONS, MOST_RECORD}
 use Rattle.reg_base.specs.Rising.{IsRising}
-use Rattle.reg_account.specs.Account.{AccountValue}
+use Rattle.reg_base.specs.Rules.{RulesValue}
 use Rattle.reg_text.specs.declared.reading.tag.Tag.{Tag}
 use Rattle.reg_text.specs.declared.reading.tag.Tag.TheVariants as tag
 use Rattle.reg_text.specs.Records.{Record}
-use Rattle.reg_text.specs.Tags.{tag_word}
-use Rattle.reg_text.specs.Drafts.{DraftValue}
+use Rattle.reg_text.specs.Tags.{tag_word, place, rule}
+use Rattle.reg_text.specs.Lasts.{last_of}
+use Rattle.reg_text.specs.Grammar.{Said, row, row_text}
+use Rattle.reg_text.specs.Sections.{Section, section_rows, all_rows, key, follows, most, IsSection}
+use Rattle.reg_text.specs.Drafts.{DraftValue, listed, nothing_read}
 use Rattle.reg_text.specs.Day.{DayValue}
-use Rattle.reg_text.specs.Spelling.{format_row, day_row, day_fields, period_row, period_fields, lags_row, lags_fields, lags_in, work_row, account_row, do_row, end_row, heading, day_text}
-use Rattle.reg_text.specs.Reading.{IsDayNo, IsAccountRow, IsInstructionRow, IsDay}
-use Rattle.reg_text.specs.Lasts.{last_of, is_above, number_of_account}
-use Rattle.reg_text.specs.DraftLimits.{AreLags}
-use Rattle.reg_text.specs.Faults.{nothing_read, with_row, next_draft, after_rows}
-use Rattle.reg_text.proofs.RisingFacts.{rising-above, last-number}
-use Rattle.reg_text.proofs.HeadingRowLaws.{day-again, period-again, lags-again, work-again}
-use Rattle.reg_text.proofs.AccountRowLaws.{account-again}
-use Rattle.reg_text.proofs.InstructionRowLaws.{instruction-again}
-use Rattle.reg_text.proofs.TagLaws.{MayFollow, tag-again, goes_on, account-after, do-after, end-after}
+use Rattle.reg_text.specs.Spelling.{lags_in, day_text}
+use Rattle.reg_text.specs.Reading.{IsNo, IsDayNo, IsPair, IsAccountRow, IsInstructionRow, IsDay}
+use Rattle.reg_text.specs.Faults.{with, in_order, has_room, with_row, next_draft, after_rows}
+use Rattle.reg_text.proofs.ListFacts.{all-weaker}
+use Rattle.reg_text.proofs.GrammarLaws.{each-row}
+use Rattle.reg_text.proofs.RowLaws.{fit-lags, fit-account, fit-instruction}
+use Rattle.reg_text.proofs.SectionLaws.{ordered-at, room-at, all-at}
+use Rattle.reg_text.proofs.TagLaws.{MayFollow, tag-again, goes_on, later}
 
--- whatever the number of the first row, these rows take the draft to that one
-abbrev pub Reach : DraftValue → List Record → DraftValue → Type 0
-Reach d rows end = (number : ℕ) → after_rows number d rows ≡ Ok end
+-- whatever the number of the first row, these rows say this day after the draft
+abbrev pub Reach : DraftValue → List Record → DayValue → Type 0
+Reach d rows v = (number : ℕ) → after_rows number d rows ≡ Ok v
 
-pub reach-row : (d e : DraftValue) (r : Record) (rows : List Record) (end : DraftValue) → next_draft d r ≡ Ok e → Reach e rows end → Reach d (r ∷ rows) end
-reach-row d e r rows end step more number = rw step (more (number + 1))
+reach-row : (d e : DraftValue) (r : Record) (rows : List Record) (v : DayValue) → next_draft d r ≡ Ok e → Reach e rows v → Reach d (r ∷ rows) v
+reach-row d e r rows v step more number = rw step (more (number + 1))
 
--- a row with its tag is read by its tag
-pub by_tag : (t : Tag) (d e : DraftValue) (fields : Record) → MayFollow d.last t → with_row t d (tag_word t ∷ fields) ≡ Ok e → next_draft d (tag_word t ∷ fields) ≡ Ok e
-by_tag t d e fields may step = rw (goes_on d.last t may, tag-again d.last t may) step
+by_row : (t : Tag) (d : DraftValue) (x : Said t) → (row t).Fits x → in_order t d x ≡ true → has_room t d ≡ true → with_row t d (row_text t x) ≡ Ok (with t d x)
+unfolding with_row
+by_row t d x fits ordered room = rw ((each-row t).again (tag_word t) x fits, ordered, room) refl
 
--- ---- the sections
+-- a row that may stand here, is in order and has room is taken
+pub taken : (t : Tag) (d : DraftValue) (x : Said t) → MayFollow d.last t → (row t).Fits x → in_order t d x ≡ true → has_room t d ≡ true → next_draft d (row_text t x) ≡ Ok (with t d x)
+taken t d x may fits ordered room = rw (goes_on d.last t may, tag-again d.last t may) (by_row t d x fits ordered room)
 
-pub take-work : (d : DraftValue) (day : ℕ) → MayFollow d.last tag.Work → IsDayNo day → is_above (last_of d.work) day ≡ true
-    → next_draft d (work_row day) ≡ Ok (record d { last = Some tag.Work; work = d.work ++ day ∷ [] })
-take-work d day may fits above = by_tag tag.Work d _ _ may (rw (work-again (tag_word tag.Work) day fits, above) refl)
+-- ---- a section: rows of a list, each of which is taken while the whole list is as it should be
 
-pub take-account : (d : DraftValue) (a : AccountValue) → MayFollow d.last tag.Account → IsAccountRow a → is_above (number_of_account (last_of d.accounts)) a.number ≡ true → length d.accounts < MOST_ACCOUNTS
-    → next_draft d (account_row a) ≡ Ok (record d { last = Some tag.Account; accounts = d.accounts ++ a ∷ [] })
-take-account d a may fits above room = by_tag tag.Account d _ _ may (rw (account-again (tag_word tag.Account) a fits, above, lt-ltb _ _ room) refl)
+-- a draft as a function of its last tag and of the section of a tag
+pub record Grown (t : Tag) (state : Option Tag → List (Said t) → DraftValue) : Type 0 where
+  pub last : (last : Option Tag) (xs : List (Said t)) → (state last xs).last ≡ last
+  pub list : (last : Option Tag) (xs : List (Said t)) → listed t (state last xs) ≡ xs
+  pub more : (last : Option Tag) (xs : List (Said t)) (x : Said t) → with t (state last xs) x ≡ state (Some t) (xs ++ x ∷ [])
 
-pub take-instruction : (d : DraftValue) (i : Instruction) → MayFollow d.last tag.Do → IsInstructionRow i → length d.instructions < MOST_INSTRUCTIONS → d.next + length d.instructions ≤ MOST_RECORD
-    → next_draft d (do_row i) ≡ Ok (record d { last = Some tag.Do; instructions = d.instructions ++ i ∷ [] })
-take-instruction d i may fits room numbered = by_tag tag.Do d _ _ may (rw (instruction-again (tag_word tag.Do) i fits, lt-ltb _ _ room, le-leb _ _ numbered) refl)
+section-step : (t : Tag) (state : Option Tag → List (Said t) → DraftValue) → Grown t state → (last : Option Tag) (xs : List (Said t)) (x : Said t) (others : List (Said t)) → MayFollow last t → IsSection (t, xs ++ x ∷ others)
+    → has_room t (state last xs) ≡ true → next_draft (state last xs) (row_text t x) ≡ Ok (state (Some t) (xs ++ x ∷ []))
+section-step t state g last xs x others may whole room =
+    let order : in_order t (state last xs) x ≡ true = ap (λ (l : List (Said t)). follows (key t) (last_of l) x) (g.list last xs) ∙ ordered-at (key t) xs x others whole.ordered in
+    taken t (state last xs) x (subst (λ (l : Option Tag). MayFollow l t) (sym (g.last last xs)) may) (all-at (row t).Fits xs x others whole.fits) order room ∙ ap (λ (d : DraftValue). Ok d) (g.more last xs x)
 
-pub take-end : (d : DraftValue) → MayFollow d.last tag.End → next_draft d end_row ≡ Ok (record d { last = Some tag.End })
-take-end d may = by_tag tag.End d _ [] may refl
+pub section-taken : (t : Tag) (state : Option Tag → List (Said t) → DraftValue) → Grown t state → MayFollow (Some t) t
+    → (Whole : List (Said t) → Type 0) → ((l : List (Said t)) → Whole l → IsSection (t, l))
+    → ((last : Option Tag) (xs : List (Said t)) (x : Said t) (others : List (Said t)) → Whole (xs ++ x ∷ others) → has_room t (state last xs) ≡ true)
+    → (others : List (Said t)) (last : Option Tag) (xs : List (Said t)) (rest : List Record) (v : DayValue) → MayFollow last t → Whole (xs ++ others)
+    → ((after : Option Tag) → MayFollow after t → Reach (state after (xs ++ others)) rest v) → Reach (state last xs) (section_rows (t, others) ++ rest) v
+section-taken t state g again Whole is room [] last xs rest v may whole more = let then = more last may in rw append-nil at then
+section-taken t state g again Whole is room (x ∷ others) last xs rest v may whole more =
+    let same : (xs ++ x ∷ []) ++ others ≡ xs ++ x ∷ others = append_assoc xs (x ∷ []) others in
+    reach-row (state last xs) (state (Some t) (xs ++ x ∷ [])) (row_text t x) (section_rows (t, others) ++ rest) v (section-step t state g last xs x others may (is (xs ++ x ∷ others) whole) (room last xs x others whole))
+    (section-taken t state g again Whole is room others (Some t) (xs ++ x ∷ []) rest v again (subst Whole (sym same) whole)
+    (λ after may'. subst (λ (l : List (Said t)). Reach (state after l) rest v) (sym same) (more after may')))
 
--- what is taken after the section, whatever row was the last of it
-abbrev AfterWork : DraftValue → List ℕ → List Record → DraftValue → Type 0
-AfterWork d work rest end = (last : Option Tag) → MayFollow last tag.Work → Reach (record d { last = last; work = work }) rest end
+-- ---- the sections of a day
 
-pub works : (days : List ℕ) (d : DraftValue) (rest : List Record) (end : DraftValue) → MayFollow d.last tag.Work → AllByRecursion IsDayNo days → IsRising (d.work ++ days) → AfterWork d (d.work ++ days) rest end → Reach d (map work_row days ++ rest) end
-works [] d rest end may all rise more = let then = more d.last may in rw append-nil at then
-works (day ∷ days) d rest end may all rise more =
-    let same : (d.work ++ day ∷ []) ++ days ≡ d.work ++ day ∷ days = append_assoc d.work (day ∷ []) days in
-    let e : DraftValue = record d { last = Some tag.Work; work = d.work ++ day ∷ [] } in
-    reach-row d e (work_row day) (map work_row days ++ rest) end (take-work d day may all.0 (rising-above d.work day days rise))
-    (works days e rest end (inl refl) all.1 (subst IsRising (sym same) rise) (λ last may'. subst (λ (w : List ℕ). Reach (record d { last = last; work = w }) rest end) (sym same) (more last may')))
+surrender-section : (v : DayValue) → IsDay v → IsSection (tag.Surrender, v.rules.surrender)
+surrender-section v h = record { fits = all-weaker IsPair (row tag.Surrender).Fits (λ p is. ((tt, tt), is)) v.rules.surrender h.surrender; ordered = h.surrender_rises; few = tt }
 
-abbrev AfterAccounts : DraftValue → List AccountValue → List Record → DraftValue → Type 0
-AfterAccounts d accounts rest end = (last : Option Tag) → MayFollow last tag.Account → Reach (record d { last = last; accounts = accounts }) rest end
-
-abbrev pub number_in : AccountValue → ℕ
-number_in a = a.number
-
-pub accounts-taken : (others : List AccountValue) (d : DraftValue) (rest : List Record) (end : DraftValue) → MayFollow d.last tag.Account → AllByRecursion IsAccountRow others → IsRising (map number_in (d.accounts ++ others)) → length (d.accounts ++ others) ≤ MOST_ACCOUNTS
-    → AfterAccounts d (d.accounts ++ others) rest end → Reach d (map account_row others ++ rest) end
-accounts-taken [] d rest end may all rise few more = let then = more d.last may in rw append-nil at then
-accounts-taken (a ∷ others) d rest end may all rise few more =
-    let same : (d.accounts ++ a ∷ []) ++ others ≡ d.accounts ++ a ∷ others = append_assoc d.accounts (a ∷ []) others in
-    let e : DraftValue = record d { last = Some tag.Account; accounts = d.accounts ++ a ∷ [] } in
-    let numbers : map number_in (d.accounts ++ a ∷ others) ≡ map number_in d.accounts ++ a.number ∷ map number_in others = map-append number_in d.accounts (a ∷ others) in
-    let above = rising-above (map number_in d.accounts) a.number (map number_in others) (subst IsRising numbers rise) in
-    reach-row d e (account_row a) (map account_row others ++ rest) end (take-account d a may all.0 (ap (λ (b : Option ℕ). is_above b a.number) (last-number d.accounts) ∙ above) (omega (arith, length-append d.accounts (a ∷ others))))
-    (accounts-taken others e rest end (inl refl) all.1 (subst (λ (l : List AccountValue). IsRising (map number_in l)) (sym same) rise) (subst (λ (l : List AccountValue). length l ≤ MOST_ACCOUNTS) (sym same) few)
-    (λ last may'. subst (λ (l : List AccountValue). Reach (record d { last = last; accounts = l }) rest end) (sym same) (more last may')))
-
-abbrev AfterDue : DraftValue → List Instruction → List Record → DraftValue → Type 0
-AfterDue d due rest end = (last : Option Tag) → MayFollow last tag.Do → Reach (record d { last = last; instructions = due }) rest end
-
-pub due-taken : (is : List Instruction) (d : DraftValue) (rest : List Record) (end : DraftValue) → MayFollow d.last tag.Do → AllByRecursion IsInstructionRow is → length (d.instructions ++ is) ≤ MOST_INSTRUCTIONS → d.next + length (d.instructions ++ is) ≤ MOST_RECORD + 1
-    → AfterDue d (d.instructions ++ is) rest end → Reach d (map do_row is ++ rest) end
-due-taken [] d rest end may all few numbered more = let then = more d.last may in rw append-nil at then
-due-taken (i ∷ is) d rest end may all few numbered more =
-    let same : (d.instructions ++ i ∷ []) ++ is ≡ d.instructions ++ i ∷ is = append_assoc d.instructions (i ∷ []) is in
-    let e : DraftValue = record d { last = Some tag.Do; instructions = d.instructions ++ i ∷ [] } in
-    let size = length-append d.instructions (i ∷ is) in
-    reach-row d e (do_row i) (map do_row is ++ rest) end (take-instruction d i may all.0 (omega (arith, size)) (omega (arith, size)))
-    (due-taken is e rest end (inl refl) all.1 (subst (λ (l : List Instruction). length l ≤ MOST_INSTRUCTIONS) (sym same) few) (subst (λ (l : List Instruction). d.next + length l ≤ MOST_RECORD + 1) (sym same) numbered)
-    (λ last may'. subst (λ (l : List Instruction). Reach (record d { last = last; instructions = l }) rest end) (sym same) (more last may')))
-
--- ---- the whole text
-
--- the draft that the rows of a day leave
-abbrev pub draft_for : DayValue → DraftValue
-draft_for v = record {
-  last = Some tag.End;
-  day = v.batch.day;
-  next = v.book.next;
-  first_year = v.rules.first_year;
-  last_year = v.rules.last_year;
-  lags = lags_in v.rules;
-  work = v.rules.calendar;
-  accounts = v.book.accounts;
-  instructions = v.batch.instructions;
+admin-section : (v : DayValue) → IsDay v → IsSection (tag.Admin, v.rules.admins)
+admin-section v h = record {
+  fits = all-weaker IsNo (row tag.Admin).Fits (λ n is. (is.from, is.to)) v.rules.admins h.admins;
+  ordered = subst IsRising (sym (map-id v.rules.admins)) h.rules.admins_rise;
+  few = h.rules.few_admins;
 }
 
--- the draft after the head of a day text
-abbrev headed : DayValue → DraftValue
-headed v = record (draft_for v) { last = Some tag.Lags; work = []; accounts = []; instructions = [] }
+work-section : (v : DayValue) → IsDay v → IsSection (tag.Work, v.rules.calendar)
+work-section v h = record { fits = all-weaker IsDayNo (row tag.Work).Fits (λ n is. (is.from, is.to)) v.rules.calendar h.work; ordered = subst IsRising (sym (map-id v.rules.calendar)) h.work_rises; few = tt }
 
-head-taken : (v : DayValue) (rest : List Record) (end : DraftValue) → IsDay v → Reach (headed v) rest end → Reach nothing_read (heading v ++ rest) end
-head-taken v rest end h more =
-    let lags : AreLags (lags_in v.rules) = record { trusted = h.rules.lags_fit.trusted; other = h.rules.lags_fit.other; listed = h.rules.lags_fit.listed; reversal = h.rules.lags_fit.reversal } in
-    let d1 : DraftValue = record nothing_read { last = Some tag.Format } in
-    let d2 : DraftValue = record d1 { last = Some tag.Day; day = v.batch.day; next = v.book.next } in
-    let d3 : DraftValue = record d2 { last = Some tag.Period; first_year = v.rules.first_year; last_year = v.rules.last_year } in
-    reach-row nothing_read d1 format_row (day_row v.batch.day v.book.next ∷ period_row v.rules.first_year v.rules.last_year ∷ lags_row (lags_in v.rules) ∷ rest) end (by_tag tag.Format nothing_read d1 (codes "1" ∷ []) (inl refl) refl)
-    (reach-row d1 d2 (day_row v.batch.day v.book.next) (period_row v.rules.first_year v.rules.last_year ∷ lags_row (lags_in v.rules) ∷ rest) end (by_tag tag.Day d1 d2 (day_fields v.batch.day v.book.next) (inl refl) (rw (day-again (tag_word tag.Day) v.batch.day v.book.next h.day h.next) refl))
-    (reach-row d2 d3 (period_row v.rules.first_year v.rules.last_year) (lags_row (lags_in v.rules) ∷ rest) end (by_tag tag.Period d2 d3 (period_fields v.rules.first_year v.rules.last_year) (inl refl) (rw (period-again (tag_word tag.Period) v.rules.first_year v.rules.last_year h.first_year h.last_year h.rules.period) refl))
-    (reach-row d3 (headed v) (lags_row (lags_in v.rules)) rest end (by_tag tag.Lags d3 (headed v) (lags_fields (lags_in v.rules)) (inl refl) (rw (lags-again (tag_word tag.Lags) (lags_in v.rules) lags) refl)) more)))
+account-section : (v : DayValue) → IsDay v → IsSection (tag.Account, v.book.accounts)
+account-section v h = record { fits = all-weaker IsAccountRow (row tag.Account).Fits fit-account v.book.accounts h.accounts; ordered = h.accounts_rise; few = h.few_accounts }
 
-pub text-taken : (v : DayValue) → IsDay v → Reach nothing_read (day_text v) (draft_for v)
-text-taken v h =
-    let end = draft_for v in
-    let numbered = h.batch.numbered in
-    let closing : List Record = end_row ∷ [] in
-    let due : List Record = map do_row v.batch.instructions ++ closing in
-    let accounts : List Record = map account_row v.book.accounts ++ due in
-    head-taken v (map work_row v.rules.calendar ++ accounts) end h
-    (works v.rules.calendar (headed v) accounts end (inl refl) h.work h.work_rises (λ last may.
-    accounts-taken v.book.accounts (record (headed v) { last = last; work = v.rules.calendar }) due end (account-after last may) h.accounts h.accounts_rise h.few_accounts (λ last2 may2.
-    due-taken v.batch.instructions (record (headed v) { last = last2; work = v.rules.calendar; accounts = v.book.accounts }) closing end (do-after last2 may2) h.instructions h.batch.few (omega (arith, h.base)) (λ last3 may3.
-    reach-row (record (draft_for v) { last = last3 }) end end_row [] end (take-end (record (draft_for v) { last = last3 }) (end-after last3 may3)) (λ number. refl)))))
+do-section : (v : DayValue) → IsDay v → IsSection (tag.Do, v.batch.instructions)
+do-section v h = record { fits = all-weaker IsInstructionRow (row tag.Do).Fits fit-instruction v.batch.instructions h.instructions; ordered = tt; few = h.batch.few }
+
+-- the drafts on the way
+abbrev headed : ℕ → DayValue → DraftValue
+headed version v = record nothing_read {
+  last = Some tag.Lags;
+  versions = version ∷ [];
+  days = (v.batch.day, v.book.next) ∷ [];
+  periods = (v.rules.first_year, v.rules.last_year) ∷ [];
+  lags = lags_in v.rules ∷ [];
+}
+
+head-taken : (version : ℕ) (v : DayValue) (rest : List Record) → version ≡ 1 → IsDay v → Reach (headed version v) rest v
+    → Reach nothing_read (row_text tag.Format version ∷ row_text tag.Day (v.batch.day, v.book.next) ∷ row_text tag.Period (v.rules.first_year, v.rules.last_year) ∷ row_text tag.Lags (lags_in v.rules) ∷ rest) v
+head-taken version v rest known h more =
+    let fits = fit-lags (lags_in v.rules) (record { trusted = h.rules.lags_fit.trusted; other = h.rules.lags_fit.other; listed = h.rules.lags_fit.listed; reversal = h.rules.lags_fit.reversal }) in
+    let day : ℕ × ℕ = (v.batch.day, v.book.next) in
+    let period : ℕ × ℕ = (v.rules.first_year, v.rules.last_year) in
+    let d1 = with tag.Format nothing_read version in
+    let d2 = with tag.Day d1 day in
+    let d3 = with tag.Period d2 period in
+    let rows3 : List Record = row_text tag.Lags (lags_in v.rules) ∷ rest in
+    let rows2 : List Record = row_text tag.Period period ∷ rows3 in
+    let rows1 : List Record = row_text tag.Day day ∷ rows2 in
+    reach-row nothing_read d1 (row_text tag.Format version) rows1 v (taken tag.Format nothing_read version refl known refl refl)
+    (reach-row d1 d2 (row_text tag.Day day) rows2 v (taken tag.Day d1 day refl ((h.day.from, h.day.to), (h.next.from, h.next.to)) refl refl)
+    (reach-row d2 d3 (row_text tag.Period period) rows3 v (taken tag.Period d2 period refl (((h.first_year.from, h.first_year.to), (h.last_year.from, h.last_year.to)), le-leb _ _ h.rules.period) refl refl)
+    (reach-row d3 (headed version v) (row_text tag.Lags (lags_in v.rules)) rest v (taken tag.Lags d3 (lags_in v.rules) refl fits refl refl) more)))
+
+-- the instructions, each with a record number
+abbrev AreNumbered : DayValue → List (Said tag.Do) → Type 0
+AreNumbered v l = IsSection (tag.Do, l) × (v.book.next + length l ≤ MOST_RECORD + 1)
+
+has-number : (v : DayValue) (xs : List (Said tag.Do)) (x : Said tag.Do) (others : List (Said tag.Do)) → v.book.next + length (xs ++ x ∷ others) ≤ MOST_RECORD + 1 → v.book.next + length xs ≤ MOST_RECORD
+has-number v xs x others h = omega (arith, length-append xs (x ∷ others), h)
+
+closed : (version : ℕ) (v : DayValue) → v.book.next - 1 ≡ v.batch.base → Reach (record (headed version v) { last = Some tag.End; surrender = v.rules.surrender; admins = v.rules.admins; work = v.rules.calendar; accounts = v.book.accounts; instructions = v.batch.instructions }) [] v
+closed version v base number = ap (λ (n : ℕ). Ok (record v { batch = record v.batch { base = n } })) base
+
+pub text-taken : (version : ℕ) (v : DayValue) → version ≡ 1 → IsDay v → Reach nothing_read (day_text version v) v
+text-taken version v known h =
+    let base : v.book.next - 1 ≡ v.batch.base = omega (arith, h.base) in
+    let d0 = headed version v in
+    let d1 = record d0 { surrender = v.rules.surrender } in
+    let d2 = record d1 { admins = v.rules.admins } in
+    let d3 = record d2 { work = v.rules.calendar } in
+    let d4 = record d3 { accounts = v.book.accounts } in
+    let d5 = record d4 { instructions = v.batch.instructions } in
+    let rows5 : List Record = all_rows ((tag.End, tt ∷ []) ∷ []) in
+    let rows4 : List Record = section_rows (tag.Do, v.batch.instructions) ++ rows5 in
+    let rows3 : List Record = section_rows (tag.Account, v.book.accounts) ++ rows4 in
+    let rows2 : List Record = section_rows (tag.Work, v.rules.calendar) ++ rows3 in
+    let rows1 : List Record = section_rows (tag.Admin, v.rules.admins) ++ rows2 in
+    head-taken version v (section_rows (tag.Surrender, v.rules.surrender) ++ rows1) known h
+    (section-taken tag.Surrender (λ last l. record d0 { last = last; surrender = l }) (record { last = λ last xs. refl; list = λ last xs. refl; more = λ last xs x. refl }) refl (λ l. IsSection (tag.Surrender, l)) (λ l whole. whole) (λ last xs x others whole. refl)
+      v.rules.surrender (Some tag.Lags) [] rows1 v refl (surrender-section v h) (λ last1 may1.
+    section-taken tag.Admin (λ last l. record d1 { last = last; admins = l }) (record { last = λ last xs. refl; list = λ last xs. refl; more = λ last xs x. refl }) refl (λ l. IsSection (tag.Admin, l)) (λ l whole. whole) (λ last xs x others whole. room-at (most tag.Admin) xs x others whole.few)
+      v.rules.admins last1 [] rows2 v (later last1 tag.Surrender tag.Admin (omega arith) (omega arith) may1) (admin-section v h) (λ last2 may2.
+    section-taken tag.Work (λ last l. record d2 { last = last; work = l }) (record { last = λ last xs. refl; list = λ last xs. refl; more = λ last xs x. refl }) refl (λ l. IsSection (tag.Work, l)) (λ l whole. whole) (λ last xs x others whole. refl)
+      v.rules.calendar last2 [] rows3 v (later last2 tag.Admin tag.Work (omega arith) (omega arith) may2) (work-section v h) (λ last3 may3.
+    section-taken tag.Account (λ last l. record d3 { last = last; accounts = l }) (record { last = λ last xs. refl; list = λ last xs. refl; more = λ last xs x. refl }) refl (λ l. IsSection (tag.Account, l)) (λ l whole. whole) (λ last xs x others whole. room-at (most tag.Account) xs x others whole.few)
+      v.book.accounts last3 [] rows4 v (later last3 tag.Work tag.Account (omega arith) (omega arith) may3) (account-section v h) (λ last4 may4.
+    section-taken tag.Do (λ last l. record d4 { last = last; instructions = l }) (record { last = λ last xs. refl; list = λ last xs. refl; more = λ last xs x. refl }) refl (AreNumbered v) (λ l whole. whole.0) (λ last xs x others whole. rw (room-at (most tag.Do) xs x others whole.0.few, le-leb _ _ (has-number v xs x others whole.1)) refl)
+      v.batch.instructions last4 [] rows5 v (later last4 tag.Account tag.Do (omega arith) (omega arith) may4) (do-section v h, omega (arith, h.base, h.batch.numbered)) (λ last5 may5.
+    reach-row (record d5 { last = last5 }) (record d5 { last = Some tag.End }) (row_text tag.End tt) [] v (taken tag.End (record d5 { last = last5 }) tt (later last5 tag.Do tag.End (omega arith) (omega arith) may5) tt refl refl) (closed version v base)))))))

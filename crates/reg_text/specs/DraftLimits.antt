@@ -1,67 +1,27 @@
--- What holds of every draft: its parts are within their limits, and a section whose rows cannot have begun is empty.
-use Rattle.std.specs.Prelude.{◌≡◌, ℕ, ◌+◌, ◌<◌, ◌≤◌, List, [], length, map, Option, Some, None}
+-- What holds of every draft: its sections are within their limits, and stand as the grammar has them.
+use Rattle.std.specs.Prelude.{◌≡◌, ℕ, ◌+◌, ◌<◌, ◌≤◌, true, [], ◌∷◌, length, IfSome}
 use Rattle.std.specs.List.{AllByRecursion}
-use Rattle.reg_base.specs.declared.limits.TheConstants.{MOST_ACCOUNTS, MOST_INSTRUCTIONS, MOST_RECORD, MOST_LAG}
-use Rattle.reg_base.specs.declared.instruction.Instruction.{Instruction}
-use Rattle.reg_base.specs.Rising.{IsRising}
-use Rattle.reg_account.specs.Account.{AccountValue}
-use Rattle.reg_text.specs.declared.reading.tag.Tag.{Tag}
-use Rattle.reg_text.specs.declared.reading.tag.Tag.TheVariants.{Format, Day, Period, Lags, Work, Account, Do, End}
-use Rattle.reg_text.specs.declared.reading.heading_rows.Lags.{Lags as LagsValue}
-use Rattle.reg_text.specs.Drafts.{DraftValue}
-use Rattle.reg_text.specs.Reading.{IsDayNo, IsYearNo, IsNextNo, IsAccountRow, IsInstructionRow}
+use Rattle.reg_base.specs.declared.limits.TheConstants.{MOST_LAG, MOST_RECORD}
+use Rattle.reg_text.specs.declared.reading.heading_rows.Lags.{Lags}
+use Rattle.reg_text.specs.Tags.{place, rule, is_once}
+use Rattle.reg_text.specs.Grammar.{Said}
+use Rattle.reg_text.specs.Sections.{Section, IsSection}
+use Rattle.reg_text.specs.Drafts.{DraftValue, sections}
+use Rattle.reg_text.specs.Faults.{next_in}
 
--- the section of the last row
-abbrev pub place : Option Tag → ℕ
-place None = 0
-place (Some Format) = 1
-place (Some Day) = 2
-place (Some Period) = 3
-place (Some Lags) = 4
-place (Some Work) = 5
-place (Some Account) = 6
-place (Some Do) = 7
-place (Some End) = 8
-
--- each lag, and the reversal window, is within the limit
-pub record AreLags (lags : LagsValue) : Type 0 where
+-- the lags and the window, each within its limit
+pub record AreLags (lags : Lags) : Type 0 where
   pub trusted : lags.trusted ≤ MOST_LAG
   pub other : lags.other ≤ MOST_LAG
   pub listed : lags.list ≤ MOST_LAG
   pub reversal : lags.reversal ≤ MOST_LAG
 
--- the parts of a draft
-pub record IsHead (day next first last : ℕ) (lags : LagsValue) : Type 0 where
-  pub day_fits : IsDayNo day
-  pub next_fits : IsNextNo next
-  pub first_fits : IsYearNo first
-  pub last_fits : IsYearNo last
-  pub period : first ≤ last
-  pub lags_fit : AreLags lags
-
-pub record AreDays (work : List ℕ) : Type 0 where
-  pub all : AllByRecursion IsDayNo work
-  pub rise : IsRising work
-
-pub record AreAccounts (accounts : List AccountValue) : Type 0 where
-  pub all : AllByRecursion IsAccountRow accounts
-  pub rise : IsRising (map (λ a. a.number) accounts)
-  pub few : length accounts ≤ MOST_ACCOUNTS
-
-pub record AreDue (next : ℕ) (instructions : List Instruction) : Type 0 where
-  pub all : AllByRecursion IsInstructionRow instructions
-  pub few : length instructions ≤ MOST_INSTRUCTIONS
-  pub numbered : next + length instructions ≤ MOST_RECORD + 1
-
--- a section that cannot have begun yet is empty
-pub record IsOrderly (at : ℕ) (work : List ℕ) (accounts : List AccountValue) (instructions : List Instruction) : Type 0 where
-  pub no_work : at < 5 → work ≡ []
-  pub no_accounts : at < 6 → accounts ≡ []
-  pub no_instructions : at < 7 → instructions ≡ []
+-- after a row at this place: a section of later rows has not begun, and a row that stands once has come if its place is not later
+pub record StandsAt (at : ℕ) (s : Section) : Type 0 where
+  pub begun : at < (rule s.0).place → s.1 ≡ []
+  pub come : (rule s.0).place ≤ at → is_once s.0 ≡ true → (x : Said s.0) × (s.1 ≡ x ∷ [])
 
 pub record IsDraft (d : DraftValue) : Type 0 where
-  pub head : IsHead d.day d.next d.first_year d.last_year d.lags
-  pub days : AreDays d.work
-  pub accounts : AreAccounts d.accounts
-  pub due : AreDue d.next d.instructions
-  pub orderly : IsOrderly (place d.last) d.work d.accounts d.instructions
+  pub within : AllByRecursion IsSection (sections d)
+  pub stand : AllByRecursion (StandsAt (place d.last)) (sections d)
+  pub numbered : IfSome (next_in d.days) (λ next. next + length d.instructions ≤ MOST_RECORD + 1)

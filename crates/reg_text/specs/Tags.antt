@@ -1,10 +1,16 @@
--- Tags: the word of each tag, and which tag may follow which.
-use Rattle.std.specs.Prelude.{ℕ, List, [], ◌∷◌, Option, Some, None, Result, codes}
+-- Tags: the word of each, and where a row with it may stand.
+use Rattle.std.specs.Prelude.{ℕ, Bool, ◌&&◌, nat_lt, nat_le, List, [], ◌∷◌, Option, Some, None, Result, codes}
 use Rattle.reg_text.specs.declared.cause.Cause.{Cause}
 use Rattle.reg_text.specs.declared.cause.Cause.TheVariants as cause
+use Rattle.reg_text.specs.declared.reading.tag.Rule.{Rule}
 use Rattle.reg_text.specs.declared.reading.tag.Tag.{Tag}
-use Rattle.reg_text.specs.declared.reading.tag.Tag.TheVariants.{Format, Day, Period, Lags, Work, Account, Do, End}
+use Rattle.reg_text.specs.declared.reading.tag.Tag.TheVariants.{Format, Day, Period, Lags, Surrender, Admin, Work, Account, Do, End}
+use Rattle.reg_text.specs.Causes.{◌>>=◌, test}
 use Rattle.reg_text.specs.Words.{named}
+
+-- all tags, frequent ones first
+abbrev pub all_tags : List Tag
+all_tags = Account ∷ Do ∷ Work ∷ Admin ∷ Surrender ∷ Format ∷ Day ∷ Period ∷ Lags ∷ End ∷ []
 
 -- the word of a tag
 abbrev pub tag_word : Tag → List ℕ
@@ -12,23 +18,38 @@ tag_word Format = codes "format"
 tag_word Day = codes "day"
 tag_word Period = codes "period"
 tag_word Lags = codes "lags"
+tag_word Surrender = codes "surrender"
+tag_word Admin = codes "admin"
 tag_word Work = codes "work"
 tag_word Account = codes "account"
 tag_word Do = codes "do"
 tag_word End = codes "end"
 
--- the tags that may follow a row with this tag, or begin a text
-abbrev pub followers : Option Tag → List Tag
-followers None = Format ∷ []
-followers (Some Format) = Day ∷ []
-followers (Some Day) = Period ∷ []
-followers (Some Period) = Lags ∷ []
-followers (Some Lags) = Work ∷ Account ∷ Do ∷ End ∷ []
-followers (Some Work) = Work ∷ Account ∷ Do ∷ End ∷ []
-followers (Some Account) = Account ∷ Do ∷ End ∷ []
-followers (Some Do) = Do ∷ End ∷ []
-followers (Some End) = []
+-- the grammar: the place of a row with this tag, and between which places the row before it stands; places leave gaps for tags to come
+abbrev pub rule : Tag → Rule
+rule Format = record { place = 10; from = 0; to = 0 }
+rule Day = record { place = 20; from = 10; to = 10 }
+rule Period = record { place = 30; from = 20; to = 20 }
+rule Lags = record { place = 40; from = 30; to = 30 }
+rule Surrender = record { place = 50; from = 40; to = 50 }
+rule Admin = record { place = 60; from = 40; to = 60 }
+rule Work = record { place = 70; from = 40; to = 70 }
+rule Account = record { place = 80; from = 40; to = 80 }
+rule Do = record { place = 90; from = 40; to = 90 }
+rule End = record { place = 100; from = 40; to = 90 }
 
--- the tag that a field names, if it may follow the last row
+-- a row with this tag stands there once, since it may not follow itself
+abbrev pub is_once : Tag → Bool
+is_once t = nat_lt (rule t).to (rule t).place
+
+-- the place of the last row; 0 before the first
+abbrev pub place : Option Tag → ℕ
+place None = 0
+place (Some t) = (rule t).place
+
+abbrev pub may_follow : Option Tag → Tag → Bool
+may_follow last t = nat_le (rule t).from (place last) && nat_le (place last) (rule t).to
+
+-- the tag that a field names, if it may stand after the last row
 abbrev pub tag_after : Option Tag → List ℕ → Result Tag Cause
-tag_after last f = named cause.Tag tag_word (followers last) f
+tag_after last f = named cause.Tag tag_word all_tags f >>= λ t. test (may_follow last t) cause.Tag t

@@ -19,7 +19,9 @@ ghost use Rattle.reg_text.specs.Day.{DayValue};
 ghost use Rattle.reg_text.specs.Reading.{IsDayNo, IsReading, IsFirstFaulty};
 ghost use Rattle.reg_text.specs.Drafts.{DraftValue};
 ghost use Rattle.reg_text.specs.Faults.{day_of_rows, next_draft};
-ghost use Rattle.reg_text.specs.Table.{fault_of, first_cause, tests_of};
+ghost use Rattle.reg_text.specs.Table.{tests_of, IsCauseOf};
+ghost use Rattle.reg_text.specs.FieldFaults.{IsNumberText, IsSignedText, IsDateText, TellsFromLimit};
+ghost use Rattle.reg_text.specs.FieldTests.{fault_of, first_cause};
 
 /// A field is read as a number exactly if it is the one spelling of that number and the number is below 2^64.
 pub fn one_spelling_of_a_number()
@@ -68,8 +70,17 @@ pub fn names_the_first_faulty_row()
     ensures end { (rows : List Record) (row : ℕ) (c : Cause) → day_of_rows rows ≡ Err (row, c) → row ≡ length rows + 1 → c ≡ cause.End }
 {}
 
-/// The cause of a faulty row is the first cause of the table that applies to it. A row to which no cause applies is
-/// added to the draft.
+/// If the rows of a text have this fault at one of them, the rows before it make a draft, and the cause is the first of
+/// the table of causes that applies to that draft and that row. After any draft, a row to which no cause applies is taken.
 pub fn names_the_first_cause()
-    ensures { (d : DraftValue) (r : Record) → fault_of (next_draft d r) ≡ first_cause (tests_of d r) }
+    ensures of_text { (rows : List Record) (row : ℕ) (c : Cause) → day_of_rows rows ≡ Err (row, c) → row ≤ length rows → IsCauseOf rows row c }
+    ensures of_row { (d : DraftValue) (r : Record) → fault_of (next_draft d r) ≡ first_cause (tests_of d r) }
+{}
+
+/// A field that is refused is no number, no signed number or no date at all, or it is one and outside the limits, and
+/// the cause says which.
+pub fn tells_other_texts_from_limits()
+    ensures numbers { (low high : ℕ) → TellsFromLimit (bounded_of low high) cause.Number IsNumberText }
+    ensures corrections { TellsFromLimit correction_of cause.Number IsSignedText }
+    ensures dates { TellsFromLimit date_of cause.Date IsDateText }
 {}

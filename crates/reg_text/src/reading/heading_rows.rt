@@ -1,9 +1,10 @@
-//! The heading rows, each of which a text has exactly once, and the rows of working days.
+//! The four rows that stand at the head of a text, each once.
 
 ghost use Rattle.std.specs.Prelude.{◌≡◌, IfOk};
 ghost use Rattle.reg_book.specs.Book.{IsNext};
 ghost use Rattle.csv.specs.Records.{fields_of};
-ghost use Rattle.reg_text.specs.RowReaders.{format_of, day_of, period_of, lags_of, work_of};
+ghost use Rattle.reg_text.specs.declared.reading.tag.Tag.TheVariants as tag;
+ghost use Rattle.reg_text.specs.Grammar.{row_read};
 
 use crate::cause::Cause;
 use crate::fields::dates::read_date;
@@ -26,9 +27,27 @@ pub(crate) struct Lags {
     pub reversal: u16,
 }
 
-/// `format,1`: the version of the format.
+/// What the four rows say.
+#[derive(Clone, Copy, Debug, PartialEq, Eq)]
+pub(crate) struct Heading {
+    /// The version of the format.
+    pub version: u8,
+    /// The settlement day.
+    pub day: Day,
+    /// The next record number, 1 to 10^15 + 1.
+    pub next: u64,
+    /// The first year of the period.
+    pub first_year: Year,
+    /// The last year of the period.
+    pub last_year: Year,
+    /// The lags and the reversal window.
+    pub lags: Lags,
+    ghost next_fits: { IsNext next },
+}
+
+/// `format,1`: the version.
 pub(crate) fn read_format_row(row: &ByteRecord) -> Result<u8, Cause>
-    ensures { result ≡ format_of (fields_of row.now) }
+    ensures { result ≡ row_read tag.Format (fields_of row.now) }
 {
     if !has_fields(row, 2) {
         return Err(Cause::Fields);
@@ -42,7 +61,7 @@ pub(crate) fn read_format_row(row: &ByteRecord) -> Result<u8, Cause>
 
 /// `day,DATE,NEXT`: the settlement day, and the next record number.
 pub(crate) fn read_day_row(row: &ByteRecord) -> Result<(Day, u64), Cause>
-    ensures value { result ≡ day_of (fields_of row.now) }
+    ensures value { result ≡ row_read tag.Day (fields_of row.now) }
     ensures next { IfOk result (λ v. IsNext v.1) }
 {
     if !has_fields(row, 3) {
@@ -53,25 +72,24 @@ pub(crate) fn read_day_row(row: &ByteRecord) -> Result<(Day, u64), Cause>
     Ok((day, next))
 }
 
-/// `period,YEAR,YEAR`: the first and the last year of the period.
+/// `period,YEAR,YEAR`: the first year, and the last, which is not before it.
 pub(crate) fn read_period_row(row: &ByteRecord) -> Result<(Year, Year), Cause>
-    ensures { result ≡ period_of (fields_of row.now) }
+    ensures { result ≡ row_read tag.Period (fields_of row.now) }
 {
     if !has_fields(row, 3) {
         return Err(Cause::Fields);
     }
     let first = read_year(field_at(row, 1))?;
     let last = read_year(field_at(row, 2))?;
-    if first <= last {
-        Ok((first, last))
-    } else {
-        Err(Cause::Order)
+    if first > last {
+        return Err(Cause::Order);
     }
+    Ok((first, last))
 }
 
 /// `lags,TRUSTED,OTHER,LIST,REVERSAL`, each in working days.
 pub(crate) fn read_lags_row(row: &ByteRecord) -> Result<Lags, Cause>
-    ensures { result ≡ lags_of (fields_of row.now) }
+    ensures { result ≡ row_read tag.Lags (fields_of row.now) }
 {
     if !has_fields(row, 5) {
         return Err(Cause::Fields);
@@ -86,14 +104,4 @@ pub(crate) fn read_lags_row(row: &ByteRecord) -> Result<Lags, Cause>
         list,
         reversal,
     })
-}
-
-/// `work,DATE`: a working day.
-pub(crate) fn read_work_row(row: &ByteRecord) -> Result<Day, Cause>
-    ensures { result ≡ work_of (fields_of row.now) }
-{
-    if !has_fields(row, 2) {
-        return Err(Cause::Fields);
-    }
-    read_date(field_at(row, 1))
 }

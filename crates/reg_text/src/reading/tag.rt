@@ -1,7 +1,9 @@
 //! Tags: the first field of each row, and which tag may follow which.
 
 ghost use Rattle.std.specs.Prelude.{◌≡◌};
-ghost use Rattle.reg_text.specs.Tags.{tag_word, followers, tag_after};
+ghost use Rattle.reg_text.specs.declared.cause.Cause.TheVariants as cause;
+ghost use Rattle.reg_text.specs.Words.{named};
+ghost use Rattle.reg_text.specs.Tags.{all_tags as every_tag, tag_word, rule, place, tag_after};
 
 use crate::cause::Cause;
 use crate::fields::words::is_word;
@@ -17,6 +19,10 @@ pub enum Tag {
     Period,
     /// The lags and the reversal window.
     Lags,
+    /// A kind of accounts and a kind of allowances that may be surrendered from them.
+    Surrender,
+    /// An administrator.
+    Admin,
     /// A working day.
     Work,
     /// An account.
@@ -37,6 +43,8 @@ impl Tag {
             Tag::Day => b"day",
             Tag::Period => b"period",
             Tag::Lags => b"lags",
+            Tag::Surrender => b"surrender",
+            Tag::Admin => b"admin",
             Tag::Work => b"work",
             Tag::Account => b"account",
             Tag::Do => b"do",
@@ -45,32 +53,96 @@ impl Tag {
     }
 }
 
-// The tags that may follow the last row. `None`: no row has been read.
-fn tags_after(last: Option<Tag>) -> &'static [Tag]
-    ensures { result.now ≡ followers last }
-{
-    match last {
-        None => &[Tag::Format],
-        Some(Tag::Format) => &[Tag::Day],
-        Some(Tag::Day) => &[Tag::Period],
-        Some(Tag::Period) => &[Tag::Lags],
-        Some(Tag::Lags) => &[Tag::Work, Tag::Account, Tag::Do, Tag::End],
-        Some(Tag::Work) => &[Tag::Work, Tag::Account, Tag::Do, Tag::End],
-        Some(Tag::Account) => &[Tag::Account, Tag::Do, Tag::End],
-        Some(Tag::Do) => &[Tag::Do, Tag::End],
-        Some(Tag::End) => &[],
+/// Where a row with a tag may stand. Places leave gaps for tags to come.
+#[derive(Clone, Copy, Debug, PartialEq, Eq)]
+pub(crate) struct Rule {
+    /// Its place among the rows of a text.
+    pub place: u8,
+    /// The lowest place of the row before it.
+    pub from: u8,
+    /// The highest place of the row before it.
+    pub to: u8,
+}
+
+impl Rule {
+    const fn new(place: u8, from: u8, to: u8) -> Rule
+        ensures { result ≡ record { place = place; from = from; to = to } }
+    {
+        Rule { place, from, to }
     }
 }
 
-/// The tag that a field names, if it may follow the last row.
-pub(crate) fn read_tag(last: Option<Tag>, field: &[u8]) -> Result<Tag, Cause>
-    ensures { result ≡ tag_after last field.now }
+impl Tag {
+    /// Where a row with the tag may stand.
+    pub(crate) fn rule(self) -> Rule
+        ensures { result ≡ rule self }
+    {
+        match self {
+            Tag::Format => Rule::new(10, 0, 0),
+            Tag::Day => Rule::new(20, 10, 10),
+            Tag::Period => Rule::new(30, 20, 20),
+            Tag::Lags => Rule::new(40, 30, 30),
+            Tag::Surrender => Rule::new(50, 40, 50),
+            Tag::Admin => Rule::new(60, 40, 60),
+            Tag::Work => Rule::new(70, 40, 70),
+            Tag::Account => Rule::new(80, 40, 80),
+            Tag::Do => Rule::new(90, 40, 90),
+            Tag::End => Rule::new(100, 40, 90),
+        }
+    }
+}
+
+// All tags, frequent ones first.
+fn all_tags() -> &'static [Tag]
+    ensures { result.now ≡ every_tag }
 {
-    let tags = tags_after(last);
+    &[
+        Tag::Account,
+        Tag::Do,
+        Tag::Work,
+        Tag::Admin,
+        Tag::Surrender,
+        Tag::Format,
+        Tag::Day,
+        Tag::Period,
+        Tag::Lags,
+        Tag::End,
+    ]
+}
+
+// The tag that a field names.
+fn named_tag(field: &[u8]) -> Result<Tag, Cause>
+    ensures { result ≡ named cause.Tag tag_word every_tag field.now }
+{
+    let tags = all_tags();
     for tag in tags {
         if is_word(field, tag.word()) {
             return Ok(*tag);
         }
     }
     Err(Cause::Tag)
+}
+
+// The place of the last row; 0 before the first.
+fn place_of(last: Option<Tag>) -> u8
+    ensures { result ≡ place last }
+{
+    match last {
+        None => 0,
+        Some(tag) => tag.rule().place,
+    }
+}
+
+/// The tag that a field names, one that may stand after the last row.
+pub(crate) fn read_tag(last: Option<Tag>, field: &[u8]) -> Result<Tag, Cause>
+    ensures { result ≡ tag_after last field.now }
+{
+    let tag = named_tag(field)?;
+    let rule = tag.rule();
+    let at = place_of(last);
+    if rule.from <= at && at <= rule.to {
+        Ok(tag)
+    } else {
+        Err(Cause::Tag)
+    }
 }

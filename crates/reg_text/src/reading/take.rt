@@ -1,114 +1,63 @@
-//! Adding each row to the draft.
+//! What each row behind the heading adds to the draft.
 
-ghost use Rattle.std.specs.Prelude.{◌≡◌, [], map, IsTrue};
+ghost use Rattle.std.specs.Prelude.{◌≡◌, ◌+◌, ◌&&◌, nat_lt, nat_le, Some, map, IsTrue};
+ghost use Rattle.reg_base.specs.declared.limits.TheConstants.{MOST_INSTRUCTIONS, MOST_RECORD};
 ghost use Rattle.csv.specs.Records.{fields_of};
 ghost use Rattle.reg_base.specs.Rising.{IsRising};
 ghost use Rattle.reg_text.specs.Lasts.{is_above};
 ghost use Rattle.reg_text.specs.Drafts.{draft_of};
 ghost use Rattle.reg_text.specs.DraftLimits.{IsDraft};
-ghost use Rattle.reg_text.specs.Faults.{Takes, nothing_read, with_format, with_day, with_period, with_lags, with_work, with_account, joined, with_instruction, with_end, next_draft, has_room_for};
+ghost use Rattle.reg_text.specs.Faults.{Takes, with, has_room, with_row, next_draft};
+ghost use Rattle.reg_text.specs.Causes.{test};
+ghost use Rattle.reg_text.specs.declared.cause.Cause.TheVariants as cause;
+ghost use Rattle.reg_text.specs.declared.reading.tag.Tag.TheVariants as tag;
 
 use crate::cause::{Cause, RowError};
 use crate::reading::account_row::read_account_row;
 use crate::reading::draft::Draft;
-use crate::reading::heading_rows::{
-    Lags, read_day_row, read_format_row, read_lags_row, read_period_row, read_work_row,
-};
 use crate::reading::instruction_row::read_instruction_row;
+use crate::reading::list_rows::{comes_after, read_admin_row, read_surrender_row, read_work_row};
 use crate::reading::row::{field_at, has_fields};
 use crate::reading::tag::{Tag, read_tag};
 use csv::ByteRecord;
 use reg_account::Account;
-use reg_base::{Day, FIRST_DAY, FIRST_YEAR, Instruction, MOST_INSTRUCTIONS, MOST_RECORD, Year};
-use reg_book::{BookDraft, BookFault};
-use std::alloc::Global;
+use reg_base::{Instruction, MOST_ADMINISTRATORS, MOST_INSTRUCTIONS, MOST_RECORD};
+use reg_book::BookFault;
 
-// The earliest day.
-fn first_day() -> Day
-    ensures { result ≡ FIRST_DAY }
+#[tactic(auto, unfolding(crate::specs::Faults::with_row))]
+fn take_surrender(draft: &mut Draft, row: &ByteRecord) -> Result<(), RowError>
+    ensures { Takes (draft_of draft.new) result (with_row tag.Surrender (draft_of draft.old) (fields_of row.now)) }
 {
-    match Day::new(FIRST_DAY) {
-        Some(day) => day,
-        None => unreachable!(),
+    let pair = read_surrender_row(row)?;
+    if !comes_after(draft.surrender.last().copied(), pair) {
+        return Err(RowError::Fault(Cause::Order));
     }
+    draft.surrender.push(pair)?;
+    draft.last = Tag::Surrender;
+    Ok(())
 }
 
-// The earliest year.
-fn first_year() -> Year
-    ensures { result ≡ FIRST_YEAR }
+#[tactic(auto, unfolding(crate::specs::Faults::with_row))]
+fn take_admin(draft: &mut Draft, row: &ByteRecord) -> Result<(), RowError>
+    ensures { Takes (draft_of draft.new) result (with_row tag.Admin (draft_of draft.old) (fields_of row.now)) }
 {
-    match Year::new(FIRST_YEAR) {
-        Some(year) => year,
-        None => unreachable!(),
+    let admin = read_admin_row(row)?;
+    if let Some(before) = draft.admins.last().copied() {
+        if admin <= before {
+            return Err(RowError::Fault(Cause::Order));
+        }
     }
-}
-
-/// The draft before the first row.
-pub(crate) fn nothing_yet(alloc: Global) -> Draft
-    ensures { draft_of result ≡ nothing_read }
-{
-    Draft {
-        last: None,
-        day: first_day(),
-        next: 1,
-        first_year: first_year(),
-        last_year: first_year(),
-        lags: Lags {
-            trusted: 0,
-            other: 0,
-            list: 0,
-            reversal: 0,
-        },
-        work: Vec::new(alloc),
-        book: BookDraft::new(alloc, 1),
-        last_account: None,
-        instructions: Vec::new(alloc),
+    if draft.admins.len() >= MOST_ADMINISTRATORS {
+        return Err(RowError::Fault(Cause::Limit));
     }
-}
-
-fn take_format(draft: &mut Draft, row: &ByteRecord) -> Result<(), RowError>
-    ensures { Takes (draft_of draft.new) result (with_format (draft_of draft.old) (fields_of row.now)) }
-{
-    read_format_row(row)?;
-    draft.last = Some(Tag::Format);
+    draft.admins.push(admin)?;
+    draft.last = Tag::Admin;
     Ok(())
 }
 
-// Makes the draft of the book again, because only this row gives the next record number. No account has been read
-// yet.
-fn take_day(alloc: Global, draft: &mut Draft, row: &ByteRecord) -> Result<(), RowError>
-    requires { draft.old.book.accounts ≡ [] }
-    ensures { Takes (draft_of draft.new) result (with_day (draft_of draft.old) (fields_of row.now)) }
-{
-    let (day, next) = read_day_row(row)?;
-    draft.day = day;
-    draft.next = next;
-    draft.book = BookDraft::new(alloc, next);
-    draft.last_account = None;
-    draft.last = Some(Tag::Day);
-    Ok(())
-}
-
-fn take_period(draft: &mut Draft, row: &ByteRecord) -> Result<(), RowError>
-    ensures { Takes (draft_of draft.new) result (with_period (draft_of draft.old) (fields_of row.now)) }
-{
-    let (first, last) = read_period_row(row)?;
-    draft.first_year = first;
-    draft.last_year = last;
-    draft.last = Some(Tag::Period);
-    Ok(())
-}
-
-fn take_lags(draft: &mut Draft, row: &ByteRecord) -> Result<(), RowError>
-    ensures { Takes (draft_of draft.new) result (with_lags (draft_of draft.old) (fields_of row.now)) }
-{
-    draft.lags = read_lags_row(row)?;
-    draft.last = Some(Tag::Lags);
-    Ok(())
-}
-
+#[tactic(auto, unfolding(crate::specs::Faults::with_row))]
 fn take_work(draft: &mut Draft, row: &ByteRecord) -> Result<(), RowError>
-    ensures { Takes (draft_of draft.new) result (with_work (draft_of draft.old) (fields_of row.now)) }
+    ensures { Takes (draft_of draft.new) result (with_row tag.Work (draft_of draft.old) (fields_of row.now)) }
 {
     let day = read_work_row(row)?;
     if let Some(before) = draft.work.last().copied() {
@@ -117,7 +66,7 @@ fn take_work(draft: &mut Draft, row: &ByteRecord) -> Result<(), RowError>
         }
     }
     draft.work.push(day)?;
-    draft.last = Some(Tag::Work);
+    draft.last = Tag::Work;
     Ok(())
 }
 
@@ -125,7 +74,7 @@ fn take_work(draft: &mut Draft, row: &ByteRecord) -> Result<(), RowError>
 fn add_account(draft: &mut Draft, account: Account) -> Result<(), RowError>
     requires rising { IsRising (map (λ a. a.number) draft.old.book.accounts) }
     requires above { IsTrue (is_above draft.old.last_account account.number) }
-    ensures { Takes (draft_of draft.new) result (joined (draft_of draft.old) account) }
+    ensures { Takes (draft_of draft.new) result (test (has_room tag.Account (draft_of draft.old)) cause.Limit (with tag.Account (draft_of draft.old) account)) }
 {
     let number = account.number();
     match draft.book.insert(account) {
@@ -136,13 +85,14 @@ fn add_account(draft: &mut Draft, account: Account) -> Result<(), RowError>
         Err((_, BookFault::Repeated)) => unreachable!(),
     }
     draft.last_account = Some(number);
-    draft.last = Some(Tag::Account);
+    draft.last = Tag::Account;
     Ok(())
 }
 
+#[tactic(auto, unfolding(crate::specs::Faults::with_row))]
 fn take_account(draft: &mut Draft, row: &ByteRecord) -> Result<(), RowError>
     requires { IsRising (map (λ a. a.number) draft.old.book.accounts) }
-    ensures { Takes (draft_of draft.new) result (with_account (draft_of draft.old) (fields_of row.now)) }
+    ensures { Takes (draft_of draft.new) result (with_row tag.Account (draft_of draft.old) (fields_of row.now)) }
 {
     let account = read_account_row(row)?;
     if let Some(before) = draft.last_account {
@@ -153,15 +103,16 @@ fn take_account(draft: &mut Draft, row: &ByteRecord) -> Result<(), RowError>
     add_account(draft, account)
 }
 
-// Whether one more instruction fits into the batch and gets a record number within the limit.
-fn has_room(next: u64, count: usize) -> bool
-    ensures { result ≡ has_room_for next count }
+// Whether one instruction more has a place and a record number.
+fn has_number(next: u64, count: usize) -> bool
+    ensures { result ≡ (nat_lt count MOST_INSTRUCTIONS && nat_le (next + count) MOST_RECORD) }
 {
     count < MOST_INSTRUCTIONS && next <= MOST_RECORD - count as u64
 }
 
+#[tactic(auto, unfolding(crate::specs::Faults::with_row))]
 fn take_instruction(draft: &mut Draft, row: &ByteRecord) -> Result<(), RowError>
-    ensures { Takes (draft_of draft.new) result (with_instruction (draft_of draft.old) (fields_of row.now)) }
+    ensures { Takes (draft_of draft.new) result (with_row tag.Do (draft_of draft.old) (fields_of row.now)) }
 {
     let Instruction {
         proposed,
@@ -169,7 +120,7 @@ fn take_instruction(draft: &mut Draft, row: &ByteRecord) -> Result<(), RowError>
         approver,
         act,
     } = read_instruction_row(row)?;
-    if !has_room(draft.next, draft.instructions.len()) {
+    if !has_number(draft.heading.next, draft.instructions.len()) {
         return Err(RowError::Fault(Cause::Limit));
     }
     draft.instructions.push(Instruction {
@@ -178,33 +129,34 @@ fn take_instruction(draft: &mut Draft, row: &ByteRecord) -> Result<(), RowError>
         approver,
         act,
     })?;
-    draft.last = Some(Tag::Do);
+    draft.last = Tag::Do;
     Ok(())
 }
 
+#[tactic(auto, unfolding(crate::specs::Faults::with_row))]
 fn take_end(draft: &mut Draft, row: &ByteRecord) -> Result<(), RowError>
-    ensures { Takes (draft_of draft.new) result (with_end (draft_of draft.old) (fields_of row.now)) }
+    ensures { Takes (draft_of draft.new) result (with_row tag.End (draft_of draft.old) (fields_of row.now)) }
 {
     if !has_fields(row, 1) {
         return Err(RowError::Fault(Cause::Fields));
     }
-    draft.last = Some(Tag::End);
+    draft.last = Tag::End;
     Ok(())
 }
 
-/// Adds a row to the draft, or answers the first cause that applies to it.
-pub(crate) fn take_row(alloc: Global, draft: &mut Draft, row: &ByteRecord) -> Result<(), RowError>
+/// Adds what a row says, or answers what is wrong with it first.
+pub(crate) fn take_row(draft: &mut Draft, row: &ByteRecord) -> Result<(), RowError>
     requires { IsDraft (draft_of draft.old) }
     ensures { Takes (draft_of draft.new) result (next_draft (draft_of draft.old) (fields_of row.now)) }
 {
-    if draft.last == Some(Tag::End) {
+    if draft.last == Tag::End {
         return Err(RowError::Fault(Cause::End));
     }
-    match read_tag(draft.last, field_at(row, 0))? {
-        Tag::Format => take_format(draft, row),
-        Tag::Day => take_day(alloc, draft, row),
-        Tag::Period => take_period(draft, row),
-        Tag::Lags => take_lags(draft, row),
+    match read_tag(Some(draft.last), field_at(row, 0))? {
+        // The heading has been read.
+        Tag::Format | Tag::Day | Tag::Period | Tag::Lags => unreachable!(),
+        Tag::Surrender => take_surrender(draft, row),
+        Tag::Admin => take_admin(draft, row),
         Tag::Work => take_work(draft, row),
         Tag::Account => take_account(draft, row),
         Tag::Do => take_instruction(draft, row),

@@ -1,15 +1,30 @@
-use Rattle.std.proofs.Common.{◌≡◌, rules}
-use Rattle.std.proofs.lemmas.Fn.{always_returns_same}
-use Rattle.reg_book.proofs.Overlays.{set_found, set_absent}
+use Rattle.std.proofs.Common.{◌≡◌, ◌<◌, ◌≤◌, false, eqb, length, arith, rules, sym, ap, subst, ◌∙◌}
+use Rattle.std.proofs.lemmas.Bool.{eqb-true, eqb-false}
+use Rattle.reg_rules.specs.State.{State, numbers}
+use Rattle.reg_book.specs.Book.{AreHigher}
+use Rattle.reg_book.proofs.Overlays.{set_at, not_there, numbers_below, lower_than}
 use Rattle.reg_book.proofs.book.replace_account.Goals as goal
+use Rattle.reg_book.proofs.book.replace_account.Goals.{else-count-gt0-via-then-count-gt0+else-eq, else-count-gt0-via-else-count-gt0}
 
-pub returns-in-Ok : goal.returns-in-Ok
-returns-in-Ok c =
-    let searched = c.binary_search_by_key.ensures.position (λ v. v.number) (always_returns_same _ (λ a r. r ≡ a.0.now.number) _ (λ a r q k. search rules)) in
-    set_found c.args.accounts.now.items c.deref.result.now c.args.account c.number.result c.in-Ok.place c.deref.ensures.value c.number.ensures c.requires
-    (rw c.in-Ok.is at c.binary_search_by_key.ensures.bound) (rw c.in-Ok.is at searched)
+pub returns-then-eq-clause-items : goal.returns-then-eq-clause-items
+returns-then-eq-clause-items c =
+    let within = subst (λ (s : State). c.count_not_higher-count.result ≤ length s) c.deref.ensures.value c.count_not_higher-count.ensures.within in
+    let same = sym c.number.ensures ∙ eqb-true c.number.result c.number-number.result (sym c.if-eq.ensures) ∙ c.number-number.ensures in
+    let some = c.if-count-gt0.true in
+    set_at c.args.accounts.now.items c.args.account c.index.result.now _ c.requires.rising (omega (arith, within, some)) c.index.ensures same
 
-pub returns-in_default : goal.returns-in_default
-returns-in_default c =
-    let searched = c.binary_search_by_key.ensures.position (λ v. v.number) (always_returns_same _ (λ a r. r ≡ a.0.now.number) _ (λ a r q k. search rules)) in
-    set_absent c.args.accounts.now.items c.deref.result.now c.args.account c.number.result c.in_default.field-0 c.deref.ensures.value c.number.ensures c.requires (rw c.in_default.is at searched)
+pub returns-else-count-gt0-clause-items : goal.returns-else-count-gt0-clause-items
+returns-else-count-gt0-clause-items c =
+    let xs = c.args.accounts.now.items in
+    let within = subst (λ (s : State). c.count_not_higher-count.result ≤ length s) c.deref.ensures.value c.count_not_higher-count.ensures.within in
+    let higher = subst (AreHigher (numbers xs) c.count_not_higher-count.result) c.number-number.ensures
+    (subst (λ (s : State). AreHigher (numbers s) c.count_not_higher-count.result c.number-number.result) c.deref.ensures.value c.count_not_higher-count.ensures.higher) in
+    elim c.else-count-gt0.branch [
+      | else-count-gt0-via-then-count-gt0+else-eq w ↦
+          not_there xs c.args.account c.count_not_higher-count.result c.requires.rising within higher
+          (λ some. lower_than xs c.args.account c.count_not_higher-count.result w.index.result.now w.number.result c.number-number.result some within w.index.ensures w.number.ensures c.number-number.ensures
+          (sym w.if-eq.ensures) (subst (λ (s : State). numbers_below s c.count_not_higher-count.result c.number-number.result) c.deref.ensures.value (c.count_not_higher-count.ensures.last some)))
+      | else-count-gt0-via-else-count-gt0 w ↦
+          let none = w.if-count-gt0.false in
+          not_there xs c.args.account c.count_not_higher-count.result c.requires.rising within higher (λ some. absurd (omega (arith, none, some)))
+    ]

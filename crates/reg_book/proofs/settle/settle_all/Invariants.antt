@@ -3,14 +3,14 @@ use Rattle.reg_rules.specs.State.{Setting, numbers}
 use Rattle.reg_book.specs.Fold.{state_after, rows_of}
 use Rattle.reg_book.proofs.settle.settle_all.Given as goal
 
-abbrev pub invariant-loop-instruction : goal.invariant-loop-instruction
-invariant-loop-instruction l =
+abbrev pub invariant-loop-place : goal.invariant-loop-place
+invariant-loop-place l =
     let setting : Setting = record { rules = l.rules; day = l.day; directory = l.directory } in
     record {
-      counted : l.last ≡ l.initial.last + l.instruction-index;
+      counted : l.last ≡ l.initial.last + l.place;
       same_numbers : numbers l.accounts ≡ numbers l.initial.accounts;
-      so_far : l.rows.items ++ rows_of setting l.accounts (l.last + 1) (drop l.instruction-index l.instructions)
+      so_far : l.rows.items ++ rows_of setting l.accounts (l.last + 1) (drop l.place l.instructions)
           ≡ rows_of setting l.initial.accounts (l.initial.last + 1) l.instructions;
-      state : state_after setting l.accounts (l.last + 1) (drop l.instruction-index l.instructions)
+      state : state_after setting l.accounts (l.last + 1) (drop l.place l.instructions)
           ≡ state_after setting l.initial.accounts (l.initial.last + 1) l.instructions;
     }

@@ -1,5 +1,5 @@
 use Rattle.std.proofs.Common.{◌≡◌, ◌++◌, drop}
-use Rattle.reg_book.specs.TouchedMarks.{picked}
+use Rattle.reg_book.specs.Marks.{picked}
 use Rattle.reg_book.proofs.touched.copy_marked.Given as goal
 
 abbrev pub invariant-loop-place : goal.invariant-loop-place

@@ -1,20 +1,24 @@
-use Rattle.std.proofs.Common.{◌≡◌, ◌∙◌, ◌+◌, sym, ap, subst, arith, length}
+use Rattle.std.proofs.Common.{◌≡◌, ◌∙◌, ◌+◌, ◌<◌, ◌≤◌, ⊎_elim, sym, ap, subst, arith, length}
+use Rattle.std.proofs.lemmas.Bool.{cases_lt}
 use Rattle.reg_book.specs.Book.{directory_of, overlay}
 use Rattle.reg_book.specs.Settled.{IsOfBook}
-use Rattle.reg_book.proofs.Overlays.{kept_after, stand_still}
+use Rattle.reg_book.proofs.Overlays.{kept_after, next_fits}
 use Rattle.reg_book.proofs.book.Book.commit.Goals as goal
 
 pub invariant_of-self : goal.invariant_of-self
 invariant_of-self c =
-    let follows : c.args.settled.base + 1 ≡ c.args.self.now.next = sym (ap (λ b. b + 1) c.base.ensures.value) ∙ c.if-base-next.false ∙ ap (λ b. b.next) c.self.view_is in
+    let same : c.base.result ≡ c.args.settled.base = c.base.ensures.value in
+    let from_one = c.self.invariant.book.next.from_one in
+    let equal = c.if-base-next.false in
+    let begins : c.args.settled.base + 1 ≡ c.self.inside.next = omega (arith, same, equal, from_one) in
+    let follows : c.args.settled.base + 1 ≡ c.args.self.now.next = begins ∙ ap (λ b. b.next) c.self.view_is in
     let stand = subst (λ b. IsOfBook b c.args.settled) (sym c.self.view_is) (c.requires follows) in
+    let count : c.len.result ≡ length c.args.settled.rows = omega (arith, c.len.ensures, ap (λ rows. length rows) c.into_parts-rows.ensures.rows) in
     kept_after c.self.inside.accounts.items c.replace_accounts.new.accounts.items c.args.settled.accounts c.self.inside.directory c.self.inside.next _ c.self.invariant
-    (c.replace_accounts.ensures ∙ ap (λ others. overlay c.self.inside.accounts.items others) c.into_parts-base.ensures.accounts)
+    (c.replace_accounts.ensures.items ∙ ap (λ others. overlay c.self.inside.accounts.items others) c.into_parts-rows.ensures.accounts)
+    c.replace_accounts.ensures.within_limits
     stand
-    (record { from_one = omega arith; to_the_end = omega (arith, c.into_parts-base.ensures.kept.numbered, c.into_parts-base.ensures.base, ap (λ rows. length rows) c.into_parts-base.ensures.rows, c.len.ensures) })
+    (next_fits c.args.settled c.self.inside.next c.len.result c.self.invariant.book.next begins count c.into_parts-rows.ensures.kept.numbered)
 
 pub returns-clause-directory : goal.returns-clause-directory
 returns-clause-directory c = sym (invariant_of-self c).listed ∙ c.self.invariant.listed ∙ ap (λ b. directory_of b.accounts) c.self.view_is
-
-pub returns-clause-of_book : goal.returns-clause-of_book
-returns-clause-of_book c other = stand_still c.args.self.now.accounts c.replace_accounts.new.accounts.items other.accounts (returns-clause-directory c)

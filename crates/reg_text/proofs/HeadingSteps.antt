@@ -1,0 +1,108 @@
+-- The rows of the heading, each of which only one tag may begin.
+use Rattle.std.proofs.Common.{◌≡◌, ℕ, ◌+◌, true, false, List, [], ◌∷◌, Option, Some, None, Result, Ok, Err, refl, sym, ap, subst, ◌∙◌}
+use Rattle.std.specs.Prelude.{IfOk, IfErr, MatchResult}
+use Rattle.reg_text.specs.declared.cause.Cause.{Cause}
+use Rattle.reg_text.specs.declared.cause.Cause.TheVariants as cause
+use Rattle.reg_text.specs.declared.cause.DayFault.{DayFault}
+use Rattle.reg_text.specs.declared.cause.DayFault.TheVariants as fault
+use Rattle.reg_text.specs.declared.reading.tag.Tag.{Tag}
+use Rattle.reg_text.specs.declared.reading.tag.Tag.TheVariants as tag
+use Rattle.reg_text.specs.Records.{Record, field}
+use Rattle.reg_text.specs.Tags.{place, tag_after}
+use Rattle.reg_text.specs.Grammar.{Said, row_read}
+use Rattle.reg_text.specs.Drafts.{DraftValue}
+use Rattle.reg_text.specs.Day.{DayValue, is_over, day_said}
+use Rattle.reg_text.specs.Faults.{with, in_order, has_room, with_row, next_draft, at_row, after_rows, AnswersFault}
+use Rattle.reg_text.specs.DraftLimits.{IsDraft}
+use Rattle.reg_text.proofs.DraftSteps.{grows}
+use Rattle.reg_text.proofs.TagLaws.{MayFollow, tag-spelled}
+
+-- ---- one row, by what was read of it
+
+row-is : (t : Tag) (d : DraftValue) (r : Record) (x : Said t) → row_read t r ≡ Ok x → in_order t d x ≡ true → has_room t d ≡ true → with_row t d r ≡ Ok (with t d x)
+unfolding with_row
+row-is t d r x read order room = rw (read, order, room) refl
+
+row-fails : (t : Tag) (d : DraftValue) (r : Record) (c : Cause) → row_read t r ≡ Err c → with_row t d r ≡ Err c
+unfolding with_row
+row-fails t d r c read = rw read refl
+
+next-is : (t : Tag) (d : DraftValue) (r : Record) (y : Result DraftValue Cause) → is_over d.last ≡ false → tag_after d.last (field r 0) ≡ Ok t → with_row t d r ≡ y → next_draft d r ≡ y
+next-is t d r y opened tagged row = rw (opened, tagged) row
+
+-- what a call answers of a row with this number
+abbrev pub AtRow : {X : Type 0} → ℕ → Result X Cause → Result X DayFault → Type 0
+AtRow number read result = MatchResult result (λ x. read ≡ Ok x) (λ e. (c : Cause) × (read ≡ Err c) × (e ≡ fault.Row number c))
+
+-- ---- the next tag
+
+pub tag-fault : (number : ℕ) (last : Option Tag) (left rows : List Record) (r : Record) → is_over last ≡ false → left ≡ r ∷ rows → (result : Result Tag DayFault) → AtRow number (tag_after last (field r 0)) result
+    → IfErr result (λ e. (d : DraftValue) → d.last ≡ last → AnswersFault e (after_rows number d left))
+tag-fault number last left rows r opened is (Ok t) read = tt
+tag-fault number last left rows r opened is (Err e) read = λ d at. rw (read.2, is, at, opened, read.1) refl
+
+-- ---- a row of the heading
+
+-- only one tag may follow, and neither order nor length stand against it
+pub record IsOnly (last : Option Tag) (t : Tag) : Type 0 where
+  pub opened : is_over last ≡ false
+  pub only : (u : Tag) → MayFollow last u → u ≡ t
+  pub order : (d : DraftValue) (x : Said t) → in_order t d x ≡ true
+  pub room : (d : DraftValue) → has_room t d ≡ true
+
+only-tag : (last : Option Tag) (t u : Tag) (f : List ℕ) → IsOnly last t → tag_after last f ≡ Ok u → tag_after last f ≡ Ok t
+only-tag last t u f h e = let same = h.only u (tag-spelled last f u e).1 in e ∙ ap (λ (v : Tag). Ok v) same
+
+pub heading-taken : (number : ℕ) (last : Option Tag) (t : Tag) → IsOnly last t → (left rows : List Record) (r : Record) (u : Tag) → left ≡ r ∷ rows → tag_after last (field r 0) ≡ Ok u
+    → (read : Result (Said t) Cause) → read ≡ row_read t r → (result : Result (Said t) DayFault) → AtRow number read result
+    → IfOk result (λ x. (d : DraftValue) → d.last ≡ last → after_rows number d left ≡ after_rows (number + 1) (with t d x) rows)
+heading-taken number last t h left rows r u is tagged read same (Ok x) at = λ d l.
+    let one = next-is t d r (Ok (with t d x)) (ap is_over l ∙ h.opened) (ap (λ (o : Option Tag). tag_after o (field r 0)) l ∙ only-tag last t u (field r 0) h tagged) (row-is t d r x (sym same ∙ at) (h.order d x) (h.room d)) in
+    ap (after_rows number d) is ∙ ap (λ (n : Result DraftValue Cause). at_row number n (λ e. after_rows (number + 1) e rows)) one
+heading-taken number last t h left rows r u is tagged read same (Err e) at = tt
+
+pub heading-fault : (number : ℕ) (last : Option Tag) (t : Tag) → IsOnly last t → (left rows : List Record) (r : Record) (u : Tag) → left ≡ r ∷ rows → tag_after last (field r 0) ≡ Ok u
+    → (read : Result (Said t) Cause) → read ≡ row_read t r → (result : Result (Said t) DayFault) → AtRow number read result
+    → IfErr result (λ e. (d : DraftValue) → d.last ≡ last → AnswersFault e (after_rows number d left))
+heading-fault number last t h left rows r u is tagged read same (Ok x) at = tt
+heading-fault number last t h left rows r u is tagged read same (Err e) at = λ d l.
+    let one = next-is t d r (Err at.0) (ap is_over l ∙ h.opened) (ap (λ (o : Option Tag). tag_after o (field r 0)) l ∙ only-tag last t u (field r 0) h tagged) (row-fails t d r at.0 (sym same ∙ at.1)) in
+    rw at.2 (ap (after_rows number d) is ∙ ap (λ (n : Result DraftValue Cause). at_row number n (λ e. after_rows (number + 1) e rows)) one)
+
+pub heading-fits : (number : ℕ) (last : Option Tag) (t : Tag) → IsOnly last t → (r : Record) (u : Tag) → tag_after last (field r 0) ≡ Ok u
+    → (read : Result (Said t) Cause) → read ≡ row_read t r → (result : Result (Said t) DayFault) → AtRow number read result
+    → IfOk result (λ x. (d : DraftValue) → IsDraft d → d.last ≡ last → IsDraft (with t d x))
+heading-fits number last t h r u tagged read same (Ok x) at = λ d fits l.
+    let one = next-is t d r (Ok (with t d x)) (ap is_over l ∙ h.opened) (ap (λ (o : Option Tag). tag_after o (field r 0)) l ∙ only-tag last t u (field r 0) h tagged) (row-is t d r x (sym same ∙ at) (h.order d x) (h.room d)) in
+    (grows d (with t d x) r fits one).draft
+heading-fits number last t h r u tagged read same (Err e) at = tt
+
+-- ---- the four tags
+
+only-format : (u : Tag) → MayFollow None u → u ≡ tag.Format
+only-format tag.Format e = refl
+only-format u e = absurd cc
+
+only-day : (u : Tag) → MayFollow (Some tag.Format) u → u ≡ tag.Day
+only-day tag.Day e = refl
+only-day u e = absurd cc
+
+only-period : (u : Tag) → MayFollow (Some tag.Day) u → u ≡ tag.Period
+only-period tag.Period e = refl
+only-period u e = absurd cc
+
+only-lags : (u : Tag) → MayFollow (Some tag.Period) u → u ≡ tag.Lags
+only-lags tag.Lags e = refl
+only-lags u e = absurd cc
+
+pub format-only : IsOnly None tag.Format
+format-only = record { opened = refl; only = only-format; order = λ d x. refl; room = λ d. refl }
+
+pub day-only : IsOnly (Some tag.Format) tag.Day
+day-only = record { opened = refl; only = only-day; order = λ d x. refl; room = λ d. refl }
+
+pub period-only : IsOnly (Some tag.Day) tag.Period
+period-only = record { opened = refl; only = only-period; order = λ d x. refl; room = λ d. refl }
+
+pub lags-only : IsOnly (Some tag.Period) tag.Lags
+lags-only = record { opened = refl; only = only-lags; order = λ d x. refl; room = λ d. refl }

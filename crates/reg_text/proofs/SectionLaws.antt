@@ -1,0 +1,111 @@
+-- Sections: one row more at the end of one, and what stays of the others.
+use Rattle.std.proofs.Common.{◌≡◌, ◌⊎◌, ℕ, suc, ◌+◌, ◌<◌, ◌≤◌, Bool, true, false, not, ◌&&◌, ◌||◌, nat_lt, nat_le, List, [], ◌∷◌, ◌++◌, length, map, take, drop, Option, Some, None, refl, sym, ap, subst, ◌∙◌, arith, append_assoc, length-append}
+use Rattle.std.proofs.lemmas.Bool.{and_parts, ltb-true, leb-true, lt-ltb}
+use Rattle.std.proofs.lemmas.List.{append-nil, map-append}
+use Rattle.std.specs.List.{AllByRecursion}
+use Rattle.reg_base.specs.Rising.{IsRising}
+use Rattle.reg_text.specs.declared.reading.tag.Tag.{Tag}
+use Rattle.reg_text.specs.declared.reading.tag.Tag.TheVariants as tag
+use Rattle.reg_text.specs.Records.{Record}
+use Rattle.reg_text.specs.Tags.{place, rule, is_once}
+use Rattle.reg_text.specs.Lasts.{last_of, is_above}
+use Rattle.reg_text.specs.Grammar.{Said, row, row_text}
+use Rattle.reg_text.specs.Sections.{Section, section_rows, all_rows, key, key_of, follows, IsOrdered, most, is_room, AreFew, IsSection}
+use Rattle.reg_text.specs.DraftLimits.{StandsAt}
+use Rattle.reg_text.proofs.ListFacts.{all-push, all-append, all-first, all-rest, all-both, all-weaker}
+use Rattle.reg_text.proofs.RisingFacts.{rising-push, rising-above, last-key}
+
+-- ---- the rows
+
+no-rows : (ss : List Section) → AllByRecursion (λ (s : Section). s.1 ≡ []) ss → all_rows ss ≡ []
+no-rows [] e = refl
+no-rows (s ∷ ss) e = rw e.0 (no-rows ss e.1)
+
+pub rows-append : (a b : List Section) → all_rows (a ++ b) ≡ all_rows a ++ all_rows b
+rows-append [] b = refl
+rows-append (s ∷ a) b = ap (λ (t : List Record). section_rows s ++ t) (rows-append a b) ∙ sym (append_assoc (section_rows s) (all_rows a) (all_rows b))
+
+-- the rows with one more at the end of a section behind which nothing stands
+abbrev pub grown : (t : Tag) → List (Said t) → Said t → List Section → List Section
+grown t xs x behind = (t, xs ++ x ∷ []) ∷ behind
+
+abbrev pub shorter : (t : Tag) → List (Said t) → List Section → List Section
+shorter t xs behind = (t, xs) ∷ behind
+
+pub push : (before : List Section) (t : Tag) (xs : List (Said t)) (x : Said t) (behind : List Section) → AllByRecursion (λ (s : Section). s.1 ≡ []) behind
+    → all_rows (before ++ grown t xs x behind) ≡ all_rows (before ++ shorter t xs behind) ++ row_text t x ∷ []
+push [] t xs x behind e =
+    let more = map-append (row_text t) xs (x ∷ []) in
+    rw (no-rows behind e) (append-nil (map (row_text t) (xs ++ x ∷ [])) ∙ more ∙ ap (λ (rows : List Record). rows ++ row_text t x ∷ []) (sym (append-nil (map (row_text t) xs))))
+push (b ∷ before) t xs x behind e =
+    ap (λ (rows : List Record). section_rows b ++ rows) (push before t xs x behind e) ∙ sym (append_assoc (section_rows b) (all_rows (before ++ shorter t xs behind)) (row_text t x ∷ []))
+
+-- ---- order and length
+
+pub ordered-push : {X : Type 0} (o : Option (X → ℕ)) (xs : List X) (x : X) → IsOrdered o xs → follows o (last_of xs) x ≡ true → IsOrdered o (xs ++ x ∷ [])
+ordered-push None xs x h e = tt
+ordered-push (Some by) xs x h e = rw map-append (rising-push (map by xs) (by x) h (ap (λ (b : Option ℕ). is_above b (by x)) (sym (last-key by xs)) ∙ e))
+
+pub ordered-at : {X : Type 0} (o : Option (X → ℕ)) (xs : List X) (x : X) (others : List X) → IsOrdered o (xs ++ x ∷ others) → follows o (last_of xs) x ≡ true
+ordered-at None xs x others h = refl
+ordered-at (Some by) xs x others h = ap (λ (b : Option ℕ). is_above b (by x)) (last-key by xs) ∙ rising-above (map by xs) (by x) (map by others) (subst IsRising (map-append by xs (x ∷ others)) h)
+
+pub few-push : {X : Type 0} (o : Option ℕ) (xs : List X) (x : X) → is_room o (length xs) ≡ true → AreFew o (length (xs ++ x ∷ []))
+few-push None xs x e = tt
+few-push (Some limit) xs x e = omega (arith, ltb-true _ _ e, length-append xs (x ∷ []))
+
+pub room-at : {X : Type 0} (o : Option ℕ) (xs : List X) (x : X) (others : List X) → AreFew o (length (xs ++ x ∷ others)) → is_room o (length xs) ≡ true
+room-at None xs x others h = refl
+room-at (Some limit) xs x others h = lt-ltb _ _ (omega (arith, length-append xs (x ∷ others), h))
+
+pub all-at : {A : Type 0} (P : A → Type 0) (xs : List A) (x : A) (others : List A) → AllByRecursion P (xs ++ x ∷ others) → P x
+all-at P [] x others all = all.0
+all-at P (y ∷ xs) x others all = all-at P xs x others all.1
+
+-- a section with one row more
+pub section-push : (t : Tag) (xs : List (Said t)) (x : Said t) → IsSection (t, xs) → (row t).Fits x → follows (key t) (last_of xs) x ≡ true → is_room (most t) (length xs) ≡ true → IsSection (t, xs ++ x ∷ [])
+section-push t xs x h fits order room = record {
+  fits = all-push (row t).Fits xs x h.fits fits;
+  ordered = ordered-push (key t) xs x h.ordered order;
+  few = few-push (most t) xs x room;
+}
+
+-- ---- where sections stand
+
+-- a section of a later row; a section of an earlier one, which has come before this row if it stands once
+pub record IsLater (t : Tag) (s : Section) : Type 0 where
+  pub above : (rule t).place < (rule s.0).place
+
+pub record IsEarlier (t : Tag) (s : Section) : Type 0 where
+  pub before : is_once s.0 ≡ true → (rule s.0).place ≤ (rule t).from
+
+-- a row stands not before the row that it follows
+to-place : (t : Tag) → nat_le (rule t).to (rule t).place ≡ true
+to-place tag.Format = refl
+to-place t = refl
+
+once-from : (t : Tag) → is_once t ≡ true → (rule t).to < (rule t).place
+once-from t e = ltb-true _ _ e
+
+nothing-more : {X : Type 0} (xs : List X) (x : X) → xs ≡ [] → xs ++ x ∷ [] ≡ x ∷ []
+nothing-more {X = X} xs x e = ap (λ (l : List X). l ++ x ∷ []) e
+
+-- after a row more, each section stands as it should
+pub stand-push : (at : ℕ) (t : Tag) (before : List Section) (xs : List (Said t)) (x : Said t) (behind : List Section)
+    → (rule t).from ≤ at → at ≤ (rule t).to → AllByRecursion (IsEarlier t) before → AllByRecursion (IsLater t) behind
+    → AllByRecursion (StandsAt at) (before ++ shorter t xs behind) → AllByRecursion (StandsAt (rule t).place) (before ++ grown t xs x behind)
+stand-push at t before xs x behind low high earlier later h =
+    let up : at ≤ (rule t).place = omega (arith, leb-true _ _ (to-place t)) in
+    let tail = all-rest (StandsAt at) before (shorter t xs behind) h in
+    all-append (StandsAt (rule t).place) before (grown t xs x behind)
+    (all-both (IsEarlier t) (StandsAt at) (StandsAt (rule t).place) (λ s e k. record { begun = λ lt. k.begun (omega arith); come = λ le once. k.come (omega (arith, e.before once)) once })
+        before earlier (all-first (StandsAt at) before (shorter t xs behind) h))
+    (
+      record { begun = λ lt. absurd (omega arith); come = λ le once. (x, nothing-more xs x (tail.0.begun (omega (arith, once-from t once)))) },
+      all-both (IsLater t) (StandsAt at) (StandsAt (rule t).place) (λ s e k. record { begun = λ lt. k.begun (omega (arith, e.above)); come = λ le once. absurd (omega (arith, e.above)) }) behind later tail.1,
+    )
+
+-- behind the section of a row nothing has begun
+pub empty-behind : (at : ℕ) (t : Tag) (behind : List Section) → at ≤ (rule t).to → AllByRecursion (IsLater t) behind → AllByRecursion (StandsAt at) behind → AllByRecursion (λ (s : Section). s.1 ≡ []) behind
+empty-behind at t behind high later h =
+    all-both (IsLater t) (StandsAt at) (λ (s : Section). s.1 ≡ []) (λ s e k. k.begun (omega (arith, e.above, leb-true _ _ (to-place t)))) behind later h

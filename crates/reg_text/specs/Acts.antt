@@ -1,0 +1,78 @@
+-- The acts that an instruction's row may name: of each its word, its parts, and the fields of these.
+use Rattle.std.specs.Prelude.{ℕ, ◌+◌, List, [], ◌∷◌, Result, Option, codes}
+use Rattle.reg_base.specs.declared.instruction.Act.{Act}
+use Rattle.reg_base.specs.declared.instruction.Act.TheVariants as act
+use Rattle.reg_base.specs.declared.instruction.Instruction.{Instruction}
+use Rattle.reg_text.specs.declared.cause.Cause.{Cause}
+use Rattle.reg_text.specs.declared.cause.Cause.TheVariants as cause
+use Rattle.reg_text.specs.declared.reading.instruction_row.ActName.{ActName}
+use Rattle.reg_text.specs.declared.reading.instruction_row.ActName.TheVariants.{Transfer}
+use Rattle.reg_text.specs.declared.reading.instruction_row.Move.{Move}
+use Rattle.reg_text.specs.Records.{Record}
+use Rattle.reg_text.specs.Words.{named, kind_word, kind_of}
+use Rattle.reg_text.specs.Codecs.{Fields, any_number, a_date, a_no, an_approver, a_word, last, ◌▸◌, made, Row, row_made, variant, chosen}
+
+-- the acts that a row may name
+abbrev pub act_names : List ActName
+act_names = Transfer ∷ []
+
+-- the word of an act
+abbrev pub act_word : ActName → List ℕ
+act_word Transfer = codes "transfer"
+
+abbrev pub act_name : Act → ActName
+act_name (act.Transfer from to kind amount) = Transfer
+
+-- the act that a field names
+abbrev pub act_name_of : List ℕ → Result ActName Cause
+act_name_of = named cause.Word act_word act_names
+
+-- ---- the parts of each act, and how it is made of them
+
+abbrev pub ActParts : ActName → Type 0
+ActParts Transfer = Move
+
+abbrev pub act_made : (n : ActName) → ActParts n → Act
+act_made Transfer m = act.Transfer m.from m.to m.kind m.amount
+
+abbrev pub act_parts : (a : Act) → ActParts (act_name a)
+act_parts (act.Transfer from to kind amount) = record { from = from; to = to; kind = kind; amount = amount }
+
+-- ---- the fields of each act
+
+-- FROM,TO,KIND,AMOUNT
+abbrev pub move_fields : Fields Move
+move_fields = made
+    (λ p. record { from = p.0; to = p.1.0; kind = p.1.1.0; amount = p.1.1.1 })
+    (λ m. (m.from, (m.to, (m.kind, m.amount))))
+    (a_no ▸ a_no ▸ a_word kind_word kind_of ▸ last any_number)
+
+abbrev pub fields_of_act : (n : ActName) → Fields (ActParts n)
+fields_of_act Transfer = move_fields
+
+abbrev pub act_fields : ActName → Fields Act
+act_fields n = variant act_name ActParts fields_of_act act_made act_parts n
+
+-- the fields that spell an act
+abbrev pub act_text : Act → Record
+act_text a = (fields_of_act (act_name a)).spell (act_parts a)
+
+-- ---- the row of an instruction
+
+-- PROPOSED,PROPOSER,APPROVER
+abbrev pub proposal_fields : Fields (ℕ × (ℕ × Option ℕ))
+proposal_fields = a_date ▸ a_no ▸ last an_approver
+
+-- PROPOSED,PROPOSER,APPROVER,ACT and the fields of the act
+abbrev pub instruction_row : Row Instruction
+instruction_row = row_made
+    (λ p. record { proposed = p.0.0; proposer = p.0.1.0; approver = p.0.1.1; act = p.1 })
+    (λ i. ((i.proposed, (i.proposer, i.approver)), i.act))
+    (chosen act_name (a_word act_word act_name_of) proposal_fields act_fields)
+
+-- what the fields behind an act's name say, and how many fields a row with it has
+abbrev pub act_read : ActName → Record → Result Act Cause
+act_read n = (act_fields n).read 5
+
+abbrev pub act_count : ActName → ℕ
+act_count n = 5 + (act_fields n).count

@@ -1,0 +1,111 @@
+-- The rows of a day text: of each tag what its row says, and its fields.
+use Rattle.std.specs.Prelude.{◌≡◌, List, [], ◌∷◌, ℕ, Bool, true, false, not, nat_le, ◌+◌, Result, codes}
+use Rattle.std.specs.Str.{bytes_eq}
+use Rattle.reg_base.specs.declared.limits.TheConstants.{MOST_HELD, MOST_LAG, MOST_RECORD, FIRST_YEAR, LAST_YEAR}
+use Rattle.reg_base.specs.declared.kinds.AccountKind.{AccountKind}
+use Rattle.reg_base.specs.declared.kinds.AccountKind.TheVariants.{Total, Allocation, Operator, Aircraft, Trading}
+use Rattle.reg_base.specs.declared.kinds.AllowanceKind.{AllowanceKind}
+use Rattle.reg_base.specs.declared.kinds.AllowanceKind.TheVariants.{General, Aviation}
+use Rattle.reg_base.specs.declared.instruction.Instruction.{Instruction}
+use Rattle.reg_account.specs.Account.{AccountValue}
+use Rattle.reg_text.specs.declared.cause.Cause.{Cause}
+use Rattle.reg_text.specs.declared.cause.Cause.TheVariants as cause
+use Rattle.reg_text.specs.declared.reading.tag.Tag.{Tag}
+use Rattle.reg_text.specs.declared.reading.tag.Tag.TheVariants as tag
+use Rattle.reg_text.specs.declared.reading.heading_rows.Lags.{Lags}
+use Rattle.reg_text.specs.Causes.{test}
+use Rattle.reg_text.specs.Records.{Record}
+use Rattle.reg_text.specs.Words.{kind_word, kind_of, account_kind_word, account_kind_of, status_word, status_of, yes_no_word, yes_no_of}
+use Rattle.reg_text.specs.Tags.{tag_word}
+use Rattle.reg_text.specs.FieldTests.{when}
+use Rattle.reg_text.specs.Acts.{instruction_row}
+use Rattle.reg_text.specs.Codecs.{Codec, Fields, within_limits, a_no, factor, a_date, a_word, none, last, ◌▸◌, made, provided, Row, row_of}
+
+-- ---- fields of one kind of row
+
+-- the version of the format
+abbrev pub version : Codec ℕ
+version = record { spell = λ n. codes "1"; read = λ f. test (bytes_eq f (codes "1")) cause.Version 1; tests = λ f. when (not (bytes_eq f (codes "1"))) cause.Version ∷ []; Fits = λ n. n ≡ 1 }
+
+abbrev pub a_next : Codec ℕ
+a_next = within_limits 1 (MOST_RECORD + 1)
+
+abbrev pub a_year : Codec ℕ
+a_year = within_limits FIRST_YEAR LAST_YEAR
+
+abbrev pub a_lag : Codec ℕ
+a_lag = within_limits 0 MOST_LAG
+
+abbrev pub a_holding : Codec ℕ
+a_holding = within_limits 0 MOST_HELD
+
+abbrev pub yes_or_no : Codec Bool
+yes_or_no = a_word yes_no_word yes_no_of
+
+-- ---- the rows with several fields
+
+-- YEAR,YEAR: the last is not before the first
+abbrev pub period_fields : Fields (ℕ × ℕ)
+period_fields = provided (λ p. nat_le p.0 p.1) cause.Order (a_year ▸ last a_year)
+
+-- TRUSTED,OTHER,LIST,REVERSAL
+abbrev pub lags_fields : Fields Lags
+lags_fields = made
+    (λ p. record { trusted = p.0; other = p.1.0; list = p.1.1.0; reversal = p.1.1.1 })
+    (λ v. (v.trusted, (v.other, (v.list, v.reversal))))
+    (a_lag ▸ a_lag ▸ a_lag ▸ last a_lag)
+
+-- accounts from which allowances may be surrendered at all
+abbrev pub may_surrender : AccountKind → Bool
+may_surrender Total = false
+may_surrender Allocation = false
+may_surrender Operator = true
+may_surrender Aircraft = true
+may_surrender Trading = false
+
+-- ACCOUNTKIND,KIND: one of four pairs, and any other is a wrong word
+abbrev pub pair_fields : Fields (AccountKind × AllowanceKind)
+pair_fields = provided (λ p. may_surrender p.0) cause.Word (a_word account_kind_word account_kind_of ▸ last (a_word kind_word kind_of))
+
+-- NO,ACCOUNTKIND,HOLDER,STATUS,OUTSIDE,WAIVER,CORRECTION,GENERAL,AVIATION
+abbrev pub account_fields : Fields AccountValue
+account_fields = made
+    (λ p. record { number = p.0; kind = p.1.0; holder = p.1.1.0; status = p.1.1.1.0; outside = p.1.1.1.1.0; waiver = p.1.1.1.1.1.0; correction = p.1.1.1.1.1.1.0; held = record { general = p.1.1.1.1.1.1.1.0; aviation = p.1.1.1.1.1.1.1.1 } })
+    (λ a. (a.number, (a.kind, (a.holder, (a.status, (a.outside, (a.waiver, (a.correction, (a.held.general, a.held.aviation)))))))))
+    (a_no ▸ a_word account_kind_word account_kind_of ▸ a_no ▸ a_word status_word status_of ▸ yes_or_no ▸ yes_or_no ▸ factor ▸ a_holding ▸ last a_holding)
+
+-- ---- all rows
+
+-- what a row with a tag says
+abbrev pub Said : Tag → Type 0
+Said tag.Format = ℕ
+Said tag.Day = ℕ × ℕ
+Said tag.Period = ℕ × ℕ
+Said tag.Lags = Lags
+Said tag.Surrender = AccountKind × AllowanceKind
+Said tag.Admin = ℕ
+Said tag.Work = ℕ
+Said tag.Account = AccountValue
+Said tag.Do = Instruction
+Said tag.End = Unit {0}
+
+-- its fields
+abbrev pub row : (t : Tag) → Row (Said t)
+row tag.Format = row_of (last version)
+row tag.Day = row_of (a_date ▸ last a_next)
+row tag.Period = row_of period_fields
+row tag.Lags = row_of lags_fields
+row tag.Surrender = row_of pair_fields
+row tag.Admin = row_of (last a_no)
+row tag.Work = row_of (last a_date)
+row tag.Account = row_of account_fields
+row tag.Do = instruction_row
+row tag.End = row_of none
+
+-- the row that says this
+abbrev pub row_text : (t : Tag) → Said t → Record
+row_text t x = tag_word t ∷ (row t).spell x
+
+-- what the fields of a row with this tag say
+abbrev pub row_read : (t : Tag) → Record → Result (Said t) Cause
+row_read t r = (row t).read r

@@ -1,0 +1,83 @@
+//! The rows of the lists between the heading and the accounts.
+
+ghost use Rattle.std.specs.Prelude.{◌≡◌, Some};
+ghost use Rattle.csv.specs.Records.{fields_of};
+ghost use Rattle.reg_text.specs.declared.reading.tag.Tag.TheVariants as tag;
+ghost use Rattle.reg_text.specs.Grammar.{row_read, may_surrender as source};
+ghost use Rattle.reg_text.specs.Sections.{pair_place as place, follows};
+
+use crate::cause::Cause;
+use crate::fields::dates::read_date;
+use crate::fields::limits::read_user_no;
+use crate::fields::words::{read_account_kind, read_kind};
+use crate::reading::row::{field_at, has_fields};
+use csv::ByteRecord;
+use reg_base::{AccountKind, AllowanceKind, Day, UserNo};
+
+// Whether allowances may be surrendered from accounts of this kind, if the rules of a day allow it.
+fn may_surrender(kind: AccountKind) -> bool
+    ensures { result ≡ source kind }
+{
+    match kind {
+        AccountKind::Operator | AccountKind::Aircraft => true,
+        AccountKind::Total | AccountKind::Allocation | AccountKind::Trading => false,
+    }
+}
+
+// The place of a pair of kinds among the four that may be surrendered, counted from 0.
+fn pair_place(pair: (AccountKind, AllowanceKind)) -> u8
+    ensures { result ≡ place pair }
+{
+    match pair {
+        (AccountKind::Aircraft, AllowanceKind::General) => 2,
+        (AccountKind::Aircraft, AllowanceKind::Aviation) => 3,
+        (_, AllowanceKind::General) => 0,
+        (_, AllowanceKind::Aviation) => 1,
+    }
+}
+
+/// Whether a pair comes after the one before it, if there is one.
+pub(crate) fn comes_after(before: Option<(AccountKind, AllowanceKind)>, pair: (AccountKind, AllowanceKind)) -> bool
+    ensures { result ≡ follows (Some place) before pair }
+{
+    match before {
+        Some(before) => pair_place(before) < pair_place(pair),
+        None => true,
+    }
+}
+
+/// `surrender,ACCOUNTKIND,KIND`: allowances of this kind may be surrendered from accounts of that kind. Any pair
+/// but four is a wrong word at the account kind.
+pub(crate) fn read_surrender_row(row: &ByteRecord) -> Result<(AccountKind, AllowanceKind), Cause>
+    ensures { result ≡ row_read tag.Surrender (fields_of row.now) }
+{
+    if !has_fields(row, 3) {
+        return Err(Cause::Fields);
+    }
+    let account = read_account_kind(field_at(row, 1))?;
+    let allowance = read_kind(field_at(row, 2))?;
+    if !may_surrender(account) {
+        return Err(Cause::Word);
+    }
+    Ok((account, allowance))
+}
+
+/// `admin,USER`: an administrator.
+pub(crate) fn read_admin_row(row: &ByteRecord) -> Result<UserNo, Cause>
+    ensures { result ≡ row_read tag.Admin (fields_of row.now) }
+{
+    if !has_fields(row, 2) {
+        return Err(Cause::Fields);
+    }
+    read_user_no(field_at(row, 1))
+}
+
+/// `work,DATE`: a working day.
+pub(crate) fn read_work_row(row: &ByteRecord) -> Result<Day, Cause>
+    ensures { result ≡ row_read tag.Work (fields_of row.now) }
+{
+    if !has_fields(row, 2) {
+        return Err(Cause::Fields);
+    }
+    read_date(field_at(row, 1))
+}
