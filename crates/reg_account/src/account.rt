@@ -49,6 +49,13 @@ impl Account {
         Ok(Account { parts })
     }
 
+    /// Every account is within its limits. Does nothing: whoever needs the fact calls it.
+    pub fn is_within_limits(&self)
+        ensures { IsAccount self.now }
+    {
+        let _ = &self.parts;
+    }
+
     /// Its number.
     pub fn number(&self) -> AccountNo
         ensures { result ≡ self.now.number }
