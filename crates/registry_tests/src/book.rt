@@ -256,21 +256,22 @@ do,2025-03-31,101,102,transfer,1,2,general,40
 end
 ";
 
+// Settles the day twice and puts both into its book: what the second commit gives back.
+fn commit_twice(rt: &impl Abort, alloc: Global, day: &mut DayInput) -> (Settled, Stale) {
+    let first = settle_plain(alloc, &day.book, &day.rules, &day.batch).expect(rt, "memory");
+    let second = settle_plain(alloc, &day.book, &day.rules, &day.batch).expect(rt, "memory");
+    let log = day.book.commit(first).expect(rt, "a day that follows");
+    assert_eq!(rt; log.as_slice().len(), 1);
+    let refused = day.book.commit(second).err();
+    refused.expect(rt, "a day that does not follow")
+}
+
 #[test]
 fn of_two_settled_days_one_is_stale(rt: HostRuntime) {
-    let DayInput {
-        rules,
-        mut book,
-        batch,
-    } = read(&rt, rt.alloc(), ONE_TRANSFER);
-    let first = settle_plain(rt.alloc(), &book, &rules, &batch).expect(&rt, "memory");
-    let second = settle_plain(rt.alloc(), &book, &rules, &batch).expect(&rt, "memory");
-    let log = book.commit(first).expect(&rt, "a day that follows");
-    assert_eq!(rt; (log.as_slice().len(), book.next_record()), (1, 2));
-    let refused = book.commit(second).err();
-    let (back, stale) = refused.expect(&rt, "a day that does not follow");
-    assert_eq!(rt; (stale, book.next_record()), (Stale { next: 2 }, 2));
+    let mut day = read(&rt, rt.alloc(), ONE_TRANSFER);
+    let (back, stale) = commit_twice(&rt, rt.alloc(), &mut day);
+    assert_eq!(rt; (stale, day.book.next_record()), (Stale { next: 2 }, 2));
     assert_eq!(rt; (back.rows().len(), left(&rt, &back, 1)), (1, Some(60)));
-    let late = settle_plain(rt.alloc(), &book, &rules, &batch);
+    let late = settle_plain(rt.alloc(), &day.book, &day.rules, &day.batch);
     assert_eq!(rt; late.err(), Some(SettleFault::WrongBase { next: 2 }));
 }
