@@ -4,7 +4,7 @@ use crate::fixtures::{account_no, holder, read};
 use reg_account::{Account, AccountParts, Holdings};
 use reg_base::{AccountKind, AllowanceKind, Status};
 use reg_book::{BookDraft, BookFault, SettleFault, Settled, Stale, Totals, settle_plain};
-use reg_text::{DayInput, write_report};
+use reg_text::{DayInput, write_book, write_report};
 use std::alloc::Global;
 use std::process::Abort;
 
@@ -42,19 +42,28 @@ fn draft(rt: &impl Abort, alloc: Global, count: u32, general: u64) -> BookDraft 
     draft
 }
 
+// The text of a book whose accounts came in this order.
+fn book_text(rt: &impl Abort, alloc: Global, came: [u32; 3]) -> Vec<u8> {
+    let mut draft = BookDraft::new(alloc, 7);
+    for number in came {
+        insert(rt, &mut draft, account(rt, number, 5));
+    }
+    write_book(alloc, &draft.finish()).expect(rt, "memory")
+}
+
+// What each of them gives.
+const RISING: &str = "\
+book,7
+account,1,trading,11,open,no,no,0,5,0
+account,2,trading,11,open,no,no,0,5,0
+account,3,trading,11,open,no,no,0,5,0
+";
+
 #[test]
 fn accounts_stand_by_rising_number(rt: HostRuntime) {
     for came in [[3, 1, 2], [1, 2, 3], [2, 3, 1]] {
-        let mut draft = BookDraft::new(rt.alloc(), 7);
-        for number in came {
-            insert(&rt, &mut draft, account(&rt, number, 5));
-        }
-        let book = draft.finish();
-        assert_eq!(rt; book.next_record(), 7);
-        assert_eq!(rt; book.accounts().len(), 3);
-        for (account, number) in book.accounts().iter().zip(1..) {
-            assert_eq!(rt; account.number().get(), number, "{came:?}");
-        }
+        let text = book_text(&rt, rt.alloc(), came);
+        assert_eq!(rt; text.as_slice(), RISING.as_bytes());
     }
 }
 
@@ -72,16 +81,19 @@ fn a_book_finds_its_accounts(rt: HostRuntime) {
     assert_eq!(rt; book.directory().find(account_no(&rt, 4)), None);
 }
 
+// Why a draft refuses an account, which it gives back as it was.
+fn refuse(rt: &impl Abort, draft: &mut BookDraft, number: u32) -> BookFault {
+    let refused = draft.insert(account(rt, number, 5)).err();
+    let (back, fault) = refused.expect(rt, "an account that is refused");
+    assert_eq!(rt; back.number().get(), number);
+    assert_eq!(rt; back.held(AllowanceKind::General), 5);
+    fault
+}
+
 #[test]
 fn an_account_comes_once(rt: HostRuntime) {
     let mut draft = draft(&rt, rt.alloc(), 2, 100);
-    match draft.insert(account(&rt, 1, 5)) {
-        Ok(()) => assert!(rt; false, "taken in twice"),
-        Err((back, fault)) => {
-            assert_eq!(rt; fault, BookFault::Repeated);
-            assert_eq!(rt; back.held(AllowanceKind::General), 5);
-        }
-    }
+    assert_eq!(rt; refuse(&rt, &mut draft, 1), BookFault::Repeated);
     let book = draft.finish();
     assert_eq!(rt; book.accounts().len(), 2);
     assert_eq!(rt; book.totals(AllowanceKind::General).held, 200);
@@ -90,13 +102,7 @@ fn an_account_comes_once(rt: HostRuntime) {
 #[test]
 fn a_book_has_a_hundred_thousand_accounts(rt: HostRuntime) {
     let mut draft = draft(&rt, rt.alloc(), 100_000, 0);
-    match draft.insert(account(&rt, 100_001, 5)) {
-        Ok(()) => assert!(rt; false, "one too many"),
-        Err((back, fault)) => {
-            assert_eq!(rt; fault, BookFault::Full);
-            assert_eq!(rt; back.number().get(), 100_001);
-        }
-    }
+    assert_eq!(rt; refuse(&rt, &mut draft, 100_001), BookFault::Full);
     assert_eq!(rt; draft.finish().accounts().len(), 100_000);
 }
 
@@ -164,32 +170,55 @@ fn left(rt: &impl Abort, settled: &Settled, number: u32) -> Option<u64> {
     Some(account.held(AllowanceKind::General))
 }
 
-#[test]
-fn settles_a_day(rt: HostRuntime) {
-    let DayInput { rules, book, batch } = read(&rt, rt.alloc(), DAY);
-    let settled = settle_plain(rt.alloc(), &book, &rules, &batch).expect(&rt, "memory");
-    let text = write_report(rt.alloc(), &book, settled.rows()).expect(&rt, "memory");
-    assert_eq!(rt; text.as_slice(), SETTLED.as_bytes());
-    assert_eq!(rt; settled.base(), 0);
-    assert_eq!(rt; left(&rt, &settled, 1), Some(30));
-    assert_eq!(rt; left(&rt, &settled, 2), Some(70));
-    assert_eq!(rt; left(&rt, &settled, 3), None);
+fn settle(rt: &impl Abort, alloc: Global, text: &str) -> Settled {
+    let DayInput { rules, book, batch } = read(rt, alloc, text);
+    settle_plain(alloc, &book, &rules, &batch).expect(rt, "memory")
+}
+
+// The log of a settled day, with the book as it was before it.
+fn settled_report(rt: &impl Abort, alloc: Global, text: &str) -> Vec<u8> {
+    let DayInput { rules, book, batch } = read(rt, alloc, text);
+    let settled = settle_plain(alloc, &book, &rules, &batch).expect(rt, "memory");
+    write_report(alloc, &book, settled.rows()).expect(rt, "memory")
 }
 
 #[test]
-fn a_committed_day_is_in_the_book(rt: HostRuntime) {
+fn settles_a_day(rt: HostRuntime) {
+    let text = settled_report(&rt, rt.alloc(), DAY);
+    assert_eq!(rt; text.as_slice(), SETTLED.as_bytes());
+}
+
+#[test]
+fn a_settled_day_has_the_accounts_that_it_touched(rt: HostRuntime) {
+    let settled = settle(&rt, rt.alloc(), DAY);
+    assert_eq!(rt; settled.base(), 0);
+    let held = [
+        left(&rt, &settled, 1),
+        left(&rt, &settled, 2),
+        left(&rt, &settled, 3),
+    ];
+    assert_eq!(rt; held, [Some(30), Some(70), None]);
+}
+
+// The report of a day that is settled and put into its book.
+fn report(rt: &impl Abort, alloc: Global, text: &str) -> Vec<u8> {
     let DayInput {
         rules,
         mut book,
         batch,
-    } = read(&rt, rt.alloc(), DAY);
-    let settled = settle_plain(rt.alloc(), &book, &rules, &batch).expect(&rt, "memory");
-    let log = book.commit(settled).expect(&rt, "a day that follows");
-    let text = write_report(rt.alloc(), &book, log.as_slice()).expect(&rt, "memory");
+    } = read(rt, alloc, text);
+    let settled = settle_plain(alloc, &book, &rules, &batch).expect(rt, "memory");
+    let log = book.commit(settled).expect(rt, "a day that follows");
+    write_report(alloc, &book, log.as_slice()).expect(rt, "memory")
+}
+
+#[test]
+fn a_committed_day_is_in_the_book(rt: HostRuntime) {
+    let text = report(&rt, rt.alloc(), DAY);
     assert_eq!(rt; text.as_slice(), COMMITTED.as_bytes());
 }
 
-// The same accounts on a day without instructions.
+// A day without instructions.
 const EMPTY_DAY: &str = "\
 format,1
 day,2025-03-31,7
@@ -199,19 +228,19 @@ account,1,operator,11,open,no,no,0,100,0
 end
 ";
 
+// Its report.
+const EMPTY_REPORT: &str = "\
+book,7
+account,1,operator,11,open,no,no,0,100,0
+totals,general,100,0,0
+totals,aviation,0,0,0
+end
+";
+
 #[test]
 fn an_empty_batch_changes_nothing(rt: HostRuntime) {
-    let DayInput {
-        rules,
-        mut book,
-        batch,
-    } = read(&rt, rt.alloc(), EMPTY_DAY);
-    let settled = settle_plain(rt.alloc(), &book, &rules, &batch).expect(&rt, "memory");
-    assert!(rt; settled.rows().is_empty());
-    let log = book.commit(settled).expect(&rt, "a day that follows");
-    assert!(rt; log.as_slice().is_empty());
-    assert_eq!(rt; book.next_record(), 7);
-    assert_eq!(rt; book.totals(AllowanceKind::General).held, 100);
+    let text = report(&rt, rt.alloc(), EMPTY_DAY);
+    assert_eq!(rt; text.as_slice(), EMPTY_REPORT.as_bytes());
 }
 
 // A day of one transfer.
@@ -227,24 +256,22 @@ do,2025-03-31,101,102,transfer,1,2,general,40
 end
 ";
 
+// Settles the day twice and puts both into its book: what the second commit gives back.
+fn commit_twice(rt: &impl Abort, alloc: Global, day: &mut DayInput) -> (Settled, Stale) {
+    let first = settle_plain(alloc, &day.book, &day.rules, &day.batch).expect(rt, "memory");
+    let second = settle_plain(alloc, &day.book, &day.rules, &day.batch).expect(rt, "memory");
+    let log = day.book.commit(first).expect(rt, "a day that follows");
+    assert_eq!(rt; log.as_slice().len(), 1);
+    let refused = day.book.commit(second).err();
+    refused.expect(rt, "a day that does not follow")
+}
+
 #[test]
 fn of_two_settled_days_one_is_stale(rt: HostRuntime) {
-    let DayInput {
-        rules,
-        mut book,
-        batch,
-    } = read(&rt, rt.alloc(), ONE_TRANSFER);
-    let first = settle_plain(rt.alloc(), &book, &rules, &batch).expect(&rt, "memory");
-    let second = settle_plain(rt.alloc(), &book, &rules, &batch).expect(&rt, "memory");
-    let log = book.commit(first).expect(&rt, "a day that follows");
-    assert_eq!(rt; log.as_slice().len(), 1);
-    assert_eq!(rt; book.next_record(), 2);
-    let refused = book.commit(second).err();
-    let (back, stale) = refused.expect(&rt, "a day that does not follow");
-    assert_eq!(rt; stale, Stale { next: 2 });
-    assert_eq!(rt; left(&rt, &back, 1), Some(60));
-    assert_eq!(rt; back.rows().len(), 1);
-    assert_eq!(rt; book.next_record(), 2);
-    let late = settle_plain(rt.alloc(), &book, &rules, &batch);
+    let mut day = read(&rt, rt.alloc(), ONE_TRANSFER);
+    let (back, stale) = commit_twice(&rt, rt.alloc(), &mut day);
+    assert_eq!(rt; (stale, day.book.next_record()), (Stale { next: 2 }, 2));
+    assert_eq!(rt; (back.rows().len(), left(&rt, &back, 1)), (1, Some(60)));
+    let late = settle_plain(rt.alloc(), &day.book, &day.rules, &day.batch);
     assert_eq!(rt; late.err(), Some(SettleFault::WrongBase { next: 2 }));
 }

@@ -4,8 +4,10 @@ use crate::fixtures::{account_no, day, holder, parts_of, read, user};
 use crate::rules::carry_out;
 use reg_account::{AccountParts, Holdings};
 use reg_base::{AccountKind, Act, AllowanceKind, Instruction, Refusal, Status};
-use reg_rules::{LogRow, Reply, log_row};
+use reg_rules::{LogRow, Reply};
 use reg_text::{write_book, write_report};
+use std::alloc::Global;
+use std::process::Abort;
 
 // A day in which nearly each field has a value of its own.
 const TEXT: &str = "\
@@ -156,22 +158,35 @@ fn with_figure(reply: Reply, figure: i64) -> Reply {
     }
 }
 
+// The report of a book without accounts and a row whose reply is this one.
+fn report_of(rt: &impl Abort, alloc: Global, mut row: LogRow, reply: Reply) -> Vec<u8> {
+    let book = read(rt, alloc, NO_ACCOUNTS).book;
+    row.reply = reply;
+    write_report(alloc, &book, &[row]).expect(rt, "memory")
+}
+
 #[test]
-fn writes_replies_that_no_day_gives_yet(rt: HostRuntime) {
-    let book = read(&rt, rt.alloc(), NO_ACCOUNTS).book;
-    let LogRow {
-        number,
-        day,
-        instruction,
-        reply,
-    } = carry_out(&rt, rt.alloc(), DONE).row;
-    let figure = log_row(number, day, instruction, with_figure(reply, -15));
-    let refusal = Reply::Refused(Refusal::ApprovalMissing);
-    let rows = [figure, log_row(number, day, instruction, refusal)];
-    let text = write_report(rt.alloc(), &book, &rows).expect(&rt, "memory");
+fn writes_a_refusal_that_no_day_gives_yet(rt: HostRuntime) {
+    let row = carry_out(&rt, rt.alloc(), DONE).row;
+    let reply = Reply::Refused(Refusal::ApprovalMissing);
+    let text = report_of(&rt, rt.alloc(), row, reply);
+    let wanted = "\
+log,1,2025-03-31,2025-03-31,101,,transfer,1,2,general,40,refused,7,ApprovalMissing
+book,1
+totals,general,0,0,0
+totals,aviation,0,0,0
+end
+";
+    assert_eq!(rt; text.as_slice(), wanted.as_bytes());
+}
+
+#[test]
+fn writes_a_figure_that_no_day_gives_yet(rt: HostRuntime) {
+    let row = carry_out(&rt, rt.alloc(), DONE).row;
+    let reply = with_figure(carry_out(&rt, rt.alloc(), DONE).row.reply, -15);
+    let text = report_of(&rt, rt.alloc(), row, reply);
     let wanted = "\
 log,1,2025-03-31,2025-03-31,101,,transfer,1,2,general,40,done,-15,1,60,0,2,40,7
-log,1,2025-03-31,2025-03-31,101,,transfer,1,2,general,40,refused,7,ApprovalMissing
 book,1
 totals,general,0,0,0
 totals,aviation,0,0,0
