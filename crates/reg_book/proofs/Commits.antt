@@ -7,7 +7,8 @@ use Rattle.reg_account.specs.Account.{AccountValue}
 use Rattle.reg_rules.specs.State.{State, Setting, account, numbers}
 use Rattle.reg_rules.specs.Laws.{StepLaws}
 use Rattle.reg_book.specs.Book.{overlay}
-use Rattle.reg_book.specs.Fold.{state_after, rows_of, is_touched, touched_of}
+use Rattle.reg_base.specs.Touches.{is_touched}
+use Rattle.reg_book.specs.Fold.{state_after, touched_of}
 use Rattle.reg_book.specs.Laws.{CommittedIsClosing, SettledAreTouched}
 use Rattle.reg_book.specs.Day.{setting, closing_state, log_of}
 use Rattle.reg_book.proofs.Days.{touched-account, untouched-account, listing-fold, closing-all}

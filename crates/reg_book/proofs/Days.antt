@@ -16,7 +16,8 @@ use Rattle.reg_rules.specs.Step.{step}
 use Rattle.reg_rules.specs.Laws.{Constants, constants_of, StepLaws}
 use Rattle.reg_rules.specs.declared.reply.LogRow.{LogRow}
 use Rattle.reg_book.specs.Book.{IsBook, directory_of}
-use Rattle.reg_book.specs.Fold.{state_after, rows_of, is_touched, touched_of}
+use Rattle.reg_base.specs.Touches.{is_touched}
+use Rattle.reg_book.specs.Fold.{state_after, rows_of, touched_of}
 use Rattle.reg_book.specs.Settled.{SettledValue, IsSettled, IsOfBook}
 use Rattle.reg_book.specs.Day.{Day, setting, closing_state, settled_day}
 use Rattle.reg_book.proofs.Directories.{listing, length-numbers, get-directory_of}

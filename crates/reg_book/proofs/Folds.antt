@@ -9,7 +9,8 @@ use Rattle.reg_rules.specs.declared.reply.LogRow.{LogRow}
 use Rattle.reg_rules.specs.State.{State, Setting, account, numbers}
 use Rattle.reg_rules.specs.Step.{step, row_of}
 use Rattle.reg_rules.specs.Laws.{StepLaws}
-use Rattle.reg_book.specs.Fold.{state_after, rows_of, is_touched}
+use Rattle.reg_base.specs.Touches.{is_touched}
+use Rattle.reg_book.specs.Fold.{state_after, rows_of}
 use Rattle.reg_book.proofs.Lookups.{all_among, not_contained, or_true_left, or_true_right, or_cases}
 use Rattle.reg_book.proofs.StepFacts.{reply-local, after-local}
 

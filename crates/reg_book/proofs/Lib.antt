@@ -9,5 +9,6 @@ pub mod Marks
 pub mod Orders
 pub mod Overlays
 pub mod Ranks
+pub mod RisesFrom
 pub mod Turns
 pub mod Values

@@ -1,5 +1,5 @@
 -- Where the accounts of each instruction stand, among all accounts and among the marked ones.
-use Rattle.std.proofs.Common.{◌≡◌, ℕ, zero, suc, ◌+◌, ◌<◌, Bool, true, false, cond, eqb, ◌||◌, List, [], ◌∷◌, ◌++◌, map, length, get_or, take, drop, refl, sym, ap, subst, ◌∙◌, arith}
+use Rattle.std.proofs.Common.{◌≡◌, ℕ, zero, suc, ◌+◌, ◌<◌, Bool, true, false, cond, List, [], ◌∷◌, ◌++◌, map, length, get_or, take, drop, refl, sym, ap, subst, ◌∙◌, arith}
 use Rattle.std.specs.List.{AllByRecursion}
 use Rattle.std.proofs.lemmas.List.{map-append, take_more, take_all, drop_all, append-nil, length-map}
 use Rattle.arrayvec.specs.ArrayVec.{ArrayVec}
@@ -7,10 +7,9 @@ use Rattle.reg_base.specs.declared.instruction.Instruction.{Instruction}
 use Rattle.reg_base.specs.Directory.{DirectoryValue, is_known}
 use Rattle.reg_base.specs.Footprint.{footprint, is_among, EachFootprintIsSound}
 use Rattle.std.proofs.lemmas.List.Elements.{recursion_from_All}
-use Rattle.reg_account.specs.Account.{AccountValue}
 use Rattle.reg_rules.specs.State.{State, numbers}
 use Rattle.reg_book.specs.Book.{directory_of}
-use Rattle.reg_book.specs.Fold.{is_touched}
+use Rattle.reg_base.specs.Touches.{is_touched}
 use Rattle.reg_book.specs.Marks.{touched_marks, picked, ranks_from}
 use Rattle.reg_book.specs.Places.{StandsAt, StandAt, AllStandAt, AllRanked, each_at, footprints, lists_of}
 use Rattle.reg_book.proofs.Directories.{known-among, length-numbers}

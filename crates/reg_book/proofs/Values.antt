@@ -1,8 +1,7 @@
 -- What each instruction makes of a day's accounts, and an account as its last toucher left it.
-use Rattle.std.proofs.Common.{◌≡◌, ℕ, zero, suc, ◌+◌, Bool, true, false, cond, eqb, ◌||◌, List, [], ◌∷◌, take, Some, refl, sym, ap, subst, ◌∙◌, inl, inr, arith}
+use Rattle.std.proofs.Common.{◌≡◌, ℕ, zero, suc, ◌+◌, Bool, true, false, cond, eqb, ◌||◌, List, [], ◌∷◌, take, Some, refl, sym, ap, subst, ◌∙◌, arith}
 use Rattle.std.specs.Prelude.{All, slice_get}
 use Rattle.std.specs.List.{IsDistinct}
-use Rattle.std.proofs.lemmas.Bool.{cases_lt}
 use Rattle.std.proofs.lemmas.Option.{same_Some}
 use Rattle.reg_base.specs.declared.instruction.Instruction.{Instruction}
 use Rattle.reg_base.specs.Directory.{DirectoryValue}
@@ -12,34 +11,12 @@ use Rattle.reg_rules.specs.State.{State, Setting, account, numbers}
 use Rattle.reg_rules.specs.Step.{step, row_of}
 use Rattle.reg_rules.specs.Laws.{StepLaws}
 use Rattle.reg_book.specs.Book.{directory_of}
-use Rattle.reg_book.specs.Fold.{state_after, rows_of, is_touched}
+use Rattle.reg_base.specs.Touches.{is_touched, touches_at, last_toucher}
+use Rattle.reg_book.specs.Fold.{state_after, rows_of}
 use Rattle.reg_book.specs.Day.{setting, state_at, value_at}
-use Rattle.reg_book.specs.Laws.{touches_after, last_toucher, IsLastToucher, LastToucherIsLast, EachIsAStep, NumbersStay, UntouchedStay, ValueIsLastTouchers, LimitsStay}
+use Rattle.reg_book.specs.Laws.{EachIsAStep, NumbersStay, UntouchedStay, ValueIsLastTouchers, LimitsStay}
 use Rattle.reg_book.proofs.Folds.{numbers-fold, others-fold}
 use Rattle.reg_book.proofs.Lookups.{not_contained, or_cases, rising-distinct}
-
-pub last_toucher-last : LastToucherIsLast
-last_toucher-last d is a zero = record {
-  among = omega arith;
-  touches = λ k e. absurd (omega (arith, e));
-  none_later = λ k le lt. absurd (omega arith);
-}
-last_toucher-last d is a (suc j) = by (touches_after d is a j) refl (last_toucher-last d is a j)
-  where
-    by : (b : Bool) → touches_after d is a j ≡ b → IsLastToucher d is a j (last_toucher d is a j) → IsLastToucher d is a (suc j) (cond b (suc j) (last_toucher d is a j))
-    by true touched before = record {
-      among = omega arith;
-      touches = λ k e. ap (touches_after d is a) (omega (arith, e)) ∙ touched;
-      none_later = λ k le lt. absurd (omega arith);
-    }
-    by false apart before = record {
-      among = omega (arith, before.among);
-      touches = before.touches;
-      none_later = λ k le lt. elim (cases_lt k j) [
-        | inl early ↦ before.none_later k le early
-        | inr late ↦ let e : k ≡ j = omega arith in ap (touches_after d is a) e ∙ apart
-      ];
-    }
 
 -- the state after the first instructions, and the one after
 state-more : (c : Setting) (s : State) (n k : ℕ) (is : List Instruction) (i : Instruction) → slice_get is k ≡ Some i
@@ -94,7 +71,7 @@ module _ (laws : StepLaws) where
       (take-untouched (directory_of day.book.accounts) day.batch.instructions a j none)
 
   -- the instruction after k others, if it does not touch the account, leaves it
-  passed_by : (c : Setting) (s : State) (n : ℕ) (is : List Instruction) (a k : ℕ) → touches_after c.directory is a k ≡ false
+  passed_by : (c : Setting) (s : State) (n : ℕ) (is : List Instruction) (a k : ℕ) → touches_at c.directory is a k ≡ false
       → account (state_after c s n (take (suc k) is)) a ≡ account (state_after c s n (take k is)) a
   passed_by c s n [] a zero apart = refl
   passed_by c s n [] a (suc k) apart = refl
@@ -103,9 +80,9 @@ module _ (laws : StepLaws) where
 
   pub value-last_toucher : ValueIsLastTouchers
   value-last_toucher day a zero = refl
-  value-last_toucher day a (suc k) = by (touches_after (directory_of day.book.accounts) day.batch.instructions a k) refl (value-last_toucher day a k)
+  value-last_toucher day a (suc k) = by (touches_at (directory_of day.book.accounts) day.batch.instructions a k) refl (value-last_toucher day a k)
     where
-      by : (b : Bool) → touches_after (directory_of day.book.accounts) day.batch.instructions a k ≡ b → value_at day a k ≡ value_at day a (last_toucher (directory_of day.book.accounts) day.batch.instructions a k)
+      by : (b : Bool) → touches_at (directory_of day.book.accounts) day.batch.instructions a k ≡ b → value_at day a k ≡ value_at day a (last_toucher (directory_of day.book.accounts) day.batch.instructions a k)
           → value_at day a (suc k) ≡ value_at day a (cond b (suc k) (last_toucher (directory_of day.book.accounts) day.batch.instructions a k))
       by true touched before = refl
       by false apart before = passed_by (setting day) day.book.accounts (day.batch.base + 1) day.batch.instructions a k apart ∙ before

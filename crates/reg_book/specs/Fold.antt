@@ -1,9 +1,8 @@
 -- Executing the instructions one after another.
-use Rattle.std.specs.Prelude.{ℕ, ◌+◌, Bool, List, [], ◌∷◌, filter}
-use Rattle.std.specs.List.{list_any}
+use Rattle.std.specs.Prelude.{ℕ, ◌+◌, List, [], ◌∷◌, filter}
 use Rattle.reg_base.specs.declared.instruction.Instruction.{Instruction}
 use Rattle.reg_base.specs.Directory.{DirectoryValue}
-use Rattle.reg_base.specs.Footprint.{footprint, is_among}
+use Rattle.reg_base.specs.Touches.{is_touched}
 use Rattle.reg_rules.specs.declared.reply.LogRow.{LogRow}
 use Rattle.reg_rules.specs.State.{State, Setting}
 use Rattle.reg_rules.specs.Step.{step, row_of}
@@ -17,10 +16,6 @@ state_after c s number (i ∷ is) = state_after c (step c s number i).0 (number 
 abbrev pub rows_of : Setting → State → ℕ → List Instruction → List LogRow
 rows_of c s number [] = []
 rows_of c s number (i ∷ is) = row_of c number i (step c s number i).1 ∷ rows_of c (step c s number i).0 (number + 1) is
-
--- some instruction touches the account
-abbrev pub is_touched : DirectoryValue → List Instruction → ℕ → Bool
-is_touched directory is a = list_any (λ i. is_among (footprint directory i.act) a) is
 
 -- the accounts that some instruction touches, in their order
 abbrev pub touched_of : DirectoryValue → List Instruction → State → State

@@ -1,34 +1,13 @@
 -- What is true of a day's instructions one after another, in the words of what is said of each account number.
-use Rattle.std.specs.Prelude.{◌≡◌, ℕ, zero, suc, ◌+◌, ◌<◌, ◌≤◌, Bool, true, false, List, All, length, slice_get, Option, Some, None, if◌then◌else◌}
-use Rattle.std.specs.Option.{option_map_or}
+use Rattle.std.specs.Prelude.{◌≡◌, ℕ, suc, ◌+◌, false, All, length, slice_get, Some, None, if◌then◌else◌}
 use Rattle.reg_base.specs.declared.instruction.Instruction.{Instruction}
-use Rattle.reg_base.specs.Directory.{DirectoryValue}
-use Rattle.reg_base.specs.Footprint.{footprint, is_among}
+use Rattle.reg_base.specs.Touches.{is_touched, last_toucher}
 use Rattle.reg_account.specs.Account.{IsAccount}
 use Rattle.reg_rules.specs.State.{numbers, account}
 use Rattle.reg_rules.specs.Step.{step, row_of}
 use Rattle.reg_book.specs.Book.{IsBook, directory_of}
-use Rattle.reg_book.specs.Fold.{is_touched}
 use Rattle.reg_book.specs.Settled.{committed}
 use Rattle.reg_book.specs.Day.{Day, setting, state_at, value_at, row_at, closing_state, settled_day}
-
--- the instruction before which k others stand touches the account
-abbrev pub touches_after : DirectoryValue → List Instruction → ℕ → ℕ → Bool
-touches_after directory is a k = option_map_or (λ i. is_among (footprint directory i.act) a) (slice_get is k) false
-
--- the place, counted from 1, of the last of the first j instructions that touches the account, or 0 where none does
-abbrev pub last_toucher : DirectoryValue → List Instruction → ℕ → ℕ → ℕ
-last_toucher directory is a zero = 0
-last_toucher directory is a (suc k) = if touches_after directory is a k then suc k else last_toucher directory is a k
-
--- what a last toucher is: it stands among the first j, it touches the account, and none of these after it does
-pub record IsLastToucher (directory : DirectoryValue) (is : List Instruction) (a j place : ℕ) : Type 0 where
-  pub among : place ≤ j
-  pub touches : (k : ℕ) → place ≡ suc k → touches_after directory is a k ≡ true
-  pub none_later : (k : ℕ) → place ≤ k → k < j → touches_after directory is a k ≡ false
-
-abbrev pub LastToucherIsLast : Type 0
-LastToucherIsLast = (directory : DirectoryValue) (is : List Instruction) (a j : ℕ) → IsLastToucher directory is a j (last_toucher directory is a j)
 
 -- each instruction is carried out on what the ones before it left, and its record is that of this step
 pub record IsStepOf (day : Day) (k : ℕ) (i : Instruction) : Type 0 where

@@ -4,7 +4,7 @@ use Rattle.reg_base.specs.declared.instruction.Instruction.{Instruction}
 use Rattle.reg_base.specs.Directory.{DirectoryValue}
 use Rattle.reg_base.specs.Footprint.{is_among}
 use Rattle.reg_rules.specs.State.{State}
-use Rattle.reg_book.specs.Fold.{is_touched}
+use Rattle.reg_base.specs.Touches.{is_touched}
 
 -- marks beside accounts, with one more at each account whose number stands in the list
 abbrev pub marked : List Bool → State → List ℕ → List Bool

@@ -141,11 +141,7 @@ fn take_place(
 }
 
 // What is wrong with taking the account in, if anything is.
-fn find_fault(
-    accounts: &[Account],
-    directory: &Directory,
-    account: &Account,
-) -> Option<BookFault>
+fn find_fault(accounts: &[Account], directory: &Directory, account: &Account) -> Option<BookFault>
     requires listed { directory.now ≡ directory_of accounts.now }
     ensures { result ≡ first_fault accounts.now account.now }
 {

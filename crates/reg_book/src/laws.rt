@@ -1,15 +1,14 @@
 //! What is true of a day's instructions one after another. Each law is the contract of a function that does nothing;
 //! whoever needs a law calls its function.
 
-ghost use Rattle.reg_book.specs.Laws.{EachIsAStep, NumbersStay, UntouchedStay, ValueIsLastTouchers, LastToucherIsLast, LimitsStay, SettledAreTouched, CommittedIsClosing};
+ghost use Rattle.reg_book.specs.Laws.{EachIsAStep, NumbersStay, UntouchedStay, ValueIsLastTouchers, LimitsStay, SettledAreTouched, CommittedIsClosing};
 
 use reg_rules::step_laws;
 
 /// Each instruction is carried out on what the ones before it left.
 pub fn each_is_a_step()
     ensures { EachIsAStep }
-{
-}
+{}
 
 /// No account comes, goes or moves, and one that no instruction touches stays as it is.
 pub fn untouched_stay()
@@ -21,8 +20,7 @@ pub fn untouched_stay()
 
 /// An account is as the last instruction that touched it left it.
 pub fn value_is_last_touchers()
-    ensures value { ValueIsLastTouchers }
-    ensures last { LastToucherIsLast }
+    ensures { ValueIsLastTouchers }
 {
     step_laws();
 }

@@ -82,7 +82,15 @@ fn settle_batch(
         places,
         ranks,
     } = find_touched(alloc, book.accounts(), directory, batch.instructions())?;
-    let rows = settle_all(alloc, rules, batch, directory, &mut accounts, &places, &ranks)?;
+    let rows = settle_all(
+        alloc,
+        rules,
+        batch,
+        directory,
+        &mut accounts,
+        &places,
+        &ranks,
+    )?;
     Ok(Settled::new(batch.base(), rows, accounts))
 }
 

@@ -1,5 +1,4 @@
-use Rattle.std.proofs.Common.{◌<◌, ℕ, length, arith, rules}
-use Rattle.reg_rules.specs.State.{numbers}
+use Rattle.std.proofs.Common.{◌<◌, arith, rules}
 use Rattle.reg_book.proofs.Orders.{gt_of}
 use Rattle.reg_book.proofs.Overlays.{one_lower}
 use Rattle.reg_book.proofs.book.count_not_higher.Goals as goal

@@ -1,5 +1,5 @@
-use Rattle.std.proofs.Common.{◌≡◌, ◌<◌, ◌≤◌, false, eqb, length, arith, rules, sym, ap, subst, ◌∙◌}
-use Rattle.std.proofs.lemmas.Bool.{eqb-true, eqb-false}
+use Rattle.std.proofs.Common.{◌≤◌, length, arith, sym, subst, ◌∙◌}
+use Rattle.std.proofs.lemmas.Bool.{eqb-true}
 use Rattle.reg_rules.specs.State.{State, numbers}
 use Rattle.reg_book.specs.Book.{AreHigher}
 use Rattle.reg_book.proofs.Overlays.{set_at, not_there, numbers_below, lower_than}

@@ -1,4 +1,4 @@
-use Rattle.std.proofs.Common.{◌≡◌, ◌+◌, ◌<◌, ◌∷◌, [], ◌++◌, length, rules, arith, sym, ap, subst, ◌∙◌}
+use Rattle.std.proofs.Common.{◌≡◌, ◌+◌, ◌<◌, ◌∷◌, [], ◌++◌, length, rules, arith, sym, subst, ◌∙◌}
 use Rattle.reg_base.specs.Footprint.{footprint}
 use Rattle.reg_rules.specs.State.{Setting, numbers}
 use Rattle.reg_rules.specs.Step.{row_of}

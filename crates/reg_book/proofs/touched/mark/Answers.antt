@@ -1,4 +1,4 @@
-use Rattle.std.proofs.Common.{◌≡◌, ◌<◌, [], true, length, set, rules, arith, sym, ap, subst, ◌∙◌}
+use Rattle.std.proofs.Common.{◌<◌, [], true, length, set, rules, arith, sym, ap, subst, ◌∙◌}
 use Rattle.reg_rules.specs.State.{numbers}
 use Rattle.reg_book.specs.Places.{StandsAt, StandAt}
 use Rattle.reg_book.proofs.Lookups.{is_there, at-index}

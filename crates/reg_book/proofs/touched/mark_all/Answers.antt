@@ -1,5 +1,4 @@
 use Rattle.std.proofs.Common.{◌<◌, length, take, rules, ap, ◌∙◌, subst}
-use Rattle.reg_base.specs.Footprint.{footprint}
 use Rattle.reg_rules.specs.State.{numbers}
 use Rattle.reg_book.specs.Marks.{marked, touched_marks}
 use Rattle.reg_book.specs.Places.{StandAt}
@@ -14,12 +13,12 @@ mark-requires-clause-size c =
 pub mark-requires-clause-present : goal.mark-requires-clause-present
 mark-requires-clause-present c =
     touched-there c.each_footprint_is_sound.ensures c.args.accounts.now c.args.directory.now c.instruction-item.result c.as_slice.result.now c.requires.listed
-    (c.as_slice.ensures ∙ c.touches.ensures)
+    (c.as_slice.ensures.value ∙ c.touches.ensures)
 
 pub loop-instruction-preserved : goal.loop-instruction-preserved
 loop-instruction-preserved c =
     let within : c.loop-instruction.instruction-index < length c.args.instructions.now = search rules in
-    let wanted = c.as_slice.ensures ∙ c.touches.ensures in
+    let wanted = c.as_slice.ensures.value ∙ c.touches.ensures in
     record {
       marked = c.mark.ensures.marks
           ∙ ap (λ ms. marked ms c.args.accounts.now c.as_slice.result.now) c.loop-instruction.invariant.marked

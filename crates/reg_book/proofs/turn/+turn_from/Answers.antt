@@ -14,11 +14,14 @@ turn_from-reply-requires t c =
     let left = subst (λ ps. AreLeft c.args.count (numbers s) ps wanted) cases.0 c.requires.left in
     let first = left.are_left.0 in
     let moved = numbers-swap s c.swap.new.self c.args.count place (omega (arith, first.behind, first.within, size-numbers s)) (omega (arith, first.within, size-numbers s)) c.swap.ensures.after in
-    let d = c.decreases in
-    (omega (arith, cases.1, d, ap length c.rename.ensures),
-    (distinct-swap s c.swap.new.self c.args.count place (omega (arith, first.behind, first.within, size-numbers s)) (omega (arith, first.within, size-numbers s)) c.requires.distinct c.swap.ensures.after,
-    subst (λ ps. AreLeft (c.args.count + 1) (numbers c.swap.new.self) ps wanted) (sym c.rename.ensures)
-    (left-more c.args.count (numbers s) (numbers c.swap.new.self) wanted place c.in-Some.later.now moved left)))
+    let d = c.decreases in (
+      omega (arith, cases.1, d, ap length c.rename.ensures),
+      (
+        distinct-swap s c.swap.new.self c.args.count place (omega (arith, first.behind, first.within, size-numbers s)) (omega (arith, first.within, size-numbers s)) c.requires.distinct c.swap.ensures.after,
+        subst (λ ps. AreLeft (c.args.count + 1) (numbers c.swap.new.self) ps wanted) (sym c.rename.ensures)
+            (left-more c.args.count (numbers s) (numbers c.swap.new.self) wanted place c.in-Some.later.now moved left),
+      ),
+    )
 
 pub returns-in-Some : goal.returns-in-Some
 returns-in-Some t c =

@@ -1,4 +1,4 @@
-use Rattle.std.proofs.Common.{◌≡◌, ◌<◌, length, arith, rules}
+use Rattle.std.proofs.Common.{arith, rules}
 use Rattle.reg_book.specs.Turns.{renamed}
 use Rattle.reg_book.proofs.Turns.{renamed-more}
 use Rattle.reg_book.proofs.turn.rename.Goals as goal

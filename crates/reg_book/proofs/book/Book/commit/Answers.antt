@@ -1,5 +1,4 @@
-use Rattle.std.proofs.Common.{◌≡◌, ◌∙◌, ◌+◌, ◌<◌, ◌≤◌, ⊎_elim, sym, ap, subst, arith, length}
-use Rattle.std.proofs.lemmas.Bool.{cases_lt}
+use Rattle.std.proofs.Common.{◌≡◌, ◌∙◌, ◌+◌, sym, ap, subst, arith, length}
 use Rattle.reg_book.specs.Book.{directory_of, overlay}
 use Rattle.reg_book.specs.Settled.{IsOfBook}
 use Rattle.reg_book.proofs.Overlays.{kept_after, next_fits}
