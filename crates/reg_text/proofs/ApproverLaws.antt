@@ -7,22 +7,22 @@ use Rattle.reg_base.specs.declared.limits.TheConstants.{MOST_NUMBER}
 use Rattle.reg_text.specs.Causes.{◌>>=◌}
 use Rattle.reg_text.specs.Numbers.{number}
 use Rattle.reg_text.specs.Limits.{user_no_of, approver_text, approver_of}
-use Rattle.reg_text.specs.Reading.{IsNo}
+use Rattle.reg_base.specs.Numbers.{IsUserNo}
 use Rattle.reg_text.proofs.Binds.{bind_ok, ok_is}
 use Rattle.reg_text.proofs.NumberLaws.{bounded-spelled, bounded-again, digit-first}
 
 -- who approved
-approver_by_test : (t : Bool) (f : List ℕ) (o : Option ℕ) → eqb (length f) 0 ≡ t → cond t (Ok None) (user_no_of f >>= λ n. Ok (Some n)) ≡ Ok o → (f ≡ approver_text o) × IfSome o IsNo
+approver_by_test : (t : Bool) (f : List ℕ) (o : Option ℕ) → eqb (length f) 0 ≡ t → cond t (Ok None) (user_no_of f >>= λ n. Ok (Some n)) ≡ Ok o → (f ≡ approver_text o) × IfSome o IsUserNo
 approver_by_test true f o empty e =
     let is : None ≡ o = ok_is None o e in
-    subst (λ (p : Option ℕ). (f ≡ approver_text p) × IfSome p IsNo) is (nil_from_length f (eqb-true _ _ empty), tt)
+    subst (λ (p : Option ℕ). (f ≡ approver_text p) × IfSome p IsUserNo) is (nil_from_length f (eqb-true _ _ empty), tt)
 approver_by_test false f o full e =
     let n = bind_ok (user_no_of f) (λ n. Ok (Some n)) o e in
     let s = bounded-spelled 1 MOST_NUMBER f n.0 n.1 in
     let is : Some n.0 ≡ o = ok_is (Some n.0) o n.2 in
-    subst (λ (p : Option ℕ). (f ≡ approver_text p) × IfSome p IsNo) is (s.0, record { from = s.1; to = s.2 })
+    subst (λ (p : Option ℕ). (f ≡ approver_text p) × IfSome p IsUserNo) is (s.0, record { low = s.1; high = s.2 })
 
-pub approver-spelled : (f : List ℕ) (o : Option ℕ) → approver_of f ≡ Ok o → (f ≡ approver_text o) × IfSome o IsNo
+pub approver-spelled : (f : List ℕ) (o : Option ℕ) → approver_of f ≡ Ok o → (f ≡ approver_text o) × IfSome o IsUserNo
 unfolding approver_of
 approver-spelled f o e = approver_by_test (eqb (length f) 0) f o refl e
 
@@ -31,7 +31,7 @@ unfolding approver_of
 some_by_test [] n h e = absurd (omega arith)
 some_by_test (b ∷ rest) n h e = let full : eqb (length (b ∷ rest)) 0 ≡ false = ne_eqb _ _ (λ none. omega arith) in rw (full, e) refl
 
-pub approver-again : (o : Option ℕ) → IfSome o IsNo → approver_of (approver_text o) ≡ Ok o
+pub approver-again : (o : Option ℕ) → IfSome o IsUserNo → approver_of (approver_text o) ≡ Ok o
 unfolding approver_of
 approver-again None h = refl
-approver-again (Some n) h = some_by_test (number n) n (digit-first n (omega (arith, h.to))).0 (bounded-again 1 MOST_NUMBER n (omega arith) h.from h.to)
+approver-again (Some n) h = some_by_test (number n) n (digit-first n (omega (arith, h.high))).0 (bounded-again 1 MOST_NUMBER n (omega arith) h.low h.high)

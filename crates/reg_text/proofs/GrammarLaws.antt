@@ -5,15 +5,15 @@ use Rattle.std.specs.Str.{bytes_eq}
 use Rattle.reg_base.specs.declared.limits.TheConstants.{MOST_NUMBER, MOST_HELD, MOST_LAG, MOST_RECORD, FIRST_YEAR, LAST_YEAR}
 use Rattle.reg_base.specs.declared.kinds.AccountKind.{AccountKind}
 use Rattle.reg_base.specs.declared.kinds.AllowanceKind.{AllowanceKind}
-use Rattle.reg_base.specs.declared.instruction.Act.{Act}
-use Rattle.reg_base.specs.declared.instruction.Act.TheVariants as act
+use Rattle.reg_base.specs.declared.act.Act.{Act}
+use Rattle.reg_base.specs.declared.act.Act.TheVariants as act
 use Rattle.reg_text.specs.declared.cause.Cause.{Cause}
 use Rattle.reg_text.specs.declared.cause.Cause.TheVariants as cause
 use Rattle.reg_text.specs.declared.reading.instruction_row.ActName.{ActName}
-use Rattle.reg_text.specs.declared.reading.instruction_row.ActName.TheVariants.{Transfer}
+use Rattle.reg_text.specs.declared.reading.instruction_row.ActName.TheVariants.{Transfer, Return}
 use Rattle.reg_text.specs.declared.reading.tag.Tag.{Tag}
 use Rattle.reg_text.specs.declared.reading.tag.Tag.TheVariants as tag
-use Rattle.reg_text.specs.Reading.{IsNo}
+use Rattle.reg_base.specs.Numbers.{IsUserNo}
 use Rattle.reg_text.specs.Words.{word_of, kind_word, kinds, kind_of, account_kind_word, account_kinds, account_kind_of, status_word, statuses, status_of, yes_no_word, yes_and_no, yes_no_of}
 use Rattle.reg_text.specs.Plain.{IsPlain}
 use Rattle.reg_text.specs.FieldTests.{fault_of, first_cause, word_tests}
@@ -104,13 +104,13 @@ is-version = record {
   plain = λ n. refl;
 }
 
-pub with_limits : (o : Option ℕ) → IfSome o IsNo → IfSome o (λ n. (1 ≤ n) × (n ≤ MOST_NUMBER))
+pub with_limits : (o : Option ℕ) → IfSome o IsUserNo → IfSome o (λ n. (1 ≤ n) × (n ≤ MOST_NUMBER))
 with_limits None h = tt
-with_limits (Some n) h = (h.from, h.to)
+with_limits (Some n) h = (h.low, h.high)
 
-pub as_no : (o : Option ℕ) → IfSome o (λ n. (1 ≤ n) × (n ≤ MOST_NUMBER)) → IfSome o IsNo
+pub as_no : (o : Option ℕ) → IfSome o (λ n. (1 ≤ n) × (n ≤ MOST_NUMBER)) → IfSome o IsUserNo
 as_no None h = tt
-as_no (Some n) h = record { from = h.0; to = h.1 }
+as_no (Some n) h = record { low = h.0; high = h.1 }
 
 is-approver : IsCodec an_approver
 is-approver = record {
@@ -124,21 +124,26 @@ is-approver = record {
 
 act_name-again : (n : ActName) → act_name_of (act_word n) ≡ Ok n
 act_name-again Transfer = refl
+act_name-again Return = refl
 
 plain-act_word : (n : ActName) → IsPlain (act_word n)
 plain-act_word Transfer = refl
+plain-act_word Return = refl
 
 are-moves : AreFields move_fields
 are-moves = are_made _ _ _ (are_then _ _ is-no (are_then _ _ is-no (are_then _ _ is-kind (are_last _ is-number)))) (λ p. refl) (λ m. refl)
 
 each-act : (n : ActName) → AreFields (fields_of_act n)
 each-act Transfer = are-moves
+each-act Return = are-moves
 
 parts-of-made : (n : ActName) (p : ActParts n) → ◌≡◌ {A = Form ActParts} (act_name (act_made n p), act_parts (act_made n p)) (n, p)
 parts-of-made Transfer p = refl
+parts-of-made Return p = refl
 
 made-of-parts : (a : Act) → act_made (act_name a) (act_parts a) ≡ a
 made-of-parts (act.Transfer from to kind amount) = refl
+made-of-parts (act.ReturnExcess from to kind amount) = refl
 
 are-acts : (n : ActName) → AreFields (act_fields n)
 are-acts n = are_variant act_name ActParts fields_of_act act_made act_parts each-act parts-of-made made-of-parts n

@@ -3,7 +3,8 @@ use Rattle.std.proofs.Common.{◌≡◌, ℕ, ◌+◌, ◌-◌, ◌≤◌, Bool,
 use Rattle.std.proofs.lemmas.Bool.{leb-true}
 use Rattle.std.proofs.lemmas.List.{append-nil}
 use mathlib.Core.List.{map-id}
-use Rattle.std.specs.Prelude.{IfSome}
+use Rattle.std.specs.Prelude.{IfSome, All}
+use Rattle.std.proofs.lemmas.List.Elements.{All-from_recursion}
 use Rattle.std.specs.List.{AllByRecursion}
 use Rattle.reg_base.specs.declared.limits.TheConstants.{MOST_RECORD}
 use Rattle.reg_base.specs.Rising.{IsRising}
@@ -19,7 +20,10 @@ use Rattle.reg_text.specs.Grammar.{Said, row}
 use Rattle.reg_text.specs.Drafts.{DraftValue, ended, nothing_read}
 use Rattle.reg_text.specs.Day.{DayValue, day_with, is_over, day_said}
 use Rattle.reg_text.specs.Spelling.{day_text}
-use Rattle.reg_text.specs.Reading.{IsNo, IsDayNo, IsPair, IsAccountRow, IsInstructionRow, IsDay, IsReading}
+use Rattle.reg_base.specs.Numbers.{IsUserNo, IsDayNo}
+use Rattle.reg_base.specs.Instructions.{IsInstruction}
+use Rattle.reg_account.specs.Account.{IsAccount}
+use Rattle.reg_text.specs.Reading.{IsPair, CanBeSaid, IsReading}
 use Rattle.reg_text.specs.DraftLimits.{IsDraft}
 use Rattle.reg_text.specs.Faults.{next_in, next_draft, at_row, at_end, after_rows, day_of_rows}
 use Rattle.reg_text.proofs.ListFacts.{all-weaker}
@@ -60,8 +64,12 @@ headed d h over =
 numbered-day : (o : Option ℕ) (next count : ℕ) → o ≡ Some next → IfSome o (λ n. n + count ≤ MOST_RECORD + 1) → next + count ≤ MOST_RECORD + 1
 numbered-day o next count e h = rw e at h
 
+-- what is said of each value of a section is said of each in a day
+each-one : {X : Type 0} (P Q : X → Type 0) → ((x : X) → P x → Q x) → (xs : List X) → AllByRecursion P xs → All Q xs
+each-one P Q follow xs h = All-from_recursion Q xs (all-weaker P Q follow xs h)
+
 -- it says a day within the limits
-says-a-day : (d : DraftValue) (h : IsDraft d) (k : IsHeaded d) → IsDay (day_with k.day k.period k.lags d)
+says-a-day : (d : DraftValue) (h : IsDraft d) (k : IsHeaded d) → CanBeSaid (day_with k.day k.period k.lags d)
 says-a-day d h k =
     let day = the_one (row tag.Day).Fits d.days k.day k.one_day h.within.1.0.fits in
     let period = the_one (row tag.Period).Fits d.periods k.period k.one_period h.within.1.1.0.fits in
@@ -74,22 +82,25 @@ says-a-day d h k =
     let numbered = numbered-day (next_in d.days) k.day.1 (length d.instructions) (ap next_in k.one_day) h.numbered in
     let from = day.1.0 in
     record {
-      day = record { from = day.0.0; to = day.0.1 };
-      next = record { from = day.1.0; to = day.1.1 };
-      base = omega arith;
-      first_year = record { from = period.0.0.0; to = period.0.0.1 };
-      last_year = record { from = period.0.1.0; to = period.0.1.1 };
-      rules = record { few_admins = admins.few; admins_rise = subst IsRising (map-id d.admins) admins.ordered; lags_fit = record { trusted = lags.trusted; other = lags.other; listed = lags.listed; reversal = lags.reversal }; period = leb-true _ _ period.1 };
-      admins = all-weaker (row tag.Admin).Fits IsNo (λ n f. record { from = f.0; to = f.1 }) d.admins admins.fits;
-      surrender = all-weaker (row tag.Surrender).Fits IsPair (λ p f. f.1) d.surrender surrender.fits;
-      surrender_rises = surrender.ordered;
-      work = all-weaker (row tag.Work).Fits IsDayNo (λ n f. record { from = f.0; to = f.1 }) d.work work.fits;
-      work_rises = subst IsRising (map-id d.work) work.ordered;
-      accounts = all-weaker (row tag.Account).Fits IsAccountRow account-fits d.accounts accounts.fits;
-      accounts_rise = accounts.ordered;
-      few_accounts = accounts.few;
-      instructions = all-weaker (row tag.Do).Fits IsInstructionRow instruction-fits d.instructions due.fits;
-      batch = record { few = due.few; numbered = omega (arith, numbered, from) };
+      day = record {
+        book = record { rising = accounts.ordered; few = accounts.few; within_limits = each-one (row tag.Account).Fits IsAccount account-fits d.accounts accounts.fits; next = record { from_one = day.1.0; to_the_end = day.1.1 } };
+        rules = record {
+          working_days = record { rising = subst IsRising (map-id d.work) work.ordered; each_day = each-one (row tag.Work).Fits IsDayNo (λ n f. record { low = f.0; high = f.1 }) d.work work.fits };
+          each_admin = each-one (row tag.Admin).Fits IsUserNo (λ n f. record { low = f.0; high = f.1 }) d.admins admins.fits;
+          from_year = record { low = period.0.0.0; high = period.0.0.1 };
+          to_year = record { low = period.0.1.0; high = period.0.1.1 };
+          fit = record { few_admins = admins.few; admins_rise = subst IsRising (map-id d.admins) admins.ordered; lags_fit = record { trusted = lags.trusted; other = lags.other; listed = lags.listed; reversal = lags.reversal }; period = leb-true _ _ period.1 };
+        };
+        batch = record {
+          settlement_day = record { low = day.0.0; high = day.0.1 };
+          each = each-one (row tag.Do).Fits IsInstruction instruction-fits d.instructions due.fits;
+          few = due.few;
+          numbered = omega (arith, numbered, from);
+        };
+        follows = omega arith;
+      };
+      pairs = each-one (row tag.Surrender).Fits IsPair (λ p f. f.1) d.surrender surrender.fits;
+      pairs_rise = surrender.ordered;
     }
 
 -- a closed draft says a day, and stands for the day's rows

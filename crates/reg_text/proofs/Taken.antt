@@ -1,7 +1,9 @@
 -- What is spelled is taken: the rows of a day text read as its day.
 use Rattle.std.proofs.Common.{◌≡◌, ℕ, ◌+◌, ◌-◌, ◌<◌, ◌≤◌, true, List, [], ◌∷◌, ◌++◌, length, map, Option, Some, Ok, refl, sym, ap, subst, ◌∙◌, arith, length-append, append_assoc}
 use mathlib.Core.List.{map-id}
+use Rattle.std.specs.Prelude.{All}
 use Rattle.std.specs.List.{AllByRecursion}
+use Rattle.std.proofs.lemmas.List.Elements.{recursion_from_All}
 use Rattle.std.proofs.lemmas.Bool.{lt-ltb, le-leb}
 use Rattle.std.proofs.lemmas.List.{append-nil, map-append}
 use Rattle.reg_base.specs.declared.limits.TheConstants.{MOST_INSTRUCTIONS, MOST_RECORD}
@@ -17,7 +19,10 @@ use Rattle.reg_text.specs.Sections.{Section, section_rows, all_rows, key, follow
 use Rattle.reg_text.specs.Drafts.{DraftValue, listed, nothing_read}
 use Rattle.reg_text.specs.Day.{DayValue}
 use Rattle.reg_text.specs.Spelling.{lags_in, day_text}
-use Rattle.reg_text.specs.Reading.{IsNo, IsDayNo, IsPair, IsAccountRow, IsInstructionRow, IsDay}
+use Rattle.reg_base.specs.Numbers.{IsUserNo, IsDayNo}
+use Rattle.reg_base.specs.Instructions.{IsInstruction}
+use Rattle.reg_account.specs.Account.{IsAccount}
+use Rattle.reg_text.specs.Reading.{IsPair, CanBeSaid}
 use Rattle.reg_text.specs.Faults.{with, in_order, has_room, with_row, next_draft, after_rows}
 use Rattle.reg_text.proofs.ListFacts.{all-weaker}
 use Rattle.reg_text.proofs.GrammarLaws.{each-row}
@@ -68,24 +73,32 @@ section-taken t state g again Whole is room (x ∷ others) last xs rest v may wh
 
 -- ---- the sections of a day
 
-surrender-section : (v : DayValue) → IsDay v → IsSection (tag.Surrender, v.rules.surrender)
-surrender-section v h = record { fits = all-weaker IsPair (row tag.Surrender).Fits (λ p is. ((tt, tt), is)) v.rules.surrender h.surrender; ordered = h.surrender_rises; few = tt }
+-- what is said of each in a day is said of each value of a section
+each-one : {X : Type 0} (P Q : X → Type 0) → ((x : X) → P x → Q x) → (xs : List X) → All P xs → AllByRecursion Q xs
+each-one P Q follow xs h = all-weaker P Q follow xs (recursion_from_All P xs h)
 
-admin-section : (v : DayValue) → IsDay v → IsSection (tag.Admin, v.rules.admins)
+surrender-section : (v : DayValue) → CanBeSaid v → IsSection (tag.Surrender, v.rules.surrender)
+surrender-section v h = record { fits = each-one IsPair (row tag.Surrender).Fits (λ p is. ((tt, tt), is)) v.rules.surrender h.pairs; ordered = h.pairs_rise; few = tt }
+
+admin-section : (v : DayValue) → CanBeSaid v → IsSection (tag.Admin, v.rules.admins)
 admin-section v h = record {
-  fits = all-weaker IsNo (row tag.Admin).Fits (λ n is. (is.from, is.to)) v.rules.admins h.admins;
-  ordered = subst IsRising (sym (map-id v.rules.admins)) h.rules.admins_rise;
-  few = h.rules.few_admins;
+  fits = each-one IsUserNo (row tag.Admin).Fits (λ n is. (is.low, is.high)) v.rules.admins h.day.rules.each_admin;
+  ordered = subst IsRising (sym (map-id v.rules.admins)) h.day.rules.fit.admins_rise;
+  few = h.day.rules.fit.few_admins;
 }
 
-work-section : (v : DayValue) → IsDay v → IsSection (tag.Work, v.rules.calendar)
-work-section v h = record { fits = all-weaker IsDayNo (row tag.Work).Fits (λ n is. (is.from, is.to)) v.rules.calendar h.work; ordered = subst IsRising (sym (map-id v.rules.calendar)) h.work_rises; few = tt }
+work-section : (v : DayValue) → CanBeSaid v → IsSection (tag.Work, v.rules.calendar)
+work-section v h = record {
+  fits = each-one IsDayNo (row tag.Work).Fits (λ n is. (is.low, is.high)) v.rules.calendar h.day.rules.working_days.each_day;
+  ordered = subst IsRising (sym (map-id v.rules.calendar)) h.day.rules.working_days.rising;
+  few = tt;
+}
 
-account-section : (v : DayValue) → IsDay v → IsSection (tag.Account, v.book.accounts)
-account-section v h = record { fits = all-weaker IsAccountRow (row tag.Account).Fits fit-account v.book.accounts h.accounts; ordered = h.accounts_rise; few = h.few_accounts }
+account-section : (v : DayValue) → CanBeSaid v → IsSection (tag.Account, v.book.accounts)
+account-section v h = record { fits = each-one IsAccount (row tag.Account).Fits fit-account v.book.accounts h.day.book.within_limits; ordered = h.day.book.rising; few = h.day.book.few }
 
-do-section : (v : DayValue) → IsDay v → IsSection (tag.Do, v.batch.instructions)
-do-section v h = record { fits = all-weaker IsInstructionRow (row tag.Do).Fits fit-instruction v.batch.instructions h.instructions; ordered = tt; few = h.batch.few }
+do-section : (v : DayValue) → CanBeSaid v → IsSection (tag.Do, v.batch.instructions)
+do-section v h = record { fits = each-one IsInstruction (row tag.Do).Fits fit-instruction v.batch.instructions h.day.batch.each; ordered = tt; few = h.day.batch.few }
 
 -- the drafts on the way
 abbrev headed : ℕ → DayValue → DraftValue
@@ -97,10 +110,15 @@ headed version v = record nothing_read {
   lags = lags_in v.rules ∷ [];
 }
 
-head-taken : (version : ℕ) (v : DayValue) (rest : List Record) → version ≡ 1 → IsDay v → Reach (headed version v) rest v
+head-taken : (version : ℕ) (v : DayValue) (rest : List Record) → version ≡ 1 → CanBeSaid v → Reach (headed version v) rest v
     → Reach nothing_read (row_text tag.Format version ∷ row_text tag.Day (v.batch.day, v.book.next) ∷ row_text tag.Period (v.rules.first_year, v.rules.last_year) ∷ row_text tag.Lags (lags_in v.rules) ∷ rest) v
 head-taken version v rest known h more =
-    let fits = fit-lags (lags_in v.rules) (record { trusted = h.rules.lags_fit.trusted; other = h.rules.lags_fit.other; listed = h.rules.lags_fit.listed; reversal = h.rules.lags_fit.reversal }) in
+    let lags = h.day.rules.fit.lags_fit in
+    let day_in = h.day.batch.settlement_day in
+    let next_in = h.day.book.next in
+    let first = h.day.rules.from_year in
+    let last = h.day.rules.to_year in
+    let fits = fit-lags (lags_in v.rules) (record { trusted = lags.trusted; other = lags.other; listed = lags.listed; reversal = lags.reversal }) in
     let day : ℕ × ℕ = (v.batch.day, v.book.next) in
     let period : ℕ × ℕ = (v.rules.first_year, v.rules.last_year) in
     let d1 = with tag.Format nothing_read version in
@@ -110,8 +128,8 @@ head-taken version v rest known h more =
     let rows2 : List Record = row_text tag.Period period ∷ rows3 in
     let rows1 : List Record = row_text tag.Day day ∷ rows2 in
     reach-row nothing_read d1 (row_text tag.Format version) rows1 v (taken tag.Format nothing_read version refl known refl refl)
-    (reach-row d1 d2 (row_text tag.Day day) rows2 v (taken tag.Day d1 day refl ((h.day.from, h.day.to), (h.next.from, h.next.to)) refl refl)
-    (reach-row d2 d3 (row_text tag.Period period) rows3 v (taken tag.Period d2 period refl (((h.first_year.from, h.first_year.to), (h.last_year.from, h.last_year.to)), le-leb _ _ h.rules.period) refl refl)
+    (reach-row d1 d2 (row_text tag.Day day) rows2 v (taken tag.Day d1 day refl ((day_in.low, day_in.high), (next_in.from_one, next_in.to_the_end)) refl refl)
+    (reach-row d2 d3 (row_text tag.Period period) rows3 v (taken tag.Period d2 period refl (((first.low, first.high), (last.low, last.high)), le-leb _ _ h.day.rules.fit.period) refl refl)
     (reach-row d3 (headed version v) (row_text tag.Lags (lags_in v.rules)) rest v (taken tag.Lags d3 (lags_in v.rules) refl fits refl refl) more)))
 
 -- the instructions, each with a record number
@@ -124,9 +142,9 @@ has-number v xs x others h = omega (arith, length-append xs (x ∷ others), h)
 closed : (version : ℕ) (v : DayValue) → v.book.next - 1 ≡ v.batch.base → Reach (record (headed version v) { last = Some tag.End; surrender = v.rules.surrender; admins = v.rules.admins; work = v.rules.calendar; accounts = v.book.accounts; instructions = v.batch.instructions }) [] v
 closed version v base number = ap (λ (n : ℕ). Ok (record v { batch = record v.batch { base = n } })) base
 
-pub text-taken : (version : ℕ) (v : DayValue) → version ≡ 1 → IsDay v → Reach nothing_read (day_text version v) v
+pub text-taken : (version : ℕ) (v : DayValue) → version ≡ 1 → CanBeSaid v → Reach nothing_read (day_text version v) v
 text-taken version v known h =
-    let base : v.book.next - 1 ≡ v.batch.base = omega (arith, h.base) in
+    let base : v.book.next - 1 ≡ v.batch.base = omega (arith, h.day.follows) in
     let d0 = headed version v in
     let d1 = record d0 { surrender = v.rules.surrender } in
     let d2 = record d1 { admins = v.rules.admins } in
@@ -148,5 +166,5 @@ text-taken version v known h =
     section-taken tag.Account (λ last l. record d3 { last = last; accounts = l }) (record { last = λ last xs. refl; list = λ last xs. refl; more = λ last xs x. refl }) refl (λ l. IsSection (tag.Account, l)) (λ l whole. whole) (λ last xs x others whole. room-at (most tag.Account) xs x others whole.few)
       v.book.accounts last3 [] rows4 v (later last3 tag.Work tag.Account (omega arith) (omega arith) may3) (account-section v h) (λ last4 may4.
     section-taken tag.Do (λ last l. record d4 { last = last; instructions = l }) (record { last = λ last xs. refl; list = λ last xs. refl; more = λ last xs x. refl }) refl (AreNumbered v) (λ l whole. whole.0) (λ last xs x others whole. rw (room-at (most tag.Do) xs x others whole.0.few, le-leb _ _ (has-number v xs x others whole.1)) refl)
-      v.batch.instructions last4 [] rows5 v (later last4 tag.Account tag.Do (omega arith) (omega arith) may4) (do-section v h, omega (arith, h.base, h.batch.numbered)) (λ last5 may5.
+      v.batch.instructions last4 [] rows5 v (later last4 tag.Account tag.Do (omega arith) (omega arith) may4) (do-section v h, omega (arith, h.day.follows, h.day.batch.numbered)) (λ last5 may5.
     reach-row (record d5 { last = last5 }) (record d5 { last = Some tag.End }) (row_text tag.End tt) [] v (taken tag.End (record d5 { last = last5 }) tt (later last5 tag.Do tag.End (omega arith) (omega arith) may5) tt refl refl) (closed version v base)))))))

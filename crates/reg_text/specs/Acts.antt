@@ -1,12 +1,12 @@
 -- The acts that an instruction's row may name: of each its word, its parts, and the fields of these.
 use Rattle.std.specs.Prelude.{ℕ, ◌+◌, List, [], ◌∷◌, Result, Option, codes}
-use Rattle.reg_base.specs.declared.instruction.Act.{Act}
-use Rattle.reg_base.specs.declared.instruction.Act.TheVariants as act
+use Rattle.reg_base.specs.declared.act.Act.{Act}
+use Rattle.reg_base.specs.declared.act.Act.TheVariants as act
 use Rattle.reg_base.specs.declared.instruction.Instruction.{Instruction}
 use Rattle.reg_text.specs.declared.cause.Cause.{Cause}
 use Rattle.reg_text.specs.declared.cause.Cause.TheVariants as cause
 use Rattle.reg_text.specs.declared.reading.instruction_row.ActName.{ActName}
-use Rattle.reg_text.specs.declared.reading.instruction_row.ActName.TheVariants.{Transfer}
+use Rattle.reg_text.specs.declared.reading.instruction_row.ActName.TheVariants.{Transfer, Return}
 use Rattle.reg_text.specs.declared.reading.instruction_row.Move.{Move}
 use Rattle.reg_text.specs.Records.{Record}
 use Rattle.reg_text.specs.Words.{named, kind_word, kind_of}
@@ -14,14 +14,16 @@ use Rattle.reg_text.specs.Codecs.{Fields, any_number, a_date, a_no, an_approver,
 
 -- the acts that a row may name
 abbrev pub act_names : List ActName
-act_names = Transfer ∷ []
+act_names = Transfer ∷ Return ∷ []
 
 -- the word of an act
 abbrev pub act_word : ActName → List ℕ
 act_word Transfer = codes "transfer"
+act_word Return = codes "return"
 
 abbrev pub act_name : Act → ActName
 act_name (act.Transfer from to kind amount) = Transfer
+act_name (act.ReturnExcess from to kind amount) = Return
 
 -- the act that a field names
 abbrev pub act_name_of : List ℕ → Result ActName Cause
@@ -31,12 +33,15 @@ act_name_of = named cause.Word act_word act_names
 
 abbrev pub ActParts : ActName → Type 0
 ActParts Transfer = Move
+ActParts Return = Move
 
 abbrev pub act_made : (n : ActName) → ActParts n → Act
 act_made Transfer m = act.Transfer m.from m.to m.kind m.amount
+act_made Return m = act.ReturnExcess m.from m.to m.kind m.amount
 
 abbrev pub act_parts : (a : Act) → ActParts (act_name a)
 act_parts (act.Transfer from to kind amount) = record { from = from; to = to; kind = kind; amount = amount }
+act_parts (act.ReturnExcess from to kind amount) = record { from = from; to = to; kind = kind; amount = amount }
 
 -- ---- the fields of each act
 
@@ -49,6 +54,7 @@ move_fields = made
 
 abbrev pub fields_of_act : (n : ActName) → Fields (ActParts n)
 fields_of_act Transfer = move_fields
+fields_of_act Return = move_fields
 
 abbrev pub act_fields : ActName → Fields Act
 act_fields n = variant act_name ActParts fields_of_act act_made act_parts n

@@ -6,6 +6,7 @@ ghost use Rattle.reg_base.specs.declared.limits.TheConstants.{FIRST_DAY, LAST_DA
 ghost use Rattle.reg_base.specs.declared.kinds.AccountKind.{AccountKind};
 ghost use Rattle.reg_base.specs.declared.kinds.AllowanceKind.{AllowanceKind};
 ghost use Rattle.reg_base.specs.declared.kinds.Status.{Status};
+ghost use Rattle.reg_base.specs.Numbers.{IsDayNo};
 ghost use Rattle.reg_account.specs.Account.{CorrectionFits};
 ghost use Rattle.reg_text.specs.declared.cause.Cause.{Cause};
 ghost use Rattle.reg_text.specs.declared.cause.Cause.TheVariants as cause;
@@ -16,7 +17,7 @@ ghost use Rattle.reg_text.specs.Limits.{bounded_of};
 ghost use Rattle.reg_text.specs.Words.{kind_word, kind_of, account_kind_word, account_kind_of, status_word, status_of, yes_no_word, yes_no_of};
 ghost use Rattle.reg_text.specs.Records.{Record};
 ghost use Rattle.reg_text.specs.Day.{DayValue};
-ghost use Rattle.reg_text.specs.Reading.{IsDayNo, IsReading, IsFirstFaulty};
+ghost use Rattle.reg_text.specs.Reading.{IsReading, IsFirstFaulty};
 ghost use Rattle.reg_text.specs.Drafts.{DraftValue};
 ghost use Rattle.reg_text.specs.Faults.{day_of_rows, next_draft};
 ghost use Rattle.reg_text.specs.Table.{tests_of, IsCauseOf};
