@@ -142,7 +142,7 @@ impl Account {
     /// An account that is equal in all its parts.
     ///
     /// # Errors
-    /// `NoMemory` where a growth was refused. An account without lists needs none yet.
+    /// `NoMemory` if there is not enough memory. An account without lists needs none yet.
     pub fn copy(&self, _alloc: Global) -> Result<Account, NoMemory>
         ensures { IfOk result (λ a. a ≡ self.now) }
     {
