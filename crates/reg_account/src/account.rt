@@ -144,7 +144,7 @@ impl Account {
     /// A second account, equal in all parts.
     ///
     /// # Errors
-    /// `NoMemory` if memory ran out. Today this never happens, because no part of an account needs memory.
+    /// `NoMemory` if there is not enough memory. An account without lists needs none yet.
     pub fn copy(&self, _alloc: Global) -> Result<Account, NoMemory>
         ensures { IfOk result (λ a. a ≡ self.now) }
     {

@@ -54,7 +54,7 @@ const CHECKS: [Refusal; 28] = [
     Refusal::EmissionsMissing,
 ];
 
-/// The first check that fails, or `None` if no check fails. Takes no memory.
+/// The first check that the instruction fails, or `None` if it is to be carried out. Takes no memory.
 ///
 /// `accounts` must be the accounts that the instruction touches, in the order of [`Instruction::touches`].
 pub fn decide(

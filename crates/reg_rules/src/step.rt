@@ -23,8 +23,7 @@ use std::alloc::Global;
 /// `accounts` must be the accounts that the instruction touches, in the order of [`Instruction::touches`].
 ///
 /// # Errors
-/// `NoMemory` if there was no memory for the closing holdings. No check fails in this case, and the accounts are
-/// unchanged.
+/// `NoMemory` if there is no room for the closing holdings; the accounts are unchanged, and no refusal was due.
 pub fn execute(
     alloc: Global,
     rules: &Rules,
