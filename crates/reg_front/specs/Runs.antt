@@ -1,7 +1,8 @@
 -- What a command makes of an input: the report that it writes, or the fault that it answers.
 use Rattle.std.specs.Prelude.{◌≡◌, ℕ, ◌≤◌, List, Option, Err, ⊤, IfSome}
 use Rattle.std.specs.Io.KnownBytes.{Keeps, Appends}
-use Rattle.reg_book.specs.Settled.{SettledValue, settled_day, committed}
+use Rattle.reg_book.specs.Day.{settled_day}
+use Rattle.reg_book.specs.Settled.{SettledValue, committed}
 use Rattle.reg_text.specs.Day.{DayValue}
 use Rattle.reg_text.specs.Rows.{rows_of}
 use Rattle.reg_text.specs.Faults.{day_of_rows}
@@ -27,7 +28,7 @@ report_after day settled = text_of (report_rows (committed day.book settled) set
 
 -- the report that the command writes for a day
 abbrev pub report_of : Command → DayValue → List ℕ
-report_of (Settle workers) day = report_after day (settled_day day.book day.rules day.batch)
+report_of (Settle workers) day = report_after day (settled_day day)
 
 -- the input is a day text, and this is the report that the command writes for it
 abbrev pub IsReport : Command → List ℕ → List ℕ → Type 0

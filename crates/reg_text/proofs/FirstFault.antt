@@ -1,5 +1,5 @@
 -- The row that a fault names is the first with which no day text begins.
-use Rattle.std.proofs.Common.{◌≡◌, ◌⊎◌, inl, inr, ℕ, suc, ◌+◌, ◌-◌, ◌<◌, ◌≤◌, Bool, true, false, List, [], ◌∷◌, ◌++◌, length, take, Option, Some, None, Result, Ok, Err, refl, sym, ap, subst, ◌∙◌, arith, append_assoc}
+use Rattle.std.proofs.Common.{◌≡◌, ◌⊎◌, inl, inr, ℕ, suc, ◌+◌, ◌-◌, ◌<◌, ◌≤◌, true, List, [], ◌∷◌, ◌++◌, length, take, Option, Some, None, Result, Ok, Err, refl, sym, ap, subst, ◌∙◌, arith, append_assoc}
 use Rattle.std.proofs.lemmas.List.{append-nil}
 use Rattle.reg_base.specs.declared.limits.TheConstants.{FIRST_DAY, FIRST_YEAR}
 use Rattle.reg_text.specs.declared.cause.Cause.{Cause}
@@ -14,7 +14,7 @@ use Rattle.reg_text.specs.DraftLimits.{IsDraft}
 use Rattle.reg_text.specs.Reading.{IsReading, Begins, IsFirstFaulty}
 use Rattle.reg_text.specs.Faults.{with, in_order, has_room, next_draft, at_row, at_end, after_rows, day_of_rows}
 use Rattle.reg_text.proofs.TagLaws.{MayFollow}
-use Rattle.reg_text.proofs.DraftSteps.{rows_so_far, Grows, grows, grows-with, nothing-fits}
+use Rattle.reg_text.proofs.DraftSteps.{rows_so_far, grows, grows-with, nothing-fits}
 use Rattle.reg_text.proofs.Readings.{closes, reading-to}
 
 -- ---- the rows of a draft begin a day text

@@ -1,10 +1,8 @@
 -- The laws of the codecs of fields, and of the rows made of them.
-use Rattle.std.proofs.Common.{◌≡◌, ℕ, ◌+◌, ◌^◌, ◌<◌, ◌≤◌, true, nat_le, List, Result, Ok, Option, Some, None, codes, refl, ap, sym, ◌∙◌, arith}
+use Rattle.std.proofs.Common.{◌≡◌, ℕ, ◌+◌, ◌^◌, ◌<◌, ◌≤◌, nat_le, List, Result, Ok, Option, Some, None, codes, refl, ap, sym, ◌∙◌, arith}
 use Rattle.std.specs.Prelude.{IfSome}
 use Rattle.std.specs.Str.{bytes_eq}
 use Rattle.reg_base.specs.declared.limits.TheConstants.{MOST_NUMBER, MOST_HELD, MOST_LAG, MOST_RECORD, FIRST_YEAR, LAST_YEAR}
-use Rattle.reg_base.specs.declared.kinds.AccountKind.{AccountKind}
-use Rattle.reg_base.specs.declared.kinds.AllowanceKind.{AllowanceKind}
 use Rattle.reg_base.specs.declared.act.Act.{Act}
 use Rattle.reg_base.specs.declared.act.Act.TheVariants as act
 use Rattle.reg_text.specs.declared.cause.Cause.{Cause}
@@ -17,7 +15,7 @@ use Rattle.reg_base.specs.Numbers.{IsUserNo}
 use Rattle.reg_text.specs.Words.{word_of, kind_word, kinds, kind_of, account_kind_word, account_kinds, account_kind_of, status_word, statuses, status_of, yes_no_word, yes_and_no, yes_no_of}
 use Rattle.reg_text.specs.Plain.{IsPlain}
 use Rattle.reg_text.specs.FieldTests.{fault_of, first_cause, word_tests}
-use Rattle.reg_text.specs.Codecs.{IsCodec, AreFields, within_limits, any_number, a_no, factor, a_date, a_word, an_approver, last, ◌▸◌, IsRow}
+use Rattle.reg_text.specs.Codecs.{IsCodec, AreFields, within_limits, any_number, a_no, factor, a_date, a_word, an_approver, IsRow}
 use Rattle.reg_text.specs.Acts.{act_names, act_word, act_name, act_name_of, ActParts, act_made, act_parts, move_fields, fields_of_act, act_fields, proposal_fields, instruction_row}
 use Rattle.reg_text.specs.Grammar.{version, a_next, a_year, a_lag, a_holding, yes_or_no, period_fields, lags_fields, may_surrender, pair_fields, account_fields, row}
 use Rattle.reg_text.proofs.Binds.{test_ok}

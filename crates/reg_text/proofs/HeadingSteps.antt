@@ -1,17 +1,16 @@
 -- The rows of the heading, each of which only one tag may begin.
-use Rattle.std.proofs.Common.{◌≡◌, ℕ, ◌+◌, true, false, List, [], ◌∷◌, Option, Some, None, Result, Ok, Err, refl, sym, ap, subst, ◌∙◌}
+use Rattle.std.proofs.Common.{◌≡◌, ℕ, ◌+◌, true, false, List, ◌∷◌, Option, Some, None, Result, Ok, Err, refl, sym, ap, ◌∙◌}
 use Rattle.std.specs.Prelude.{IfOk, IfErr, MatchResult}
 use Rattle.reg_text.specs.declared.cause.Cause.{Cause}
-use Rattle.reg_text.specs.declared.cause.Cause.TheVariants as cause
 use Rattle.reg_text.specs.declared.cause.DayFault.{DayFault}
 use Rattle.reg_text.specs.declared.cause.DayFault.TheVariants as fault
 use Rattle.reg_text.specs.declared.reading.tag.Tag.{Tag}
 use Rattle.reg_text.specs.declared.reading.tag.Tag.TheVariants as tag
 use Rattle.reg_text.specs.Records.{Record, field}
-use Rattle.reg_text.specs.Tags.{place, tag_after}
+use Rattle.reg_text.specs.Tags.{tag_after}
 use Rattle.reg_text.specs.Grammar.{Said, row_read}
 use Rattle.reg_text.specs.Drafts.{DraftValue}
-use Rattle.reg_text.specs.Day.{DayValue, is_over, day_said}
+use Rattle.reg_text.specs.Day.{is_over}
 use Rattle.reg_text.specs.Faults.{with, in_order, has_room, with_row, next_draft, at_row, after_rows, AnswersFault}
 use Rattle.reg_text.specs.DraftLimits.{IsDraft}
 use Rattle.reg_text.proofs.DraftSteps.{grows}

@@ -1,18 +1,16 @@
 -- A field that is refused spells no value, or one outside the limits, and the cause says which.
-use Rattle.std.proofs.Common.{◌≡◌, ◌⊎◌, inl, inr, ℕ, zero, suc, ◌+◌, ◌*◌, ◌/◌, ◌%◌, ◌^◌, ◌<◌, ◌≤◌, ℤ, pos, negsuc, Bool, true, false, not, cond, ◌&&◌, nat_le, eqb, unsigned_abs, List, [], ◌∷◌, Result, Ok, Err, Some, refl, sym, ap, subst, ◌∙◌, arith}
-use Rattle.std.specs.Prelude.{is_ok}
+use Rattle.std.proofs.Common.{◌≡◌, ◌⊎◌, inl, inr, ℕ, zero, suc, ◌+◌, ◌*◌, ◌/◌, ◌%◌, ◌^◌, ◌<◌, ℤ, pos, negsuc, Bool, true, false, cond, ◌&&◌, nat_le, eqb, unsigned_abs, List, [], ◌∷◌, Result, Ok, Err, Some, refl, sym, ap, subst, ◌∙◌, arith}
 use Rattle.std.proofs.lemmas.Bool.{and_parts, leb-true}
 use Rattle.jiff_core.specs.Calendar.{days_in_month, days_from_civil}
 use Rattle.jiff_core.proofs.CalendarLemmas.{days_in_month_bounds}
 use Rattle.reg_text.specs.declared.cause.Cause.{Cause}
 use Rattle.reg_text.specs.declared.cause.Cause.TheVariants as cause
 use Rattle.reg_text.specs.Causes.{◌>>=◌, test}
-use Rattle.reg_text.specs.Numbers.{number, number_of}
-use Rattle.reg_text.specs.Signed.{signed, minus, signed_of, correction_of}
+use Rattle.reg_text.specs.Numbers.{number_of}
+use Rattle.reg_text.specs.Signed.{minus, signed_of, correction_of}
 use Rattle.reg_text.specs.Dates.{date_text, pair_at, is_dashed, is_civil, in_days, day_named, date_of}
 use Rattle.reg_text.specs.Limits.{within, bounded_of}
 use Rattle.reg_text.specs.FieldFaults.{IsNumberText, IsSignedText, IsDateText, TellsFromLimit}
-use Rattle.reg_text.specs.FieldTests.{when, fault_of}
 use Rattle.reg_text.proofs.Binds.{bind_ok, err_is, test_err, bind_err, if_err, not_both}
 use Rattle.reg_text.proofs.NumberLaws.{number-spelled, number-again}
 use Rattle.reg_text.proofs.SignedLaws.{signed-spelled, signed-again}

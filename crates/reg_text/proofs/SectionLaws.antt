@@ -1,18 +1,18 @@
 -- Sections: one row more at the end of one, and what stays of the others.
-use Rattle.std.proofs.Common.{◌≡◌, ◌⊎◌, ℕ, suc, ◌+◌, ◌<◌, ◌≤◌, Bool, true, false, not, ◌&&◌, ◌||◌, nat_lt, nat_le, List, [], ◌∷◌, ◌++◌, length, map, take, drop, Option, Some, None, refl, sym, ap, subst, ◌∙◌, arith, append_assoc, length-append}
-use Rattle.std.proofs.lemmas.Bool.{and_parts, ltb-true, leb-true, lt-ltb}
+use Rattle.std.proofs.Common.{◌≡◌, ℕ, ◌<◌, ◌≤◌, true, nat_le, List, [], ◌∷◌, ◌++◌, length, map, Option, Some, None, refl, sym, ap, subst, ◌∙◌, arith, append_assoc, length-append}
+use Rattle.std.proofs.lemmas.Bool.{ltb-true, leb-true, lt-ltb}
 use Rattle.std.proofs.lemmas.List.{append-nil, map-append}
 use Rattle.std.specs.List.{AllByRecursion}
 use Rattle.reg_base.specs.Rising.{IsRising}
 use Rattle.reg_text.specs.declared.reading.tag.Tag.{Tag}
 use Rattle.reg_text.specs.declared.reading.tag.Tag.TheVariants as tag
 use Rattle.reg_text.specs.Records.{Record}
-use Rattle.reg_text.specs.Tags.{place, rule, is_once}
+use Rattle.reg_text.specs.Tags.{rule, is_once}
 use Rattle.reg_text.specs.Lasts.{last_of, is_above}
 use Rattle.reg_text.specs.Grammar.{Said, row, row_text}
-use Rattle.reg_text.specs.Sections.{Section, section_rows, all_rows, key, key_of, follows, IsOrdered, most, is_room, AreFew, IsSection}
+use Rattle.reg_text.specs.Sections.{Section, section_rows, all_rows, key, follows, IsOrdered, most, is_room, AreFew, IsSection}
 use Rattle.reg_text.specs.DraftLimits.{StandsAt}
-use Rattle.reg_text.proofs.ListFacts.{all-push, all-append, all-first, all-rest, all-both, all-weaker}
+use Rattle.reg_text.proofs.ListFacts.{all-push, all-append, all-first, all-rest, all-both}
 use Rattle.reg_text.proofs.RisingFacts.{rising-push, rising-above, last-key}
 
 -- ---- the rows
@@ -99,8 +99,7 @@ stand-push at t before xs x behind low high earlier later h =
     let tail = all-rest (StandsAt at) before (shorter t xs behind) h in
     all-append (StandsAt (rule t).place) before (grown t xs x behind)
     (all-both (IsEarlier t) (StandsAt at) (StandsAt (rule t).place) (λ s e k. record { begun = λ lt. k.begun (omega arith); come = λ le once. k.come (omega (arith, e.before once)) once })
-        before earlier (all-first (StandsAt at) before (shorter t xs behind) h))
-    (
+    before earlier (all-first (StandsAt at) before (shorter t xs behind) h)) (
       record { begun = λ lt. absurd (omega arith); come = λ le once. (x, nothing-more xs x (tail.0.begun (omega (arith, once-from t once)))) },
       all-both (IsLater t) (StandsAt at) (StandsAt (rule t).place) (λ s e k. record { begun = λ lt. k.begun (omega (arith, e.above)); come = λ le once. absurd (omega (arith, e.above)) }) behind later tail.1,
     )

@@ -1,21 +1,20 @@
 -- What is spelled is taken: the rows of a day text read as its day.
-use Rattle.std.proofs.Common.{◌≡◌, ℕ, ◌+◌, ◌-◌, ◌<◌, ◌≤◌, true, List, [], ◌∷◌, ◌++◌, length, map, Option, Some, Ok, refl, sym, ap, subst, ◌∙◌, arith, length-append, append_assoc}
+use Rattle.std.proofs.Common.{◌≡◌, ℕ, ◌+◌, ◌-◌, ◌≤◌, true, List, [], ◌∷◌, ◌++◌, length, Option, Some, Ok, refl, sym, ap, subst, ◌∙◌, arith, length-append, append_assoc}
 use mathlib.Core.List.{map-id}
 use Rattle.std.specs.Prelude.{All}
 use Rattle.std.specs.List.{AllByRecursion}
 use Rattle.std.proofs.lemmas.List.Elements.{recursion_from_All}
-use Rattle.std.proofs.lemmas.Bool.{lt-ltb, le-leb}
-use Rattle.std.proofs.lemmas.List.{append-nil, map-append}
-use Rattle.reg_base.specs.declared.limits.TheConstants.{MOST_INSTRUCTIONS, MOST_RECORD}
+use Rattle.std.proofs.lemmas.Bool.{le-leb}
+use Rattle.std.proofs.lemmas.List.{append-nil}
+use Rattle.reg_base.specs.declared.limits.TheConstants.{MOST_RECORD}
 use Rattle.reg_base.specs.Rising.{IsRising}
-use Rattle.reg_base.specs.Rules.{RulesValue}
 use Rattle.reg_text.specs.declared.reading.tag.Tag.{Tag}
 use Rattle.reg_text.specs.declared.reading.tag.Tag.TheVariants as tag
 use Rattle.reg_text.specs.Records.{Record}
-use Rattle.reg_text.specs.Tags.{tag_word, place, rule}
+use Rattle.reg_text.specs.Tags.{tag_word}
 use Rattle.reg_text.specs.Lasts.{last_of}
 use Rattle.reg_text.specs.Grammar.{Said, row, row_text}
-use Rattle.reg_text.specs.Sections.{Section, section_rows, all_rows, key, follows, most, IsSection}
+use Rattle.reg_text.specs.Sections.{section_rows, all_rows, key, follows, most, IsSection}
 use Rattle.reg_text.specs.Drafts.{DraftValue, listed, nothing_read}
 use Rattle.reg_text.specs.Day.{DayValue}
 use Rattle.reg_text.specs.Spelling.{lags_in, day_text}
@@ -158,13 +157,13 @@ text-taken version v known h =
     let rows1 : List Record = section_rows (tag.Admin, v.rules.admins) ++ rows2 in
     head-taken version v (section_rows (tag.Surrender, v.rules.surrender) ++ rows1) known h
     (section-taken tag.Surrender (λ last l. record d0 { last = last; surrender = l }) (record { last = λ last xs. refl; list = λ last xs. refl; more = λ last xs x. refl }) refl (λ l. IsSection (tag.Surrender, l)) (λ l whole. whole) (λ last xs x others whole. refl)
-      v.rules.surrender (Some tag.Lags) [] rows1 v refl (surrender-section v h) (λ last1 may1.
+    v.rules.surrender (Some tag.Lags) [] rows1 v refl (surrender-section v h) (λ last1 may1.
     section-taken tag.Admin (λ last l. record d1 { last = last; admins = l }) (record { last = λ last xs. refl; list = λ last xs. refl; more = λ last xs x. refl }) refl (λ l. IsSection (tag.Admin, l)) (λ l whole. whole) (λ last xs x others whole. room-at (most tag.Admin) xs x others whole.few)
-      v.rules.admins last1 [] rows2 v (later last1 tag.Surrender tag.Admin (omega arith) (omega arith) may1) (admin-section v h) (λ last2 may2.
+    v.rules.admins last1 [] rows2 v (later last1 tag.Surrender tag.Admin (omega arith) (omega arith) may1) (admin-section v h) (λ last2 may2.
     section-taken tag.Work (λ last l. record d2 { last = last; work = l }) (record { last = λ last xs. refl; list = λ last xs. refl; more = λ last xs x. refl }) refl (λ l. IsSection (tag.Work, l)) (λ l whole. whole) (λ last xs x others whole. refl)
-      v.rules.calendar last2 [] rows3 v (later last2 tag.Admin tag.Work (omega arith) (omega arith) may2) (work-section v h) (λ last3 may3.
+    v.rules.calendar last2 [] rows3 v (later last2 tag.Admin tag.Work (omega arith) (omega arith) may2) (work-section v h) (λ last3 may3.
     section-taken tag.Account (λ last l. record d3 { last = last; accounts = l }) (record { last = λ last xs. refl; list = λ last xs. refl; more = λ last xs x. refl }) refl (λ l. IsSection (tag.Account, l)) (λ l whole. whole) (λ last xs x others whole. room-at (most tag.Account) xs x others whole.few)
-      v.book.accounts last3 [] rows4 v (later last3 tag.Work tag.Account (omega arith) (omega arith) may3) (account-section v h) (λ last4 may4.
+    v.book.accounts last3 [] rows4 v (later last3 tag.Work tag.Account (omega arith) (omega arith) may3) (account-section v h) (λ last4 may4.
     section-taken tag.Do (λ last l. record d4 { last = last; instructions = l }) (record { last = λ last xs. refl; list = λ last xs. refl; more = λ last xs x. refl }) refl (AreNumbered v) (λ l whole. whole.0) (λ last xs x others whole. rw (room-at (most tag.Do) xs x others whole.0.few, le-leb _ _ (has-number v xs x others whole.1)) refl)
-      v.batch.instructions last4 [] rows5 v (later last4 tag.Account tag.Do (omega arith) (omega arith) may4) (do-section v h, omega (arith, h.day.follows, h.day.batch.numbered)) (λ last5 may5.
+    v.batch.instructions last4 [] rows5 v (later last4 tag.Account tag.Do (omega arith) (omega arith) may4) (do-section v h, omega (arith, h.day.follows, h.day.batch.numbered)) (λ last5 may5.
     reach-row (record d5 { last = last5 }) (record d5 { last = Some tag.End }) (row_text tag.End tt) [] v (taken tag.End (record d5 { last = last5 }) tt (later last5 tag.Do tag.End (omega arith) (omega arith) may5) tt refl refl) (closed version v base)))))))

@@ -1,11 +1,10 @@
 -- The rows of a day text: of each tag what its row says, and its fields.
-use Rattle.std.specs.Prelude.{◌≡◌, List, [], ◌∷◌, ℕ, Bool, true, false, not, nat_le, ◌+◌, Result, codes}
+use Rattle.std.specs.Prelude.{◌≡◌, [], ◌∷◌, ℕ, Bool, true, false, not, nat_le, ◌+◌, Result, codes}
 use Rattle.std.specs.Str.{bytes_eq}
 use Rattle.reg_base.specs.declared.limits.TheConstants.{MOST_HELD, MOST_LAG, MOST_RECORD, FIRST_YEAR, LAST_YEAR}
 use Rattle.reg_base.specs.declared.kinds.AccountKind.{AccountKind}
 use Rattle.reg_base.specs.declared.kinds.AccountKind.TheVariants.{Total, Allocation, Operator, Aircraft, Trading}
 use Rattle.reg_base.specs.declared.kinds.AllowanceKind.{AllowanceKind}
-use Rattle.reg_base.specs.declared.kinds.AllowanceKind.TheVariants.{General, Aviation}
 use Rattle.reg_base.specs.declared.instruction.Instruction.{Instruction}
 use Rattle.reg_account.specs.Account.{AccountValue}
 use Rattle.reg_text.specs.declared.cause.Cause.{Cause}

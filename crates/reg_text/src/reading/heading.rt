@@ -14,7 +14,9 @@ ghost use Rattle.reg_text.specs.DraftLimits.{IsDraft};
 ghost use Rattle.reg_text.specs.Faults.{AnswersFault, with, after_rows, day_of_rows};
 
 use crate::cause::{Cause, DayFault};
-use crate::reading::heading_rows::{Heading, Lags, read_day_row, read_format_row, read_lags_row, read_period_row};
+use crate::reading::heading_rows::{
+    Heading, Lags, read_day_row, read_format_row, read_lags_row, read_period_row,
+};
 use crate::reading::row::field_at;
 use crate::reading::rows::next_row;
 use crate::reading::tag::{Tag, read_tag};
@@ -32,7 +34,12 @@ fn at_row<T: Drop>(number: u64, read: Result<T, Cause>) -> Result<T, DayFault>
 }
 
 // Reads a row with this number, which must be there, and its tag, which must be one that may stand after `last`.
-fn next_tag(reader: &mut Reader<&[u8]>, row: &mut ByteRecord, number: u64, last: Option<Tag>) -> Result<Tag, DayFault>
+fn next_tag(
+    reader: &mut Reader<&[u8]>,
+    row: &mut ByteRecord,
+    number: u64,
+    last: Option<Tag>,
+) -> Result<Tag, DayFault>
     requires ready { IsOpen reader.old }
     requires opened { is_over last ≡ false }
     ensures open { IfOk result (λ _. IsOpen reader.new) }
@@ -100,7 +107,10 @@ fn take_lags(reader: &mut Reader<&[u8]>, row: &mut ByteRecord) -> Result<Lags, D
 }
 
 /// The first four rows of a text.
-pub(crate) fn read_heading(reader: &mut Reader<&[u8]>, row: &mut ByteRecord) -> Result<Heading, DayFault>
+pub(crate) fn read_heading(
+    reader: &mut Reader<&[u8]>,
+    row: &mut ByteRecord,
+) -> Result<Heading, DayFault>
     requires { IsOpen reader.old }
     ensures open { IfOk result (λ _. IsOpen reader.new) }
     ensures fewer { IfOk result (λ _. length (rows_left reader.new) ≤ length (rows_left reader.old)) }

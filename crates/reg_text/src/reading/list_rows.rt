@@ -37,7 +37,10 @@ fn pair_place(pair: (AccountKind, AllowanceKind)) -> u8
 }
 
 /// Whether a pair comes after the one before it, if there is one.
-pub(crate) fn comes_after(before: Option<(AccountKind, AllowanceKind)>, pair: (AccountKind, AllowanceKind)) -> bool
+pub(crate) fn comes_after(
+    before: Option<(AccountKind, AllowanceKind)>,
+    pair: (AccountKind, AllowanceKind),
+) -> bool
     ensures { result ≡ follows (Some place) before pair }
 {
     match before {

@@ -1,4 +1,4 @@
-use Rattle.std.proofs.Common.{arith, rules}
+use Rattle.std.proofs.Common.{arith}
 use Rattle.reg_text.proofs.NumberFacts.{few}
 use Rattle.reg_text.proofs.fields.numbers.read_few_digits.Goals as goal
 

@@ -1,4 +1,3 @@
-use Rattle.std.proofs.Common.{◌∙◌, ap, sym}
 use Rattle.reg_text.proofs.HeadingSteps.{tag-fault}
 use Rattle.reg_text.proofs.reading.heading.next_tag.Goals as goal
 
