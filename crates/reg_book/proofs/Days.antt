@@ -155,17 +155,17 @@ module _ (laws : StepLaws) where
       subst (λ (s : State). AllByRecursion (λ v. fin.get (directory_of day.book.accounts) v.number ≡ Some (v.kind, v.holder)) (touched_of (directory_of day.book.accounts) day.batch.instructions s)) (sym (closing-all day))
       (touched-like laws (setting day) day.book.accounts (day.batch.base + 1) day.batch.instructions (rising-distinct day.book.accounts kept.rising))
 
-  -- what is kept of the calls that settled the day: d, is and all are what the book and the batch gave, table are the copies, seen is their slice, own what it became
-  pub day-made : (day : Day) (d : DirectoryValue) (is : List Instruction) (all table seen own : State) (rows : List LogRow) (base len : ℕ)
-      → IsBook day.book → d ≡ directory_of day.book.accounts → is ≡ day.batch.instructions → all ≡ day.book.accounts
+  -- what is kept of the calls that settled the day: on, d, is and all are what the book and the batch gave, table are the copies, seen is their slice, own what it became
+  pub day-made : (day : Day) (on : ℕ) (d : DirectoryValue) (is : List Instruction) (all table seen own : State) (rows : List LogRow) (base len : ℕ)
+      → IsBook day.book → on ≡ day.batch.day → d ≡ directory_of day.book.accounts → is ≡ day.batch.instructions → all ≡ day.book.accounts
       → table ≡ touched_of d is all → seen ≡ table
-      → rows ≡ rows_of (record { rules = day.rules; day = day.batch.day; directory = d }) seen (day.batch.base + 1) day.batch.instructions
-      → own ≡ state_after (record { rules = day.rules; day = day.batch.day; directory = d }) seen (day.batch.base + 1) day.batch.instructions
+      → rows ≡ rows_of (record { rules = day.rules; day = on; directory = d }) seen (day.batch.base + 1) day.batch.instructions
+      → own ≡ state_after (record { rules = day.rules; day = on; directory = d }) seen (day.batch.base + 1) day.batch.instructions
       → base ≡ day.batch.base → len ≡ length table
       → ◌≡◌ {A = SettledValue} (record { base = base; rows = rows; accounts = take len (own ++ drop (length own) table) }) (settled_day day)
-  day-made day d is all table seen own rows base len kept of_book listed among copied read logged closed same size =
-      let given : Setting = record { rules = day.rules; day = day.batch.day; directory = d } in
-      let setting_is : given ≡ setting day = λ i. record { rules = day.rules; day = day.batch.day; directory = of_book i } in
+  day-made day on d is all table seen own rows base len kept same_day of_book listed among copied read logged closed same size =
+      let given : Setting = record { rules = day.rules; day = on; directory = d } in
+      let setting_is : given ≡ setting day = λ i. record { rules = day.rules; day = same_day i; directory = of_book i } in
       let seen_is : seen ≡ touched_of (directory_of day.book.accounts) day.batch.instructions day.book.accounts =
       read ∙ copied ∙ ap (λ e. touched_of e is all) of_book ∙ ap (λ js. touched_of (directory_of day.book.accounts) js all) listed
       ∙ ap (touched_of (directory_of day.book.accounts) day.batch.instructions) among in

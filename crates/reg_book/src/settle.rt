@@ -2,7 +2,7 @@
 
 ghost use Rattle.std.specs.Prelude.{◌≡◌, ◌+◌, IfOk, OnOk, MatchResult, nat_eq};
 ghost use Rattle.std.specs.List.{IsDistinct};
-ghost use Rattle.reg_rules.specs.State.{Setting, numbers};
+ghost use Rattle.reg_rules.specs.State.{numbers};
 ghost use Rattle.reg_book.specs.Fold.{state_after, rows_of};
 ghost use Rattle.reg_book.specs.Settled.{IsOfBook};
 ghost use Rattle.reg_book.specs.Day.{day_of, settled_day};
@@ -13,10 +13,10 @@ use crate::book::Book;
 use crate::places::{Places, ranks_at};
 use crate::settled::Settled;
 use crate::touched::{Touched, find_touched};
-use crate::turn::{Turn, take_turn};
+use crate::turn::take_turn;
 use reg_account::Account;
-use reg_base::{Batch, Directory, NoMemory, RecordNo, Rules};
-use reg_rules::{LogRow, log_row, step_laws};
+use reg_base::{Batch, NoMemory, RecordNo, Rules};
+use reg_rules::{LogRow, Setting, log_row, step_laws};
 use std::alloc::Global;
 use thiserror::Error;
 
@@ -82,52 +82,47 @@ fn settle_batch(
         places,
         ranks,
     } = find_touched(alloc, book.accounts(), directory, batch.instructions())?;
-    let rows = settle_all(
-        alloc,
+    let setting = Setting {
         rules,
-        batch,
+        day: batch.day(),
         directory,
-        &mut accounts,
-        &places,
-        &ranks,
-    )?;
+    };
+    let rows = settle_all(alloc, &setting, batch, &mut accounts, &places, &ranks)?;
     Ok(Settled::new(batch.base(), rows, accounts))
 }
 
-// Carries all instructions out on the accounts that they touch, and answers the log. The accounts that an
-// instruction touches stand at the ranks of its places.
+// Carries all instructions of the batch out on the accounts that they touch, and answers the log. The accounts that
+// an instruction touches stand at the ranks of its places.
 fn settle_all(
     alloc: Global,
-    rules: &Rules,
+    setting: &Setting,
     batch: &Batch,
-    directory: &Directory,
     accounts: &mut [Account],
     places: &[Places],
     ranks: &[usize],
 ) -> Result<Vec<LogRow>, NoMemory>
     requires distinct { IsDistinct nat_eq (numbers accounts.old) }
-    requires ranked { AllRanked directory.now (numbers accounts.old) ranks.now (lists_of places.now) batch.now.instructions }
-    ensures rows { IfOk result (λ rows. rows.items ≡ rows_of (record { rules = rules.now; day = batch.now.day; directory = directory.now }) accounts.old (batch.now.base + 1) batch.now.instructions) }
-    ensures accounts { OnOk result (accounts.new ≡ state_after (record { rules = rules.now; day = batch.now.day; directory = directory.now }) accounts.old (batch.now.base + 1) batch.now.instructions) }
+    requires ranked { AllRanked setting.now.directory (numbers accounts.old) ranks.now (lists_of places.now) batch.now.instructions }
+    ensures rows { IfOk result (λ rows. rows.items ≡ rows_of setting.now accounts.old (batch.now.base + 1) batch.now.instructions) }
+    ensures accounts { OnOk result (accounts.new ≡ state_after setting.now accounts.old (batch.now.base + 1) batch.now.instructions) }
 {
     step_laws();
-    let day = batch.day();
     let instructions = batch.instructions();
     let mut rows = Vec::with_capacity(alloc, instructions.len())?;
     let mut last = batch.base();
     for (place, instruction) in instructions.iter().enumerate() {
         last += 1;
         let number = RecordNo::new(last).unwrap();
-        let turn = Turn {
-            rules,
-            day,
-            directory,
+        let mut own = ranks_at(&places[place], ranks);
+        let reply = take_turn(
+            alloc,
+            setting,
             number,
             instruction,
-        };
-        let mut own = ranks_at(&places[place], ranks);
-        let reply = take_turn(alloc, &turn, accounts, own.as_mut_slice())?;
-        rows.push(log_row(number, day, *instruction, reply))?;
+            accounts,
+            own.as_mut_slice(),
+        )?;
+        rows.push(log_row(number, setting.day, *instruction, reply))?;
     }
     Ok(rows)
 }

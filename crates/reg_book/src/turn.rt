@@ -3,31 +3,16 @@
 ghost use Rattle.std.specs.Prelude.{◌≡◌, ◌+◌, ◌<◌, ◌≤◌, ◌++◌, IfOk, length, map, take, nat_eq};
 ghost use Rattle.std.specs.List.{AllByRecursion, IsDistinct};
 ghost use Rattle.reg_base.specs.Footprint.{footprint};
-ghost use Rattle.reg_rules.specs.State.{Setting, numbers};
+ghost use Rattle.reg_rules.specs.State.{numbers};
 ghost use Rattle.reg_rules.specs.Step.{step};
 ghost use Rattle.reg_book.specs.Places.{StandAt};
 ghost use Rattle.reg_book.specs.Turns.{AreLeft, renamed};
 
 use reg_account::Account;
 use reg_base::laws::each_footprint_is_sound;
-use reg_base::{Day, Directory, Instruction, NoMemory, RecordNo, Rules};
-use reg_rules::{Reply, execute, step_laws};
+use reg_base::{Instruction, NoMemory, RecordNo};
+use reg_rules::{Reply, Setting, execute, step_laws};
 use std::alloc::Global;
-
-/// An instruction with its record number, and what stays the same throughout the day.
-#[derive(Clone, Copy)]
-pub(crate) struct Turn<'a> {
-    /// The rules of the day.
-    pub rules: &'a Rules,
-    /// The settlement day.
-    pub day: Day,
-    /// The kinds and holders of all accounts.
-    pub directory: &'a Directory,
-    /// The record number.
-    pub number: RecordNo,
-    /// The instruction.
-    pub instruction: &'a Instruction,
-}
 
 /// Carries the instruction out on accounts among which those that it touches stand at these places, in its order.
 /// What stands in `places` afterwards is of no use.
@@ -39,39 +24,51 @@ pub(crate) struct Turn<'a> {
 /// `NoMemory` if there was no memory for the closing holdings.
 pub(crate) fn take_turn(
     alloc: Global,
-    turn: &Turn,
+    setting: &Setting,
+    number: RecordNo,
+    instruction: &Instruction,
     accounts: &mut [Account],
     places: &mut [usize],
 ) -> Result<Reply, NoMemory>
     requires distinct { IsDistinct nat_eq (numbers accounts.old) }
-    requires there { StandAt (numbers accounts.old) places.old (footprint turn.now.directory.now turn.now.instruction.now.act) }
-    ensures { IfOk result (λ reply. (accounts.new, reply) ≡ step (record { rules = turn.now.rules.now; day = turn.now.day; directory = turn.now.directory.now }) accounts.old turn.now.number turn.now.instruction.now) }
+    requires there { StandAt (numbers accounts.old) places.old (footprint setting.now.directory instruction.now.act) }
+    ensures { IfOk result (λ reply. (accounts.new, reply) ≡ step setting.now accounts.old number instruction.now) }
 {
     each_footprint_is_sound();
-    turn_from(alloc, turn, accounts, places, 0)
+    turn_from(alloc, setting, number, instruction, accounts, places, 0)
 }
 
 // Carries the instruction out where its first `count` accounts are at the front already, and the others stand at
 // these places. Each further one is swapped to the front, and back after the instruction.
 fn turn_from(
     alloc: Global,
-    turn: &Turn,
+    setting: &Setting,
+    number: RecordNo,
+    instruction: &Instruction,
     accounts: &mut [Account],
     places: &mut [usize],
     count: usize,
 ) -> Result<Reply, NoMemory>
     requires distinct { IsDistinct nat_eq (numbers accounts.old) }
-    requires left { AreLeft count (numbers accounts.old) places.old (footprint turn.now.directory.now turn.now.instruction.now.act) }
-    ensures { IfOk result (λ reply. (accounts.new, reply) ≡ step (record { rules = turn.now.rules.now; day = turn.now.day; directory = turn.now.directory.now }) accounts.old turn.now.number turn.now.instruction.now) }
+    requires left { AreLeft count (numbers accounts.old) places.old (footprint setting.now.directory instruction.now.act) }
+    ensures { IfOk result (λ reply. (accounts.new, reply) ≡ step setting.now accounts.old number instruction.now) }
 {
     step_laws();
     match places.split_first_mut() {
-        None => turn_at_front(alloc, turn, accounts, count),
+        None => turn_at_front(alloc, setting, number, instruction, accounts, count),
         Some((first, later)) => {
             let place = *first;
             accounts.swap(count, place);
             rename(later, count, place);
-            let reply = turn_from(alloc, turn, accounts, later, count + 1);
+            let reply = turn_from(
+                alloc,
+                setting,
+                number,
+                instruction,
+                accounts,
+                later,
+                count + 1,
+            );
             accounts.swap(count, place);
             reply
         }
@@ -96,25 +93,27 @@ fn rename(places: &mut [usize], from: usize, to: usize)
 // Executes the instruction. The first `count` accounts are those that it touches, in its order.
 fn turn_at_front(
     alloc: Global,
-    turn: &Turn,
+    setting: &Setting,
+    number: RecordNo,
+    instruction: &Instruction,
     accounts: &mut [Account],
     count: usize,
 ) -> Result<Reply, NoMemory>
     requires distinct { IsDistinct nat_eq (numbers accounts.old) }
     requires within { count ≤ length accounts.old }
-    requires first { take count (numbers accounts.old) ≡ footprint turn.now.directory.now turn.now.instruction.now.act }
-    ensures ok { IfOk result (λ reply. (accounts.new, reply) ≡ step (record { rules = turn.now.rules.now; day = turn.now.day; directory = turn.now.directory.now }) accounts.old turn.now.number turn.now.instruction.now) }
+    requires first { take count (numbers accounts.old) ≡ footprint setting.now.directory instruction.now.act }
+    ensures ok { IfOk result (λ reply. (accounts.new, reply) ≡ step setting.now accounts.old number instruction.now) }
     ensures count { length accounts.new ≡ length accounts.old }
 {
     // A step depends only on the accounts that it touches.
     step_laws();
     execute(
         alloc,
-        turn.rules,
-        turn.day,
-        turn.number,
-        turn.instruction,
-        turn.directory,
+        setting.rules,
+        setting.day,
+        number,
+        instruction,
+        setting.directory,
         &mut accounts[..count],
     )
 }

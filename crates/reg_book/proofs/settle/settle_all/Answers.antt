@@ -1,4 +1,4 @@
-use Rattle.std.proofs.Common.{◌≡◌, ◌+◌, ◌<◌, ◌∷◌, [], ◌++◌, length, rules, arith, sym, subst, ◌∙◌}
+use Rattle.std.proofs.Common.{ap, ◌≡◌, ◌+◌, ◌<◌, ◌∷◌, [], ◌++◌, length, rules, arith, sym, subst, ◌∙◌}
 use Rattle.reg_base.specs.Footprint.{footprint}
 use Rattle.reg_rules.specs.State.{Setting, numbers}
 use Rattle.reg_rules.specs.Step.{row_of}
@@ -10,27 +10,27 @@ use Rattle.reg_book.proofs.settle.settle_all.Goals as goal
 pub ranks_at-own-requires : goal.ranks_at-own-requires
 ranks_at-own-requires c =
     let within : c.loop-place.place < length c.instructions-instructions.result.now = search rules in
-    (ranked-at c.args.directory.now (numbers c.args.accounts.now) c.args.ranks.now c.args.places.now c.instructions-instructions.result.now c.loop-place.place c.index-places-place.result c.index-instructions-place.result
-    (subst (AllRanked c.args.directory.now (numbers c.args.accounts.now) c.args.ranks.now (lists_of c.args.places.now)) (sym c.instructions-instructions.ensures) c.requires.ranked)
+    (ranked-at c.args.setting.now.directory (numbers c.args.accounts.now) c.args.ranks.now c.args.places.now c.instructions-instructions.result.now c.loop-place.place c.index-places-place.result c.index-instructions-place.result
+    (subst (AllRanked c.args.setting.now.directory (numbers c.args.accounts.now) c.args.ranks.now (lists_of c.args.places.now)) (sym c.instructions-instructions.ensures) c.requires.ranked)
     within c.index-places-place.is c.index-instructions-place.is).0
 
 pub take_turn-requires-clause-there : goal.take_turn-requires-clause-there
 take_turn-requires-clause-there c =
     let within : c.loop-place.place < length c.instructions-instructions.result.now = search rules in
-    let own = ranked-at c.args.directory.now (numbers c.args.accounts.now) c.args.ranks.now c.args.places.now c.instructions-instructions.result.now c.loop-place.place c.index-places-place.result c.index-instructions-place.result
-    (subst (AllRanked c.args.directory.now (numbers c.args.accounts.now) c.args.ranks.now (lists_of c.args.places.now)) (sym c.instructions-instructions.ensures) c.requires.ranked)
+    let own = ranked-at c.args.setting.now.directory (numbers c.args.accounts.now) c.args.ranks.now c.args.places.now c.instructions-instructions.result.now c.loop-place.place c.index-places-place.result c.index-instructions-place.result
+    (subst (AllRanked c.args.setting.now.directory (numbers c.args.accounts.now) c.args.ranks.now (lists_of c.args.places.now)) (sym c.instructions-instructions.ensures) c.requires.ranked)
     within c.index-places-place.is c.index-instructions-place.is in
-    let wanted = footprint c.args.directory.now c.index-instructions-place.result.act in
+    let wanted = footprint c.args.setting.now.directory c.index-instructions-place.result.act in
     subst (λ ns. StandAt ns c.as_mut_slice.result.now wanted) (sym c.loop-place.invariant.same_numbers)
     (subst (λ ps. StandAt (numbers c.args.accounts.now) ps wanted) (sym (c.as_mut_slice.ensures.value ∙ c.ranks_at-own.ensures)) own.1)
 
 pub loop-place-preserved : goal.loop-place-preserved
 loop-place-preserved c =
-    let setting : Setting = record { rules = c.args.rules.now; day = c.day-day.result; directory = c.args.directory.now } in
+    let setting = c.args.setting.now in
     let within : c.loop-place.place < length c.instructions-instructions.result.now = search rules in
     let counted : c.unwrap-number.result ≡ c.loop-place.last + 1 = search rules in
     let grown : c.push.new.self.items ≡ c.loop-place.rows.items ++ c.log_row.result ∷ [] = c.in_ok-push.ensures.items in
-    let noted : c.log_row.result ≡ row_of setting c.unwrap-number.result c.index-instructions-place.result c.in_ok-reply.reply = c.log_row.ensures in
+    let noted : c.log_row.result ≡ row_of setting c.unwrap-number.result c.index-instructions-place.result c.in_ok-reply.reply = c.log_row.ensures ∙ ap (λ (k : Setting). row_of k c.unwrap-number.result c.index-instructions-place.result c.in_ok-reply.reply) c.setting.view_is in
     record {
       counted = omega (arith, c.loop-place.invariant.counted);
       same_numbers = numbers_more c.step_laws.ensures setting c.loop-place.accounts c.take_turn.new.accounts c.unwrap-number.result c.index-instructions-place.result c.in_ok-reply.reply c.in_ok-reply.ensures ∙ c.loop-place.invariant.same_numbers;

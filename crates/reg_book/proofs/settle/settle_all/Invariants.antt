@@ -1,11 +1,11 @@
 use Rattle.std.proofs.Common.{◌≡◌, ◌+◌, ◌++◌, drop}
-use Rattle.reg_rules.specs.State.{Setting, numbers}
+use Rattle.reg_rules.specs.State.{numbers}
 use Rattle.reg_book.specs.Fold.{state_after, rows_of}
 use Rattle.reg_book.proofs.settle.settle_all.Given as goal
 
 abbrev pub invariant-loop-place : goal.invariant-loop-place
 invariant-loop-place l =
-    let setting : Setting = record { rules = l.rules; day = l.day; directory = l.directory } in
+    let setting = l.setting in
     record {
       counted : l.last ≡ l.initial.last + l.place;
       same_numbers : numbers l.accounts ≡ numbers l.initial.accounts;

@@ -31,9 +31,9 @@ pub new-requires : goal.new-requires
 new-requires c =
     let day : Day = day_of c.args.book.now c.args.rules.now c.args.batch.now in
     let size : c.in_ok-accounts.field-0.accounts.len ≡ length c.in_ok-accounts.field-0.accounts.items = search rules in
-    let made = day-made c.step_laws.ensures day c.directory-directory.result.now c.instructions.result.now c.accounts.result.now
+    let made = day-made c.step_laws.ensures day c.day.result c.directory-directory.result.now c.instructions.result.now c.accounts.result.now
     c.in_ok-accounts.field-0.accounts.items c.deref_mut.result.now c.settle_all.new.accounts c.in_ok-rows.rows.items c.base.result c.in_ok-accounts.field-0.accounts.len
-    c.accounts.ensures.kept c.directory-directory.ensures c.instructions.ensures c.accounts.ensures.value c.in_ok-accounts.ensures.accounts c.deref_mut.ensures.value
+    c.accounts.ensures.kept c.day.ensures c.directory-directory.ensures c.instructions.ensures c.accounts.ensures.value c.in_ok-accounts.ensures.accounts c.deref_mut.ensures.value
     c.in_ok-rows.ensures.rows c.in_ok-rows.ensures.accounts c.base.ensures.value size in
     subst IsSettled (sym made) (settled-kept c.step_laws.ensures day c.accounts.ensures.kept c.base.ensures.room)
 
@@ -41,9 +41,9 @@ pub returns-clause-settled : goal.returns-clause-settled
 returns-clause-settled c =
     let size : c.in_ok-accounts.field-0.accounts.len ≡ length c.in_ok-accounts.field-0.accounts.items = search rules in
     c.new.ensures
-    ∙ day-made c.step_laws.ensures (day_of c.args.book.now c.args.rules.now c.args.batch.now) c.directory-directory.result.now c.instructions.result.now c.accounts.result.now
+    ∙ day-made c.step_laws.ensures (day_of c.args.book.now c.args.rules.now c.args.batch.now) c.day.result c.directory-directory.result.now c.instructions.result.now c.accounts.result.now
     c.in_ok-accounts.field-0.accounts.items c.deref_mut.result.now c.settle_all.new.accounts c.in_ok-rows.rows.items c.base.result c.in_ok-accounts.field-0.accounts.len
-    c.accounts.ensures.kept c.directory-directory.ensures c.instructions.ensures c.accounts.ensures.value c.in_ok-accounts.ensures.accounts c.deref_mut.ensures.value
+    c.accounts.ensures.kept c.day.ensures c.directory-directory.ensures c.instructions.ensures c.accounts.ensures.value c.in_ok-accounts.ensures.accounts c.deref_mut.ensures.value
     c.in_ok-rows.ensures.rows c.in_ok-rows.ensures.accounts c.base.ensures.value size
 
 pub returns-clause-of_book : goal.returns-clause-of_book

@@ -1,5 +1,5 @@
 use Rattle.std.proofs.Common.{◌+◌, arith, ap, sym, subst, length}
-use Rattle.reg_rules.specs.State.{Setting, numbers}
+use Rattle.reg_rules.specs.State.{numbers}
 use Rattle.reg_base.specs.Footprint.{footprint}
 use Rattle.reg_book.specs.Turns.{AreLeft}
 use Rattle.reg_book.proofs.Turns.{distinct-swap, numbers-swap, swapped-turn, left-more, size-numbers}
@@ -8,7 +8,7 @@ use Rattle.reg_book.proofs.turn.«+turn_from».Goals as goal
 pub turn_from-reply-requires : goal.turn_from-reply-requires
 turn_from-reply-requires t c =
     let s = c.args.accounts.now in
-    let wanted = footprint c.args.turn.now.directory.now c.args.turn.now.instruction.now.act in
+    let wanted = footprint c.args.setting.now.directory c.args.instruction.now.act in
     let place = c.in-Some.first.now in
     let cases = c.in-Some.ensures.cases in
     let left = subst (λ ps. AreLeft c.args.count (numbers s) ps wanted) cases.0 c.requires.left in
@@ -26,11 +26,11 @@ turn_from-reply-requires t c =
 pub returns-in-Some : goal.returns-in-Some
 returns-in-Some t c =
     let s = c.args.accounts.now in
-    let wanted = footprint c.args.turn.now.directory.now c.args.turn.now.instruction.now.act in
+    let wanted = footprint c.args.setting.now.directory c.args.instruction.now.act in
     let place = c.in-Some.first.now in
     let left = subst (λ ps. AreLeft c.args.count (numbers s) ps wanted) c.in-Some.ensures.cases.0 c.requires.left in
     let first = left.are_left.0 in
-    let setting : Setting = record { rules = c.args.turn.now.rules.now; day = c.args.turn.now.day; directory = c.args.turn.now.directory.now } in
+    let setting = c.args.setting.now in
     swapped-turn c.step_laws.ensures setting s c.swap.new.self c.turn_from-reply.new.accounts c.swap-in-Some.new.self
-    c.args.turn.now.number c.args.turn.now.instruction.now c.turn_from-reply.result c.args.count place
+    c.args.number c.args.instruction.now c.turn_from-reply.result c.args.count place
     (omega (arith, first.behind, first.within, size-numbers s)) (omega (arith, first.within, size-numbers s)) c.requires.distinct c.swap.ensures.after c.turn_from-reply.ensures c.swap-in-Some.ensures.after
