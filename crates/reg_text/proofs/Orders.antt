@@ -22,7 +22,7 @@ none-in z (k, lt, is) = absurd (omega arith)
 
 -- what is behind the first of a rising list rises, and is above it
 behind-rises : (n : ℕ) (ns : List ℕ) → IsRising (n ∷ ns) → IsRising ns
-behind-rises n ns rises k lt = rw (add-one, add-one) at (rises (k + 1) (omega arith))
+behind-rises n ns rises k lt = let next : suc k + 1 ≡ suc (k + 1) = omega arith in rw next at (rises (suc k) (omega arith))
 
 all-above : {X : Type 0} (by : X → ℕ) (x : X) (xs : List X) → IsRising (map by (x ∷ xs)) → AllByRecursion (λ v. by x < by v) xs
 all-above by x [] rises = tt
