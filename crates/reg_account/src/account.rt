@@ -33,7 +33,7 @@ impl Model for Account {
 impl Account {
     ghost use Rattle.reg_account.specs.Account.{held_by, credited, debited, IsAccount, CorrectionFits};
 
-    /// The account that these parts make: they make one exactly if they have no fault. Takes no memory.
+    /// The account with these parts, exactly if they have no fault. Takes no memory.
     ///
     /// # Errors
     /// The parts as they were, and the first fault that applies, in the order of [`AccountFault`].
@@ -49,7 +49,7 @@ impl Account {
         Ok(Account { parts })
     }
 
-    /// Every account is within its limits. Does nothing: whoever needs the fact calls it.
+    /// Every account is within its limits. This method does nothing. A function whose proof needs this fact calls it.
     pub fn is_within_limits(&self)
         ensures { IsAccount self.now }
     {
@@ -144,7 +144,7 @@ impl Account {
     /// A second account, equal in all parts.
     ///
     /// # Errors
-    /// `NoMemory` if there is not enough memory. An account without lists needs none yet.
+    /// `NoMemory` if memory ran out. Today this never happens, because no part of an account needs memory.
     pub fn copy(&self, _alloc: Global) -> Result<Account, NoMemory>
         ensures { IfOk result (λ a. a ≡ self.now) }
     {

@@ -15,11 +15,11 @@ abbrev pub movement_of : Act → Movement
 movement_of (Transfer from to kind amount) = between from to kind amount
 movement_of (ReturnExcess from to kind amount) = between from to kind amount
 
--- the account that the act is about: the one that gives, else the only one
+-- the account that gives, or the only one that the act names
 abbrev pub first : Act → ℕ
 first act = (movement_of act).first
 
--- who else receives allowances by the act, and how many
+-- the accounts that receive allowances by the act, and how many
 abbrev pub shares : Act → List Share
 shares act = (movement_of act).shares
 

@@ -5,11 +5,11 @@ use Rattle.reg_base.specs.declared.act.Act.{Act}
 use Rattle.reg_base.specs.Acts.{shares, parties}
 use Rattle.reg_base.specs.Directory.{DirectoryValue, is_known}
 
--- the accounts that have to be in the directory, and no two of which may be one
+-- the accounts that must be in the directory; no two of them may be the same
 abbrev pub must_be_known : Act → List ℕ
 must_be_known act = parties act
 
--- each account that has to be in the directory is there
+-- each account that must be in the directory is there
 abbrev pub all_known : DirectoryValue → Act → Bool
 all_known directory act = list_all (is_known directory) (must_be_known act)
 
@@ -22,11 +22,11 @@ each_once (x ∷ xs) = x ∷ filter (λ y. not (y == x)) (each_once xs)
 abbrev pub is_among : List ℕ → ℕ → Bool
 is_among numbers a = list_any (λ n. n == a) numbers
 
--- the accounts that an instruction with this act reads or changes: none if one that has to be known is not
+-- the accounts that an instruction with this act reads or changes: none if one of those that must be known is not
 abbrev pub footprint : DirectoryValue → Act → List ℕ
 footprint directory act = if all_known directory act then each_once (parties act) else []
 
--- no account stands twice, each is in the directory, and there are no more than the first and those that receive
+-- no account occurs twice, each is in the directory, and there are at most the first and those that receive
 pub record IsSound (directory : DirectoryValue) (act : Act) (accounts : List ℕ) : Type 0 where
   pub once : IsDistinct nat_eq accounts
   pub known : All (λ a. IsTrue (is_known directory a)) accounts

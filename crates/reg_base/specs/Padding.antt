@@ -1,4 +1,4 @@
--- A short list in an array: its elements first, and then one and the same value up to the end.
+-- A short list in an array: its elements first, and then the same value up to the end.
 use Rattle.std.proofs.Common.{◌≡◌, ℕ, ◌-◌, ◌≤◌, List, ◌++◌, length, take, drop, sym, ap, ◌∙◌, arith}
 use Rattle.std.specs.Prelude.{replicate}
 use Rattle.std.proofs.lemmas.List.{take-append-drop, length-take-le}

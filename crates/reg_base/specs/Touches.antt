@@ -23,7 +23,7 @@ abbrev pub last_toucher : DirectoryValue → List Instruction → ℕ → ℕ �
 last_toucher directory is a zero = 0
 last_toucher directory is a (suc k) = if touches_at directory is a k then suc k else last_toucher directory is a k
 
--- what a last toucher is: it stands among the first j, it touches the account, and none of these after it does
+-- a last toucher is among the first j, it touches the account, and none of these after it does
 pub record IsLastToucher (directory : DirectoryValue) (is : List Instruction) (a j place : ℕ) : Type 0 where
   pub among : place ≤ j
   pub toucher : (k : ℕ) → place ≡ suc k → touches_at directory is a k ≡ true

@@ -8,7 +8,7 @@ use crate::limits::MOST_TOUCHED;
 use crate::numbers::AccountNo;
 use std::marker::Model;
 
-/// The accounts that an instruction reads or changes, in their order, each once, at most 9. A clause sees their list.
+/// The accounts that an instruction reads or changes, in their order, each once, at most 9. A contract sees their list.
 #[derive(Clone, Copy, Debug)]
 pub struct Footprint {
     array: [AccountNo; MOST_TOUCHED],

@@ -20,7 +20,7 @@ pub struct Instruction {
     pub proposed: Day,
     /// The user who proposed it.
     pub proposer: UserNo,
-    /// The user who approved it, or `None` if nobody did.
+    /// The user who approved it, if there is one.
     pub approver: Option<UserNo>,
     /// What it asks for.
     pub act: Act,
@@ -28,7 +28,7 @@ pub struct Instruction {
 
 impl Instruction {
     /// The accounts that the instruction reads or changes: its act's first account and those that receive, each
-    /// once, or none if the directory lacks one of them.
+    /// once. None if one of them is not in the directory.
     pub fn touches(&self, directory: &Directory) -> Footprint
         ensures { result ≡ footprint directory.now self.now.act }
     {

@@ -24,7 +24,7 @@ pub const LAST_YEAR: u16 = 2100;
 pub const FIRST_DAY: u32 = 18_628;
 /// The latest day, 2100-12-31, in days since 1970-01-01.
 pub const LAST_DAY: u32 = 47_846;
-/// The most accounts that receive allowances by one instruction, its first account apart.
+/// The most accounts that receive allowances by one instruction.
 pub const MOST_SHARES: usize = 8;
 /// The most accounts that one instruction touches: the first, and those that receive.
 pub const MOST_TOUCHED: usize = 9;

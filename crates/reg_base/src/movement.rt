@@ -17,7 +17,7 @@ pub struct Share {
     pub amount: u64,
 }
 
-/// The shares of a movement, in their order, at most 8. A clause sees their list.
+/// The shares of a movement, in their order, at most 8. A contract sees their list.
 #[derive(Clone, Copy, Debug, PartialEq, Eq)]
 pub struct Shares {
     array: [Share; MOST_SHARES],
@@ -69,12 +69,12 @@ impl Shares {
 /// Allowances of one kind that leave an account, and the other accounts that receive some.
 #[derive(Clone, Copy, Debug, PartialEq, Eq)]
 pub struct Movement {
-    /// The account that the act is about: the one that gives, else the only one.
+    /// The account that gives, or the only one that the act names.
     pub first: AccountNo,
     /// The kind of the allowances.
     pub kind: AllowanceKind,
     /// How many allowances leave the first account.
     pub leaves: u128,
-    /// Who else receives allowances, and how many.
+    /// The accounts that receive allowances, and how many.
     pub shares: Shares,
 }

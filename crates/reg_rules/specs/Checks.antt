@@ -20,7 +20,7 @@ use Rattle.reg_rules.specs.declared.rule.ActRule.{ActRule}
 use Rattle.reg_rules.specs.ActRules.{rule_of, fits_first, fits_receiver, fits_status, is_not_closed}
 use Rattle.reg_rules.specs.State.{State, Setting, Receiver, Seen, seen, passes}
 
--- some number stands twice
+-- some number occurs twice
 abbrev pub has_repeat : List ℕ → Bool
 has_repeat [] = false
 has_repeat (x ∷ xs) = list_any (λ y. y == x) xs || has_repeat xs
@@ -58,7 +58,7 @@ is_short m e = nat_lt (option_map_or (λ v. held_by v m.kind) e.first 0) m.leave
 abbrev pub overfills : AllowanceKind → Receiver → Bool
 overfills kind r = nat_lt MOST_HELD (option_map_or (λ v. held_by v kind) r.account 0 + r.amount)
 
--- some account that receives would
+-- some account that receives would hold more than it may
 abbrev pub overfills_some : Movement → Seen → Bool
 overfills_some m e = list_any (overfills m.kind) e.receivers
 

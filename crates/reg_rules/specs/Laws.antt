@@ -100,7 +100,7 @@ pub record ActLaws : Type 0 where
 abbrev pub SameState : Type 0
 SameState = (s t : State) → IsDistinct nat_eq (numbers s) → numbers s ≡ numbers t → AgreeOn (numbers s) s t → s ≡ t
 
--- if each number stands once, accounts within their limits stay within them
+-- if each number occurs once, accounts within their limits stay within them
 abbrev pub LimitsStay : Type 0
 LimitsStay = (c : Setting) (s : State) (number : ℕ) (i : Instruction)
     → IsDistinct nat_eq (numbers s) → All IsAccount s → All IsAccount (after_step c s number i)

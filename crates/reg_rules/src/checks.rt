@@ -54,7 +54,7 @@ const CHECKS: [Refusal; 28] = [
     Refusal::EmissionsMissing,
 ];
 
-/// The first check that the instruction fails, or `None` if it is to be carried out. Takes no memory.
+/// The first check that fails, or `None` if no check fails. Takes no memory.
 ///
 /// `accounts` must be the accounts that the instruction touches, in the order of [`Instruction::touches`].
 pub fn decide(
@@ -105,7 +105,7 @@ fn refuses(
     ensures { result ≡ fails setting.now (seen accounts.now instruction.now.act) instruction.now check }
 {
     match check {
-        // The footprint is empty exactly if an account that has to be known is not.
+        // The footprint is empty exactly if an account that must be known is not.
         Refusal::UnknownAccount => accounts.is_empty(),
         Refusal::SameAccount => has_repeat(movement.first, movement.shares.as_slice()),
         Refusal::WrongAccountKind => {
@@ -154,7 +154,7 @@ fn held_at(accounts: &[Account], number: AccountNo, kind: AllowanceKind) -> u64
     find_account(accounts, number).map_or(0, |account| account.held(kind))
 }
 
-// Whether this account stands among those that receive, or one of these twice.
+// Whether this account is among those that receive, or one of these occurs twice.
 fn has_repeat(first: AccountNo, shares: &[Share]) -> bool
     ensures { result ≡ has_repeat (first ∷ map (λ share. share.to) shares.now) }
 {

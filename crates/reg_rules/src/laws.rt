@@ -4,16 +4,16 @@
 ghost use Rattle.reg_rules.specs.Laws.{StepLaws, ActLaws};
 
 /// The laws of every step, whatever its act. The accounts that an instruction touches decide its refusal, its reply
-/// and what it makes of each account. An account that it does not touch stays as it is; no account comes, goes or
-/// moves, none changes its kind, holder, permissions or correction factor, and none leaves its limits. A refused
-/// instruction changes nothing. States with the same numbers, each once, and the same account at each of them are
-/// one.
+/// and the new value of each account. An account that it does not touch stays as it is. No account is added, removed
+/// or moved. None changes its kind, holder, permissions or correction factor, and each stays within its limits. A
+/// refused instruction changes nothing. Two states are equal if they have the same numbers, each once, and the same
+/// account at each of them.
 pub fn step_laws()
     ensures { StepLaws }
 {}
 
-/// What each act makes of the state: a transfer and a return of excess move their amount from the one account to
-/// the other, and do nothing else.
+/// What each act does: a transfer and a return of excess move their amount from one account to the other, and change
+/// nothing else.
 pub fn act_laws()
     ensures { ActLaws }
 {}

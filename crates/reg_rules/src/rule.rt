@@ -26,7 +26,7 @@ pub enum StatusRule {
 /// The lag between the day of the proposal and the due day.
 #[derive(Clone, Copy, Debug, PartialEq, Eq)]
 pub enum LagRule {
-    /// The lag of transfers. Every account that receives counts as trusted so far.
+    /// The lag of transfers. In this version every account that receives counts as trusted.
     ByTrust,
     /// None.
     NoLag,
@@ -115,7 +115,7 @@ fn is_allocation_kind(kind: AccountKind) -> bool
     }
 }
 
-/// Whether a status is one that is needed.
+/// Whether the status is one that the rule allows.
 pub fn fits_status(rule: StatusRule, status: Status) -> bool
     ensures { result ≡ fits_status rule status }
 {
@@ -134,7 +134,7 @@ fn is_opened(status: Status) -> bool
     }
 }
 
-/// Whether a status is any except closed.
+/// Whether the status is not closed.
 pub fn is_not_closed(status: Status) -> bool
     ensures { result ≡ is_not_closed status }
 {

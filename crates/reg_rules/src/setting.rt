@@ -3,7 +3,7 @@
 use reg_base::{Day, Directory, Rules};
 use std::marker::Model;
 
-/// The rules, the settlement day and the accounts that there are. A clause sees them as plain data.
+/// The rules, the settlement day and the directory. A contract sees them as plain data.
 #[derive(Drop)]
 pub struct Setting<'a> {
     /// The rules of the day.

@@ -23,7 +23,8 @@ use std::alloc::Global;
 /// `accounts` must be the accounts that the instruction touches, in the order of [`Instruction::touches`].
 ///
 /// # Errors
-/// `NoMemory` if there is no room for the closing holdings; the accounts are unchanged, and no refusal was due.
+/// `NoMemory` if there was no memory for the closing holdings. No check fails in this case, and the accounts are
+/// unchanged.
 pub fn execute(
     alloc: Global,
     rules: &Rules,
@@ -41,7 +42,7 @@ pub fn execute(
         return Ok(Reply::Refused(refusal));
     }
     each_footprint_is_sound();
-    // The room comes first, so that a refused growth leaves the accounts as they were.
+    // The room comes first, so that the accounts are as they were if memory runs out.
     let room = Vec::with_capacity(alloc, accounts.len())?;
     apply(&instruction.act.movement(), accounts);
     Ok(Reply::Done {
