@@ -12,14 +12,12 @@ use Rattle.reg_front.specs.declared.fault.FrontFault.TheVariants as front
 abbrev pub fault_of_read : ReadFault → FrontFault
 fault_of_read read.Failed = front.Read
 fault_of_read read.TooLong = front.Read
-fault_of_read read.TooManyCalls = front.Read
 fault_of_read read.NoMemory = front.NoMemory
 
 -- an input is too long only if it has more bytes than the limit
 abbrev pub IsReadFault : Option (List ℕ) → ReadFault → Type 0
 IsReadFault input read.Failed = ⊤
 IsReadFault input read.TooLong = IfSome input (λ bytes. MOST_INPUT < length bytes)
-IsReadFault input read.TooManyCalls = ⊤
 IsReadFault input read.NoMemory = ⊤
 
 -- the fault of `run` for each fault of the text

@@ -11,8 +11,9 @@ use std::io::{Read, Write};
 /// The most bytes of an input: 2^30.
 pub(crate) const MOST_INPUT: usize = 1 << 30;
 
-/// The most calls of `read` for an input: 2^32, including the call that finds its end.
-pub(crate) const MOST_READS: u64 = 1 << 32;
+// The most calls of `read` for an input: 2^32, including the call that finds its end. Each other call brings a byte, so
+// that an input has ended, or is too long, before these are used up.
+const MOST_READS: u64 = 1 << 32;
 
 // The most bytes that one call of `read` brings.
 const PIECE: usize = 64 * 1024;
@@ -24,8 +25,6 @@ pub(crate) enum ReadFault {
     Failed,
     /// The input has more than [`MOST_INPUT`] bytes.
     TooLong,
-    /// The input has not ended after [`MOST_READS`] calls of `read`.
-    TooManyCalls,
     /// Memory ran out.
     NoMemory,
 }
@@ -38,8 +37,7 @@ pub(crate) struct WriteFailed;
 ///
 /// # Errors
 /// `Failed` if a call of `read` fails; there is no second try. `TooLong` if the input has more than [`MOST_INPUT`]
-/// bytes. `TooManyCalls` if it has not ended after [`MOST_READS`] calls. `NoMemory` if memory ran out. In each case
-/// the bytes read so far are lost.
+/// bytes. `NoMemory` if memory ran out. In each case the bytes read so far are lost.
 pub(crate) fn read_all<R: Read>(alloc: Global, reader: &mut R) -> Result<Vec<u8>, ReadFault>
     ensures whole { IfOk result (λ text. IfSome (R.remaining reader.old) (λ bytes. text.items ≡ bytes)) }
     ensures end { OnOk result (IsAtEnd (R.remaining reader.new)) }
@@ -49,7 +47,7 @@ pub(crate) fn read_all<R: Read>(alloc: Global, reader: &mut R) -> Result<Vec<u8>
 {
     let mut text = Vec::new(alloc);
     let mut piece = [0; PIECE];
-    for _ in 0..MOST_READS {
+    for _call in 0..MOST_READS {
         match reader.read(&mut piece) {
             Ok(0) => return Ok(text),
             Ok(count) => {
@@ -63,7 +61,7 @@ pub(crate) fn read_all<R: Read>(alloc: Global, reader: &mut R) -> Result<Vec<u8>
             Err(_) => return Err(ReadFault::Failed),
         }
     }
-    Err(ReadFault::TooManyCalls)
+    unreachable!()
 }
 
 /// Writes the whole text and flushes the writer.

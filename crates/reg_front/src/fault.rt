@@ -21,7 +21,7 @@ pub enum FrontFault {
         /// The first cause that applies to it.
         cause: Cause,
     },
-    /// The reader failed, the input has more than 2^30 bytes, or it has not ended after 2^32 calls of `read`.
+    /// The reader failed, or the input has more than 2^30 bytes.
     #[error("read failed")]
     Read,
     /// The number of workers is not 1 to 8.
@@ -40,7 +40,7 @@ impl From<ReadFault> for FrontFault {
 
     fn from(fault: ReadFault) -> FrontFault {
         match fault {
-            ReadFault::Failed | ReadFault::TooLong | ReadFault::TooManyCalls => FrontFault::Read,
+            ReadFault::Failed | ReadFault::TooLong => FrontFault::Read,
             ReadFault::NoMemory => FrontFault::NoMemory,
         }
     }

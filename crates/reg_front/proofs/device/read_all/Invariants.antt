@@ -3,8 +3,9 @@ use Rattle.std.proofs.Common.{◌≤◌, ◌^◌, vec_len}
 use Rattle.std.specs.Io.KnownBytes.{Consumes}
 use Rattle.reg_front.proofs.device.read_all.Given as goal
 
-abbrev pub invariant-loop : goal.invariant-loop
-invariant-loop g l = record {
+abbrev pub invariant-loop-call : goal.invariant-loop-call
+invariant-loop-call g l = record {
   lost : Consumes (g.R.Read.remaining l.initial.reader) (g.R.Read.remaining l.reader) l.text.items;
   limit : vec_len l.text ≤ 2 ^ 30;
+  calls : l._call ≤ vec_len l.text;
 }
