@@ -1,0 +1,58 @@
+//! Arrows and openings of touches that are sorted by account and place.
+
+ghost use Rattle.std.specs.Prelude.{◌≡◌, IfOk};
+ghost use Rattle.reg_plan.specs.TouchList.{arrows_of, openings_of};
+
+use crate::arrow::{Arrow, Opening, Touch};
+use reg_base::NoMemory;
+use std::alloc::Global;
+
+// From each touch to the next one of the same account.
+pub(crate) fn find_arrows(alloc: Global, touches: &[Touch]) -> Result<Vec<Arrow>, NoMemory>
+    ensures { IfOk result (λ arrows. arrows.items ≡ arrows_of touches.now) }
+{
+    let mut arrows = Vec::new(alloc);
+    let Some((first, rest)) = touches.split_first() else {
+        return Ok(arrows);
+    };
+    let mut before = *first;
+    for touch in rest {
+        if before.account == touch.account {
+            arrows.push(Arrow {
+                to: touch.place,
+                from: before.place,
+                account: touch.account,
+            })?;
+        }
+        before = *touch;
+    }
+    Ok(arrows)
+}
+
+// The first touch of each account.
+pub(crate) fn find_openings(alloc: Global, touches: &[Touch]) -> Result<Vec<Opening>, NoMemory>
+    ensures { IfOk result (λ openings. openings.items ≡ openings_of touches.now) }
+{
+    let mut openings = Vec::new(alloc);
+    let Some((first, rest)) = touches.split_first() else {
+        return Ok(openings);
+    };
+    let mut before = *first;
+    openings.push(open(before))?;
+    for touch in rest {
+        if before.account != touch.account {
+            openings.push(open(*touch))?;
+        }
+        before = *touch;
+    }
+    Ok(openings)
+}
+
+fn open(touch: Touch) -> Opening
+    ensures { result ≡ record { account = touch.account; first = touch.place } }
+{
+    Opening {
+        account: touch.account,
+        first: touch.place,
+    }
+}
