@@ -1,6 +1,8 @@
 -- How arrows and openings are found: from a list of accounts and the places that touch them, sorted by account and
 -- place. Private functions are stated in these.
 use Rattle.std.specs.Prelude.{ℕ, ◌+◌, Bool, ◌&&◌, ◌==◌, List, [], ◌∷◌, ◌++◌, map, if◌then◌else◌}
+use Rattle.std.specs.Ordering.{ordering_then, nat_cmp}
+use Rattle.std.specs.declared.cmp.Ordering.{Ordering}
 use Rattle.reg_base.specs.declared.instruction.Instruction.{Instruction}
 use Rattle.reg_base.specs.Directory.{DirectoryValue}
 use Rattle.reg_base.specs.Footprint.{footprint}
@@ -17,6 +19,11 @@ abbrev pub touches_from : DirectoryValue → ℕ → List Instruction → List T
 touches_from directory place [] = []
 touches_from directory place (i ∷ is) = touched_at place (footprint directory i.act) ++ touches_from directory (place + 1) is
 
+-- by account, and then by place
+abbrev pub touch_cmp : Touch → Touch → Ordering
+touch_cmp x y = ordering_then (nat_cmp x.account y.account) (nat_cmp x.place y.place)
+
+-- the two touches are one
 abbrev pub same_touch : Touch → Touch → Bool
 same_touch x y = (x.account == y.account) && (x.place == y.place)
 
