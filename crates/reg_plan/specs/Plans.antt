@@ -1,5 +1,7 @@
 -- A plan as plain data: arrows, openings and levels, and what holds of them.
 use Rattle.std.specs.Prelude.{◌≡◌, ℕ, suc, ◌+◌, ◌-◌, ◌<◌, ◌≤◌, Bool, ◌==◌, max, List, [], ◌∷◌, length, slice_index, map, filter, Contains, All, ◌↔◌}
+use Rattle.std.specs.List.Sorted.{IsNonDecreasingBy}
+use Rattle.reg_base.specs.declared.limits.TheConstants.{MOST_INSTRUCTIONS}
 use Rattle.reg_base.specs.declared.instruction.Instruction.{Instruction}
 use Rattle.reg_base.specs.Directory.{DirectoryValue}
 use Rattle.reg_base.specs.Rising.{IsRising}
@@ -33,6 +35,20 @@ greatest_tail levels (arrow ∷ arrows) = max (level_at levels arrow.from) (grea
 -- each place has the level 1 without an inward arrow, else 1 more than the greatest level of a tail
 abbrev pub AreLevels : List Arrow → List ℕ → Type 0
 AreLevels arrows levels = (place : ℕ) → 1 ≤ place → place ≤ length levels → level_at levels place ≡ 1 + greatest_tail levels (inward arrows place)
+
+-- the arrow leads forward between two of so many places
+pub record IsBetween (places : ℕ) (arrow : Arrow) : Type 0 where
+  pub from_one : 1 ≤ arrow.from
+  pub forward : arrow.from < arrow.to
+  pub within : arrow.to ≤ places
+
+-- what a plan keeps: its arrows once by head and once by tail, each between two of its places
+pub record IsKept (arrows by_tail : List Arrow) (levels : List ℕ) : Type 0 where
+  pub by_head : IsNonDecreasingBy (λ arrow. arrow.to) arrows
+  pub tails : IsNonDecreasingBy (λ arrow. arrow.from) by_tail
+  pub same : (place : ℕ) → outward by_tail place ≡ outward arrows place
+  pub between : All (IsBetween (length levels)) arrows
+  pub few : length levels ≤ MOST_INSTRUCTIONS
 
 -- these are the openings of the batch, one for each touched account, by rising account
 pub record AreOpenings (directory : DirectoryValue) (is : List Instruction) (openings : List Opening) : Type 0 where

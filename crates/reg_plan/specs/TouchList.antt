@@ -1,6 +1,7 @@
 -- How arrows and openings are found: from a list of accounts and the places that touch them, sorted by account and
 -- place. Private functions are stated in these.
 use Rattle.std.specs.Prelude.{ℕ, ◌+◌, Bool, ◌&&◌, ◌==◌, List, [], ◌∷◌, ◌++◌, map, if◌then◌else◌}
+use Rattle.std.specs.List.Sorted.{IsPermutation, IsSorted}
 use Rattle.std.specs.Ordering.{ordering_then, nat_cmp}
 use Rattle.std.specs.declared.cmp.Ordering.{Ordering}
 use Rattle.reg_base.specs.declared.instruction.Instruction.{Instruction}
@@ -9,6 +10,7 @@ use Rattle.reg_base.specs.Footprint.{footprint}
 use Rattle.reg_plan.specs.declared.arrow.Arrow.{Arrow}
 use Rattle.reg_plan.specs.declared.arrow.Opening.{Opening}
 use Rattle.reg_plan.specs.declared.arrow.Touch.{Touch}
+use Rattle.reg_plan.specs.Arrows.{arrow_order}
 
 -- the instruction at this place touches these accounts
 abbrev pub touched_at : ℕ → List ℕ → List Touch
@@ -50,3 +52,13 @@ openings_after before (x ∷ xs) = if before.account == x.account then openings_
 abbrev pub openings_of : List Touch → List Opening
 openings_of [] = []
 openings_of (x ∷ xs) = opening_at x ∷ openings_after x xs
+
+-- these are the touches of the batch, sorted by account and place
+pub record AreTouches (directory : DirectoryValue) (is : List Instruction) (touches : List Touch) : Type 0 where
+  pub each : IsPermutation (touches_from directory 1 is) touches
+  pub sorted : IsSorted touch_cmp touches
+
+-- these are the arrows of touches, sorted by head, tail and account
+pub record AreSorted (touches : List Touch) (arrows : List Arrow) : Type 0 where
+  pub each : IsPermutation (arrows_of touches) arrows
+  pub sorted : IsSorted arrow_order arrows

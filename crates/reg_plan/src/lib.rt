@@ -7,6 +7,9 @@
 
 mod arrow;
 mod arrows;
+mod levels;
+mod plan;
 mod touches;
 
 pub use arrow::{Arrow, Opening};
+pub use plan::Plan;
