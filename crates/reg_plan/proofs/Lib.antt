@@ -1,3 +1,4 @@
 pub mod Members
 pub mod Links
 pub mod Touchings
+pub mod Slices
