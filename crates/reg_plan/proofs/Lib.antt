@@ -4,3 +4,4 @@ pub mod Touchings
 pub mod Slices
 pub mod Raising
 pub mod Results
+pub mod Marking

@@ -1,3 +1,4 @@
 pub mod Arrows
 pub mod TouchList
 pub mod Plans
+pub mod Orders

@@ -8,8 +8,10 @@
 mod arrow;
 mod arrows;
 mod levels;
+mod order;
 mod plan;
 mod touches;
 
 pub use arrow::{Arrow, Opening};
+pub use order::OrderFault;
 pub use plan::Plan;

@@ -1,10 +1,11 @@
 //! The plan of a batch.
 
-ghost use Rattle.std.specs.Prelude.{◌≡◌, ◌≤◌, IfOk, length};
+ghost use Rattle.std.specs.Prelude.{◌≡◌, ◌≤◌, None, IfOk, IfErr, OnOk, length};
 
 use crate::arrow::{Arrow, Opening};
 use crate::arrows::{find_openings, sorted_arrows, sorted_by_tail, with_head, with_tail};
 use crate::levels::find_levels;
+use crate::order::{OrderFault, check_numbers};
 use crate::touches::sorted_touches;
 use reg_base::laws::each_footprint_is_sound;
 use reg_base::{Batch, Directory, NoMemory};
@@ -32,6 +33,7 @@ impl Model for Plan {
 
 impl Plan {
     ghost use Rattle.reg_plan.specs.Plans.{IsPlan, inward, outward};
+    ghost use Rattle.reg_plan.specs.Orders.{first_order_fault, IsOrderFault};
 
     /// The plan of these instructions over the accounts of this directory.
     ///
@@ -103,5 +105,26 @@ impl Plan {
         ensures { result ≡ length self.now.levels }
     {
         self.levels.len() as u32
+    }
+
+    /// Whether this list of places, counted from 1, is a legal order: each place once, with each arrow's tail before
+    /// its head.
+    ///
+    /// The time is linear in the instructions and the arrows, look-ups apart.
+    ///
+    /// # Errors
+    /// `Length` for a list of another length than the batch; `NoMemory` where a growth was refused; else the fault
+    /// of the first position that has one, in the order of [`OrderFault`].
+    pub fn check_order(&self, alloc: Global, order: &[u32]) -> Result<(), OrderFault>
+        ensures legal { OnOk result (first_order_fault self.now order.now ≡ None) }
+        ensures fault { IfErr result (λ fault. IsOrderFault self.now order.now fault) }
+    {
+        if order.len() != self.levels.len() {
+            return Err(OrderFault::Length);
+        }
+        let Ok(mut came) = vec![in alloc; false; order.len()] else {
+            return Err(OrderFault::NoMemory);
+        };
+        check_numbers(&self.arrows, &mut came, order)
     }
 }
