@@ -5,3 +5,5 @@ pub mod Slices
 pub mod Raising
 pub mod Results
 pub mod Marking
+pub mod LevelFacts
+pub mod Permutations

@@ -2,3 +2,4 @@ pub mod Arrows
 pub mod TouchList
 pub mod Plans
 pub mod Orders
+pub mod Laws

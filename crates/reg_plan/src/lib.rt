@@ -7,6 +7,7 @@
 
 mod arrow;
 mod arrows;
+pub mod laws;
 mod levels;
 mod order;
 mod plan;
