@@ -7,3 +7,4 @@ pub mod Results
 pub mod Marking
 pub mod LevelFacts
 pub mod Permutations
+pub mod LegalOrders
