@@ -8,3 +8,4 @@ pub mod Marking
 pub mod LevelFacts
 pub mod Permutations
 pub mod LegalOrders
+pub mod LastTouchers

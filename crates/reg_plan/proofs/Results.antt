@@ -35,7 +35,7 @@ same_arrow-sym : (x y : Arrow) → same_arrow x y ≡ same_arrow y x
 same_arrow-sym x y = λ i. (flip_and x.account y.account i) && ((flip_and x.from y.from i) && (flip_and x.to y.to i))
 
 -- a place that touches an account is one of the batch
-place_within : (d : DirectoryValue) (is : List Instruction) (a place : ℕ) → touches_place d is a place ≡ true → (1 ≤ place) × (place ≤ length is)
+pub place_within : (d : DirectoryValue) (is : List Instruction) (a place : ℕ) → touches_place d is a place ≡ true → (1 ≤ place) × (place ≤ length is)
 place_within d is a zero e = absurd cc
 place_within d is a (suc k) e = (omega arith, go is k e) where
   go : (js : List Instruction) (k : ℕ) → touches_at d js a k ≡ true → suc k ≤ length js
