@@ -1,6 +1,6 @@
 -- An arrow's tail is the last toucher of its account before the head.
-use Rattle.std.proofs.Common.{◌≡◌, ℕ, zero, suc, ◌+◌, ◌-◌, ◌<◌, ◌≤◌, inl, inr, Bool, true, false, List, arith, refl, sym, ap, subst, ◌∙◌}
-use Rattle.std.proofs.lemmas.Bool.{cases_lt, cases_eq}
+use Rattle.std.proofs.Common.{◌≡◌, ℕ, zero, suc, ◌-◌, ◌≤◌, inl, inr, Bool, true, false, List, arith, sym, ap, subst, ◌∙◌}
+use Rattle.std.proofs.lemmas.Bool.{cases_lt}
 use Rattle.reg_base.specs.declared.instruction.Instruction.{Instruction}
 use Rattle.reg_base.specs.Directory.{DirectoryValue}
 use Rattle.reg_base.specs.Touches.{touches_at, last_toucher, IsLastToucher, LastToucherIsLast}

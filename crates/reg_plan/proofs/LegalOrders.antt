@@ -1,20 +1,20 @@
 -- A list has no fault exactly where it is a legal order.
-use Rattle.std.proofs.Common.{◌≡◌, ℕ, zero, suc, ◌+◌, ◌<◌, ◌≤◌, ◌⊎◌, inl, inr, Bool, true, false, cond, ◌&&◌, ◌||◌, eqb, leb, List, [], ◌∷◌, ◌++◌, length, take, Option, Some, None, arith, refl, sym, ap, subst, ◌∙◌, append_assoc}
-use Rattle.std.specs.Prelude.{IsPermutation, Contains, slice_get, filter, find, not}
+use Rattle.std.proofs.Common.{◌≡◌, ℕ, zero, suc, ◌+◌, ◌<◌, ◌≤◌, inl, inr, Bool, true, false, cond, ◌&&◌, ◌||◌, eqb, leb, List, [], ◌∷◌, ◌++◌, length, take, Option, Some, None, arith, refl, sym, ap, subst, ◌∙◌, append_assoc}
+use Rattle.std.specs.Prelude.{slice_get, filter, find, not}
 use Rattle.std.specs.Option.{option_map, option_or}
-use Rattle.std.specs.List.{AllByRecursion, IsDistinct, list_any}
-use Rattle.std.proofs.lemmas.Bool.{eqb-true, eqb-false, eq-eqb, ne_eqb, le-leb, leb-true}
+use Rattle.std.specs.List.{IsDistinct}
+use Rattle.std.proofs.lemmas.Bool.{eqb-true, eq-eqb, le-leb}
 use Rattle.std.proofs.lemmas.List.{append-nil}
 use Rattle.std.proofs.lemmas.List.Folds.{list_any-append}
 use Rattle.std.proofs.lemmas.List.Sorted.{length_permutation}
-use Rattle.std.proofs.lemmas.Map.Keys.{IsDistinct-IsPermutation, IsDistinct-head, IsDistinct-tail, IsDistinct-cons}
+use Rattle.std.proofs.lemmas.Map.Keys.{IsDistinct-IsPermutation, IsDistinct-head, IsDistinct-tail}
 use Rattle.reg_base.specs.Footprint.{is_among}
 use Rattle.reg_base.specs.Rising.{count_up}
 use Rattle.reg_plan.specs.declared.arrow.Arrow.{Arrow}
 use Rattle.reg_plan.specs.declared.order.OrderFault.{OrderFault}
 use Rattle.reg_plan.specs.declared.order.OrderFault.TheVariants.{Length, Number, Repeated}
-use Rattle.reg_plan.specs.Plans.{PlanValue, inward, IsBetween, IsPlan}
-use Rattle.reg_plan.specs.Orders.{IsLegalOrder, waits, fault_at, first_fault_after, first_order_fault}
+use Rattle.reg_plan.specs.Plans.{inward, IsBetween}
+use Rattle.reg_plan.specs.Orders.{IsLegalOrder, waits, fault_at, first_fault_after}
 use Rattle.reg_plan.specs.Laws.{NoFaultIsALegalOrder}
 use Rattle.reg_plan.proofs.Members.{In, in_from, contains_from, in_moved, in_moved_back, of_member, of_each_member}
 use Rattle.reg_plan.proofs.Marking.{no_fault_place}
@@ -64,11 +64,13 @@ module _ (arrows : List Arrow) (places : ℕ) where
   may_come before position x none = by (is_among before x) refl (find (λ (w : Arrow). not (is_among before w.from)) (inward arrows x)) refl placed where
     place : (1 ≤ x) × (x ≤ places)
     place = no_fault_place arrows places (is_among before) position x none
+
     placed : cond (is_among before x) (Some (Repeated position)) (option_map waits (find (λ (w : Arrow). not (is_among before w.from)) (inward arrows x))) ≡ None
     placed =
         sym (ap (λ b. cond b (cond (is_among before x) (Some (Repeated position)) (option_map waits (find (λ (w : Arrow). not (is_among before w.from)) (inward arrows x)))) (Some (Number position)))
         (ap (λ a. a && leb x places) (le-leb 1 x place.0) ∙ le-leb x places place.1))
         ∙ none
+
     by : (b : Bool) → is_among before x ≡ b → (o : Option Arrow) → find (λ (w : Arrow). not (is_among before w.from)) (inward arrows x) ≡ o → cond b (Some (Repeated position)) (option_map waits o) ≡ None → MayCome arrows places before x
     by true eb o eo h = absurd cc
     by false eb (Some w) eo h = absurd cc
@@ -182,22 +184,24 @@ module _ (arrows : List Arrow) (places : ℕ) where
 pub legal_orders : NoFaultIsALegalOrder
 legal_orders d is plan order made = (
   (λ none. let both : (length order ≡ length plan.levels) × (first_fault_after plan.arrows (length plan.levels) [] order ≡ None) = right_length (eqb (length order) (length plan.levels)) refl none in
-    let follow : MayFollow plan.arrows (length plan.levels) [] order = may_follow plan.arrows (length plan.levels) [] order both.1 in
-    record {
-      permutation = all_places (length plan.levels) order both.0 (distinct plan.arrows (length plan.levels) [] order follow) (λ x m.
-          let s : Stands plan.arrows (length plan.levels) [] x = each_stands plan.arrows (length plan.levels) [] order follow x m in (s.low, s.high));
-      tails_first = λ w c p q tail head. tail_first plan.arrows (length plan.levels) w (in_from plan.arrows w c) [] order p q follow refl tail head;
-    }),
+      let follow : MayFollow plan.arrows (length plan.levels) [] order = may_follow plan.arrows (length plan.levels) [] order both.1 in
+      record {
+        permutation = all_places (length plan.levels) order both.0 (distinct plan.arrows (length plan.levels) [] order follow) (λ x m.
+            let s : Stands plan.arrows (length plan.levels) [] x = each_stands plan.arrows (length plan.levels) [] order follow x m in (s.low, s.high));
+        tails_first = λ w c p q tail head. tail_first plan.arrows (length plan.levels) w (in_from plan.arrows w c) [] order p q follow refl tail head;
+      }),
   (λ legal.
-    ap (λ b. cond b (first_fault_after plan.arrows (length plan.levels) [] order) (Some Length)) (eq-eqb (length order) (length plan.levels) (length_permutation (count_up 1 (length plan.levels)) order legal.permutation ∙ length_count 1 (length plan.levels)))
-    ∙ none_after plan.arrows (length plan.levels) [] order (by_places plan.arrows (length plan.levels) [] order (λ k x at. comes legal k x at))),
+      ap (λ b. cond b (first_fault_after plan.arrows (length plan.levels) [] order) (Some Length)) (eq-eqb (length order) (length plan.levels) (length_permutation (count_up 1 (length plan.levels)) order legal.permutation ∙ length_count 1 (length plan.levels)))
+      ∙ none_after plan.arrows (length plan.levels) [] order (by_places plan.arrows (length plan.levels) [] order (λ k x at. comes legal k x at))),
 ) where
   right_length : (b : Bool) → eqb (length order) (length plan.levels) ≡ b → cond b (first_fault_after plan.arrows (length plan.levels) [] order) (Some Length) ≡ None
       → (length order ≡ length plan.levels) × (first_fault_after plan.arrows (length plan.levels) [] order ≡ None)
   right_length true e h = (eqb-true (length order) (length plan.levels) e, h)
   right_length false e h = absurd cc
+
   placed : IsLegalOrder plan order → (x : ℕ) → In x order → (1 ≤ x) × (x < 1 + length plan.levels)
   placed legal x m = of_count 1 (length plan.levels) x (in_moved_back (count_up 1 (length plan.levels)) order x legal.permutation m)
+
   comes : IsLegalOrder plan order → (k x : ℕ) → slice_get order k ≡ Some x → MayCome plan.arrows (length plan.levels) (take k order) x
   comes legal k x at = record {
     low = (placed legal x (in_at plan.arrows (length plan.levels) order k x at)).0;

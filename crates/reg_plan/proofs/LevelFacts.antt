@@ -1,6 +1,6 @@
 -- Levels rise along arrows.
-use Rattle.std.proofs.Common.{◌≡◌, ℕ, ◌+◌, ◌<◌, ◌≤◌, inl, inr, Bool, true, false, cond, eqb, max, List, [], ◌∷◌, length, arith, refl, sym, ap, ◌∙◌}
-use Rattle.std.specs.Prelude.{filter, Contains}
+use Rattle.std.proofs.Common.{◌≡◌, ℕ, ◌+◌, ◌≤◌, inl, inr, Bool, true, false, cond, eqb, List, [], ◌∷◌, length, arith, refl, ap, ◌∙◌}
+use Rattle.std.specs.Prelude.{filter}
 use Rattle.std.proofs.lemmas.Bool.{eq-eqb}
 use Rattle.reg_plan.specs.declared.arrow.Arrow.{Arrow}
 use Rattle.reg_plan.specs.Plans.{inward, level_at, greatest_tail, IsBetween}
@@ -29,5 +29,5 @@ levels_rise d is plan w made c =
     let b : IsBetween (length is) w = arrow_between_places d is w ((made.arrows.exactly w).0 c) in
     let at : level_at plan.levels w.to ≡ 1 + greatest_tail plan.levels (inward plan.arrows w.to) = made.levels w.to (omega (arith, b.from_one, b.forward)) (omega (arith, b.within, made.places)) in
     let le : level_at plan.levels w.from ≤ greatest_tail plan.levels (inward plan.arrows w.to)
-        = greatest_is_one plan.levels (inward plan.arrows w.to) w (in_filter (λ (y : Arrow). eqb y.to w.to) plan.arrows w (eq-eqb w.to w.to refl) (in_from plan.arrows w c)) in
+    = greatest_is_one plan.levels (inward plan.arrows w.to) w (in_filter (λ (y : Arrow). eqb y.to w.to) plan.arrows w (eq-eqb w.to w.to refl) (in_from plan.arrows w c)) in
     omega (arith, at, le)

@@ -1,10 +1,10 @@
 -- The arrows and openings of touches that rise by account and place.
-use Rattle.std.proofs.Common.{◌≡◌, ℕ, zero, suc, ◌+◌, ◌<◌, ◌≤◌, ◌⊎◌, inl, inr, Bool, true, false, cond, ◌&&◌, ◌||◌, eqb, List, [], ◌∷◌, ◌++◌, map, length, get_or, arith, tests, add-one, refl, sym, ap, subst, ◌∙◌}
+use Rattle.std.proofs.Common.{◌≡◌, ℕ, zero, suc, ◌+◌, ◌<◌, ◌≤◌, ◌⊎◌, inl, inr, Bool, true, false, cond, ◌&&◌, eqb, List, [], ◌∷◌, map, length, get_or, arith, tests, add-one, refl, sym, ap, subst, ◌∙◌}
 use Rattle.std.specs.List.{AllByRecursion, IsDistinct}
 use Rattle.std.specs.List.Sorted.{IsSorted}
 use Rattle.std.specs.Ordering.{ordering_then, nat_cmp, is_lt}
 use Rattle.std.specs.Cmp.{IsTotalOrder}
-use Rattle.std.proofs.lemmas.Bool.{cases_lt, eqb-true, eqb-false, eq-eqb, ne_eqb}
+use Rattle.std.proofs.lemmas.Bool.{cases_lt, eqb-true, eqb-false, eq-eqb}
 use Rattle.std.proofs.lemmas.Cmp.{then_total, on_total, nat_cmp_total}
 use Rattle.std.proofs.lemmas.List.Sorted.{sorted_far, ranks_by}
 use Rattle.std.proofs.lemmas.Map.Keys.{apart_from_distinct}
@@ -92,8 +92,10 @@ next_link : (p x : Touch) (xs : List Touch) (w : Arrow) → Rises (p ∷ x ∷ x
 next_link p x xs w r h at m = (e, same) where
   account : p.account ≡ w.account
   account = ap (λ (t : Touch). t.account) at
+
   place : p.place ≡ w.from
   place = ap (λ (t : Touch). t.place) at
+
   near : Below p x → In (touch w.account w.to) (x ∷ xs) → x.account ≡ w.account
   near (inl lt) (inl here) = ap (λ (t : Touch). t.account) here
   near (inl lt) (inr later) = elim (of_member (Below x) xs (touch w.account w.to) r.1.0 later) [
@@ -101,10 +103,13 @@ next_link p x xs w r h at m = (e, same) where
     | inr h' ↦ h'.0
   ]
   near (inr h') any = sym h'.0 ∙ account
+
   e' : x.account ≡ w.account
   e' = near r.0.0 m
+
   e : p.account ≡ x.account
   e = account ∙ sym e'
+
   ends : In (touch w.account w.to) (x ∷ xs) → x.place ≡ w.to
   ends (inl here) = ap (λ (t : Touch). t.place) here
   ends (inr later) =
@@ -114,6 +119,7 @@ next_link p x xs w r h at m = (e, same) where
         | inl before ↦ absurd (omega (arith, place, up, before))
         | inr after ↦ absurd (omega (arith, past, after))
       ]
+
   same : arrow_between p x ≡ w
   same = λ i. record { to = ends m i; from = place i; account = e' i }
 
@@ -127,9 +133,11 @@ each_link p (x ∷ xs) r w h = by h.tail h.head (each_link x xs r.1 w) where
   kept : (b : Bool) → In w (arrows_after x xs) → In w (cond b (arrow_between p x ∷ arrows_after x xs) (arrows_after x xs))
   kept true m = inr m
   kept false m = m
+
   first : (b : Bool) → b ≡ true → arrow_between p x ≡ w → In w (cond b (arrow_between p x ∷ arrows_after x xs) (arrows_after x xs))
   first true e same = inl same
   first false e same = absurd (cc)
+
   by : In (touch w.account w.from) (p ∷ x ∷ xs) → In (touch w.account w.to) (p ∷ x ∷ xs) → (IsLink (x ∷ xs) w → In w (arrows_after x xs)) → In w (arrows_after p (x ∷ xs))
   by (inl a) (inl b) more = absurd (omega (arith, h.forward, ap (λ (t : Touch). t.place) a, ap (λ (t : Touch). t.place) b))
   by (inl a) (inr b) more =
@@ -171,6 +179,7 @@ openings_are p [] r o m = absurd m
 openings_are p (x ∷ xs) r o m = by (eqb p.account x.account) refl m (openings_are x xs r.1 o) where
   lifted : p.account ≤ x.account → IsFirst (x ∷ xs) o × (x.account < o.account) → IsFirst (p ∷ x ∷ xs) o × (p.account < o.account)
   lifted le h = (first_later p (x ∷ xs) o (omega (arith, le, h.1)) h.0, omega (arith, le, h.1))
+
   by : (b : Bool) → eqb p.account x.account ≡ b → In o (cond b (openings_after x xs) (opening_at x ∷ openings_after x xs))
       → (In o (openings_after x xs) → IsFirst (x ∷ xs) o × (x.account < o.account)) → IsFirst (p ∷ x ∷ xs) o × (p.account < o.account)
   by true e n more = let le : p.account ≤ x.account = omega (arith, eqb-true p.account x.account e) in lifted le (more n)
@@ -200,6 +209,7 @@ each_opening p [] r o h apart = elim h.at [ inl at ↦ absurd (apart (ap (λ (t 
 each_opening p (x ∷ xs) r o h apart = by (eqb p.account x.account) refl (each_opening x xs r.1 o rest) where
   rest : IsFirst (x ∷ xs) o
   rest = without p (x ∷ xs) o h apart
+
   by : (b : Bool) → eqb p.account x.account ≡ b → ((x.account ≡ o.account → ⊥) → In o (openings_after x xs)) → In o (cond b (openings_after x xs) (opening_at x ∷ openings_after x xs))
   by true e more = more (λ same. apart (eqb-true p.account x.account e ∙ same))
   by false e more = here (eqb x.account o.account) refl more where

@@ -1,9 +1,9 @@
 -- Which numbers have come, by marks.
-use Rattle.std.proofs.Common.{◌≡◌, ℕ, zero, suc, ◌+◌, ◌-◌, ◌<◌, ◌≤◌, inl, inr, Bool, true, false, cond, ◌&&◌, ◌||◌, eqb, leb, List, [], ◌∷◌, ◌++◌, length, get_or, set, take, drop, drop-cons, arith, Option, Some, None, refl, sym, ap, subst, ◌∙◌}
-use Rattle.std.specs.Prelude.{find, not, All, filter}
-use Rattle.std.specs.List.{AllByRecursion, list_any}
+use Rattle.std.proofs.Common.{◌≡◌, ℕ, suc, ◌+◌, ◌-◌, ◌<◌, ◌≤◌, inl, inr, Bool, true, false, cond, ◌&&◌, ◌||◌, eqb, leb, List, [], ◌∷◌, ◌++◌, length, get_or, set, take, drop, drop-cons, arith, Some, None, refl, sym, ap, subst, ◌∙◌}
+use Rattle.std.specs.Prelude.{find, not, All}
+use Rattle.std.specs.List.{AllByRecursion}
 use Rattle.std.specs.Option.{option_map, option_or}
-use Rattle.std.proofs.lemmas.Bool.{cases_eq, eq-eqb, ne_eqb, leb-true, and_left, and_right}
+use Rattle.std.proofs.lemmas.Bool.{cases_eq, eq-eqb, ne_eqb, leb-true}
 use Rattle.std.proofs.lemmas.List.{get_or-set_same, get_or-set_other, length-set, take_more, length-take}
 use Rattle.std.proofs.lemmas.List.Elements.{All-filter, recursion_from_All}
 use Rattle.std.proofs.lemmas.List.Folds.{list_any_more}
@@ -36,9 +36,11 @@ marks_more order k x marks lt is le within old = record {
   or_true : (b : Bool) → (b || true) ≡ true
   or_true true = refl
   or_true false = refl
+
   or_false : (b : Bool) → (b || false) ≡ b
   or_false true = refl
   or_false false = refl
+
   added : (n : ℕ) → is_among (take (k + 1) order) n ≡ (is_among (take k order) n || eqb x n)
   added n = list_any_more (λ m. eqb m n) order k 0 lt ∙ ap (λ m. is_among (take k order) n || eqb m n) (sym is)
 
@@ -53,11 +55,13 @@ same_fault arrows before marks position number between are = by (leb 1 number &&
   both : (a b : Bool) → (a && b) ≡ true → (a ≡ true) × (b ≡ true)
   both true b h = (refl, h)
   both false b h = absurd cc
+
   tails : find (λ (w : Arrow). not (marked marks w.from)) (inward arrows number) ≡ find (λ (w : Arrow). not (is_among before w.from)) (inward arrows number)
   tails = find_agree (λ (w : Arrow). not (marked marks w.from)) (λ (w : Arrow). not (is_among before w.from)) (inward arrows number)
       (recursion_from_All (λ (w : Arrow). not (marked marks w.from) ≡ not (is_among before w.from)) (inward arrows number)
       (All-filter (λ (w : Arrow). eqb w.to number) (λ (w : Arrow). not (marked marks w.from) ≡ not (is_among before w.from)) arrows
       (λ k d lt. ap not (are.each (get_or arrows k d).from (between k d lt).from_one (omega (arith, (between k d lt).forward, (between k d lt).within))))))
+
   by : (b : Bool) → (leb 1 number && leb number (length marks)) ≡ b
       → cond b (cond (marked marks number) (Some (Repeated position)) (option_map waits (find (λ (w : Arrow). not (marked marks w.from)) (inward arrows number)))) (Some (Number position))
       ≡ cond b (cond (is_among before number) (Some (Repeated position)) (option_map waits (find (λ (w : Arrow). not (is_among before w.from)) (inward arrows number)))) (Some (Number position))
@@ -86,5 +90,6 @@ faults_more arrows n order k x lt is =
     ∙ ap (λ j. option_or (fault_at arrows n (is_among (take k order)) (k + 1) x) (first_fault_after arrows n (take (k + 1) order) (drop j order))) next where
       position : suc (length (take k order)) ≡ k + 1
       position = omega (arith, length-take k order, lt)
+
       next : suc k ≡ k + 1
       next = omega arith

@@ -1,7 +1,7 @@
 -- So many different numbers, from 1 to their count, are a permutation of these places.
-use Rattle.std.proofs.Common.{◌≡◌, ℕ, zero, suc, ◌+◌, ◌<◌, ◌≤◌, ◌⊎◌, inl, inr, Bool, true, false, cond, ◌||◌, eqb, List, [], ◌∷◌, ◌++◌, length, arith, refl, sym, ap, subst, ◌∙◌, length-append}
+use Rattle.std.proofs.Common.{◌≡◌, ℕ, zero, suc, ◌+◌, ◌<◌, ◌≤◌, ◌⊎◌, inl, inr, Bool, true, false, ◌||◌, eqb, List, [], ◌∷◌, ◌++◌, length, arith, refl, sym, ap, subst, ◌∙◌}
 use Rattle.std.specs.Prelude.{IsPermutation}
-use Rattle.std.specs.List.{AllByRecursion, IsDistinct, list_any}
+use Rattle.std.specs.List.{IsDistinct, list_any}
 use Rattle.std.specs.Cmp.{nat_eq_equiv}
 use Rattle.std.proofs.lemmas.Bool.{cases_eq, eqb-true, eqb-false, ne_eqb}
 use Rattle.std.proofs.lemmas.List.Sorted.{IsPermutation-refl, IsPermutation-sym, IsPermutation-trans, IsPermutation-cons, IsPermutation-to_front, IsPermutation-middle, length_permutation}
@@ -89,18 +89,21 @@ all_places (suc m) xs size distinct within = by (split (suc m) xs) (all_places m
       let apart : IsDistinct eqb (suc m ∷ (s.front ++ s.back)) = IsDistinct-IsPermutation eqb eqb-sym xs (suc m ∷ (s.front ++ s.back)) moved distinct in
       let rest : IsPermutation (count_up 1 m) (s.front ++ s.back) = more (s.front ++ s.back) (count moved) (IsDistinct-tail eqb (suc m) (s.front ++ s.back) apart) (λ x n. (low x n, high apart x n)) in
       let counted : IsPermutation (count_up 1 (suc m)) (suc m ∷ count_up 1 m) =
-          subst (λ zs. IsPermutation zs (suc m ∷ count_up 1 m)) (sym (count-last 1 m ∙ ap (λ n. count_up 1 m ++ n ∷ []) (omega arith))) (IsPermutation-to_front (count_up 1 m) (suc m)) in
+      subst (λ zs. IsPermutation zs (suc m ∷ count_up 1 m)) (sym (count-last 1 m ∙ ap (λ n. count_up 1 m ++ n ∷ []) (omega arith))) (IsPermutation-to_front (count_up 1 m) (suc m)) in
       IsPermutation-trans (count_up 1 (suc m)) (suc m ∷ count_up 1 m) xs counted
       (IsPermutation-trans (suc m ∷ count_up 1 m) (suc m ∷ (s.front ++ s.back)) xs (IsPermutation-cons (suc m) (count_up 1 m) (s.front ++ s.back) rest) (IsPermutation-sym xs (suc m ∷ (s.front ++ s.back)) moved)) where
         count : IsPermutation xs (suc m ∷ (s.front ++ s.back)) → length (s.front ++ s.back) ≡ m
         count moved = omega (arith, length_permutation xs (suc m ∷ (s.front ++ s.back)) moved, size)
+
         there : (x : ℕ) → In x (s.front ++ s.back) → In x xs
         there x n = subst (In x) (sym s.is) (elim (in_either s.front s.back x n) [
           | inl a ↦ in_front s.front (suc m ∷ s.back) x a
           | inr b ↦ in_back s.front (suc m ∷ s.back) x (inr b)
         ])
+
         low : (x : ℕ) → In x (s.front ++ s.back) → 1 ≤ x
         low x n = (within x (there x n)).0
+
         high : IsDistinct eqb (suc m ∷ (s.front ++ s.back)) → (x : ℕ) → In x (s.front ++ s.back) → x ≤ m
         high apart x n =
             let ne : eqb (suc m) x ≡ false = of_member (λ y. eqb (suc m) y ≡ false) (s.front ++ s.back) x (IsDistinct-head eqb (suc m) (s.front ++ s.back) apart) n in

@@ -1,11 +1,11 @@
 -- Levels, raised arrow by arrow in the order of their heads.
-use Rattle.std.proofs.Common.{◌≡◌, ℕ, zero, suc, ◌+◌, ◌-◌, ◌<◌, ◌≤◌, inl, inr, Bool, true, false, cond, eqb, max, List, [], ◌∷◌, ◌++◌, length, get_or, set, take, arith, refl, sym, ap, subst, ◌∙◌}
+use Rattle.std.proofs.Common.{◌≡◌, ℕ, ◌+◌, ◌-◌, ◌<◌, ◌≤◌, inl, inr, Bool, cond, eqb, max, List, [], ◌∷◌, ◌++◌, length, get_or, set, take, arith, refl, sym, ap, subst, ◌∙◌}
 use Rattle.std.specs.Prelude.{filter, All}
 use Rattle.std.specs.List.{AllByRecursion}
 use Rattle.std.specs.List.Sorted.{IsNonDecreasingBy}
-use Rattle.std.proofs.lemmas.Bool.{cases_lt, cases_eq, eqb-true, eqb-false, eq-eqb, ne_eqb, cond_both}
+use Rattle.std.proofs.lemmas.Bool.{cases_lt, cases_eq, eq-eqb, ne_eqb, cond_both}
 use Rattle.std.proofs.lemmas.List.{length-set, get_or-set_same, get_or-set_other, get_or_past, length-take, get_or-take, append-nil}
-use Rattle.std.proofs.lemmas.List.Elements.{filter_more, recursion_from_All, All-take, All-from_get_or}
+use Rattle.std.proofs.lemmas.List.Elements.{filter_more, recursion_from_All, All-from_get_or}
 use Rattle.reg_plan.specs.declared.arrow.Arrow.{Arrow}
 use Rattle.reg_plan.specs.Plans.{inward, level_at, greatest_tail, AreLevels, IsBetween}
 
@@ -84,7 +84,7 @@ module _ (arrows : List Arrow) (k : ℕ) (w : Arrow) (levels : List ℕ) (here :
   at_head =
       let was : level_at levels w.to ≡ 1 + greatest_tail levels (inward (take k arrows) w.to) = old.levels_are w.to (omega (arith, fits.from_one, fits.forward)) fits.within in
       let more : greatest_tail now (inward (take (k + 1) arrows) w.to) ≡ max (greatest_tail now (inward (take k arrows) w.to)) (level_at now w.from)
-          = ap (greatest_tail now) (grown w.to ∙ ap (λ b. inward (take k arrows) w.to ++ cond b (w ∷ []) []) (eq-eqb w.to w.to refl)) ∙ greatest-append now (inward (take k arrows) w.to) w in
+      = ap (greatest_tail now) (grown w.to ∙ ap (λ b. inward (take k arrows) w.to ++ cond b (w ∷ []) []) (eq-eqb w.to w.to refl)) ∙ greatest-append now (inward (take k arrows) w.to) w in
       omega (arith, head_level, was, more, same_greatest w.to, tail_level)
 
   elsewhere : (p : ℕ) → 1 ≤ p → p ≤ length levels → (p ≡ w.to → ⊥) → level_at now p ≡ 1 + greatest_tail now (inward (take (k + 1) arrows) p)

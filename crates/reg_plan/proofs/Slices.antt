@@ -1,7 +1,6 @@
 -- The arrows of one head, or of one tail, are a slice of arrows in that order.
-use Rattle.std.proofs.Common.{◌≡◌, ℕ, zero, suc, ◌+◌, ◌-◌, ◌<◌, ◌≤◌, inl, inr, Bool, true, false, cond, ◌&&◌, eqb, ltb, leb, List, [], ◌∷◌, length, get_or, take, drop, arith, tests, refl, sym, ap, subst, ◌∙◌, length-drop}
+use Rattle.std.proofs.Common.{◌≡◌, ℕ, zero, suc, ◌+◌, ◌-◌, ◌<◌, ◌≤◌, inl, inr, Bool, true, false, cond, ◌&&◌, eqb, ltb, leb, List, [], ◌∷◌, length, get_or, take, drop, arith, tests, refl, ap, ◌∙◌, length-drop}
 use Rattle.std.specs.Prelude.{filter, not}
-use Rattle.std.specs.List.{AllWithin}
 use Rattle.std.specs.List.Sorted.{IsPartitionPoint, IsSorted, IsNonDecreasingBy}
 use Rattle.std.specs.Ordering.{ordering_then, nat_cmp, is_lt}
 use Rattle.std.proofs.lemmas.Bool.{cases_lt, ne_eqb, eq-eqb, ltb-true, ltb-false, leb-true, leb-false}
@@ -33,8 +32,8 @@ with_key n v [] (suc f) count le le' lower upper = absurd (omega arith)
 with_key n v (x ∷ xs) (suc f) count le le' lower upper =
     ap (λ b. cond b (x ∷ filter (λ y. eqb (n y) v) xs) (filter (λ y. eqb (n y) v) xs)) (ne_eqb (n x) v (λ e. omega (arith, e, ltb-true (n x) v (lower.0 0 x (omega arith) (omega arith)))))
     ∙ with_key n v xs f count (omega arith) le'
-      (λ k d lo lt. lower.0 (suc k) d (omega arith) (omega arith), λ k d lo lt. lower.1 (suc k) d (omega arith) (omega arith))
-      upper
+    (λ k d lo lt. lower.0 (suc k) d (omega arith) (omega arith), λ k d lo lt. lower.1 (suc k) d (omega arith) (omega arith))
+    upper
 
 pub rest_is : {X : Type 0} (xs : List X) (first : ℕ) → first ≤ length xs → take (length xs - first) (drop first xs) ≡ drop first xs
 rest_is xs first le = take_all _ _ (omega (arith, length-drop first xs))

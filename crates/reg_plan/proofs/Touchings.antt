@@ -1,5 +1,5 @@
 -- The touches of a batch: one for each instruction and each account that it touches.
-use Rattle.std.proofs.Common.{◌≡◌, ℕ, zero, suc, ◌+◌, ◌<◌, ◌≤◌, ◌⊎◌, inl, inr, Bool, true, false, cond, ◌&&◌, ◌||◌, eqb, List, [], ◌∷◌, ◌++◌, map, length, arith, refl, sym, ap, subst, ◌∙◌}
+use Rattle.std.proofs.Common.{◌≡◌, ℕ, zero, suc, ◌+◌, ◌<◌, ◌⊎◌, inl, inr, Bool, true, false, ◌&&◌, ◌||◌, eqb, List, [], ◌∷◌, ◌++◌, arith, refl, sym, ap, subst, ◌∙◌}
 use Rattle.std.specs.List.{AllByRecursion, IsDistinct}
 use Rattle.std.proofs.lemmas.Bool.{eqb-true, eqb-false, eq-eqb, ne_eqb}
 use Rattle.reg_base.specs.declared.instruction.Instruction.{Instruction}
@@ -9,7 +9,7 @@ use Rattle.reg_base.specs.Touches.{touches_at}
 use Rattle.reg_plan.specs.declared.arrow.Touch.{Touch}
 use Rattle.reg_plan.specs.Arrows.{touches_place}
 use Rattle.reg_plan.specs.TouchList.{touched_at, touches_from, same_touch}
-use Rattle.reg_plan.proofs.Members.{In, of_member, of_each_member, in_front, in_back, in_either}
+use Rattle.reg_plan.proofs.Members.{In, of_each_member, in_front, in_back, in_either}
 use Rattle.reg_plan.proofs.Links.{touch}
 
 among_of : (p : ℕ) (accounts : List ℕ) (t : Touch) → In t (touched_at p accounts) → (t.place ≡ p) × (is_among accounts t.account ≡ true)
@@ -68,6 +68,7 @@ distinct_part p (x ∷ xs) rest d dr late = (of_each_member (λ t. same_touch (t
   other_place : (t : Touch) → p < t.place → (b : Bool) → (b && eqb p t.place) ≡ false
   other_place t lt true = ne_eqb p t.place (λ e. omega (arith, e, lt))
   other_place t lt false = refl
+
   other_account : (t : Touch) → In t (touched_at p xs) → eqb x t.account ≡ false
   other_account t m = ne_eqb x t.account (λ e. never xs d.0 (among_of p xs t m).1 e) where
     never : (ys : List ℕ) → AllByRecursion (λ y. eqb x y ≡ false) ys → is_among ys t.account ≡ true → x ≡ t.account → ⊥
@@ -76,6 +77,7 @@ distinct_part p (x ∷ xs) rest d dr late = (of_each_member (λ t. same_touch (t
       by : (b : Bool) → eqb y t.account ≡ b → (b || is_among ys t.account) ≡ true → (is_among ys t.account ≡ true → ⊥) → ⊥
       by true same h more = eqb-false x y all.0 (e ∙ sym (eqb-true y t.account same))
       by false differs h more = more h
+
   apart : (t : Touch) → In t (touched_at p xs ++ rest) → same_touch (touch x p) t ≡ false
   apart t m = elim (in_either (touched_at p xs) rest t m) [
     | inl here ↦ ap (λ b. b && eqb p t.place) (other_account t here)

@@ -1,5 +1,5 @@
 -- A plan as plain data: arrows, openings and levels, and what holds of them.
-use Rattle.std.specs.Prelude.{◌≡◌, ℕ, suc, ◌+◌, ◌-◌, ◌<◌, ◌≤◌, Bool, ◌==◌, max, List, [], ◌∷◌, length, slice_index, map, filter, Contains, All, ◌↔◌}
+use Rattle.std.specs.Prelude.{◌≡◌, ℕ, ◌+◌, ◌-◌, ◌<◌, ◌≤◌, ◌==◌, max, List, [], ◌∷◌, length, slice_index, map, filter, Contains, All, ◌↔◌}
 use Rattle.std.specs.List.Sorted.{IsNonDecreasingBy}
 use Rattle.reg_base.specs.declared.limits.TheConstants.{MOST_INSTRUCTIONS}
 use Rattle.reg_base.specs.declared.instruction.Instruction.{Instruction}
@@ -7,7 +7,7 @@ use Rattle.reg_base.specs.Directory.{DirectoryValue}
 use Rattle.reg_base.specs.Rising.{IsRising}
 use Rattle.reg_plan.specs.declared.arrow.Arrow.{Arrow}
 use Rattle.reg_plan.specs.declared.arrow.Opening.{Opening}
-use Rattle.reg_plan.specs.Arrows.{IsArrow, IsOpening, AreArrows}
+use Rattle.reg_plan.specs.Arrows.{IsOpening, AreArrows}
 
 -- the arrows in the order of head, tail and account; the openings; the level of each place
 pub record PlanValue : Type 0 where

@@ -1,6 +1,7 @@
 //! The plan of a batch.
 
 ghost use Rattle.std.specs.Prelude.{◌≡◌, ◌≤◌, None, IfOk, IfErr, OnOk, length};
+ghost use Rattle.reg_base.specs.declared.limits.TheConstants.{MOST_INSTRUCTIONS};
 
 use crate::arrow::{Arrow, Opening};
 use crate::arrows::{find_openings, sorted_arrows, sorted_by_tail, with_head, with_tail};
@@ -68,6 +69,8 @@ impl Plan {
     }
 
     /// The arrows that lead to a place, sorted by `from` and `account`. The place is counted from 1.
+    ///
+    /// The time is logarithmic in the arrows.
     pub fn inward(&self, place: u32) -> &[Arrow]
         requires from_one { 1 ≤ place }
         requires within { place ≤ length self.now.levels }
@@ -77,6 +80,8 @@ impl Plan {
     }
 
     /// The arrows that lead from a place, sorted by `to` and `account`. The place is counted from 1.
+    ///
+    /// The time is logarithmic in the arrows.
     pub fn outward(&self, place: u32) -> &[Arrow]
         requires from_one { 1 ≤ place }
         requires within { place ≤ length self.now.levels }
@@ -92,8 +97,7 @@ impl Plan {
         &self.openings
     }
 
-    /// The level of each place: 1 without an inward arrow, else 1 more than the greatest level of a tail, at most
-    /// 16,384.
+    /// The level of each place: 1 without an inward arrow, else 1 more than the greatest level of a tail.
     pub fn levels(&self) -> &[u32]
         ensures { result.now ≡ self.now.levels }
     {
@@ -102,7 +106,8 @@ impl Plan {
 
     /// How many places there are, at most 16,384.
     pub fn len(&self) -> u32
-        ensures { result ≡ length self.now.levels }
+        ensures value { result ≡ length self.now.levels }
+        ensures few { result ≤ MOST_INSTRUCTIONS }
     {
         self.levels.len() as u32
     }

@@ -34,7 +34,8 @@ fn find_touches(
     let mut touches = Vec::new(alloc);
     for (index, instruction) in instructions.iter().enumerate() {
         let place = index as u32 + 1;
-        push_touches(&mut touches, place, instruction.touches(directory).as_slice())?;
+        let touched = instruction.touches(directory);
+        push_touches(&mut touches, place, touched.as_slice())?;
     }
     Ok(touches)
 }

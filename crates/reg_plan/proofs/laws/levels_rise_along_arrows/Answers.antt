@@ -1,5 +1,4 @@
 use Rattle.reg_plan.proofs.LevelFacts.{levels_rise}
-use Rattle.reg_plan.proofs.Permutations.{all_places}
 use Rattle.reg_plan.proofs.laws.levels_rise_along_arrows.Goals as goal
 
 pub returns : goal.returns

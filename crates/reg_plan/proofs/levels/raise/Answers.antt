@@ -1,6 +1,6 @@
-use Rattle.std.proofs.Common.{rules, ◌≡◌, ℕ, ◌+◌, ◌-◌, ◌<◌, ◌≤◌, length, max, set, take, ap, subst, sym, ◌∙◌}
+use Rattle.std.proofs.Common.{◌+◌, ◌-◌, length, set, take, subst, sym}
 use Rattle.std.specs.Prelude.{All}
-use Rattle.reg_plan.specs.Plans.{IsBetween, level_at}
+use Rattle.reg_plan.specs.Plans.{IsBetween}
 use Rattle.reg_plan.proofs.Raising.{AreRaised, raised_none, raised_more}
 use Rattle.reg_plan.proofs.levels.raise.Goals as goal
 

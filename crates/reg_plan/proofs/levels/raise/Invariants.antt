@@ -1,5 +1,4 @@
-use Rattle.std.proofs.Common.{ℕ, ◌≤◌, take}
-use Rattle.reg_plan.specs.Plans.{AreLevels, level_at}
+use Rattle.std.proofs.Common.{take}
 use Rattle.reg_plan.proofs.Raising.{AreRaised}
 use Rattle.reg_plan.proofs.levels.raise.Given as goal
 
