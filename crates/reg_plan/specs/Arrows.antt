@@ -35,10 +35,6 @@ arrow_order x y = ordering_then (nat_cmp x.to y.to) (ordering_then (nat_cmp x.fr
 abbrev pub same_arrow : Arrow → Arrow → Bool
 same_arrow x y = (x.account == y.account) && ((x.from == y.from) && (x.to == y.to))
 
--- the order of openings: by account
-abbrev pub opening_order : Opening → Opening → Ordering
-opening_order x y = nat_cmp x.account y.account
-
 -- these are the arrows of the batch, sorted by head, tail and account, none twice
 pub record AreArrows (directory : DirectoryValue) (is : List Instruction) (arrows : List Arrow) : Type 0 where
   pub exactly : (arrow : Arrow) → Contains arrows arrow ↔ IsArrow directory is arrow
