@@ -49,6 +49,13 @@ impl Account {
         Ok(Account { parts })
     }
 
+    /// Every account is within its limits. Does nothing: whoever needs the fact calls it.
+    pub fn is_within_limits(&self)
+        ensures { IsAccount self.now }
+    {
+        let _ = &self.parts;
+    }
+
     /// Its number.
     pub fn number(&self) -> AccountNo
         ensures { result ≡ self.now.number }
@@ -135,7 +142,7 @@ impl Account {
     /// An account that is equal in all its parts.
     ///
     /// # Errors
-    /// `NoMemory` where a growth was refused. An account without lists needs none yet.
+    /// `NoMemory` if there is not enough memory. An account without lists needs none yet.
     pub fn copy(&self, _alloc: Global) -> Result<Account, NoMemory>
         ensures { IfOk result (λ a. a ≡ self.now) }
     {

@@ -23,14 +23,6 @@ first act = (movement_of act).first
 abbrev pub shares : Act → List Share
 shares act = (movement_of act).shares
 
--- the kind of the allowances that the act moves
-abbrev pub kind_of : Act → AllowanceKind
-kind_of act = (movement_of act).kind
-
--- how many allowances leave the first account
-abbrev pub leaves : Act → ℕ
-leaves act = (movement_of act).leaves
-
 -- the amounts that the act names
 abbrev pub amounts : Act → List ℕ
 amounts (Transfer from to kind amount) = amount ∷ []

@@ -22,7 +22,7 @@ each_once (x ∷ xs) = x ∷ filter (λ y. not (y == x)) (each_once xs)
 abbrev pub is_among : List ℕ → ℕ → Bool
 is_among numbers a = list_any (λ n. n == a) numbers
 
--- the accounts that an instruction with this act reads or changes: none where one that has to be known is not
+-- the accounts that an instruction with this act reads or changes: none if one that has to be known is not
 abbrev pub footprint : DirectoryValue → Act → List ℕ
 footprint directory act = if all_known directory act then each_once (parties act) else []
 

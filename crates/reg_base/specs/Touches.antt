@@ -18,7 +18,7 @@ is_touched directory is a = list_any (λ i. touches directory i a) is
 abbrev pub touches_at : DirectoryValue → List Instruction → ℕ → ℕ → Bool
 touches_at directory is a k = option_map_or (λ i. touches directory i a) (slice_get is k) false
 
--- the place, counted from 1, of the last of the first j instructions that touches the account, or 0 where none does
+-- the place, counted from 1, of the last of the first j instructions that touches the account, or 0 if none does
 abbrev pub last_toucher : DirectoryValue → List Instruction → ℕ → ℕ → ℕ
 last_toucher directory is a zero = 0
 last_toucher directory is a (suc k) = if touches_at directory is a k then suc k else last_toucher directory is a k

@@ -66,7 +66,7 @@ impl Act {
         }
     }
 
-    // The ranges of the numbers in the act, which nothing but their readers tells a proof.
+    // Reads each number in the act, so that a proof knows its range.
     pub(crate) fn know_numbers(&self)
         ensures accounts { All IsAccountNo (parties self.now) }
         ensures amounts { All (λ n. n < 2 ^ 64) (amounts self.now) }

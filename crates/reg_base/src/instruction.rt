@@ -13,7 +13,7 @@ use crate::footprint::Footprint;
 use crate::movement::{Movement, Share};
 use crate::numbers::{AccountNo, Day, UserNo};
 
-/// A due instruction: proposed by one representative, and approved by another where it needs that.
+/// A due instruction: proposed by one representative, and approved by another if it needs that.
 #[derive(Clone, Copy, Debug, PartialEq, Eq)]
 pub struct Instruction {
     /// The day on which it was proposed.
@@ -68,8 +68,7 @@ fn knows_each(directory: &Directory, shares: &[Share]) -> bool
         .all(|share| directory.find(share.to).is_some())
 }
 
-// The ranges of the numbers in these instructions, which nothing but their readers tells a proof.
-
+// Reads each number in these instructions, so that a proof knows its range.
 pub(crate) fn know_instructions(instructions: &[Instruction])
     ensures { All IsInstruction instructions.now }
 {

@@ -1,7 +1,7 @@
 //! What a settlement day is made of: numbers within their limits, the working calendar, the rules,
 //! the directory of accounts, and the batch of due instructions with the accounts that each touches.
 //!
-//! A value of these types is within its limits. Nothing here takes memory but [`Directory::insert`], and a
+//! A value of these types is within its limits. Nothing here takes memory except [`Directory::insert`], and a
 //! constructor that refuses drops what it was given.
 #![tactic(auto)]
 

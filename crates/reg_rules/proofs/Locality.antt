@@ -12,7 +12,7 @@ use Rattle.reg_base.specs.declared.instruction.Instruction.{Instruction}
 use Rattle.reg_base.specs.declared.refusals.Refusal.{Refusal}
 use Rattle.reg_base.specs.declared.refusals.Refusal.TheVariants.{UnknownAccount}
 use Rattle.reg_base.specs.Refusals.{checks}
-use Rattle.reg_base.specs.Acts.{first, shares, kind_of, leaves, parties}
+use Rattle.reg_base.specs.Acts.{movement_of, first, shares, parties}
 use Rattle.reg_base.specs.Footprint.{all_known, each_once, footprint}
 use Rattle.reg_account.specs.Account.{AccountValue, credited, debited}
 use Rattle.reg_rules.specs.declared.reply.HeldNow.{HeldNow}
@@ -112,9 +112,9 @@ step-local c s t n i agree =
 -- an act leaves an account that has no part in it
 no-part : (c : Setting) (n : ℕ) (act : Act) (v : AccountValue) → AllByRecursion (λ a. eqb a v.number ≡ false) (parties act) → changed_by c n act v ≡ v
 no-part c n act v others =
-    ap (λ b. with_changes v (cond b (debited v (kind_of act) (leaves act)) (given (kind_of act) (shares act) v)))
+    ap (λ b. with_changes v (cond b (debited v (movement_of act).kind (movement_of act).leaves) (given (movement_of act).kind (shares act) v)))
     (ne_eqb v.number (first act) (λ same. eqb-false (first act) v.number others.0 (sym same)))
-    ∙ ap (λ o. with_changes v (option_map_or (λ share. credited v (kind_of act) share.amount) o v)) (no-share (shares act) others.1) where
+    ∙ ap (λ o. with_changes v (option_map_or (λ share. credited v (movement_of act).kind share.amount) o v)) (no-share (shares act) others.1) where
       no-share : (shared : List Share) → AllByRecursion (λ a. eqb a v.number ≡ false) (map (λ share. share.to) shared) → find (λ share. eqb share.to v.number) shared ≡ None
       no-share [] all = refl
       no-share (x ∷ xs) all = ap (λ b. cond b (Some x) (find (λ share. eqb share.to v.number) xs)) all.0 ∙ no-share xs all.1

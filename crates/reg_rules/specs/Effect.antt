@@ -23,7 +23,7 @@ given kind shares v = option_map_or (λ share. credited v kind share.amount) (sh
 abbrev pub moved : Movement → AccountValue → AccountValue
 moved m v = if v.number == m.first then debited v m.kind m.leaves else given m.kind m.shares v
 
--- an account, but for what acts change that of another: no act changes more of an account than this
+-- the first account, with all that acts change taken from the second: no act changes more of an account than this
 abbrev pub with_changes : AccountValue → AccountValue → AccountValue
 with_changes v w = record v { held = w.held }
 

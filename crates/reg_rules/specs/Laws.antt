@@ -40,11 +40,11 @@ pub record Constants : Type 0 where
 abbrev pub constants_of : AccountValue → Constants
 constants_of v = record { number = v.number; kind = v.kind; holder = v.holder; outside = v.outside; waiver = v.waiver; correction = v.correction }
 
--- what an account is but for what it holds
+-- an account with its holdings left out
 abbrev pub set_aside : AccountValue → AccountValue
 set_aside v = record v { held = record { general = 0; aviation = 0 } }
 
--- the account of this number but for what it holds
+-- the account of this number, with its holdings left out
 abbrev pub account_aside : State → ℕ → Option AccountValue
 account_aside s a = option_map set_aside (account s a)
 
@@ -52,7 +52,7 @@ account_aside s a = option_map set_aside (account s a)
 abbrev pub RefusalIsLocal : Type 0
 RefusalIsLocal = (c : Setting) (s t : State) (i : Instruction) → AgreeOn (footprint c.directory i.act) s t → refusal c s i ≡ refusal c t i
 
--- where two states agree on the accounts that the instruction touches, its reply is one, and they agree afterwards wherever they did before
+-- if two states agree on the accounts that the instruction touches, it gets the same reply in both, and they agree afterwards wherever they agreed before
 abbrev pub StepIsLocal : Type 0
 StepIsLocal = (c : Setting) (s t : State) (number : ℕ) (i : Instruction) → AgreeOn (footprint c.directory i.act) s t
     → (reply_to c s number i ≡ reply_to c t number i)
@@ -77,7 +77,7 @@ abbrev pub RefusedChangesNothing : Type 0
 RefusedChangesNothing = (c : Setting) (s : State) (number : ℕ) (i : Instruction) (q : Refusal)
     → refusal c s i ≡ Some q → step c s number i ≡ (s, Refused q)
 
--- the second state is the first but for this amount, which has moved from one account to another
+-- the second state is the first, except that this amount has moved from one account to another
 pub record IsMoved (s t : State) (from to : ℕ) (kind : AllowanceKind) (amount : ℕ) : Type 0 where
   pub enough : amount ≤ held s from kind
   pub lowered : held t from kind ≡ held s from kind - amount
@@ -100,7 +100,7 @@ pub record ActLaws : Type 0 where
 abbrev pub SameState : Type 0
 SameState = (s t : State) → IsDistinct nat_eq (numbers s) → numbers s ≡ numbers t → AgreeOn (numbers s) s t → s ≡ t
 
--- where each number stands once, accounts within their limits stay within them
+-- if each number stands once, accounts within their limits stay within them
 abbrev pub LimitsStay : Type 0
 LimitsStay = (c : Setting) (s : State) (number : ℕ) (i : Instruction)
     → IsDistinct nat_eq (numbers s) → All IsAccount s → All IsAccount (after_step c s number i)

@@ -26,7 +26,7 @@ numbers s = map (λ v. v.number) s
 abbrev pub account : State → ℕ → Option AccountValue
 account s a = find (λ v. v.number == a) s
 
--- how many allowances of a kind the account holds, 0 where it is not there
+-- how many allowances of a kind the account holds, 0 if it is not there
 abbrev pub held : State → ℕ → AllowanceKind → ℕ
 held s a kind = option_map_or (λ v. held_by v kind) (account s a) 0
 

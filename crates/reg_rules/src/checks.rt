@@ -54,7 +54,7 @@ const CHECKS: [Refusal; 28] = [
     Refusal::EmissionsMissing,
 ];
 
-/// The first check that the instruction fails, or `None` where it is to be carried out. Takes no memory.
+/// The first check that the instruction fails, or `None` if it is to be carried out. Takes no memory.
 ///
 /// `accounts` are those that the instruction touches, in that order.
 pub fn decide(

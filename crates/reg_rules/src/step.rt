@@ -24,8 +24,7 @@ use std::alloc::Global;
 /// `accounts` are those that the instruction touches, in that order.
 ///
 /// # Errors
-/// `NoMemory` where the room for the closing holdings was refused; the accounts are unchanged, and no refusal
-/// was due.
+/// `NoMemory` if there is no room for the closing holdings; the accounts are unchanged, and no refusal was due.
 pub fn execute(
     alloc: Global,
     rules: &Rules,
