@@ -1,0 +1,11 @@
+pub mod Members
+pub mod Links
+pub mod Touchings
+pub mod Slices
+pub mod Raising
+pub mod Results
+pub mod Marking
+pub mod LevelFacts
+pub mod Permutations
+pub mod LegalOrders
+pub mod LastTouchers

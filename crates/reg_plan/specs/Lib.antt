@@ -1,0 +1,5 @@
+pub mod Arrows
+pub mod TouchList
+pub mod Plans
+pub mod Orders
+pub mod Laws

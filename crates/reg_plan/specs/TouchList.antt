@@ -1,0 +1,64 @@
+-- How arrows and openings are found: from a list of accounts and the places that touch them, sorted by account and
+-- place. Private functions are stated in these.
+use Rattle.std.specs.Prelude.{ℕ, ◌+◌, Bool, ◌&&◌, ◌==◌, List, [], ◌∷◌, ◌++◌, map, if◌then◌else◌}
+use Rattle.std.specs.List.Sorted.{IsPermutation, IsSorted}
+use Rattle.std.specs.Ordering.{ordering_then, nat_cmp}
+use Rattle.std.specs.declared.cmp.Ordering.{Ordering}
+use Rattle.reg_base.specs.declared.instruction.Instruction.{Instruction}
+use Rattle.reg_base.specs.Directory.{DirectoryValue}
+use Rattle.reg_base.specs.Footprint.{footprint}
+use Rattle.reg_plan.specs.declared.arrow.Arrow.{Arrow}
+use Rattle.reg_plan.specs.declared.arrow.Opening.{Opening}
+use Rattle.reg_plan.specs.declared.arrow.Touch.{Touch}
+use Rattle.reg_plan.specs.Arrows.{arrow_order}
+
+-- the instruction at this place touches these accounts
+abbrev pub touched_at : ℕ → List ℕ → List Touch
+touched_at place accounts = map (λ a. record { account = a; place = place }) accounts
+
+-- the touches of these instructions, the first of which stands at this place
+abbrev pub touches_from : DirectoryValue → ℕ → List Instruction → List Touch
+touches_from directory place [] = []
+touches_from directory place (i ∷ is) = touched_at place (footprint directory i.act) ++ touches_from directory (place + 1) is
+
+-- by account, and then by place
+abbrev pub touch_cmp : Touch → Touch → Ordering
+touch_cmp x y = ordering_then (nat_cmp x.account y.account) (nat_cmp x.place y.place)
+
+-- the two touches are one
+abbrev pub same_touch : Touch → Touch → Bool
+same_touch x y = (x.account == y.account) && (x.place == y.place)
+
+abbrev pub arrow_between : Touch → Touch → Arrow
+arrow_between x y = record { to = y.place; from = x.place; account = y.account }
+
+abbrev pub opening_at : Touch → Opening
+opening_at x = record { account = x.account; first = x.place }
+
+-- the arrows of touches after one more
+abbrev pub arrows_after : Touch → List Touch → List Arrow
+arrows_after before [] = []
+arrows_after before (x ∷ xs) = if before.account == x.account then arrow_between before x ∷ arrows_after x xs else arrows_after x xs
+
+abbrev pub arrows_of : List Touch → List Arrow
+arrows_of [] = []
+arrows_of (x ∷ xs) = arrows_after x xs
+
+-- the openings of touches after one more
+abbrev pub openings_after : Touch → List Touch → List Opening
+openings_after before [] = []
+openings_after before (x ∷ xs) = if before.account == x.account then openings_after x xs else opening_at x ∷ openings_after x xs
+
+abbrev pub openings_of : List Touch → List Opening
+openings_of [] = []
+openings_of (x ∷ xs) = opening_at x ∷ openings_after x xs
+
+-- these are the touches of the batch, sorted by account and place
+pub record AreTouches (directory : DirectoryValue) (is : List Instruction) (touches : List Touch) : Type 0 where
+  pub each : IsPermutation (touches_from directory 1 is) touches
+  pub sorted : IsSorted touch_cmp touches
+
+-- these are the arrows of touches, sorted by head, tail and account
+pub record AreSorted (touches : List Touch) (arrows : List Arrow) : Type 0 where
+  pub each : IsPermutation (arrows_of touches) arrows
+  pub sorted : IsSorted arrow_order arrows

@@ -1,0 +1,135 @@
+//! The plan of a batch.
+
+ghost use Rattle.std.specs.Prelude.{◌≡◌, ◌≤◌, None, IfOk, IfErr, OnOk, length};
+ghost use Rattle.reg_base.specs.declared.limits.TheConstants.{MOST_INSTRUCTIONS};
+
+use crate::arrow::{Arrow, Opening};
+use crate::arrows::{find_openings, sorted_arrows, sorted_by_tail, with_head, with_tail};
+use crate::levels::find_levels;
+use crate::order::{OrderFault, check_numbers};
+use crate::touches::sorted_touches;
+use reg_base::laws::each_footprint_is_sound;
+use reg_base::{Batch, Directory, NoMemory};
+use std::alloc::Global;
+use std::marker::Model;
+
+/// Which instructions of a batch have to wait for which others. A clause sees the plan as plain data.
+#[derive(Debug, Drop)]
+pub struct Plan {
+    arrows: Vec<Arrow>,
+    by_tail: Vec<Arrow>,
+    openings: Vec<Opening>,
+    levels: Vec<u32>,
+}
+
+impl Model for Plan {
+    ghost use Rattle.reg_plan.specs.Plans.{PlanValue, IsKept};
+
+    ghost Value = { PlanValue };
+
+    ghost view = { λ p. record { arrows = p.arrows.items; openings = p.openings.items; levels = p.levels.items } };
+
+    ghost invariant = { λ p. IsKept p.arrows.items p.by_tail.items p.levels.items };
+}
+
+impl Plan {
+    ghost use Rattle.reg_plan.specs.Plans.{IsPlan, inward, outward};
+    ghost use Rattle.reg_plan.specs.Orders.{first_order_fault, IsOrderFault};
+
+    /// The plan of these instructions over the accounts of this directory.
+    ///
+    /// The time is linear in the instructions, sorting apart.
+    ///
+    /// # Errors
+    /// `NoMemory` where a growth was refused.
+    pub fn of(alloc: Global, batch: &Batch, directory: &Directory) -> Result<Plan, NoMemory>
+        ensures { IfOk result (λ plan. IsPlan directory.now batch.now.instructions plan) }
+    {
+        // No instruction touches an account twice, so no arrow stands twice.
+        each_footprint_is_sound();
+        let places = batch.len() as usize;
+        let touches = sorted_touches(alloc, directory, batch.instructions())?;
+        let openings = find_openings(alloc, &touches)?;
+        let arrows = sorted_arrows(alloc, &touches)?;
+        let by_tail = sorted_by_tail(alloc, &arrows)?;
+        let levels = find_levels(alloc, &arrows, places)?;
+        Ok(Plan {
+            arrows,
+            by_tail,
+            openings,
+            levels,
+        })
+    }
+
+    /// The arrows, sorted by `to`, `from` and `account`.
+    pub fn arrows(&self) -> &[Arrow]
+        ensures { result.now ≡ self.now.arrows }
+    {
+        &self.arrows
+    }
+
+    /// The arrows that lead to a place, sorted by `from` and `account`. The place is counted from 1.
+    ///
+    /// The time is logarithmic in the arrows.
+    pub fn inward(&self, place: u32) -> &[Arrow]
+        requires from_one { 1 ≤ place }
+        requires within { place ≤ length self.now.levels }
+        ensures { result.now ≡ inward self.now.arrows place }
+    {
+        with_head(&self.arrows, place)
+    }
+
+    /// The arrows that lead from a place, sorted by `to` and `account`. The place is counted from 1.
+    ///
+    /// The time is logarithmic in the arrows.
+    pub fn outward(&self, place: u32) -> &[Arrow]
+        requires from_one { 1 ≤ place }
+        requires within { place ≤ length self.now.levels }
+        ensures { result.now ≡ outward self.now.arrows place }
+    {
+        with_tail(&self.by_tail, place)
+    }
+
+    /// Each touched account with its first instruction, by rising account.
+    pub fn openings(&self) -> &[Opening]
+        ensures { result.now ≡ self.now.openings }
+    {
+        &self.openings
+    }
+
+    /// The level of each place: 1 without an inward arrow, else 1 more than the greatest level of a tail.
+    pub fn levels(&self) -> &[u32]
+        ensures { result.now ≡ self.now.levels }
+    {
+        &self.levels
+    }
+
+    /// How many places there are, at most 16,384.
+    pub fn len(&self) -> u32
+        ensures value { result ≡ length self.now.levels }
+        ensures few { result ≤ MOST_INSTRUCTIONS }
+    {
+        self.levels.len() as u32
+    }
+
+    /// Whether this list of places, counted from 1, is a legal order: each place once, with each arrow's tail before
+    /// its head.
+    ///
+    /// The time is linear in the instructions and the arrows, look-ups apart.
+    ///
+    /// # Errors
+    /// `Length` for a list of another length than the batch; `NoMemory` where a growth was refused; else the fault
+    /// of the first position that has one, in the order of [`OrderFault`].
+    pub fn check_order(&self, alloc: Global, order: &[u32]) -> Result<(), OrderFault>
+        ensures legal { OnOk result (first_order_fault self.now order.now ≡ None) }
+        ensures fault { IfErr result (λ fault. IsOrderFault self.now order.now fault) }
+    {
+        if order.len() != self.levels.len() {
+            return Err(OrderFault::Length);
+        }
+        let Ok(mut came) = vec![in alloc; false; order.len()] else {
+            return Err(OrderFault::NoMemory);
+        };
+        check_numbers(&self.arrows, &mut came, order)
+    }
+}
