@@ -61,7 +61,7 @@ pub record IsFinished (draft book : BookValue) : Type 0 where
 abbrev pub with_account : BookValue → AccountValue → BookValue
 with_account b a = record b { accounts = b.accounts ++ a ∷ [] }
 
--- what is wrong with taking an account in: another has its number, or there are as many as may be
+-- why a draft refuses an account: another one has its number, or the draft is full
 abbrev pub has : List AccountValue → AccountValue → BookFault → Bool
 has accounts a Repeated = is_among (numbers accounts) a.number
 has accounts a Full = nat_le MOST_ACCOUNTS (length accounts)
@@ -71,11 +71,11 @@ has accounts a NoMemory = false
 abbrev pub faults : List BookFault
 faults = Repeated ∷ Full ∷ []
 
--- the first thing that is wrong with taking an account in
+-- the first reason why a draft refuses an account
 abbrev pub first_fault : List AccountValue → AccountValue → Option BookFault
 first_fault accounts a = find (has accounts a) faults
 
--- why an account is not taken in: the first thing that is wrong, or a refused growth where nothing is
+-- why an account was refused: the first reason, or memory ran out and there is no other reason
 abbrev pub IsBookFault : List AccountValue → AccountValue → BookFault → Type 0
 IsBookFault accounts a Repeated = first_fault accounts a ≡ Some Repeated
 IsBookFault accounts a Full = first_fault accounts a ≡ Some Full

@@ -1,4 +1,4 @@
--- What is true of a day's instructions one after another, in the words of what is said of each account number.
+-- What is true of a day's instructions one after another, for each account number.
 use Rattle.std.specs.Prelude.{◌≡◌, ℕ, suc, ◌+◌, false, All, length, slice_get, Some, None, if◌then◌else◌}
 use Rattle.reg_base.specs.declared.instruction.Instruction.{Instruction}
 use Rattle.reg_base.specs.Touches.{is_touched, last_toucher}
@@ -17,7 +17,7 @@ pub record IsStepOf (day : Day) (k : ℕ) (i : Instruction) : Type 0 where
 abbrev pub EachIsAStep : Type 0
 EachIsAStep = (day : Day) (k : ℕ) (i : Instruction) → slice_get day.batch.instructions k ≡ Some i → IsStepOf day k i
 
--- no account comes, goes or moves
+-- no account is added, removed or moved
 abbrev pub NumbersStay : Type 0
 NumbersStay = (day : Day) (j : ℕ) → numbers (state_at day j) ≡ numbers day.book.accounts
 

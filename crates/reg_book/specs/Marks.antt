@@ -6,7 +6,7 @@ use Rattle.reg_base.specs.Footprint.{is_among}
 use Rattle.reg_rules.specs.State.{State}
 use Rattle.reg_base.specs.Touches.{is_touched}
 
--- the marks of the accounts, where each account whose number is in the list is marked too
+-- the marks of the accounts, with each account whose number is in the list marked too
 abbrev pub marked : List Bool → State → List ℕ → List Bool
 marked [] s ns = []
 marked (m ∷ ms) [] ns = m ∷ ms

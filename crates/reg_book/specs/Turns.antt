@@ -3,7 +3,7 @@ use Rattle.std.specs.Prelude.{◌≡◌, ℕ, ◌<◌, ◌≤◌, ◌==◌, nat_
 use Rattle.std.specs.List.{AllByRecursion, IsDistinct}
 use Rattle.reg_book.specs.Places.{each_at}
 
--- where a place is after what stood at one was moved to another
+-- a place, after what was at one place was moved to another
 abbrev pub renamed : ℕ → ℕ → ℕ → ℕ
 renamed from to place = if place == from then to else place
 
@@ -12,7 +12,7 @@ pub record IsLeft (count size place : ℕ) : Type 0 where
   pub behind : count ≤ place
   pub within : place < size
 
--- so many of the wanted numbers stand first, and the others at these places, each at one of its own
+-- the first `count` of the wanted numbers are at the front, and the others at these places, which are all different
 pub record AreLeft (count : ℕ) (ns places wanted : List ℕ) : Type 0 where
   pub fits : count ≤ length ns
   pub are_left : AllByRecursion (IsLeft count (length ns)) places

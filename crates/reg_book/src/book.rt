@@ -106,8 +106,8 @@ impl Book {
     /// The time is linear in the book's accounts.
     ///
     /// # Errors
-    /// The settled day as it was, with the book's next record number, where the day does not begin with that
-    /// number; the book is unchanged.
+    /// The settled day as it was, with the book's next record number, if the day does not begin with that number. The
+    /// book is unchanged.
     pub fn commit(&mut self, settled: Settled) -> Result<Vec<LogRow>, (Settled, Stale)>
         requires { settled.base + 1 ≡ self.old.next → IsOfBook self.old settled }
         ensures answer { MatchResult result

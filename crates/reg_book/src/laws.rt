@@ -1,5 +1,5 @@
-//! What is true of a day's instructions one after another. Each law is the contract of a function that does nothing;
-//! whoever needs a law calls its function.
+//! What is true of a day's instructions one after another. Each law is the contract of a function that does nothing. A
+//! function whose proof needs a law calls it.
 
 ghost use Rattle.reg_book.specs.Laws.{EachIsAStep, NumbersStay, UntouchedStay, ValueIsLastTouchers, LimitsStay, SettledAreTouched, CommittedIsClosing};
 
@@ -10,7 +10,7 @@ pub fn each_is_a_step()
     ensures { EachIsAStep }
 {}
 
-/// No account comes, goes or moves, and one that no instruction touches stays as it is.
+/// No account is added, removed or moved. One that no instruction touches stays as it is.
 pub fn untouched_stay()
     ensures accounts { UntouchedStay }
     ensures numbers { NumbersStay }
@@ -32,8 +32,8 @@ pub fn limits_stay()
     step_laws();
 }
 
-/// A settled day has the accounts that an instruction touched as the last one left them. Put into its book it leaves
-/// what all instructions leave one after another.
+/// A settled day has the accounts that an instruction touched as the last one left them. If it is committed, the book
+/// holds what all instructions leave one after another.
 pub fn settled_is_closing()
     ensures settled { SettledAreTouched }
     ensures committed { CommittedIsClosing }

@@ -1,4 +1,4 @@
-//! Where accounts stand among accounts in the order of their numbers.
+//! The places of accounts in a list by rising number.
 
 ghost use Rattle.std.specs.Prelude.{◌≡◌, ◌<◌, None, IfOk, MatchOption, length};
 ghost use Rattle.std.specs.List.{AllByRecursion};
@@ -26,7 +26,7 @@ pub(crate) fn place_of(accounts: &[Account], number: AccountNo) -> Option<usize>
     }
 }
 
-/// For each mark, how many are set before it: the place that the account there has among the marked ones.
+/// For each mark, how many are set before it. This is the place of its account among the marked ones.
 pub(crate) fn ranks_of(alloc: Global, marks: &[bool]) -> Result<Vec<usize>, NoMemory>
     ensures { IfOk result (λ ranks. ranks.items ≡ ranks_from 0 marks.now) }
 {

@@ -37,8 +37,8 @@ pub enum SettleFault {
 /// Settles a batch: executes its instructions one after another, each on the accounts as the instructions before it
 /// left them. The book is not changed.
 ///
-/// The time is linear in the book's accounts and in the batch, except for the look-ups: an instruction looks each account
-/// that it touches up once. Each touched account is copied once.
+/// The time is linear in the book's accounts and in the batch, except for the look-ups: an account is looked up once for
+/// each instruction that touches it. Each touched account is copied once.
 ///
 /// # Errors
 /// `WrongBase` if the first record number of the batch is not the book's next record number. Otherwise `NoMemory` if

@@ -11,7 +11,7 @@ use reg_rules::LogRow;
 use std::marker::Model;
 use thiserror::Error;
 
-/// The settled day does not follow on the book: another day came between.
+/// The settled day does not begin with the book's next record number: another day came between.
 #[derive(Clone, Copy, Debug, PartialEq, Eq, Error)]
 #[error("the next record number is {next}")]
 pub struct Stale {

@@ -17,21 +17,21 @@ use reg_base::laws::each_footprint_is_sound;
 use reg_base::{AccountNo, Directory, Instruction, NoMemory};
 use std::alloc::Global;
 
-/// The accounts that a batch touches: copies of them in their order, and where those of each instruction stand.
+/// The accounts that a batch touches: copies of them in their order, and the places of those of each instruction.
 pub(crate) struct Touched {
     /// Copies of the accounts, in their order.
     pub accounts: Vec<Account>,
     /// For each instruction the places of its accounts among all accounts.
     pub places: Vec<Places>,
-    /// For each of all accounts, how many touched ones stand before it.
+    /// For each account, how many touched ones are before it.
     pub ranks: Vec<usize>,
 }
 
-/// Finds the accounts that some instruction touches, and copies each of them once. An account is looked up once an
-/// instruction that touches it.
+/// Finds the accounts that some instruction touches, and copies each of them once. An account is looked up once for
+/// each instruction that touches it.
 ///
 /// # Errors
-/// `NoMemory` where a growth was refused.
+/// `NoMemory` if memory ran out.
 pub(crate) fn find_touched(
     alloc: Global,
     accounts: &[Account],
@@ -54,7 +54,7 @@ pub(crate) fn find_touched(
     })
 }
 
-// Marks the accounts that some instruction touches, and answers for each instruction where those stand that it
+// Marks the accounts that some instruction touches, and answers for each instruction the places of those that it
 // touches.
 fn mark_all(
     alloc: Global,

@@ -1,4 +1,4 @@
-//! One instruction at its turn, on accounts among which are those that it touches.
+//! One instruction, executed on a list of accounts that has those that it touches.
 
 ghost use Rattle.std.specs.Prelude.{◌≡◌, ◌+◌, ◌<◌, ◌≤◌, ◌++◌, IfOk, length, map, take, nat_eq};
 ghost use Rattle.std.specs.List.{AllByRecursion, IsDistinct};
@@ -14,11 +14,10 @@ use reg_base::{Instruction, NoMemory, RecordNo};
 use reg_rules::{Reply, Setting, execute, step_laws};
 use std::alloc::Global;
 
-/// Carries the instruction out on accounts among which those that it touches stand at these places, in its order.
-/// What stands in `places` afterwards is of no use.
+/// Executes the instruction on accounts. Those that it touches are at these places, in its order. Afterwards the
+/// values in `places` have no meaning.
 ///
-/// The touched accounts are moved to the front for it and then back, so that none is copied and no room is needed
-/// for them.
+/// The touched accounts are moved to the front and then back, so none is copied and no memory is needed for them.
 ///
 /// # Errors
 /// `NoMemory` if there was no memory for the closing holdings.
@@ -38,8 +37,8 @@ pub(crate) fn take_turn(
     turn_from(alloc, setting, number, instruction, accounts, places, 0)
 }
 
-// Carries the instruction out where its first `count` accounts are at the front already, and the others stand at
-// these places. Each further one is swapped to the front, and back after the instruction.
+// Executes the instruction. Its first `count` accounts are at the front already, and the others are at these places.
+// Each of these is swapped to the front, and back after the instruction.
 fn turn_from(
     alloc: Global,
     setting: &Setting,

@@ -76,7 +76,7 @@ instruction_row = row_made
     (λ i. ((i.proposed, (i.proposer, i.approver)), i.act))
     (chosen act_name (a_word act_word act_name_of) proposal_fields act_fields)
 
--- what the fields behind an act's name say, and how many fields a row with it has
+-- what the fields after an act's name say, and how many fields a row with it has
 abbrev pub act_read : ActName → Record → Result Act Cause
 act_read n = (act_fields n).read 5
 

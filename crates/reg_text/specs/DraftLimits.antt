@@ -1,4 +1,4 @@
--- What holds of every draft: its sections are within their limits, and stand as the grammar has them.
+-- What holds of every draft: its sections are within their limits, and in the order of the grammar.
 use Rattle.std.specs.Prelude.{◌≡◌, ℕ, ◌+◌, ◌<◌, ◌≤◌, true, [], ◌∷◌, length, IfSome}
 use Rattle.std.specs.List.{AllByRecursion}
 use Rattle.reg_base.specs.declared.limits.TheConstants.{MOST_LAG, MOST_RECORD}
@@ -16,7 +16,7 @@ pub record AreLags (lags : Lags) : Type 0 where
   pub listed : lags.list ≤ MOST_LAG
   pub reversal : lags.reversal ≤ MOST_LAG
 
--- after a row at this place: a section of later rows has not begun, and a row that stands once has come if its place is not later
+-- after a row at this place: a section of later rows has not begun, and a row that occurs once has come if its place is not later
 pub record StandsAt (at : ℕ) (s : Section) : Type 0 where
   pub begun : at < (rule s.0).place → s.1 ≡ []
   pub come : (rule s.0).place ≤ at → is_once s.0 ≡ true → (x : Said s.0) × (s.1 ≡ x ∷ [])

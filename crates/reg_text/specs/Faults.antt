@@ -38,7 +38,7 @@ abbrev pub next_in : List (ℕ × ℕ) → Option ℕ
 next_in [] = None
 next_in (day ∷ days) = Some day.1
 
--- there is a record number for one instruction more
+-- there is a record number for one more instruction
 abbrev pub is_number_left : Option ℕ → ℕ → Bool
 is_number_left None count = true
 is_number_left (Some next) count = nat_le (next + count) MOST_RECORD
@@ -47,7 +47,7 @@ is_number_left (Some next) count = nat_le (next + count) MOST_RECORD
 abbrev pub in_order : (t : Tag) → DraftValue → Said t → Bool
 in_order t d x = follows (key t) (last_of (listed t d)) x
 
--- its section may have one row more, and an instruction has a record number
+-- its section may have one more row, and an instruction has a record number
 abbrev pub has_room : (t : Tag) → DraftValue → Bool
 has_room tag.Do d = nat_lt (length d.instructions) MOST_INSTRUCTIONS && is_number_left (next_in d.days) (length d.instructions)
 has_room t d = is_room (most t) (length (listed t d))
@@ -64,7 +64,7 @@ adding t d x = placed (in_order t d x) (has_room t d) (with t d x)
 unfoldable pub with_row : Tag → DraftValue → Record → Result DraftValue Cause
 with_row t d r = (row t).read r >>= λ x. adding t d x
 
--- what the rows say with one row more, or the first cause against it
+-- what the rows say with one more row, or the first cause that applies to it
 abbrev pub next_draft : DraftValue → Record → Result DraftValue Cause
 next_draft d r = if is_over d.last then Err cause.End else (tag_after d.last (field r 0) >>= λ t. with_row t d r)
 
@@ -75,12 +75,12 @@ drafted d (r ∷ rows) = next_draft d r >>= λ e. drafted e rows
 
 -- ---- the rows of a text
 
--- a row that is taken, or its number with the cause against it
+-- a row that is taken, or its number and the cause
 abbrev pub at_row : {A B : Type 0} → ℕ → Result A Cause → (A → Result B (ℕ × Cause)) → Result B (ℕ × Cause)
 at_row number (Ok x) more = more x
 at_row number (Err c) more = Err (number, c)
 
--- what is said behind the last row, or that a row with this number must follow
+-- the day after the last row, or that a row with this number must follow
 abbrev pub at_end : ℕ → Option DayValue → Result DayValue (ℕ × Cause)
 at_end number (Some day) = Ok day
 at_end number None = Err (number, cause.End)

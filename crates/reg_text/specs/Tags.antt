@@ -1,4 +1,4 @@
--- Tags: the word of each, and where a row with it may stand.
+-- Tags: the word of each, and where a row with it is allowed.
 use Rattle.std.specs.Prelude.{ℕ, Bool, ◌&&◌, nat_lt, nat_le, List, [], ◌∷◌, Option, Some, None, Result, codes}
 use Rattle.reg_text.specs.declared.cause.Cause.{Cause}
 use Rattle.reg_text.specs.declared.cause.Cause.TheVariants as cause
@@ -25,7 +25,7 @@ tag_word Account = codes "account"
 tag_word Do = codes "do"
 tag_word End = codes "end"
 
--- the grammar: the place of a row with this tag, and between which places the row before it stands; places leave gaps for tags to come
+-- the grammar: the place of a row with this tag, and between which places the row before it stands; places leave gaps for other tags
 abbrev pub rule : Tag → Rule
 rule Format = record { place = 10; from = 0; to = 0 }
 rule Day = record { place = 20; from = 10; to = 10 }
@@ -38,7 +38,7 @@ rule Account = record { place = 80; from = 40; to = 80 }
 rule Do = record { place = 90; from = 40; to = 90 }
 rule End = record { place = 100; from = 40; to = 90 }
 
--- a row with this tag stands there once, since it may not follow itself
+-- a row with this tag occurs once, because it may not follow itself
 abbrev pub is_once : Tag → Bool
 is_once t = nat_lt (rule t).to (rule t).place
 
@@ -50,6 +50,6 @@ place (Some t) = (rule t).place
 abbrev pub may_follow : Option Tag → Tag → Bool
 may_follow last t = nat_le (rule t).from (place last) && nat_le (place last) (rule t).to
 
--- the tag that a field names, if it may stand after the last row
+-- the tag that a field names, if it is allowed after the last row
 abbrev pub tag_after : Option Tag → List ℕ → Result Tag Cause
 tag_after last f = named cause.Tag tag_word all_tags f >>= λ t. test (may_follow last t) cause.Tag t

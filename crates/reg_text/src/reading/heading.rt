@@ -33,7 +33,7 @@ fn at_row<T: Drop>(number: u64, read: Result<T, Cause>) -> Result<T, DayFault>
     }
 }
 
-// Reads a row with this number, which must be there, and its tag, which must be one that may stand after `last`.
+// Reads a row with this number, which must be there, and its tag, which must be allowed after `last`.
 fn next_tag(
     reader: &mut Reader<&[u8]>,
     row: &mut ByteRecord,

@@ -1,4 +1,4 @@
-//! The four rows that stand at the head of a text, each once.
+//! The four rows at the head of a text.
 
 ghost use Rattle.std.specs.Prelude.{◌≡◌, IfOk};
 ghost use Rattle.reg_book.specs.Book.{IsNext};

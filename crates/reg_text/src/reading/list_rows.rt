@@ -50,7 +50,7 @@ pub(crate) fn comes_after(
 }
 
 /// `surrender,ACCOUNTKIND,KIND`: allowances of this kind may be surrendered from accounts of that kind. Any pair
-/// but four is a wrong word at the account kind.
+/// except four is a wrong word at the account kind.
 pub(crate) fn read_surrender_row(row: &ByteRecord) -> Result<(AccountKind, AllowanceKind), Cause>
     ensures { result ≡ row_read tag.Surrender (fields_of row.now) }
 {

@@ -8,7 +8,7 @@ ghost use Rattle.reg_text.specs.Tags.{all_tags as every_tag, tag_word, rule, pla
 use crate::cause::Cause;
 use crate::fields::words::is_word;
 
-/// What a row is, named by its first field.
+/// The kind of a row, which its first field names.
 #[derive(Clone, Copy, Debug, PartialEq, Eq)]
 pub enum Tag {
     /// The version of the format.
@@ -53,7 +53,7 @@ impl Tag {
     }
 }
 
-/// Where a row with a tag may stand. Places leave gaps for tags to come.
+/// Where a row with a tag is allowed. Places leave gaps for other tags.
 #[derive(Clone, Copy, Debug, PartialEq, Eq)]
 pub(crate) struct Rule {
     /// Its place among the rows of a text.
@@ -73,7 +73,7 @@ impl Rule {
 }
 
 impl Tag {
-    /// Where a row with the tag may stand.
+    /// Where a row with the tag is allowed.
     pub(crate) fn rule(self) -> Rule
         ensures { result ≡ rule self }
     {
@@ -133,7 +133,7 @@ fn place_of(last: Option<Tag>) -> u8
     }
 }
 
-/// The tag that a field names, one that may stand after the last row.
+/// The tag that a field names, if it is allowed after the last row.
 pub(crate) fn read_tag(last: Option<Tag>, field: &[u8]) -> Result<Tag, Cause>
     ensures { result ≡ tag_after last field.now }
 {

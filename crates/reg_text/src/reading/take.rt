@@ -1,4 +1,4 @@
-//! What each row behind the heading adds to the draft.
+//! What each row after the heading adds to the draft.
 
 ghost use Rattle.std.specs.Prelude.{◌≡◌, ◌+◌, ◌&&◌, nat_lt, nat_le, Some, map, IsTrue};
 ghost use Rattle.reg_base.specs.declared.limits.TheConstants.{MOST_INSTRUCTIONS, MOST_RECORD};
@@ -103,7 +103,7 @@ fn take_account(draft: &mut Draft, row: &ByteRecord) -> Result<(), RowError>
     add_account(draft, account)
 }
 
-// Whether one instruction more has a place and a record number.
+// Whether there is a place and a record number for one more instruction.
 fn has_number(next: u64, count: usize) -> bool
     ensures { result ≡ (nat_lt count MOST_INSTRUCTIONS && nat_le (next + count) MOST_RECORD) }
 {
@@ -144,7 +144,7 @@ fn take_end(draft: &mut Draft, row: &ByteRecord) -> Result<(), RowError>
     Ok(())
 }
 
-/// Adds what a row says, or answers what is wrong with it first.
+/// Adds what a row says, or answers the first cause that applies to it.
 pub(crate) fn take_row(draft: &mut Draft, row: &ByteRecord) -> Result<(), RowError>
     requires { IsDraft (draft_of draft.old) }
     ensures { Takes (draft_of draft.new) result (next_draft (draft_of draft.old) (fields_of row.now)) }
