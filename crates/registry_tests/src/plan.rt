@@ -97,12 +97,6 @@ fn an_arrow_leads_to_the_next_of_each_account(rt: HostRuntime) {
     let openings = firsts(&rt, rt.alloc(), plan.openings());
     assert_eq!(rt; openings.as_slice(), [(1, 1), (2, 1)].as_slice());
     assert_eq!(rt; plan.levels(), [1, 2].as_slice());
-}
-
-#[test]
-fn a_place_has_its_arrows(rt: HostRuntime) {
-    let plan = plan_of(&rt, rt.alloc(), TWICE);
-    let both = [(1, 2, 1), (1, 2, 2)];
     let to_second = inward(&rt, rt.alloc(), &plan, 2);
     assert_eq!(rt; to_second.as_slice(), both.as_slice());
     let from_first = outward(&rt, rt.alloc(), &plan, 1);
