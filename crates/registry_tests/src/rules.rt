@@ -38,6 +38,19 @@ do,2025-03-31,101,102,transfer,1,2,general,101
 end
 ";
 
+// A day on which account 1 gives 40 of its 100 back to the allocation account 8.
+const GIVEN_BACK: &str = "\
+format,1
+day,2025-03-31,1
+period,2021,2030
+lags,0,1,1,2
+work,2025-03-31
+account,1,operator,11,open,no,no,0,100,0
+account,8,allocation,18,open,no,no,0,0,0
+do,2025-03-31,101,102,return,1,8,general,40
+end
+";
+
 /// What is answered to an instruction, and what it leaves.
 #[derive(Drop)]
 pub(crate) struct Answer {
@@ -145,6 +158,28 @@ fn carries_out_a_transfer(rt: HostRuntime) {
             assert_eq!(rt; *figure, None);
         }
     }
+}
+
+// The number, general and aviation allowances of each account that the reply names.
+fn closing_of(rt: &impl Abort, alloc: Global, reply: &Reply) -> Vec<(u32, u64, u64)> {
+    match reply {
+        Reply::Refused(_) => Vec::new(alloc),
+        Reply::Done { closing, .. } => {
+            let rows = closing
+                .as_slice()
+                .iter()
+                .map(|held| (held.account.get(), held.general, held.aviation));
+            rows.collect(alloc).expect(rt, "memory")
+        }
+    }
+}
+
+#[test]
+fn carries_out_a_return_of_excess(rt: HostRuntime) {
+    let answer = carry_out(&rt, rt.alloc(), GIVEN_BACK);
+    assert_eq!(rt; answer.decided, None);
+    let closing = closing_of(&rt, rt.alloc(), &answer.row.reply);
+    assert_eq!(rt; closing.as_slice(), [(1, 60, 0), (8, 40, 0)].as_slice());
 }
 
 #[test]
