@@ -186,29 +186,43 @@ fn rules_answer_what_was_handed_in(rt: HostRuntime) {
     assert_eq!(rt; rules.last_year().get(), 2030);
     let due = rules.calendar().due(day(&rt, 20_175), 2);
     assert_eq!(rt; due, Some(day(&rt, 20_180)));
+    let admins = rules.admins().iter().map(|admin| admin.get());
+    assert!(rt; admins.eq([901, 902]));
+}
+
+// Which of these users are administrators where 901 and 902 are.
+fn are_admins(rt: &impl Abort, alloc: Global, users: [UserNo; 3]) -> [bool; 3] {
+    let parts = parts(rt, alloc, &[901, 902], [0, 0, 0, 0], [2021, 2021]);
+    let rules = Rules::new(parts).expect(rt, "rules");
+    users.map(|user| rules.is_admin(user))
 }
 
 #[test]
 fn rules_know_their_administrators(rt: HostRuntime) {
-    let parts = parts(&rt, rt.alloc(), &[901, 902], [0, 0, 0, 0], [2021, 2021]);
-    let rules = Rules::new(parts).expect(&rt, "rules");
-    let admins = [user(&rt, 901), user(&rt, 902)];
-    assert_eq!(rt; rules.admins(), admins.as_slice());
-    assert!(rt; rules.is_admin(user(&rt, 901)));
-    assert!(rt; rules.is_admin(user(&rt, 902)));
-    assert!(rt; !rules.is_admin(user(&rt, 101)));
+    let users = [user(&rt, 901), user(&rt, 902), user(&rt, 101)];
+    let found = are_admins(&rt, rt.alloc(), users);
+    assert_eq!(rt; found, [true, true, false]);
+}
+
+// Rules by which operators may surrender general allowances and nobody may surrender others.
+fn rules_of_surrender(rt: &impl Abort, alloc: Global) -> Rules {
+    let mut parts = parts(rt, alloc, &[], [0, 0, 0, 0], [2021, 2021]);
+    let pair = (AccountKind::Operator, AllowanceKind::General);
+    parts.surrender.push(pair).expect(rt, "memory");
+    Rules::new(parts).expect(rt, "rules")
 }
 
 #[test]
 fn rules_know_what_may_be_surrendered(rt: HostRuntime) {
+    let rules = rules_of_surrender(&rt, rt.alloc());
+    let found = [
+        rules.may_surrender(AccountKind::Operator, AllowanceKind::General),
+        rules.may_surrender(AccountKind::Operator, AllowanceKind::Aviation),
+        rules.may_surrender(AccountKind::Trading, AllowanceKind::General),
+    ];
+    assert_eq!(rt; found, [true, false, false]);
     let pair = (AccountKind::Operator, AllowanceKind::General);
-    let mut parts = parts(&rt, rt.alloc(), &[], [0, 0, 0, 0], [2021, 2021]);
-    parts.surrender.push(pair).expect(&rt, "memory");
-    let rules = Rules::new(parts).expect(&rt, "rules");
     assert_eq!(rt; rules.surrender(), [pair].as_slice());
-    assert!(rt; rules.may_surrender(AccountKind::Operator, AllowanceKind::General));
-    assert!(rt; !rules.may_surrender(AccountKind::Operator, AllowanceKind::Aviation));
-    assert!(rt; !rules.may_surrender(AccountKind::Trading, AllowanceKind::General));
 }
 
 // Each row has the fault that is to be named and every later one.
@@ -375,6 +389,12 @@ fn transfers(rt: &impl Abort, alloc: Global, count: usize) -> Vec<Instruction> {
     vec![in alloc; one; count].expect(rt, "memory")
 }
 
+// What is wrong with a batch of so many transfers whose first record number comes after `base`.
+fn batch_fault(rt: &impl Abort, alloc: Global, count: usize, base: u64) -> Option<BatchFault> {
+    let instructions = transfers(rt, alloc, count);
+    Batch::new(day(rt, 20_178), base, instructions).err()
+}
+
 #[test]
 fn a_batch_names_the_first_fault(rt: HostRuntime) {
     let most = 1_000_000_000_000_000;
@@ -389,8 +409,7 @@ fn a_batch_names_the_first_fault(rt: HostRuntime) {
         (0, most + 1, Some(BatchFault::NumbersSpent)),
         (1, u64::MAX, Some(BatchFault::NumbersSpent)),
     ] {
-        let instructions = transfers(&rt, rt.alloc(), count);
-        let found = Batch::new(day(&rt, 20_178), base, instructions).err();
+        let found = batch_fault(&rt, rt.alloc(), count, base);
         assert_eq!(rt; found, fault, "{count} after {base}");
     }
 }
