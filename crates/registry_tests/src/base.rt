@@ -174,20 +174,33 @@ fn rules_fault(
     Rules::new(parts(rt, alloc, admins, lags, years)).err()
 }
 
+// The lags of these rules: to a trusted account, other, of a list, reversal window.
+fn lags(rules: &Rules) -> [u16; 4] {
+    [
+        rules.trusted_lag(),
+        rules.other_lag(),
+        rules.list_lag(),
+        rules.reversal_window(),
+    ]
+}
+
 #[test]
 fn rules_answer_what_was_handed_in(rt: HostRuntime) {
     let parts = parts(&rt, rt.alloc(), &[901, 902], [0, 1, 2, 1000], [2021, 2030]);
     let rules = Rules::new(parts).expect(&rt, "rules");
-    assert_eq!(rt; rules.trusted_lag(), 0);
-    assert_eq!(rt; rules.other_lag(), 1);
-    assert_eq!(rt; rules.list_lag(), 2);
-    assert_eq!(rt; rules.reversal_window(), 1000);
-    assert_eq!(rt; rules.first_year().get(), 2021);
-    assert_eq!(rt; rules.last_year().get(), 2030);
-    let due = rules.calendar().due(day(&rt, 20_175), 2);
-    assert_eq!(rt; due, Some(day(&rt, 20_180)));
+    assert_eq!(rt; lags(&rules), [0, 1, 2, 1000]);
+    let years = [rules.first_year().get(), rules.last_year().get()];
+    assert_eq!(rt; years, [2021, 2030]);
+}
+
+#[test]
+fn rules_answer_their_lists(rt: HostRuntime) {
+    let parts = parts(&rt, rt.alloc(), &[901, 902], [0, 1, 2, 1000], [2021, 2030]);
+    let rules = Rules::new(parts).expect(&rt, "rules");
     let admins = rules.admins().iter().map(|admin| admin.get());
     assert!(rt; admins.eq([901, 902]));
+    let days = rules.calendar().days().iter().map(|day| day.get());
+    assert!(rt; days.eq(WEEK));
 }
 
 // Which of these users are administrators where 901 and 902 are.
@@ -262,38 +275,37 @@ fn rules_have_at_most_64_administrators(rt: HostRuntime) {
     assert_eq!(rt; fault, Some(RulesFault::TooManyAdmins));
 }
 
+// Inserts these accounts of holder 11, and answers of which of them the number was new.
+fn insert_all(
+    rt: &impl Abort,
+    directory: &mut Directory,
+    numbers: [u32; 4],
+    kind: AccountKind,
+) -> [bool; 4] {
+    let mut are_new = [false; 4];
+    for (is_new, number) in are_new.iter_mut().zip(numbers) {
+        let added = directory.insert(account_no(rt, number), kind, holder(rt, 11));
+        *is_new = added.expect(rt, "memory");
+    }
+    are_new
+}
+
 #[test]
 fn a_directory_keeps_the_first_account_of_a_number(rt: HostRuntime) {
     let mut directory = Directory::empty(rt.alloc());
     // Rising, below what is there, between, and again each.
-    for (number, is_new, kind) in [
-        (5, true, AccountKind::Operator),
-        (9, true, AccountKind::Operator),
-        (2, true, AccountKind::Operator),
-        (7, true, AccountKind::Operator),
-        (5, false, AccountKind::Trading),
-        (9, false, AccountKind::Trading),
-        (2, false, AccountKind::Trading),
-        (7, false, AccountKind::Trading),
-        (10, true, AccountKind::Operator),
-    ] {
-        let added = directory.insert(account_no(&rt, number), kind, holder(&rt, 11));
-        assert_eq!(rt; added, Ok(is_new), "account {number}");
-    }
+    let first = insert_all(&rt, &mut directory, [5, 9, 2, 7], AccountKind::Operator);
+    assert_eq!(rt; first, [true; 4]);
+    let again = insert_all(&rt, &mut directory, [5, 9, 2, 7], AccountKind::Trading);
+    assert_eq!(rt; again, [false; 4]);
+    let above = insert_all(&rt, &mut directory, [9, 10, 2, 10], AccountKind::Operator);
+    assert_eq!(rt; above, [false, true, false, false]);
     let entry = Some((AccountKind::Operator, holder(&rt, 11)));
     for number in [2, 5, 7, 9, 10] {
-        assert_eq!(rt;
-            directory.find(account_no(&rt, number)),
-            entry,
-            "account {number}"
-        );
+        assert_eq!(rt; directory.find(account_no(&rt, number)), entry);
     }
     for number in [1, 3, 6, 8, 11] {
-        assert_eq!(rt;
-            directory.find(account_no(&rt, number)),
-            None,
-            "account {number}"
-        );
+        assert_eq!(rt; directory.find(account_no(&rt, number)), None);
     }
 }
 
@@ -353,11 +365,14 @@ fn a_batch_answers_what_was_handed_in(rt: HostRuntime) {
     let second = transfer(&rt, user(&rt, 102), 2, 1);
     let instructions = Vec::from_array(rt.alloc(), [first, second]).expect(&rt, "memory");
     let batch = Batch::new(day(&rt, 20_178), 7, instructions).expect(&rt, "a batch");
-    assert_eq!(rt; batch.day(), day(&rt, 20_178));
-    assert_eq!(rt; batch.base(), 7);
-    assert!(rt; !batch.is_empty());
+    let found = (
+        batch.day().get(),
+        batch.base(),
+        batch.is_empty(),
+        batch.len(),
+    );
+    assert_eq!(rt; found, (20_178, 7, false, 2));
     assert_eq!(rt; batch.instructions(), [first, second].as_slice());
-    assert_eq!(rt; batch.len(), 2);
     assert_eq!(rt; *batch.at(1), first);
     assert_eq!(rt; *batch.at(2), second);
 }

@@ -70,14 +70,35 @@ fn firsts(rt: &impl Abort, alloc: Global, openings: &[Opening]) -> Vec<(u32, u32
     firsts.collect(alloc).expect(rt, "memory")
 }
 
+// The arrows of a day with these instructions.
+fn arrows_of(rt: &impl Abort, alloc: Global, instructions: &str) -> Vec<(u32, u32, u32)> {
+    let plan = plan_of(rt, alloc, instructions);
+    ends(rt, alloc, plan.arrows())
+}
+
+// The levels of its instructions.
+fn levels_of(rt: &impl Abort, alloc: Global, instructions: &str) -> Vec<u32> {
+    let plan = plan_of(rt, alloc, instructions);
+    let levels = plan.levels().iter().copied();
+    levels.collect(alloc).expect(rt, "memory")
+}
+
+// The accounts that it touches, and the first place of each.
+fn openings_of(rt: &impl Abort, alloc: Global, instructions: &str) -> Vec<(u32, u32)> {
+    let plan = plan_of(rt, alloc, instructions);
+    firsts(rt, alloc, plan.openings())
+}
+
 // The arrows that lead to a place.
-fn inward(rt: &impl Abort, alloc: Global, plan: &Plan, place: u32) -> Vec<(u32, u32, u32)> {
+fn inward(rt: &impl Abort, alloc: Global, instructions: &str, place: u32) -> Vec<(u32, u32, u32)> {
+    let plan = plan_of(rt, alloc, instructions);
     assert!(rt; 1 <= place && place <= plan.len());
     ends(rt, alloc, plan.inward(place))
 }
 
 // The arrows that lead from a place.
-fn outward(rt: &impl Abort, alloc: Global, plan: &Plan, place: u32) -> Vec<(u32, u32, u32)> {
+fn outward(rt: &impl Abort, alloc: Global, instructions: &str, place: u32) -> Vec<(u32, u32, u32)> {
+    let plan = plan_of(rt, alloc, instructions);
     assert!(rt; 1 <= place && place <= plan.len());
     ends(rt, alloc, plan.outward(place))
 }
@@ -90,47 +111,55 @@ fn fault_of(rt: &impl Abort, alloc: Global, order: &[u32]) -> Option<OrderFault>
 
 #[test]
 fn an_arrow_leads_to_the_next_of_each_account(rt: HostRuntime) {
-    let plan = plan_of(&rt, rt.alloc(), TWICE);
-    let both = [(1, 2, 1), (1, 2, 2)];
-    let arrows = ends(&rt, rt.alloc(), plan.arrows());
-    assert_eq!(rt; arrows.as_slice(), both.as_slice());
-    let openings = firsts(&rt, rt.alloc(), plan.openings());
+    let arrows = arrows_of(&rt, rt.alloc(), TWICE);
+    assert_eq!(rt; arrows.as_slice(), [(1, 2, 1), (1, 2, 2)].as_slice());
+    let openings = openings_of(&rt, rt.alloc(), TWICE);
     assert_eq!(rt; openings.as_slice(), [(1, 1), (2, 1)].as_slice());
-    assert_eq!(rt; plan.levels(), [1, 2].as_slice());
-    let to_second = inward(&rt, rt.alloc(), &plan, 2);
-    assert_eq!(rt; to_second.as_slice(), both.as_slice());
-    let from_first = outward(&rt, rt.alloc(), &plan, 1);
-    assert_eq!(rt; from_first.as_slice(), both.as_slice());
-    assert!(rt; outward(&rt, rt.alloc(), &plan, 2).is_empty());
+    let levels = levels_of(&rt, rt.alloc(), TWICE);
+    assert_eq!(rt; levels.as_slice(), [1, 2].as_slice());
+}
+
+#[test]
+fn an_arrow_is_found_from_both_its_ends(rt: HostRuntime) {
+    let to_second = inward(&rt, rt.alloc(), TWICE, 2);
+    assert_eq!(rt; to_second.as_slice(), [(1, 2, 1), (1, 2, 2)].as_slice());
+    let from_first = outward(&rt, rt.alloc(), TWICE, 1);
+    assert_eq!(rt; from_first.as_slice(), [(1, 2, 1), (1, 2, 2)].as_slice());
+    assert!(rt; outward(&rt, rt.alloc(), TWICE, 2).is_empty());
 }
 
 #[test]
 fn an_order_has_its_first_fault(rt: HostRuntime) {
-    let backwards = fault_of(&rt, rt.alloc(), &[2, 1]);
-    assert_eq!(rt; backwards, Some(OrderFault::Arrow { from: 1, to: 2 }));
-    let repeated = fault_of(&rt, rt.alloc(), &[1, 1]);
-    assert_eq!(rt; repeated, Some(OrderFault::Repeated { at: 2 }));
-    let short = fault_of(&rt, rt.alloc(), &[1]);
-    assert_eq!(rt; short, Some(OrderFault::Length));
-    let past_the_end = fault_of(&rt, rt.alloc(), &[1, 3]);
-    assert_eq!(rt; past_the_end, Some(OrderFault::Number { at: 2 }));
-    assert_eq!(rt; fault_of(&rt, rt.alloc(), &[1, 2]), None);
+    let faults = [
+        fault_of(&rt, rt.alloc(), &[2, 1]),
+        fault_of(&rt, rt.alloc(), &[1, 1]),
+        fault_of(&rt, rt.alloc(), &[1]),
+        fault_of(&rt, rt.alloc(), &[1, 3]),
+        fault_of(&rt, rt.alloc(), &[1, 2]),
+    ];
+    let wanted = [
+        Some(OrderFault::Arrow { from: 1, to: 2 }),
+        Some(OrderFault::Repeated { at: 2 }),
+        Some(OrderFault::Length),
+        Some(OrderFault::Number { at: 2 }),
+        None,
+    ];
+    assert_eq!(rt; faults, wanted);
 }
 
 #[test]
 fn a_plan_takes_each_known_account_once(rt: HostRuntime) {
-    let plan = plan_of(&rt, rt.alloc(), UNKNOWN);
-    assert!(rt; plan.arrows().is_empty() && plan.openings().is_empty());
-    assert_eq!(rt; plan.levels(), [1].as_slice());
-    let plan = plan_of(&rt, rt.alloc(), TO_ITSELF);
-    let arrows = ends(&rt, rt.alloc(), plan.arrows());
+    assert!(rt; arrows_of(&rt, rt.alloc(), UNKNOWN).is_empty());
+    assert!(rt; openings_of(&rt, rt.alloc(), UNKNOWN).is_empty());
+    let levels = levels_of(&rt, rt.alloc(), UNKNOWN);
+    assert_eq!(rt; levels.as_slice(), [1].as_slice());
+    let arrows = arrows_of(&rt, rt.alloc(), TO_ITSELF);
     assert_eq!(rt; arrows.as_slice(), [(1, 2, 1)].as_slice());
 }
 
 #[test]
 fn a_mixed_batch_has_its_arrows_and_levels(rt: HostRuntime) {
-    let plan = plan_of(&rt, rt.alloc(), MIXED);
-    let arrows = ends(&rt, rt.alloc(), plan.arrows());
+    let arrows = arrows_of(&rt, rt.alloc(), MIXED);
     let wanted = [
         (1, 2, 2),
         (1, 3, 1),
@@ -141,5 +170,6 @@ fn a_mixed_batch_has_its_arrows_and_levels(rt: HostRuntime) {
         (4, 6, 5),
     ];
     assert_eq!(rt; arrows.as_slice(), wanted.as_slice());
-    assert_eq!(rt; plan.levels(), [1, 2, 3, 1, 4, 4].as_slice());
+    let levels = levels_of(&rt, rt.alloc(), MIXED);
+    assert_eq!(rt; levels.as_slice(), [1, 2, 3, 1, 4, 4].as_slice());
 }
