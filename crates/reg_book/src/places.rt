@@ -59,13 +59,16 @@ fn place_of(accounts: &[Account], number: AccountNo) -> Option<usize>
     }
 }
 
-// The place of the number less the first number, if the account stands there. It does if no number is left out before
-// it. One comparison shows it.
+// The place at which the account stands if the numbers rise evenly from the first account to the last, and if it does
+// stand there. One comparison shows it.
 fn guess_place(accounts: &[Account], number: AccountNo) -> Option<usize>
     ensures { IfSome result (λ place. StandsAt accounts.now place number) }
 {
-    let first = accounts.first()?;
-    let place = number.get().saturating_sub(first.number().get()) as usize;
+    let first = accounts.first()?.number().get();
+    let last = accounts.last()?.number().get();
+    let ahead = u64::from(number.get().saturating_sub(first));
+    let span = u64::from(last.saturating_sub(first)).max(1);
+    let place = (ahead.saturating_mul(accounts.len() as u64 - 1) / span) as usize;
     let account = accounts.get(place)?;
     (account.number() == number).then_some(place)
 }
