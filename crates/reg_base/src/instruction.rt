@@ -46,8 +46,8 @@ impl Instruction {
     pub fn parties(&self) -> Footprint
         ensures { result ≡ each_once (parties self.now.act) }
     {
-        let movement = self.act.movement();
-        footprint_of(movement.first, movement.shares.as_slice())
+        let moved = self.act.movement();
+        footprint_of(moved.first, moved.shares.as_slice())
     }
 }
 
