@@ -2,7 +2,7 @@
 
 ghost use Rattle.std.specs.Prelude.{◌≡◌, ◌<◌, ◌≤◌, false, true, None, IfOk, IfSome, MatchOption, length};
 ghost use Rattle.std.specs.List.{AllByRecursion, list_all};
-ghost use Rattle.reg_base.specs.declared.limits.TheConstants.{MOST_TOUCHED};
+ghost use Rattle.reg_base.specs.declared.limits.TheConstants.{MOST_ACCOUNTS, MOST_TOUCHED};
 ghost use Rattle.reg_base.specs.Directory.{is_known};
 ghost use Rattle.reg_base.specs.Footprint.{footprint};
 ghost use Rattle.reg_base.specs.Rising.{IsRising};
@@ -16,12 +16,14 @@ use reg_account::Account;
 use reg_base::{AccountNo, Instruction, MOST_TOUCHED, NoMemory};
 use std::alloc::Global;
 
-/// Places of the accounts that one instruction touches, in its order, each counted from 0.
-pub(crate) type Places = ArrayVec<usize, MOST_TOUCHED>;
+/// Places of the accounts that one instruction touches, in its order, each counted from 0. They are kept for each
+/// instruction of a batch, so they are short: a book has at most 100,000 accounts.
+pub(crate) type Places = ArrayVec<u32, MOST_TOUCHED>;
 
 /// The places of the accounts that the instruction touches, in its order. None if one that must be known is not there.
 pub(crate) fn places_of(accounts: &[Account], instruction: &Instruction) -> Places
-    requires { IsRising (numbers accounts.now) }
+    requires rising { IsRising (numbers accounts.now) }
+    requires few { length accounts.now ≤ MOST_ACCOUNTS }
     ensures { StandAt (numbers accounts.now) result.items (footprint (directory_of accounts.now) instruction.now.act) }
 {
     let parties = instruction.parties();
@@ -34,7 +36,8 @@ pub(crate) fn places_of(accounts: &[Account], instruction: &Instruction) -> Plac
 // The places of the accounts with these numbers, or `None` if one of them is not there.
 fn find_places(accounts: &[Account], wanted: &[AccountNo]) -> Option<Places>
     requires rising { IsRising (numbers accounts.now) }
-    requires few { length wanted.now ≤ MOST_TOUCHED }
+    requires few { length accounts.now ≤ MOST_ACCOUNTS }
+    requires few_wanted { length wanted.now ≤ MOST_TOUCHED }
     ensures places { IfSome result (λ places. StandAt (numbers accounts.now) places.items wanted.now) }
     ensures known { MatchOption result (list_all (is_known (directory_of accounts.now)) wanted.now ≡ false) (λ _. list_all (is_known (directory_of accounts.now)) wanted.now ≡ true) }
 {
@@ -42,7 +45,7 @@ fn find_places(accounts: &[Account], wanted: &[AccountNo]) -> Option<Places>
     for number in wanted {
         match place_of(accounts, *number) {
             None => return None,
-            Some(place) => places.push(place),
+            Some(place) => places.push(place as u32),
         }
     }
     Some(places)
@@ -84,26 +87,27 @@ fn search_place(accounts: &[Account], number: AccountNo) -> Option<usize>
 }
 
 /// For each mark, how many are set before it. This is the place of its account among the marked ones.
-pub(crate) fn ranks_of(alloc: Global, marks: &[bool]) -> Result<Vec<usize>, NoMemory>
+pub(crate) fn ranks_of(alloc: Global, marks: &[bool]) -> Result<Vec<u32>, NoMemory>
+    requires { length marks.now ≤ MOST_ACCOUNTS }
     ensures { IfOk result (λ ranks. ranks.items ≡ ranks_from 0 marks.now) }
 {
     let mut ranks = Vec::with_capacity(alloc, marks.len())?;
     let mut count = 0;
     for mark in marks {
         ranks.push(count)?;
-        count += usize::from(*mark);
+        count += u32::from(*mark);
     }
     Ok(ranks)
 }
 
 /// The ranks at these places.
-pub(crate) fn ranks_at(places: &Places, ranks: &[usize]) -> Places
+pub(crate) fn ranks_at(places: &Places, ranks: &[u32]) -> ArrayVec<usize, MOST_TOUCHED>
     requires { AllByRecursion (λ place. place < length ranks.now) places.now.items }
     ensures { result.items ≡ each_at ranks.now places.now.items }
 {
-    let mut own = Places::new();
+    let mut own = ArrayVec::new();
     for place in places.as_slice() {
-        own.push(ranks[*place]);
+        own.push(ranks[*place as usize] as usize);
     }
     own
 }

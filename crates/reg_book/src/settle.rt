@@ -99,7 +99,7 @@ fn settle_all(
     batch: &Batch,
     accounts: &mut [Account],
     places: &[Places],
-    ranks: &[usize],
+    ranks: &[u32],
 ) -> Result<Vec<LogRow>, NoMemory>
     requires distinct { IsDistinct nat_eq (numbers accounts.old) }
     requires ranked { AllRanked setting.now.directory (numbers accounts.old) ranks.now (lists_of places.now) batch.now.instructions }

@@ -1,6 +1,7 @@
 //! The accounts that a batch touches.
 
-ghost use Rattle.std.specs.Prelude.{◌≡◌, [], IfOk, OnOk, length};
+ghost use Rattle.std.specs.Prelude.{◌≡◌, ◌≤◌, [], IfOk, OnOk, length};
+ghost use Rattle.reg_base.specs.declared.limits.TheConstants.{MOST_ACCOUNTS};
 ghost use Rattle.reg_base.specs.Footprint.{footprint};
 ghost use Rattle.reg_base.specs.Rising.{IsRising};
 ghost use Rattle.reg_rules.specs.State.{numbers};
@@ -21,7 +22,7 @@ pub(crate) struct Touched {
     /// For each instruction the places of its accounts among all accounts.
     pub places: Vec<Places>,
     /// For each account, how many touched ones are before it.
-    pub ranks: Vec<usize>,
+    pub ranks: Vec<u32>,
 }
 
 /// Finds the accounts that some instruction touches, and copies each of them once. An account is looked up once for
@@ -34,7 +35,8 @@ pub(crate) fn find_touched(
     accounts: &[Account],
     instructions: &[Instruction],
 ) -> Result<Touched, NoMemory>
-    requires { IsRising (numbers accounts.now) }
+    requires rising { IsRising (numbers accounts.now) }
+    requires few { length accounts.now ≤ MOST_ACCOUNTS }
     ensures accounts { IfOk result (λ t. t.accounts.items ≡ touched_of (directory_of accounts.now) instructions.now accounts.now) }
     ensures ranked { IfOk result (λ t. AllRanked (directory_of accounts.now) (numbers t.accounts.items) t.ranks.items (lists_of t.places.items) instructions.now) }
 {
@@ -58,6 +60,7 @@ fn mark_all(
     instructions: &[Instruction],
 ) -> Result<Vec<Places>, NoMemory>
     requires rising { IsRising (numbers accounts.now) }
+    requires few { length accounts.now ≤ MOST_ACCOUNTS }
     requires none { marks.old ≡ touched_marks (directory_of accounts.now) [] accounts.now }
     ensures marks { OnOk result (marks.new ≡ touched_marks (directory_of accounts.now) instructions.now accounts.now) }
     ensures places { IfOk result (λ places. AllStandAt (directory_of accounts.now) (numbers accounts.now) (lists_of places.items) instructions.now) }
@@ -72,13 +75,14 @@ fn mark_all(
 // Marks the accounts that the instruction touches, and answers their places.
 fn mark(marks: &mut [bool], accounts: &[Account], instruction: &Instruction) -> Places
     requires rising { IsRising (numbers accounts.now) }
+    requires few { length accounts.now ≤ MOST_ACCOUNTS }
     requires size { length marks.old ≡ length accounts.now }
     ensures marks { marks.new ≡ marked marks.old accounts.now (footprint (directory_of accounts.now) instruction.now.act) }
     ensures places { StandAt (numbers accounts.now) result.items (footprint (directory_of accounts.now) instruction.now.act) }
 {
     let places = places_of(accounts, instruction);
     for place in places.as_slice() {
-        marks[*place] = true;
+        marks[*place as usize] = true;
     }
     places
 }
