@@ -1,6 +1,5 @@
-use Rattle.std.proofs.Common.{◌<◌, [], length, rules, arith, ap, subst}
-use Rattle.reg_rules.specs.State.{numbers}
-use Rattle.reg_book.specs.Places.{StandsAt, StandAt}
+use Rattle.std.proofs.Common.{◌<◌, length, rules, arith, ap}
+use Rattle.reg_book.specs.Places.{StandsAt}
 use Rattle.reg_book.proofs.Footprints.{known-more, unknown-one}
 use Rattle.reg_book.proofs.Ranks.{stand-more}
 use Rattle.reg_book.proofs.places.find_places.Goals as goal
