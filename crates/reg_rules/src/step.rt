@@ -8,7 +8,7 @@ ghost use Rattle.reg_rules.specs.Checks.{refusal};
 ghost use Rattle.reg_rules.specs.Effect.{share_of, given, moved, CanReceive, CanMove};
 ghost use Rattle.reg_rules.specs.Step.{step, holdings_of};
 
-use crate::checks::decide_given;
+use crate::checks::decide;
 use crate::reply::{Closing, HeldNow, Holdings, LogRow, Reply};
 use reg_account::Account;
 use reg_base::laws::each_footprint_is_sound;
@@ -38,15 +38,13 @@ pub fn execute(
     ensures ok { IfOk result (λ reply. (accounts.new, reply) ≡ step (record { rules = rules.now; day = day; directory = directory.now }) accounts.old number instruction.now) }
     ensures err { OnErr result ((accounts.new ≡ accounts.old) × (refusal (record { rules = rules.now; day = day; directory = directory.now }) accounts.old instruction.now ≡ None)) }
 {
-    let _unused_yet = number;
-    let movement = instruction.act.movement();
-    if let Some(refusal) = decide_given(rules, day, instruction, &movement, directory, accounts) {
+    if let Some(refusal) = decide(rules, day, number, instruction, directory, accounts) {
         return Ok(Reply::Refused(refusal));
     }
     each_footprint_is_sound();
     // The room comes first, so that the accounts are as they were if memory runs out.
     let room = Holdings::with_capacity(alloc, accounts.len())?;
-    apply(&movement, accounts);
+    apply(&instruction.act.movement(), accounts);
     Ok(Reply::Done {
         closing: closing_of(room, accounts),
         figure: None,
