@@ -68,10 +68,13 @@ pub stands-one : (s : State) (ps wanted : List ℕ) (j p : ℕ) → StandAt (num
     → (j < length wanted) × StandsAt s p (get_or wanted j 0)
 stands-one s [] wanted j p stand lt at = absurd (omega arith)
 stands-one s (q ∷ ps) [] j p stand lt at = absurd (let e = stand.are_there in cc)
-stands-one s (q ∷ ps) (w ∷ ws) zero p stand lt at = (omega arith, record {
-  within = omega (arith, stand.within.0, at, length-numbers s);
-  has_number = ap (λ k. get_or (numbers s) k 0) at ∙ ap (λ (ns : List ℕ). get_or ns 0 0) stand.are_there;
-})
+stands-one s (q ∷ ps) (w ∷ ws) zero p stand lt at = (
+  omega arith,
+  record {
+    within = omega (arith, stand.within.0, at, length-numbers s);
+    has_number = ap (λ k. get_or (numbers s) k 0) at ∙ ap (λ (ns : List ℕ). get_or ns 0 0) stand.are_there;
+  },
+)
 stands-one s (q ∷ ps) (w ∷ ws) (suc j) p stand lt at =
     let rest : StandAt (numbers s) ps ws = record { within = stand.within.1; are_there = ap (λ (ns : List ℕ). drop 1 ns) stand.are_there } in
     let (within, there) = stands-one s ps ws j p rest (omega arith) at in

@@ -91,10 +91,14 @@ fn first_failing(
 {
     // Two checks read the due day, which is searched for.
     let due = due_day(setting, instruction);
-    CHECKS
-        .iter()
-        .copied()
-        .find(|check| refuses(*check, setting, instruction, movement, due, accounts))
+    CHECKS.iter().copied().find(|check| refuses(
+        *check,
+        setting,
+        instruction,
+        movement,
+        due,
+        accounts,
+    ))
 }
 
 // Whether this check fails. A check that this version does not ask never fails.
