@@ -1,22 +1,82 @@
 //! The places of accounts in a list by rising number.
 
-ghost use Rattle.std.specs.Prelude.{◌≡◌, ◌<◌, None, IfOk, MatchOption, length};
-ghost use Rattle.std.specs.List.{AllByRecursion};
+ghost use Rattle.std.specs.Prelude.{◌≡◌, ◌<◌, ◌≤◌, false, true, None, IfOk, IfSome, MatchOption, length};
+ghost use Rattle.std.specs.List.{AllByRecursion, list_all};
+ghost use Rattle.reg_base.specs.declared.limits.TheConstants.{MOST_ACCOUNTS, MOST_TOUCHED};
+ghost use Rattle.reg_base.specs.Directory.{is_known};
+ghost use Rattle.reg_base.specs.Footprint.{footprint};
 ghost use Rattle.reg_base.specs.Rising.{IsRising};
 ghost use Rattle.reg_rules.specs.State.{account, numbers};
-ghost use Rattle.reg_book.specs.Places.{StandsAt, each_at};
+ghost use Rattle.reg_book.specs.Book.{directory_of};
+ghost use Rattle.reg_book.specs.Places.{StandsAt, StandAt, each_at};
 ghost use Rattle.reg_book.specs.Marks.{ranks_from};
 
 use arrayvec::ArrayVec;
 use reg_account::Account;
-use reg_base::{AccountNo, MOST_TOUCHED, NoMemory};
+use reg_base::{AccountNo, Instruction, MOST_TOUCHED, NoMemory};
 use std::alloc::Global;
 
-/// Places of the accounts that one instruction touches, in its order, each counted from 0.
-pub(crate) type Places = ArrayVec<usize, MOST_TOUCHED>;
+/// Places of the accounts that one instruction touches, in its order, each counted from 0. They are kept for each
+/// instruction of a batch, so they are short: a book has at most 100,000 accounts.
+pub(crate) type Places = ArrayVec<u32, MOST_TOUCHED>;
 
-/// The place of the account with this number, counted from 0.
-pub(crate) fn place_of(accounts: &[Account], number: AccountNo) -> Option<usize>
+/// The places of the accounts that the instruction touches, in its order. None if one that must be known is not there.
+pub(crate) fn places_of(accounts: &[Account], instruction: &Instruction) -> Places
+    requires rising { IsRising (numbers accounts.now) }
+    requires few { length accounts.now ≤ MOST_ACCOUNTS }
+    ensures { StandAt (numbers accounts.now) result.items (footprint (directory_of accounts.now) instruction.now.act) }
+{
+    let parties = instruction.parties();
+    match find_places(accounts, parties.as_slice()) {
+        Some(places) => places,
+        None => Places::new(),
+    }
+}
+
+// The places of the accounts with these numbers, or `None` if one of them is not there.
+fn find_places(accounts: &[Account], wanted: &[AccountNo]) -> Option<Places>
+    requires rising { IsRising (numbers accounts.now) }
+    requires few { length accounts.now ≤ MOST_ACCOUNTS }
+    requires few_wanted { length wanted.now ≤ MOST_TOUCHED }
+    ensures places { IfSome result (λ places. StandAt (numbers accounts.now) places.items wanted.now) }
+    ensures known { MatchOption result (list_all (is_known (directory_of accounts.now)) wanted.now ≡ false) (λ _. list_all (is_known (directory_of accounts.now)) wanted.now ≡ true) }
+{
+    let mut places = Places::new();
+    for number in wanted {
+        match place_of(accounts, *number) {
+            None => return None,
+            Some(place) => places.push(place as u32),
+        }
+    }
+    Some(places)
+}
+
+// The place of the account with this number, counted from 0.
+fn place_of(accounts: &[Account], number: AccountNo) -> Option<usize>
+    requires { IsRising (numbers accounts.now) }
+    ensures { MatchOption result (account accounts.now number ≡ None) (λ place. StandsAt accounts.now place number) }
+{
+    match guess_place(accounts, number) {
+        Some(place) => Some(place),
+        None => search_place(accounts, number),
+    }
+}
+
+// The place at which the account stands if the numbers rise evenly from the first account to the last, and if it does
+// stand there. One comparison shows it.
+fn guess_place(accounts: &[Account], number: AccountNo) -> Option<usize>
+    ensures { IfSome result (λ place. StandsAt accounts.now place number) }
+{
+    let first = accounts.first()?.number().get();
+    let last = accounts.last()?.number().get();
+    let ahead = u64::from(number.get().saturating_sub(first));
+    let span = u64::from(last.saturating_sub(first)).max(1);
+    let place = (ahead.saturating_mul(accounts.len() as u64 - 1) / span) as usize;
+    let account = accounts.get(place)?;
+    (account.number() == number).then_some(place)
+}
+
+fn search_place(accounts: &[Account], number: AccountNo) -> Option<usize>
     requires { IsRising (numbers accounts.now) }
     ensures { MatchOption result (account accounts.now number ≡ None) (λ place. StandsAt accounts.now place number) }
 {
@@ -27,26 +87,27 @@ pub(crate) fn place_of(accounts: &[Account], number: AccountNo) -> Option<usize>
 }
 
 /// For each mark, how many are set before it. This is the place of its account among the marked ones.
-pub(crate) fn ranks_of(alloc: Global, marks: &[bool]) -> Result<Vec<usize>, NoMemory>
+pub(crate) fn ranks_of(alloc: Global, marks: &[bool]) -> Result<Vec<u32>, NoMemory>
+    requires { length marks.now ≤ MOST_ACCOUNTS }
     ensures { IfOk result (λ ranks. ranks.items ≡ ranks_from 0 marks.now) }
 {
     let mut ranks = Vec::with_capacity(alloc, marks.len())?;
     let mut count = 0;
     for mark in marks {
         ranks.push(count)?;
-        count += usize::from(*mark);
+        count += u32::from(*mark);
     }
     Ok(ranks)
 }
 
 /// The ranks at these places.
-pub(crate) fn ranks_at(places: &Places, ranks: &[usize]) -> Places
+pub(crate) fn ranks_at(places: &Places, ranks: &[u32]) -> ArrayVec<usize, MOST_TOUCHED>
     requires { AllByRecursion (λ place. place < length ranks.now) places.now.items }
     ensures { result.items ≡ each_at ranks.now places.now.items }
 {
-    let mut own = Places::new();
+    let mut own = ArrayVec::new();
     for place in places.as_slice() {
-        own.push(ranks[*place]);
+        own.push(ranks[*place as usize] as usize);
     }
     own
 }

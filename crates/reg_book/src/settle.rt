@@ -81,7 +81,7 @@ fn settle_batch(
         mut accounts,
         places,
         ranks,
-    } = find_touched(alloc, book.accounts(), directory, batch.instructions())?;
+    } = find_touched(alloc, book.accounts(), batch.instructions())?;
     let setting = Setting {
         rules,
         day: batch.day(),
@@ -99,7 +99,7 @@ fn settle_all(
     batch: &Batch,
     accounts: &mut [Account],
     places: &[Places],
-    ranks: &[usize],
+    ranks: &[u32],
 ) -> Result<Vec<LogRow>, NoMemory>
     requires distinct { IsDistinct nat_eq (numbers accounts.old) }
     requires ranked { AllRanked setting.now.directory (numbers accounts.old) ranks.now (lists_of places.now) batch.now.instructions }

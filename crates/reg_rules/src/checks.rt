@@ -10,7 +10,7 @@ ghost use Rattle.reg_base.specs.Footprint.{footprint};
 ghost use Rattle.reg_base.specs.Refusals.{checks};
 ghost use Rattle.reg_rules.specs.ActRules.{fits_first, fits_receiver, is_not_closed, rule_of};
 ghost use Rattle.reg_rules.specs.State.{numbers, account, held, seen, seen_by, passes};
-ghost use Rattle.reg_rules.specs.Checks.{has_repeat, has_right_kinds, source_allows, destination_allows, lag_by, is_short, overfills, overfills_some, fails, refusal};
+ghost use Rattle.reg_rules.specs.Checks.{has_repeat, has_right_kinds, source_allows, destination_allows, due_day, lag_by, is_short, overfills, overfills_some, fails, refusal};
 
 use crate::rule::{
     ActRule, KindRule, LagRule, fits_first, fits_receiver, fits_status, is_not_closed, rule_of,
@@ -89,7 +89,16 @@ fn first_failing(
     requires movement { movement.now ≡ movement_of instruction.now.act }
     ensures { result ≡ find (fails setting.now (seen accounts.now instruction.now.act) instruction.now) checks }
 {
-    CHECKS.iter().copied().find(|check| refuses(*check, setting, instruction, movement, accounts))
+    // Two checks read the due day, which is searched for.
+    let due = due_day(setting, instruction);
+    CHECKS.iter().copied().find(|check| refuses(
+        *check,
+        setting,
+        instruction,
+        movement,
+        due,
+        accounts,
+    ))
 }
 
 // Whether this check fails. A check that this version does not ask never fails.
@@ -98,10 +107,12 @@ fn refuses(
     setting: &Setting,
     instruction: &Instruction,
     movement: &Movement,
+    due: Option<Day>,
     accounts: &[Account],
 ) -> bool
     requires own { numbers accounts.now ≡ footprint setting.now.directory instruction.now.act }
     requires movement { movement.now ≡ movement_of instruction.now.act }
+    requires due { due ≡ due_day setting.now (seen accounts.now instruction.now.act) instruction.now }
     ensures { result ≡ fails setting.now (seen accounts.now instruction.now.act) instruction.now check }
 {
     match check {
@@ -113,8 +124,8 @@ fn refuses(
         }
         Refusal::SourceStatus => !source_allows(rule_of(&instruction.act), movement, accounts),
         Refusal::DestinationStatus => !destination_allows(movement, accounts),
-        Refusal::OutsideCalendar => due_day(setting, instruction).is_none(),
-        Refusal::NotDue => is_after(due_day(setting, instruction), setting.day),
+        Refusal::OutsideCalendar => due.is_none(),
+        Refusal::NotDue => is_after(due, setting.day),
         Refusal::ZeroAmount => instruction.act.names_zero(),
         Refusal::NotEnough => is_short(movement, accounts),
         Refusal::HoldingTooLarge => overfills_some(movement, accounts),
