@@ -1,6 +1,5 @@
 -- The laws of the codecs of fields, and of the rows made of them.
-use Rattle.std.proofs.Common.{◌≡◌, ℕ, ◌+◌, ◌^◌, ◌<◌, ◌≤◌, nat_le, List, Result, Ok, Option, Some, None, codes, refl, ap, sym, ◌∙◌, arith}
-use Rattle.std.specs.Prelude.{IfSome}
+use Rattle.std.proofs.Common.{◌≡◌, ℕ, ◌+◌, ◌^◌, ◌<◌, nat_le, List, Result, Ok, codes, refl, ap, sym, ◌∙◌, arith}
 use Rattle.std.specs.Str.{bytes_eq}
 use Rattle.reg_base.specs.declared.limits.TheConstants.{MOST_NUMBER, MOST_HELD, MOST_LAG, MOST_RECORD, FIRST_YEAR, LAST_YEAR}
 use Rattle.reg_base.specs.declared.act.Act.{Act}
@@ -11,7 +10,6 @@ use Rattle.reg_text.specs.declared.reading.instruction_row.ActName.{ActName}
 use Rattle.reg_text.specs.declared.reading.instruction_row.ActName.TheVariants.{Transfer, Return}
 use Rattle.reg_text.specs.declared.reading.tag.Tag.{Tag}
 use Rattle.reg_text.specs.declared.reading.tag.Tag.TheVariants as tag
-use Rattle.reg_base.specs.Numbers.{IsUserNo}
 use Rattle.reg_text.specs.Words.{word_of, kind_word, kinds, kind_of, account_kind_word, account_kinds, account_kind_of, status_word, statuses, status_of, yes_no_word, yes_and_no, yes_no_of}
 use Rattle.reg_text.specs.Plain.{IsPlain}
 use Rattle.reg_text.specs.FieldTests.{fault_of, first_cause, word_tests}
@@ -34,8 +32,8 @@ use Rattle.reg_text.proofs.CodecLaws.{are_none, are_last, are_then, are_made, ar
 
 pub is-within : (low high : ℕ) → high < 2 ^ 64 → IsCodec (within_limits low high)
 is-within low high small = record {
-  spelled = λ f n e. let s = bounded-spelled low high f n e in (s.0, (s.1, s.2));
-  again = λ n fits. bounded-again low high n small fits.0 fits.1;
+  spelled = λ f n e. let s = bounded-spelled low high f n e in (s.0, record { low = s.1; high = s.2 });
+  again = λ n fits. bounded-again low high n small fits.low fits.high;
   fault = bounded low high;
   plain = plain-decimal;
 }
@@ -48,8 +46,8 @@ is-factor = record { spelled = correction-spelled; again = correction-again; fau
 
 pub is-date : IsCodec a_date
 is-date = record {
-  spelled = λ f n e. let s = date-spelled f n e in (s.0, (s.1, s.2));
-  again = λ n fits. date-again n fits.0 fits.1;
+  spelled = λ f n e. let s = date-spelled f n e in (s.0, record { low = s.1; high = s.2 });
+  again = λ n fits. date-again n fits.low fits.high;
   fault = date-fault;
   plain = plain-date;
 }
@@ -89,21 +87,8 @@ is-version = record {
   plain = λ n. refl;
 }
 
-pub with_limits : (o : Option ℕ) → IfSome o IsUserNo → IfSome o (λ n. (1 ≤ n) × (n ≤ MOST_NUMBER))
-with_limits None h = tt
-with_limits (Some n) h = (h.low, h.high)
-
-pub as_no : (o : Option ℕ) → IfSome o (λ n. (1 ≤ n) × (n ≤ MOST_NUMBER)) → IfSome o IsUserNo
-as_no None h = tt
-as_no (Some n) h = record { low = h.0; high = h.1 }
-
 is-approver : IsCodec an_approver
-is-approver = record {
-  spelled = λ f o e. let s = approver-spelled f o e in (s.0, with_limits o s.1);
-  again = λ o fits. approver-again o (as_no o fits);
-  fault = approver;
-  plain = plain-approver;
-}
+is-approver = record { spelled = approver-spelled; again = approver-again; fault = approver; plain = plain-approver }
 
 -- ---- the acts: a line each
 
