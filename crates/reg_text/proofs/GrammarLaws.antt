@@ -21,11 +21,11 @@ use Rattle.reg_text.proofs.CauseLaws.{tested}
 use Rattle.reg_text.proofs.NumberLaws.{number-spelled, number-again, bounded-spelled, bounded-again}
 use Rattle.reg_text.proofs.SignedLaws.{correction-spelled, correction-again}
 use Rattle.reg_text.proofs.DateLaws.{date-spelled, date-again}
-use Rattle.reg_text.proofs.WordLaws.{same_bytes, named-spelled, kind-again, account_kind-again, status-again, yes_no-again, kind-read, account_kind-read, status-read, yes_no-read}
+use Rattle.reg_text.proofs.WordLaws.{same_bytes, is-word, kind-again, account_kind-again, status-again, yes_no-again, act_name-again}
 use Rattle.reg_text.proofs.ApproverLaws.{approver-spelled, approver-again}
 use Rattle.reg_text.proofs.PlainFacts.{plain-decimal, plain-signed, plain-date}
 use Rattle.reg_text.proofs.PlainWords.{plain-kind, plain-approver, plain-account_kind, plain-status, plain-yes_no}
-use Rattle.reg_text.proofs.FieldFaults.{approver, once, only-named, bounded, number-once, correction, date-fault}
+use Rattle.reg_text.proofs.FieldFaults.{approver, bounded, number-once, correction, date-fault}
 use Rattle.reg_text.proofs.CodecLaws.{are_none, are_last, are_then, are_made, are_provided, are_forms, is_row, is_named_row, Form}
 
 -- ---- the fields
@@ -52,30 +52,17 @@ is-date = record {
   plain = plain-date;
 }
 
-word-fault : {X : Type 0} (spell : X → List ℕ) (xs : List X) (f : List ℕ) (read : Result X Cause) → read ≡ word_of spell xs f → fault_of read ≡ first_cause (word_tests read)
-word-fault {X = X} spell xs f read e = ap fault_of e ∙ once cause.Word (word_of spell xs f) (only-named cause.Word spell xs f) ∙ ap (λ (r : Result X Cause). first_cause (word_tests r)) (sym e)
-
--- a list of words
-pub is-word : {X : Type 0} (spell : X → List ℕ) (xs : List X) (read : List ℕ → Result X Cause) → ((f : List ℕ) → read f ≡ word_of spell xs f) → ((x : X) → read (spell x) ≡ Ok x)
-    → ((x : X) → IsPlain (spell x)) → IsCodec (a_word spell read)
-is-word spell xs read same again plain = record {
-  spelled = λ f x e. ((named-spelled cause.Word spell xs f x (sym (same f) ∙ e)).0, tt);
-  again = λ x fits. again x;
-  fault = λ f. word-fault spell xs f (read f) (same f);
-  plain = plain;
-}
-
 pub is-kind : IsCodec (a_word kind_word kind_of)
-is-kind = is-word kind_word kinds kind_of kind-read kind-again plain-kind
+is-kind = is-word kind_word kinds kind-again plain-kind
 
 pub is-account_kind : IsCodec (a_word account_kind_word account_kind_of)
-is-account_kind = is-word account_kind_word account_kinds account_kind_of account_kind-read account_kind-again plain-account_kind
+is-account_kind = is-word account_kind_word account_kinds account_kind-again plain-account_kind
 
 pub is-status : IsCodec (a_word status_word status_of)
-is-status = is-word status_word statuses status_of status-read status-again plain-status
+is-status = is-word status_word statuses status-again plain-status
 
 pub is-yes_no : IsCodec yes_or_no
-is-yes_no = is-word yes_no_word yes_and_no yes_no_of yes_no-read yes_no-again plain-yes_no
+is-yes_no = is-word yes_no_word yes_and_no yes_no-again plain-yes_no
 
 is-no : IsCodec a_no
 is-no = is-within 1 MOST_NUMBER (omega arith)
@@ -105,10 +92,6 @@ is-approver = record { spelled = approver-spelled; again = approver-again; fault
 
 -- ---- the acts: a line each
 
-act_name-again : (n : ActName) → act_name_of (act_word n) ≡ Ok n
-act_name-again Transfer = refl
-act_name-again Return = refl
-
 plain-act_word : (n : ActName) → IsPlain (act_word n)
 plain-act_word Transfer = refl
 plain-act_word Return = refl
@@ -131,7 +114,7 @@ made-of-parts (act.ReturnExcess from to kind amount) = refl
 -- ---- the rows
 
 is-act_name : IsCodec an_act_name
-is-act_name = is-word act_word act_names act_name_of (λ f. refl) act_name-again plain-act_word
+is-act_name = is-word act_word act_names act_name-again plain-act_word
 
 are-instructions : AreFields instruction_fields_of
 are-instructions = are_made _ _ _ (are_then _ _ is-date (are_then _ _ is-no (are_then _ _ is-approver (are_forms act_name ActParts an_act_name fields_of_act act_made act_parts is-act_name each-act parts-of-made made-of-parts)))) (λ p. refl) (λ i. refl)

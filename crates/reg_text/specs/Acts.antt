@@ -4,13 +4,12 @@ use Rattle.reg_base.specs.declared.act.Act.{Act}
 use Rattle.reg_base.specs.declared.act.Act.TheVariants as act
 use Rattle.reg_base.specs.declared.instruction.Instruction.{Instruction}
 use Rattle.reg_text.specs.declared.cause.Cause.{Cause}
-use Rattle.reg_text.specs.declared.cause.Cause.TheVariants as cause
 use Rattle.reg_text.specs.declared.reading.instruction_row.ActName.{ActName}
 use Rattle.reg_text.specs.declared.reading.instruction_row.ActName.TheVariants.{Transfer, Return}
 use Rattle.reg_text.specs.declared.reading.instruction_row.Move.{Move}
 use Rattle.reg_text.specs.Causes.{◌>>=◌}
 use Rattle.reg_text.specs.Records.{Record}
-use Rattle.reg_text.specs.Words.{named, kind_word, kind_of}
+use Rattle.reg_text.specs.Words.{word_of, kind_word, kind_of}
 use Rattle.reg_text.specs.Codecs.{Codec, Fields, any_number, a_date, a_no, an_approver, a_word, last, ◌▸◌, made, forms, Row, row_of, named_row}
 
 -- the acts that a row may name
@@ -28,7 +27,7 @@ act_name (act.ReturnExcess from to kind amount) = Return
 
 -- the act that a field names
 abbrev pub act_name_of : List ℕ → Result ActName Cause
-act_name_of = named cause.Word act_word act_names
+act_name_of = word_of act_word act_names
 
 abbrev pub an_act_name : Codec ActName
 an_act_name = a_word act_word act_name_of
