@@ -3,6 +3,7 @@
 ghost use Rattle.std.specs.Prelude.{◌≡◌, ◌≤◌, ◌&&◌, ◌∷◌, All, length, map};
 ghost use Rattle.std.specs.List.{list_all};
 ghost use Rattle.reg_base.specs.Directory.{is_known};
+ghost use Rattle.reg_base.specs.Acts.{parties};
 ghost use Rattle.reg_base.specs.Footprint.{each_once, footprint};
 ghost use Rattle.reg_base.specs.declared.limits.TheConstants.{MOST_SHARES};
 ghost use Rattle.reg_base.specs.Instructions.{IsInstruction};
@@ -38,6 +39,15 @@ impl Instruction {
         } else {
             Footprint::none()
         }
+    }
+
+    /// The accounts that the instruction reads or changes if they are all there: its act's first account and those that
+    /// receive, each once.
+    pub fn parties(&self) -> Footprint
+        ensures { result ≡ each_once (parties self.now.act) }
+    {
+        let movement = self.act.movement();
+        footprint_of(movement.first, movement.shares.as_slice())
     }
 }
 

@@ -158,7 +158,7 @@ module _ (laws : StepLaws) where
   -- what is kept of the calls that settled the day: on, d, is and all are what the book and the batch gave, table are the copies, seen is their slice, own what it became
   pub day-made : (day : Day) (on : ℕ) (d : DirectoryValue) (is : List Instruction) (all table seen own : State) (rows : List LogRow) (base len : ℕ)
       → IsBook day.book → on ≡ day.batch.day → d ≡ directory_of day.book.accounts → is ≡ day.batch.instructions → all ≡ day.book.accounts
-      → table ≡ touched_of d is all → seen ≡ table
+      → table ≡ touched_of (directory_of all) is all → seen ≡ table
       → rows ≡ rows_of (record { rules = day.rules; day = on; directory = d }) seen (day.batch.base + 1) day.batch.instructions
       → own ≡ state_after (record { rules = day.rules; day = on; directory = d }) seen (day.batch.base + 1) day.batch.instructions
       → base ≡ day.batch.base → len ≡ length table
@@ -167,8 +167,8 @@ module _ (laws : StepLaws) where
       let given : Setting = record { rules = day.rules; day = on; directory = d } in
       let setting_is : given ≡ setting day = λ i. record { rules = day.rules; day = same_day i; directory = of_book i } in
       let seen_is : seen ≡ touched_of (directory_of day.book.accounts) day.batch.instructions day.book.accounts =
-      read ∙ copied ∙ ap (λ e. touched_of e is all) of_book ∙ ap (λ js. touched_of (directory_of day.book.accounts) js all) listed
-      ∙ ap (touched_of (directory_of day.book.accounts) day.batch.instructions) among in
+      read ∙ copied ∙ ap (λ js. touched_of (directory_of all) js all) listed
+      ∙ ap (λ (s : State). touched_of (directory_of s) day.batch.instructions s) among in
       let made : IsMade day own rows = record {
         accounts = closed ∙ ap (λ (k : Setting). state_after k seen (day.batch.base + 1) day.batch.instructions) setting_is
             ∙ ap (λ (s : State). state_after (setting day) s (day.batch.base + 1) day.batch.instructions) seen_is;

@@ -4,6 +4,7 @@ pub mod Days
 pub mod Directories
 pub mod StepFacts
 pub mod Folds
+pub mod Footprints
 pub mod Lookups
 pub mod Marks
 pub mod Orders

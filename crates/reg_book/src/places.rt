@@ -1,22 +1,76 @@
 //! The places of accounts in a list by rising number.
 
-ghost use Rattle.std.specs.Prelude.{◌≡◌, ◌<◌, None, IfOk, MatchOption, length};
-ghost use Rattle.std.specs.List.{AllByRecursion};
+ghost use Rattle.std.specs.Prelude.{◌≡◌, ◌<◌, ◌≤◌, false, true, None, IfOk, IfSome, MatchOption, length};
+ghost use Rattle.std.specs.List.{AllByRecursion, list_all};
+ghost use Rattle.reg_base.specs.declared.limits.TheConstants.{MOST_TOUCHED};
+ghost use Rattle.reg_base.specs.Directory.{is_known};
+ghost use Rattle.reg_base.specs.Footprint.{footprint};
 ghost use Rattle.reg_base.specs.Rising.{IsRising};
 ghost use Rattle.reg_rules.specs.State.{account, numbers};
-ghost use Rattle.reg_book.specs.Places.{StandsAt, each_at};
+ghost use Rattle.reg_book.specs.Book.{directory_of};
+ghost use Rattle.reg_book.specs.Places.{StandsAt, StandAt, each_at};
 ghost use Rattle.reg_book.specs.Marks.{ranks_from};
 
 use arrayvec::ArrayVec;
 use reg_account::Account;
-use reg_base::{AccountNo, MOST_TOUCHED, NoMemory};
+use reg_base::{AccountNo, Instruction, MOST_TOUCHED, NoMemory};
 use std::alloc::Global;
 
 /// Places of the accounts that one instruction touches, in its order, each counted from 0.
 pub(crate) type Places = ArrayVec<usize, MOST_TOUCHED>;
 
-/// The place of the account with this number, counted from 0.
-pub(crate) fn place_of(accounts: &[Account], number: AccountNo) -> Option<usize>
+/// The places of the accounts that the instruction touches, in its order. None if one that must be known is not there.
+pub(crate) fn places_of(accounts: &[Account], instruction: &Instruction) -> Places
+    requires { IsRising (numbers accounts.now) }
+    ensures { StandAt (numbers accounts.now) result.items (footprint (directory_of accounts.now) instruction.now.act) }
+{
+    let parties = instruction.parties();
+    match find_places(accounts, parties.as_slice()) {
+        Some(places) => places,
+        None => Places::new(),
+    }
+}
+
+// The places of the accounts with these numbers, or `None` if one of them is not there.
+fn find_places(accounts: &[Account], wanted: &[AccountNo]) -> Option<Places>
+    requires rising { IsRising (numbers accounts.now) }
+    requires few { length wanted.now ≤ MOST_TOUCHED }
+    ensures places { IfSome result (λ places. StandAt (numbers accounts.now) places.items wanted.now) }
+    ensures known { MatchOption result (list_all (is_known (directory_of accounts.now)) wanted.now ≡ false) (λ _. list_all (is_known (directory_of accounts.now)) wanted.now ≡ true) }
+{
+    let mut places = Places::new();
+    for number in wanted {
+        match place_of(accounts, *number) {
+            None => return None,
+            Some(place) => places.push(place),
+        }
+    }
+    Some(places)
+}
+
+// The place of the account with this number, counted from 0.
+fn place_of(accounts: &[Account], number: AccountNo) -> Option<usize>
+    requires { IsRising (numbers accounts.now) }
+    ensures { MatchOption result (account accounts.now number ≡ None) (λ place. StandsAt accounts.now place number) }
+{
+    match guess_place(accounts, number) {
+        Some(place) => Some(place),
+        None => search_place(accounts, number),
+    }
+}
+
+// The place of the number less the first number, if the account stands there. It does if no number is left out before
+// it. One comparison shows it.
+fn guess_place(accounts: &[Account], number: AccountNo) -> Option<usize>
+    ensures { IfSome result (λ place. StandsAt accounts.now place number) }
+{
+    let first = accounts.first()?;
+    let place = number.get().saturating_sub(first.number().get()) as usize;
+    let account = accounts.get(place)?;
+    (account.number() == number).then_some(place)
+}
+
+fn search_place(accounts: &[Account], number: AccountNo) -> Option<usize>
     requires { IsRising (numbers accounts.now) }
     ensures { MatchOption result (account accounts.now number ≡ None) (λ place. StandsAt accounts.now place number) }
 {

@@ -81,7 +81,7 @@ fn settle_batch(
         mut accounts,
         places,
         ranks,
-    } = find_touched(alloc, book.accounts(), directory, batch.instructions())?;
+    } = find_touched(alloc, book.accounts(), batch.instructions())?;
     let setting = Setting {
         rules,
         day: batch.day(),

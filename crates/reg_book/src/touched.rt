@@ -1,9 +1,7 @@
 //! The accounts that a batch touches.
 
-ghost use Rattle.std.specs.Prelude.{◌≡◌, ◌≤◌, [], IsTrue, IfOk, OnOk, length};
-ghost use Rattle.std.specs.List.{AllByRecursion};
-ghost use Rattle.reg_base.specs.declared.limits.TheConstants.{MOST_TOUCHED};
-ghost use Rattle.reg_base.specs.Footprint.{is_among};
+ghost use Rattle.std.specs.Prelude.{◌≡◌, [], IfOk, OnOk, length};
+ghost use Rattle.reg_base.specs.Footprint.{footprint};
 ghost use Rattle.reg_base.specs.Rising.{IsRising};
 ghost use Rattle.reg_rules.specs.State.{numbers};
 ghost use Rattle.reg_book.specs.Book.{directory_of};
@@ -11,10 +9,9 @@ ghost use Rattle.reg_book.specs.Fold.{touched_of};
 ghost use Rattle.reg_book.specs.Places.{StandAt, AllStandAt, AllRanked, lists_of};
 ghost use Rattle.reg_book.specs.Marks.{touched_marks, marked, picked};
 
-use crate::places::{Places, place_of, ranks_of};
+use crate::places::{Places, places_of, ranks_of};
 use reg_account::Account;
-use reg_base::laws::each_footprint_is_sound;
-use reg_base::{AccountNo, Directory, Instruction, NoMemory};
+use reg_base::{Instruction, NoMemory};
 use std::alloc::Global;
 
 /// The accounts that a batch touches: copies of them in their order, and the places of those of each instruction.
@@ -35,16 +32,14 @@ pub(crate) struct Touched {
 pub(crate) fn find_touched(
     alloc: Global,
     accounts: &[Account],
-    directory: &Directory,
     instructions: &[Instruction],
 ) -> Result<Touched, NoMemory>
-    requires rising { IsRising (numbers accounts.now) }
-    requires listed { directory.now ≡ directory_of accounts.now }
-    ensures accounts { IfOk result (λ t. t.accounts.items ≡ touched_of directory.now instructions.now accounts.now) }
-    ensures ranked { IfOk result (λ t. AllRanked directory.now (numbers t.accounts.items) t.ranks.items (lists_of t.places.items) instructions.now) }
+    requires { IsRising (numbers accounts.now) }
+    ensures accounts { IfOk result (λ t. t.accounts.items ≡ touched_of (directory_of accounts.now) instructions.now accounts.now) }
+    ensures ranked { IfOk result (λ t. AllRanked (directory_of accounts.now) (numbers t.accounts.items) t.ranks.items (lists_of t.places.items) instructions.now) }
 {
     let mut marks = vec![in alloc; false; accounts.len()]?;
-    let places = mark_all(alloc, &mut marks, accounts, directory, instructions)?;
+    let places = mark_all(alloc, &mut marks, accounts, instructions)?;
     let ranks = ranks_of(alloc, &marks)?;
     let accounts = copy_marked(alloc, accounts, &marks)?;
     Ok(Touched {
@@ -60,37 +55,30 @@ fn mark_all(
     alloc: Global,
     marks: &mut [bool],
     accounts: &[Account],
-    directory: &Directory,
     instructions: &[Instruction],
 ) -> Result<Vec<Places>, NoMemory>
     requires rising { IsRising (numbers accounts.now) }
-    requires listed { directory.now ≡ directory_of accounts.now }
-    requires none { marks.old ≡ touched_marks directory.now [] accounts.now }
-    ensures marks { OnOk result (marks.new ≡ touched_marks directory.now instructions.now accounts.now) }
-    ensures places { IfOk result (λ places. AllStandAt directory.now (numbers accounts.now) (lists_of places.items) instructions.now) }
+    requires none { marks.old ≡ touched_marks (directory_of accounts.now) [] accounts.now }
+    ensures marks { OnOk result (marks.new ≡ touched_marks (directory_of accounts.now) instructions.now accounts.now) }
+    ensures places { IfOk result (λ places. AllStandAt (directory_of accounts.now) (numbers accounts.now) (lists_of places.items) instructions.now) }
 {
-    each_footprint_is_sound();
     let mut places = Vec::with_capacity(alloc, instructions.len())?;
     for instruction in instructions {
-        places.push(mark(marks, accounts, instruction.touches(directory).as_slice()))?;
+        places.push(mark(marks, accounts, instruction))?;
     }
     Ok(places)
 }
 
-// Marks the accounts of these numbers, which are there, and answers their places.
-fn mark(marks: &mut [bool], accounts: &[Account], wanted: &[AccountNo]) -> Places
+// Marks the accounts that the instruction touches, and answers their places.
+fn mark(marks: &mut [bool], accounts: &[Account], instruction: &Instruction) -> Places
     requires rising { IsRising (numbers accounts.now) }
     requires size { length marks.old ≡ length accounts.now }
-    requires present { AllByRecursion (λ a. IsTrue (is_among (numbers accounts.now) a)) wanted.now }
-    requires few { length wanted.now ≤ MOST_TOUCHED }
-    ensures marks { marks.new ≡ marked marks.old accounts.now wanted.now }
-    ensures places { StandAt (numbers accounts.now) result.items wanted.now }
+    ensures marks { marks.new ≡ marked marks.old accounts.now (footprint (directory_of accounts.now) instruction.now.act) }
+    ensures places { StandAt (numbers accounts.now) result.items (footprint (directory_of accounts.now) instruction.now.act) }
 {
-    let mut places = Places::new();
-    for number in wanted {
-        let place = place_of(accounts, *number).unwrap();
-        marks[place] = true;
-        places.push(place);
+    let places = places_of(accounts, instruction);
+    for place in places.as_slice() {
+        marks[*place] = true;
     }
     places
 }

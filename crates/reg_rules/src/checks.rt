@@ -69,13 +69,29 @@ pub fn decide(
     ensures { result ≡ refusal (record { rules = rules.now; day = day; directory = directory.now }) accounts.now instruction.now }
 {
     let _unused_yet = number;
+    let movement = instruction.act.movement();
+    decide_given(rules, day, instruction, &movement, directory, accounts)
+}
+
+/// The same, given what the act moves. So one instruction needs it only once.
+pub(crate) fn decide_given(
+    rules: &Rules,
+    day: Day,
+    instruction: &Instruction,
+    movement: &Movement,
+    directory: &Directory,
+    accounts: &[Account],
+) -> Option<Refusal>
+    requires own { numbers accounts.now ≡ footprint directory.now instruction.now.act }
+    requires movement { movement.now ≡ movement_of instruction.now.act }
+    ensures { result ≡ refusal (record { rules = rules.now; day = day; directory = directory.now }) accounts.now instruction.now }
+{
     let setting = Setting {
         rules,
         day,
         directory,
     };
-    let movement = instruction.act.movement();
-    first_failing(&setting, instruction, &movement, accounts)
+    first_failing(&setting, instruction, movement, accounts)
 }
 
 // The first check that fails for these accounts.

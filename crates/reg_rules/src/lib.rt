@@ -11,6 +11,6 @@ mod step;
 
 pub use checks::decide;
 pub use laws::{act_laws, step_laws};
-pub use reply::{Closing, HeldNow, LogRow, Reply};
+pub use reply::{Closing, HeldNow, Holdings, LogRow, Reply};
 pub use setting::Setting;
 pub use step::{execute, log_row};

@@ -1,6 +1,6 @@
 //! One step: carrying out an instruction, or refusing it.
 
-ghost use Rattle.std.specs.Prelude.{◌≡◌, ℕ, ◌∷◌, ◌≤◌, None, IfOk, OnErr, length, map, find, nat_eq, vec_len, vec_capacity};
+ghost use Rattle.std.specs.Prelude.{◌≡◌, ◌≤◌, [], ◌∷◌, None, IfOk, OnErr, length, map, nat_eq};
 ghost use Rattle.std.specs.List.{AllByRecursion, IsDistinct};
 ghost use Rattle.reg_base.specs.Footprint.{footprint};
 ghost use Rattle.reg_rules.specs.State.{numbers};
@@ -8,8 +8,8 @@ ghost use Rattle.reg_rules.specs.Checks.{refusal};
 ghost use Rattle.reg_rules.specs.Effect.{share_of, given, moved, CanReceive, CanMove};
 ghost use Rattle.reg_rules.specs.Step.{step, holdings_of};
 
-use crate::checks::decide;
-use crate::reply::{Closing, HeldNow, LogRow, Reply};
+use crate::checks::decide_given;
+use crate::reply::{Closing, HeldNow, Holdings, LogRow, Reply};
 use reg_account::Account;
 use reg_base::laws::each_footprint_is_sound;
 use reg_base::{
@@ -38,13 +38,15 @@ pub fn execute(
     ensures ok { IfOk result (λ reply. (accounts.new, reply) ≡ step (record { rules = rules.now; day = day; directory = directory.now }) accounts.old number instruction.now) }
     ensures err { OnErr result ((accounts.new ≡ accounts.old) × (refusal (record { rules = rules.now; day = day; directory = directory.now }) accounts.old instruction.now ≡ None)) }
 {
-    if let Some(refusal) = decide(rules, day, number, instruction, directory, accounts) {
+    let _unused_yet = number;
+    let movement = instruction.act.movement();
+    if let Some(refusal) = decide_given(rules, day, instruction, &movement, directory, accounts) {
         return Ok(Reply::Refused(refusal));
     }
     each_footprint_is_sound();
     // The room comes first, so that the accounts are as they were if memory runs out.
-    let room = Vec::with_capacity(alloc, accounts.len())?;
-    apply(&instruction.act.movement(), accounts);
+    let room = Holdings::with_capacity(alloc, accounts.len())?;
+    apply(&movement, accounts);
     Ok(Reply::Done {
         closing: closing_of(room, accounts),
         figure: None,
@@ -103,9 +105,9 @@ fn find_share(shares: &[Share], number: AccountNo) -> Option<Share>
 }
 
 // What the accounts hold now, in the room that was made for it.
-fn closing_of(mut room: Vec<HeldNow>, accounts: &[Account]) -> Closing
-    requires empty { vec_len room ≡ 0 }
-    requires fits { length accounts.now ≤ vec_capacity room }
+fn closing_of(mut room: Holdings, accounts: &[Account]) -> Closing
+    requires empty { room.items ≡ [] }
+    requires fits { length accounts.now ≤ room.capacity }
     ensures { result ≡ map holdings_of accounts.now }
 {
     for account in accounts {
@@ -114,7 +116,7 @@ fn closing_of(mut room: Vec<HeldNow>, accounts: &[Account]) -> Closing
             general: account.held(AllowanceKind::General),
             aviation: account.held(AllowanceKind::Aviation),
         };
-        room.push(held).unwrap();
+        room.push_reserved(held);
     }
     Closing::new(room)
 }

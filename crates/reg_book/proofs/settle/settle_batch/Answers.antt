@@ -12,9 +12,8 @@ use Rattle.reg_book.proofs.settle.settle_batch.Goals.{After-deref-2}
 table : (c : After-deref-2) → c.deref_mut.result.now ≡ touched_of (directory_of c.args.book.now.accounts) c.args.batch.now.instructions c.args.book.now.accounts
 table c =
     c.deref_mut.ensures.value ∙ c.in_ok-accounts.ensures.accounts
-    ∙ ap (λ d. touched_of d c.instructions.result.now c.accounts.result.now) c.directory-directory.ensures
-    ∙ ap (λ is. touched_of (directory_of c.args.book.now.accounts) is c.accounts.result.now) c.instructions.ensures
-    ∙ ap (touched_of (directory_of c.args.book.now.accounts) c.args.batch.now.instructions) c.accounts.ensures.value
+    ∙ ap (λ is. touched_of (directory_of c.accounts.result.now) is c.accounts.result.now) c.instructions.ensures
+    ∙ ap (λ (s : State). touched_of (directory_of s) c.args.batch.now.instructions s) c.accounts.ensures.value
 
 pub settle_all-requires-clause-distinct : goal.settle_all-requires-clause-distinct
 settle_all-requires-clause-distinct c =
@@ -22,7 +21,8 @@ settle_all-requires-clause-distinct c =
 
 pub settle_all-requires-clause-ranked : goal.settle_all-requires-clause-ranked
 settle_all-requires-clause-ranked c =
-    let first = subst (AllRanked c.directory-directory.result.now (numbers c.in_ok-accounts.field-0.accounts.items) c.in_ok-accounts.field-0.ranks.items (lists_of c.in_ok-accounts.field-0.places.items)) c.instructions.ensures c.in_ok-accounts.ensures.ranked in
+    let listed = subst (λ d. AllRanked d (numbers c.in_ok-accounts.field-0.accounts.items) c.in_ok-accounts.field-0.ranks.items (lists_of c.in_ok-accounts.field-0.places.items) c.instructions.result.now) (ap directory_of c.accounts.ensures.value ∙ sym c.directory-directory.ensures) c.in_ok-accounts.ensures.ranked in
+    let first = subst (AllRanked c.directory-directory.result.now (numbers c.in_ok-accounts.field-0.accounts.items) c.in_ok-accounts.field-0.ranks.items (lists_of c.in_ok-accounts.field-0.places.items)) c.instructions.ensures listed in
     let second = subst (λ (s : State). AllRanked c.directory-directory.result.now (numbers s) c.in_ok-accounts.field-0.ranks.items (lists_of c.in_ok-accounts.field-0.places.items) c.args.batch.now.instructions) (sym c.deref_mut.ensures.value) first in
     let third = subst (λ rs. AllRanked c.directory-directory.result.now (numbers c.deref_mut.result.now) rs (lists_of c.in_ok-accounts.field-0.places.items) c.args.batch.now.instructions) (sym c.deref-2.ensures.value) second in
     subst (λ ps. AllRanked c.directory-directory.result.now (numbers c.deref_mut.result.now) c.deref-2.result.now (lists_of ps) c.args.batch.now.instructions) (sym c.deref.ensures.value) third

@@ -4,7 +4,7 @@ use Rattle.reg_book.proofs.RisesFrom.{rises_from}
 use Rattle.reg_rules.specs.State.{numbers}
 use Rattle.reg_book.proofs.Accounts.{searched_err}
 use Rattle.reg_book.proofs.Lookups.{searched_place}
-use Rattle.reg_book.proofs.places.place_of.Goals as goal
+use Rattle.reg_book.proofs.places.search_place.Goals as goal
 
 pub returns-in-Ok : goal.returns-in-Ok
 returns-in-Ok c =

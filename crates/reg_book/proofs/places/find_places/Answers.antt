@@ -1,0 +1,22 @@
+use Rattle.std.proofs.Common.{◌<◌, [], length, rules, arith, ap, subst}
+use Rattle.reg_rules.specs.State.{numbers}
+use Rattle.reg_book.specs.Places.{StandsAt, StandAt}
+use Rattle.reg_book.proofs.Footprints.{known-more, unknown-one}
+use Rattle.reg_book.proofs.Ranks.{stand-more}
+use Rattle.reg_book.proofs.places.find_places.Goals as goal
+
+pub returns-in-None-clause-known : goal.returns-in-None-clause-known
+returns-in-None-clause-known c =
+    let within : c.loop-number.number-index < length c.args.wanted.now = search rules in
+    unknown-one c.args.accounts.now c.args.wanted.now c.loop-number.number-index c.number-item.result within c.number-item.is c.in-None.ensures
+
+pub loop-number-preserved : goal.loop-number-preserved
+loop-number-preserved c =
+    let within : c.loop-number.number-index < length c.args.wanted.now = search rules in
+    let stands : StandsAt c.args.accounts.now c.in-Some.place c.number-item.result = c.in-Some.ensures in
+    record {
+      there = stand-more c.args.accounts.now c.loop-number.places.items c.push.new.self.items c.args.wanted.now c.loop-number.number-index c.number-item.result c.in-Some.place
+          within c.number-item.is c.push.ensures.items stands c.loop-number.invariant.there;
+      known = known-more c.args.accounts.now c.args.wanted.now c.loop-number.number-index c.number-item.result c.in-Some.place within c.number-item.is stands c.loop-number.invariant.known;
+      so_many = omega (arith, ap length c.push.ensures.items, c.push.ensures.len, c.loop-number.invariant.so_many);
+    }
