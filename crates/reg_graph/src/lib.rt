@@ -2,4 +2,11 @@
 //! that keeps to the plan's arrows.
 #![tactic(auto)]
 
+mod context;
 pub mod laws;
+mod naming;
+mod parcel;
+
+pub use context::Context;
+pub use naming::{Naming, Unnamed};
+pub use parcel::Parcel;
