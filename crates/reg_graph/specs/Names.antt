@@ -1,13 +1,15 @@
 -- What a name says of the values and the places that belong to its day.
-use Rattle.std.specs.Prelude.{◌≡◌, ℕ, ◌-◌, ◌≤◌, List, [], ◌∷◌, length, map, Option, Some}
+use Rattle.std.specs.Prelude.{◌≡◌, ℕ, ◌-◌, ◌≤◌, ◌<◌, Bool, true, false, MatchOption, slice_index_or, ◌&&◌, ◌==◌, List, [], ◌∷◌, length, map, Option, Some}
+use Rattle.std.specs.List.{list_all, list_any}
 use Rattle.reg_base.specs.Rules.{RulesValue}
 use Rattle.reg_base.specs.Batch.{BatchValue}
 use Rattle.reg_base.specs.Touches.{last_toucher}
 use Rattle.reg_account.specs.Account.{AccountValue}
 use Rattle.reg_rules.specs.declared.reply.LogRow.{LogRow}
+use Rattle.reg_plan.specs.declared.arrow.Arrow.{Arrow}
 use Rattle.reg_book.specs.Book.{BookValue}
 use Rattle.reg_book.specs.Day.{Day, day_of, value_at, row_at}
-use Rattle.reg_graph.specs.Pool.{directory, footprint_at}
+use Rattle.reg_graph.specs.Pool.{directory, footprint_at, tail_in}
 
 -- if a day is named, these are its book, its rules and its batch
 abbrev pub IsNamed : Option Day → BookValue → RulesValue → BatchValue → Type 0
@@ -20,6 +22,25 @@ IsValue name value after = (day : Day) → name ≡ Some day → value_at day va
 -- if a day is named, this is the row of that place
 abbrev pub IsRow : Option Day → ℕ → LogRow → Type 0
 IsRow name place row = (day : Day) → name ≡ Some day → row_at day place ≡ Some row
+
+-- these are the names of the values that a place needs of these accounts, by the arrows that lead there
+abbrev pub names_needed : List Arrow → List ℕ → List (ℕ × ℕ)
+names_needed arrows [] = []
+names_needed arrows (a ∷ more) = (a, tail_in arrows a) ∷ names_needed arrows more
+
+-- two names are one
+abbrev pub is_name : ℕ × ℕ → ℕ × ℕ → Bool
+is_name x y = (x.0 == y.0) && (x.1 == y.1)
+
+-- there are as many names as those that are needed, and each of these is among them
+abbrev pub has_names : List (ℕ × ℕ) → List (ℕ × ℕ) → Bool
+has_names names wanted = (length names == length wanted) && list_all (λ w. list_any (λ n. is_name n w) names) wanted
+
+-- the name stands at this place, which is not before the first; or it stands at no such place
+abbrev pub FindsFrom : List (ℕ × ℕ) → ℕ → ℕ × ℕ → Option ℕ → Type 0
+FindsFrom names first name found = MatchOption found
+    ((m : ℕ) → first ≤ m → m < length names → is_name (slice_index_or names m name) name ≡ false)
+    (λ m. (first ≤ m) × (m < length names) × (is_name (slice_index_or names m name) name ≡ true))
 
 -- accounts, each with the last place before this one that touches it, or 0
 abbrev pub before_place : Day → ℕ → List ℕ → List (ℕ × ℕ)

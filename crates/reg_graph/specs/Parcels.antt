@@ -1,9 +1,6 @@
 -- What a list of parcels holds.
-use Rattle.std.specs.Prelude.{◌≡◌, ℕ, ◌&&◌, ◌==◌, Bool, List, [], ◌∷◌, length, map, Option}
-use Rattle.std.specs.List.{list_all, list_any}
+use Rattle.std.specs.Prelude.{ℕ, List, map}
 use Rattle.reg_account.specs.Account.{AccountValue}
-use Rattle.reg_plan.specs.Plans.{PlanValue}
-use Rattle.reg_graph.specs.Pool.{tail_of}
 use Rattle.reg_graph.specs.declared.naming.Naming.{Ghosts}
 use Rattle.reg_graph.specs.declared.parcel.Parcel.{Parcel}
 

@@ -10,6 +10,7 @@ use Rattle.reg_account.specs.Account.{AccountValue}
 use Rattle.reg_rules.specs.declared.reply.LogRow.{LogRow}
 use Rattle.reg_rules.specs.State.{State, account}
 use Rattle.reg_rules.specs.Step.{step, row_of}
+use Rattle.reg_plan.specs.declared.arrow.Arrow.{Arrow}
 use Rattle.reg_plan.specs.Plans.{PlanValue, inward, outward}
 use Rattle.reg_book.specs.Book.{directory_of}
 use Rattle.reg_book.specs.Day.{Day, setting, row_at, settled_day}
@@ -29,9 +30,13 @@ run_at day zero own = None
 run_at day (suc k) own =
     option_map (λ i. let one = step (setting day) own (day.batch.base + suc k) i in (one.0, row_of (setting day) (day.batch.base + suc k) i one.1)) (slice_get day.batch.instructions k)
 
+-- of these arrows to a place, the tail of the one at the account, or 0 if there is none
+abbrev pub tail_in : List Arrow → ℕ → ℕ
+tail_in arrows a = option_map_or (λ arrow. arrow.from) (find (λ arrow. arrow.account == a) arrows) 0
+
 -- the tail of the arrow that leads to this place at the account, or 0 if there is none
 abbrev pub tail_of : PlanValue → ℕ → ℕ → ℕ
-tail_of plan place a = option_map_or (λ arrow. arrow.from) (find (λ arrow. arrow.account == a) (inward plan.arrows place)) 0
+tail_of plan place a = tail_in (inward plan.arrows place) a
 
 -- an arrow leads on from this place at the account
 abbrev pub leads_on : PlanValue → ℕ → ℕ → Bool
