@@ -22,7 +22,7 @@ use Rattle.reg_book.specs.Settled.{SettledValue, IsSettled, IsOfBook}
 use Rattle.reg_book.specs.Day.{Day, setting, closing_state, settled_day}
 use Rattle.reg_book.proofs.Directories.{listing, length-numbers, get-directory_of}
 use Rattle.reg_book.proofs.Lookups.{account-filter, numbers-filter, rising-distinct}
-use Rattle.reg_book.proofs.Folds.{size-rows_of, numbers-fold, others-fold, fold-local, rows-local}
+use Rattle.reg_book.proofs.Folds.{size-rows_of, count-rows_of, numbers-fold, others-fold, fold-local, rows-local}
 use Rattle.reg_book.proofs.Ranks.{written_whole}
 use Rattle.reg_book.proofs.Turns.{same-state}
 
@@ -147,6 +147,7 @@ module _ (laws : StepLaws) where
   settled-kept day kept fits = record {
     rising = touched-rising (directory_of day.book.accounts) day.batch.instructions (closing_state day)
         (subst IsRising (sym (numbers-fold laws (setting day) day.book.accounts (day.batch.base + 1) (take (length day.batch.instructions) day.batch.instructions))) kept.rising);
+    in_order = count-rows_of (setting day) day.book.accounts (day.batch.base + 1) day.batch.instructions;
     numbered = λ some. omega (arith, fits.numbered, size-rows_of (setting day) day.book.accounts (day.batch.base + 1) day.batch.instructions);
   }
 

@@ -1,7 +1,7 @@
 -- Instructions one after another, on all accounts and on only the touched ones.
-use Rattle.std.proofs.Common.{◌≡◌, ℕ, suc, ◌+◌, ◌<◌, true, false, List, [], ◌∷◌, ◌++◌, length, get_or, drop, refl, sym, ap, ◌∙◌}
+use Rattle.std.proofs.Common.{◌≡◌, ℕ, zero, suc, ◌+◌, ◌-◌, ◌<◌, true, false, List, [], ◌∷◌, ◌++◌, length, get_or, drop, refl, sym, ap, ◌∙◌, arith}
 use Rattle.std.specs.List.{AllByRecursion}
-use Rattle.std.proofs.lemmas.List.{drop_more, append_assoc}
+use Rattle.std.proofs.lemmas.List.{drop_more, append_assoc, get_or-map}
 use Rattle.reg_base.specs.declared.instruction.Instruction.{Instruction}
 use Rattle.reg_base.specs.Footprint.{footprint, is_among}
 use Rattle.reg_rules.specs.declared.reply.Reply.{Reply}
@@ -12,11 +12,34 @@ use Rattle.reg_rules.specs.Laws.{StepLaws}
 use Rattle.reg_base.specs.Touches.{is_touched}
 use Rattle.reg_book.specs.Fold.{state_after, rows_of}
 use Rattle.reg_book.proofs.Lookups.{all_among, not_contained, or_true_left, or_true_right, or_cases}
+use Rattle.reg_base.specs.Rising.{count_up}
+use Rattle.reg_book.specs.Settled.{record_numbers}
 use Rattle.reg_book.proofs.StepFacts.{reply-local, after-local}
 
 pub size-rows_of : (c : Setting) (s : State) (n : ℕ) (is : List Instruction) → length (rows_of c s n is) ≡ length is
 size-rows_of c s n [] = refl
 size-rows_of c s n (i ∷ is) = ap suc (size-rows_of c (step c s n i).0 (n + 1) is)
+
+-- and its record numbers count up
+pub count-rows_of : (c : Setting) (s : State) (n : ℕ) (is : List Instruction) → record_numbers (rows_of c s n is) ≡ count_up n (length (rows_of c s n is))
+count-rows_of c s n [] = refl
+count-rows_of c s n (i ∷ is) = ap (λ ns. n ∷ ns) (count-rows_of c (step c s n i).0 (n + 1) is)
+
+-- a number at a place, counting up
+counted-at : (first more k : ℕ) → k < more → get_or (count_up first more) k 0 ≡ first + k
+counted-at first zero k lt = absurd (omega arith)
+counted-at first (suc more) zero lt = omega arith
+counted-at first (suc more) (suc k) lt = let later = counted-at (first + 1) more k (omega arith) in omega (arith, later)
+
+-- so the last of them is the base and their count
+pub last-number : (rows : List LogRow) (row : LogRow) (base : ℕ) → record_numbers rows ≡ count_up (base + 1) (length rows) → 0 < length rows
+    → row ≡ get_or rows (length rows - 1) row → row.number ≡ base + length rows
+last-number rows row base counted some is =
+    let at : (get_or rows (length rows - 1) row).number ≡ base + 1 + (length rows - 1) =
+        sym (get_or-map (λ (r : LogRow). r.number) rows (length rows - 1) row 0 (omega (arith, some))) ∙ ap (λ ns. get_or ns (length rows - 1) 0) counted
+        ∙ counted-at (base + 1) (length rows) (length rows - 1) (omega (arith, some)) in
+    let same : row.number ≡ (get_or rows (length rows - 1) row).number = ap (λ (r : LogRow). r.number) is in
+    omega (arith, at, same, some)
 
 -- states agree on the accounts that some instruction touches
 abbrev pub AgreeOnTouched : Setting → List Instruction → State → State → Type 0

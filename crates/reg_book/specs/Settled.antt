@@ -1,9 +1,9 @@
 -- A settled day: its log, and the accounts that it touched after it.
-use Rattle.std.specs.Prelude.{◌≡◌, ℕ, ◌+◌, ◌<◌, ◌≤◌, List, Some, length}
+use Rattle.std.specs.Prelude.{◌≡◌, ℕ, ◌+◌, ◌<◌, ◌≤◌, List, Some, length, map}
 use Rattle.std.specs.List.{AllByRecursion}
 use Rattle.std.specs.FinMap as fin
 use Rattle.reg_base.specs.declared.limits.TheConstants.{MOST_RECORD}
-use Rattle.reg_base.specs.Rising.{IsRising}
+use Rattle.reg_base.specs.Rising.{IsRising, count_up}
 use Rattle.reg_account.specs.Account.{AccountValue}
 use Rattle.reg_rules.specs.declared.reply.LogRow.{LogRow}
 use Rattle.reg_rules.specs.State.{numbers}
@@ -15,9 +15,15 @@ pub record SettledValue : Type 0 where
   pub rows : List LogRow
   pub accounts : List AccountValue
 
--- what holds of every settled day
+-- the record numbers of log rows
+abbrev pub record_numbers : List LogRow → List ℕ
+record_numbers rows = map (λ row. row.number) rows
+
+-- what holds of every settled day: its accounts stand by rising number, and its rows have the record numbers after the
+-- base
 pub record IsSettled (s : SettledValue) : Type 0 where
   pub rising : IsRising (numbers s.accounts)
+  pub in_order : record_numbers s.rows ≡ count_up (s.base + 1) (length s.rows)
   pub numbered : 0 < length s.rows → s.base + length s.rows ≤ MOST_RECORD
 
 -- the book after the settled day: the settled accounts are replaced, and the next record number has risen by the number

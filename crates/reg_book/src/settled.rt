@@ -1,8 +1,11 @@
 //! A settled day that is not yet in the book.
 
-ghost use Rattle.std.specs.Prelude.{◌≡◌};
+ghost use Rattle.std.specs.Prelude.{◌≡◌, ℕ, ◌+◌, ◌<◌, ◌≤◌, length};
 ghost use Rattle.std.specs.Option.{option_copied};
-ghost use Rattle.reg_rules.specs.State.{account};
+ghost use Rattle.reg_base.specs.declared.limits.TheConstants.{MOST_RECORD};
+ghost use Rattle.reg_base.specs.Rising.{IsRising, count_up};
+ghost use Rattle.reg_rules.specs.State.{account, numbers};
+ghost use Rattle.reg_book.specs.Settled.{record_numbers};
 
 use crate::book::get_account;
 use reg_account::Account;
@@ -39,6 +42,18 @@ impl Model for Settled {
 
 impl Settled {
     ghost use Rattle.reg_book.specs.Settled.{SettledValue, IsSettled};
+
+    /// The settled day with these parts: the last record number before it, its log, and the touched accounts as they
+    /// are after it. The log must have the record numbers from `base + 1` on, and the accounts must stand by rising
+    /// number. Takes no memory.
+    pub fn of(base: u64, rows: Vec<LogRow>, accounts: Vec<Account>) -> Self
+        requires numbered { record_numbers rows.items ≡ count_up (base + 1) (length rows.items) }
+        requires rising { IsRising (numbers accounts.items) }
+        ensures { result ≡ record { base = base; rows = rows.items; accounts = accounts.items } }
+    {
+        know_last(&rows);
+        Settled::new(base, rows, accounts)
+    }
 
     /// The settled day with these parts. Takes no memory.
     pub(crate) fn new(base: u64, rows: Vec<LogRow>, accounts: Vec<Account>) -> Self
@@ -82,5 +97,14 @@ impl Settled {
     {
         let Settled { rows, accounts, .. } = self;
         (rows, accounts)
+    }
+}
+
+// Reads the last record number, so that a proof knows its limit.
+fn know_last(rows: &[LogRow])
+    ensures { (base : ℕ) → record_numbers rows.now ≡ count_up (base + 1) (length rows.now) → 0 < length rows.now → base + length rows.now ≤ MOST_RECORD }
+{
+    if let Some(row) = rows.last() {
+        row.number.get();
     }
 }

@@ -1,0 +1,4 @@
+pub mod Pool
+pub mod Laws
+pub mod Names
+pub mod Parcels

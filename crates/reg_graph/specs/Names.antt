@@ -1,0 +1,53 @@
+-- What a name says of the values and the places that belong to its day.
+use Rattle.std.specs.Prelude.{◌≡◌, ℕ, ◌-◌, ◌≤◌, ◌<◌, Bool, true, false, MatchOption, slice_index_or, ◌&&◌, ◌==◌, List, [], ◌∷◌, length, Option, Some}
+use Rattle.std.specs.List.{list_all, list_any}
+use Rattle.reg_base.specs.Rules.{RulesValue}
+use Rattle.reg_base.specs.Batch.{BatchValue}
+use Rattle.reg_base.specs.Touches.{last_toucher}
+use Rattle.reg_account.specs.Account.{AccountValue}
+use Rattle.reg_plan.specs.declared.arrow.Arrow.{Arrow}
+use Rattle.reg_book.specs.Book.{BookValue}
+use Rattle.reg_book.specs.Day.{Day, day_of, value_at}
+use Rattle.reg_graph.specs.Pool.{directory, footprint_at, tail_in}
+
+-- if a day is named, these are its book, its rules and its batch
+abbrev pub IsNamed : Option Day → BookValue → RulesValue → BatchValue → Type 0
+IsNamed name book rules batch = (day : Day) → name ≡ Some day → day_of book rules batch ≡ day
+
+-- if a day is named, this is the account as the instruction at that place left it, or, at place 0, as it was at first
+abbrev pub IsValue : Option Day → AccountValue → ℕ → Type 0
+IsValue name value after = (day : Day) → name ≡ Some day → value_at day value.number after ≡ Some value
+
+-- these are the names of the values that a place needs of these accounts, by the arrows that lead there
+abbrev pub names_needed : List Arrow → List ℕ → List (ℕ × ℕ)
+names_needed arrows [] = []
+names_needed arrows (a ∷ more) = (a, tail_in arrows a) ∷ names_needed arrows more
+
+-- two names are one
+abbrev pub is_name : ℕ × ℕ → ℕ × ℕ → Bool
+is_name x y = (x.0 == y.0) && (x.1 == y.1)
+
+-- there are as many names as those that are needed, and each of these is among them
+abbrev pub has_names : List (ℕ × ℕ) → List (ℕ × ℕ) → Bool
+has_names names wanted = (length names == length wanted) && list_all (λ w. list_any (λ n. is_name n w) names) wanted
+
+-- the name stands at this place, which is not before the first; or it stands at no such place
+abbrev pub FindsFrom : List (ℕ × ℕ) → ℕ → ℕ × ℕ → Option ℕ → Type 0
+FindsFrom names first name found = MatchOption found
+    ((m : ℕ) → first ≤ m → m < length names → is_name (slice_index_or names m name) name ≡ false)
+    (λ m. (first ≤ m) × (m < length names) × (is_name (slice_index_or names m name) name ≡ true))
+
+-- accounts, each with the last place before this one that touches it, or 0
+abbrev pub before_place : Day → ℕ → List ℕ → List (ℕ × ℕ)
+before_place day place [] = []
+before_place day place (a ∷ more) = (a, last_toucher (directory day) day.batch.instructions a (place - 1)) ∷ before_place day place more
+
+-- these are the names of the values that the instruction at this place needs, in the order of its footprint
+pub record AreNeeded (day : Day) (place : ℕ) (names : List (ℕ × ℕ)) : Type 0 where
+  pub low : 1 ≤ place
+  pub high : place ≤ length day.batch.instructions
+  pub names_are : names ≡ before_place day place (footprint_at day place)
+
+-- if a day is named, the names are those
+abbrev pub AreComplete : Option Day → ℕ → List (ℕ × ℕ) → Type 0
+AreComplete name place names = (day : Day) → name ≡ Some day → AreNeeded day place names

@@ -1,0 +1,37 @@
+//! Laws of the definitions. Each is the contract of a function that does nothing; whoever needs a law calls its
+//! function.
+
+ghost use Rattle.reg_graph.specs.Laws.{EveryOrder, UndefinedAtFirstFault};
+
+use reg_base::laws::{each_footprint_is_sound, last_toucher_is_last};
+use reg_book::{each_is_a_step, settled_is_closing, untouched_stay, value_is_last_touchers};
+use reg_plan::laws::{no_fault_is_a_legal_order, tails_are_last_touchers};
+use reg_rules::step_laws;
+
+/// Every legal order of a day's instructions gives the settled day, and every other list of as many numbers is undefined.
+pub fn every_order()
+    ensures { EveryOrder }
+{
+    each_footprint_is_sound();
+    step_laws();
+    each_is_a_step();
+    untouched_stay();
+    value_is_last_touchers();
+    settled_is_closing();
+    last_toucher_is_last();
+    tails_are_last_touchers();
+    no_fault_is_a_legal_order();
+}
+
+/// An order is undefined at the first number that has a fault, and at no number before it.
+pub fn undefined_at_first_fault()
+    ensures { UndefinedAtFirstFault }
+{
+    each_footprint_is_sound();
+    step_laws();
+    each_is_a_step();
+    untouched_stay();
+    value_is_last_touchers();
+    last_toucher_is_last();
+    tails_are_last_touchers();
+}

@@ -1,0 +1,15 @@
+//! Orders of a day's instructions: each instruction carried out on the values of its own accounts alone, in any order
+//! that keeps to the plan's arrows.
+#![tactic(auto)]
+
+mod context;
+pub mod laws;
+mod naming;
+mod needs;
+mod parcel;
+mod task;
+
+pub use context::Context;
+pub use naming::{Naming, Unnamed};
+pub use parcel::Parcel;
+pub use task::Task;
