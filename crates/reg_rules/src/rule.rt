@@ -50,7 +50,7 @@ fn row(kinds: KindRule, status: StatusRule, lag: LagRule) -> ActRule
 }
 
 /// The row of an act.
-pub fn rule_of(act: &Act) -> ActRule
+pub(crate) fn rule_of(act: &Act) -> ActRule
     ensures { result ≡ rule_of act.now }
 {
     match *act {
@@ -68,7 +68,7 @@ pub fn rule_of(act: &Act) -> ActRule
 }
 
 /// Whether the first account may be of this kind.
-pub fn fits_first(rule: KindRule, kind: AccountKind) -> bool
+pub(crate) fn fits_first(rule: KindRule, kind: AccountKind) -> bool
     ensures { result ≡ fits_first rule kind }
 {
     match rule {
@@ -78,7 +78,7 @@ pub fn fits_first(rule: KindRule, kind: AccountKind) -> bool
 }
 
 /// Whether an account that receives may be of this kind.
-pub fn fits_receiver(rule: KindRule, kind: AccountKind) -> bool
+pub(crate) fn fits_receiver(rule: KindRule, kind: AccountKind) -> bool
     ensures { result ≡ fits_receiver rule kind }
 {
     match rule {
@@ -116,7 +116,7 @@ fn is_allocation_kind(kind: AccountKind) -> bool
 }
 
 /// Whether the status is one that the rule allows.
-pub fn fits_status(rule: StatusRule, status: Status) -> bool
+pub(crate) fn fits_status(rule: StatusRule, status: Status) -> bool
     ensures { result ≡ fits_status rule status }
 {
     match rule {
@@ -135,7 +135,7 @@ fn is_opened(status: Status) -> bool
 }
 
 /// Whether the status is not closed.
-pub fn is_not_closed(status: Status) -> bool
+pub(crate) fn is_not_closed(status: Status) -> bool
     ensures { result ≡ is_not_closed status }
 {
     match status {
