@@ -38,7 +38,7 @@ ranged : (low high n : ℕ) → (nat_le low n && nat_le n high) ≡ true → IsB
 ranged low high n e = let both = and_parts (nat_le low n) (nat_le n high) e in record { low = leb-true _ _ both.0; high = leb-true _ _ both.1 }
 
 over-begins : (d : DraftValue) → IsDraft d → is_over d.last ≡ true → Begins (rows_so_far d)
-over-begins d h over = let c = closes d h over in ([], c.day, subst (λ (text : List Record). IsReading text c.day) (sym (append-nil (rows_so_far d))) c.reading)
+over-begins d h over = let c = closes d h.fits over in ([], c.day, subst (λ (text : List Record). IsReading text c.day) (sym (append-nil (rows_so_far d))) c.reading)
 
 from-lags : (d : DraftValue) → IsDraft d → MayFollow d.last tag.End → Begins (rows_so_far d)
 from-lags d h may = with-one tag.End d tt h may tt refl refl (λ k. over-begins (with tag.End d tt) k refl)

@@ -14,18 +14,18 @@ use Rattle.reg_text.specs.declared.reading.tag.Tag.TheVariants as tag
 use Rattle.reg_text.specs.Records.{Record}
 use Rattle.reg_text.specs.Tags.{place}
 use Rattle.reg_text.specs.Grammar.{Said, row}
-use Rattle.reg_text.specs.Drafts.{DraftValue, ended, nothing_read}
+use Rattle.reg_text.specs.Drafts.{DraftValue, accounts_in, closed, ended, nothing_read}
 use Rattle.reg_text.specs.Day.{DayValue, day_with, is_over, day_said}
 use Rattle.reg_text.specs.Spelling.{day_text}
 use Rattle.reg_base.specs.Numbers.{IsUserNo, IsDayNo}
 use Rattle.reg_base.specs.Instructions.{IsInstruction}
-use Rattle.reg_account.specs.Account.{IsAccount}
+use Rattle.reg_account.specs.Account.{AccountValue, IsAccount}
 use Rattle.reg_text.specs.Reading.{IsPair, CanBeSaid, IsReading}
-use Rattle.reg_text.specs.DraftLimits.{IsDraft}
+use Rattle.reg_text.specs.DraftLimits.{FitsSoFar, IsDraft}
 use Rattle.reg_text.specs.Faults.{next_in, next_draft, at_row, at_end, after_rows, day_of_rows}
 use Rattle.reg_text.proofs.ListFacts.{all-weaker}
-use Rattle.reg_text.proofs.RowLaws.{lags-fit, account-fits, instruction-fits}
-use Rattle.reg_text.proofs.DraftSteps.{rows_so_far, grows, nothing-fits}
+use Rattle.reg_text.proofs.RowLaws.{lags-fit, instruction-fits}
+use Rattle.reg_text.proofs.DraftSteps.{rows_so_far, closed-rows, closed-fits, grows, nothing-fits}
 use Rattle.reg_text.proofs.Taken.{text-taken}
 
 -- ---- what a closed draft says
@@ -49,7 +49,7 @@ record IsHeaded (d : DraftValue) : Type 0 where
   one_period : d.periods ≡ period ∷ []
   one_lags : d.lags ≡ lags ∷ []
 
-headed : (d : DraftValue) → IsDraft d → is_over d.last ≡ true → IsHeaded d
+headed : (d : DraftValue) → FitsSoFar d → is_over d.last ≡ true → IsHeaded d
 headed d h over =
     let at : place d.last ≡ 100 = ap place (over-last d.last over) in
     let f = h.stand.0.come (omega (arith, at)) refl in
@@ -66,7 +66,7 @@ each-one : {X : Type 0} (P Q : X → Type 0) → ((x : X) → P x → Q x) → (
 each-one P Q follow xs h = All-from_recursion Q xs (all-weaker P Q follow xs h)
 
 -- it says a day within the limits
-says-a-day : (d : DraftValue) (h : IsDraft d) (k : IsHeaded d) → CanBeSaid (day_with k.day k.period k.lags d)
+says-a-day : (d : DraftValue) (h : FitsSoFar d) (k : IsHeaded d) → CanBeSaid (day_with k.day k.period k.lags (accounts_in d) d)
 says-a-day d h k =
     let day = the_one (row tag.Day).Fits d.days k.day k.one_day h.within.1.0.fits in
     let period = the_one (row tag.Period).Fits d.periods k.period k.one_period h.within.1.1.0.fits in
@@ -74,30 +74,30 @@ says-a-day d h k =
     let surrender = h.within.1.1.1.1.0 in
     let admins = h.within.1.1.1.1.1.0 in
     let work = h.within.1.1.1.1.1.1.0 in
-    let accounts = h.within.1.1.1.1.1.1.1.0 in
-    let due = h.within.1.1.1.1.1.1.1.1.0 in
+    let over = closed-fits d h in
+    let due = h.within.1.1.1.1.1.1.1.1.1.0 in
     let numbered = numbered-day (next_in d.days) k.day.1 (length d.instructions) (ap next_in k.one_day) h.numbered in
     let from = day.1.low in
     record {
       day = record {
-        book = record { rising = accounts.ordered; few = accounts.few; within_limits = each-one (row tag.Account).Fits IsAccount account-fits d.accounts accounts.fits; next = record { from_one = day.1.low; to_the_end = day.1.high } };
+        book = record { rising = h.rising; few = omega (arith, over.few); within_limits = All-from_recursion IsAccount (accounts_in d) over.within.1.1.1.1.1.1.1.0.fits; next = record { from_one = day.1.low; to_the_end = day.1.high } };
         rules = record {
-          working_days = record { rising = subst IsRising (map-id d.work) work.ordered; each_day = All-from_recursion IsDayNo d.work work.fits };
+          working_days = record { rising = subst IsRising (map-id d.work) work.listed.ordered; each_day = All-from_recursion IsDayNo d.work work.fits };
           each_admin = All-from_recursion IsUserNo d.admins admins.fits;
           from_year = period.0.0;
           to_year = period.0.1;
-          fit = record { few_admins = admins.few; admins_rise = subst IsRising (map-id d.admins) admins.ordered; lags_fit = record { trusted = lags.trusted; other = lags.other; listed = lags.listed; reversal = lags.reversal }; period = leb-true _ _ period.1 };
+          fit = record { few_admins = admins.listed.few; admins_rise = subst IsRising (map-id d.admins) admins.listed.ordered; lags_fit = record { trusted = lags.trusted; other = lags.other; listed = lags.listed; reversal = lags.reversal }; period = leb-true _ _ period.1 };
         };
         batch = record {
           settlement_day = day.0;
           each = each-one (row tag.Do).Fits IsInstruction instruction-fits d.instructions due.fits;
-          few = due.few;
+          few = due.listed.few;
           numbered = omega (arith, numbered, from);
         };
         follows = omega arith;
       };
       pairs = each-one (row tag.Surrender).Fits IsPair (λ p f. f.1) d.surrender surrender.fits;
-      pairs_rise = surrender.ordered;
+      pairs_rise = surrender.listed.ordered;
     }
 
 -- a closed draft says a day, and stands for the day's rows
@@ -107,24 +107,31 @@ pub record Closes (d : DraftValue) : Type 0 where
   pub reading : IsReading (rows_so_far d) day
 
 said-day : (d : DraftValue) (version : ℕ) (day period : ℕ × ℕ) (lags : Said tag.Lags) → is_over d.last ≡ true → d.versions ≡ version ∷ [] → d.days ≡ day ∷ [] → d.periods ≡ period ∷ [] → d.lags ≡ lags ∷ []
-    → day_said d ≡ Some (day_with day period lags d)
+    → day_said d ≡ Some (day_with day period lags (accounts_in d) d)
 said-day d version day period lags over v a p l = rw (over, v, a, p, l) refl
 
+-- the draft with all blocks over says the same
+pub closed-says : (d : DraftValue) → FitsSoFar d → is_over d.last ≡ true → day_said (closed d) ≡ day_said d
+closed-says d h over =
+    let k = headed d h over in
+    said-day (closed d) k.version k.day k.period k.lags over k.one_version k.one_day k.one_period k.one_lags ∙ ap (λ (l : List AccountValue). Some (day_with k.day k.period k.lags l d)) (append-nil (accounts_in d))
+    ∙ sym (said-day d k.version k.day k.period k.lags over k.one_version k.one_day k.one_period k.one_lags)
+
 said-rows : (d : DraftValue) (version : ℕ) (day period : ℕ × ℕ) (lags : Said tag.Lags) → ended d.last ≡ tt ∷ [] → d.versions ≡ version ∷ [] → d.days ≡ day ∷ [] → d.periods ≡ period ∷ [] → d.lags ≡ lags ∷ []
-    → rows_so_far d ≡ day_text version (day_with day period lags d)
+    → rows_so_far (closed d) ≡ day_text version (day_with day period lags (accounts_in d) d)
 said-rows d version day period lags closed v a p l = rw (closed, v, a, p, l) refl
 
-pub closes : (d : DraftValue) → IsDraft d → is_over d.last ≡ true → Closes d
+pub closes : (d : DraftValue) → FitsSoFar d → is_over d.last ≡ true → Closes d
 closes d h over =
     let k = headed d h over in
     let closed = ap ended (over-last d.last over) in
     record {
-      day = day_with k.day k.period k.lags d;
+      day = day_with k.day k.period k.lags (accounts_in d) d;
       said = said-day d k.version k.day k.period k.lags over k.one_version k.one_day k.one_period k.one_lags;
       reading = record {
         version = k.version;
         is_known = the_one (row tag.Format).Fits d.versions k.version k.one_version h.within.0.fits;
-        spelled = said-rows d k.version k.day k.period k.lags closed k.one_version k.one_day k.one_period k.one_lags;
+        spelled = sym (closed-rows d) ∙ said-rows d k.version k.day k.period k.lags closed k.one_version k.one_day k.one_period k.one_lags;
         fits = says-a-day d h k;
       };
     }
@@ -149,7 +156,7 @@ said_over false o v e = absurd cc
 pub said-of : (rows : List Record) (number : ℕ) (d : DraftValue) (v : DayValue) → IsDraft d → after_rows number d rows ≡ Ok v → IsReading (rows_so_far d ++ rows) v
 said-of [] number d v h e =
     let said = said_at_end number (day_said d) v e in
-    let c = closes d h (said_over (is_over d.last) _ v said) in
+    let c = closes d h.fits (said_over (is_over d.last) _ v said) in
     subst (λ (rows : List Record). IsReading rows v) (sym (append-nil (rows_so_far d))) (subst (IsReading (rows_so_far d)) (some_is c.day v (sym c.said ∙ said)) c.reading)
 said-of (r ∷ rows) number d v h e =
     let t = taken_row number (next_draft d r) (λ x. after_rows (number + 1) x rows) v e in

@@ -2,7 +2,8 @@
 use Rattle.std.proofs.Common.{◌≡◌, ℕ, ◌<◌, ◌≤◌, true, nat_le, List, [], ◌∷◌, ◌++◌, length, map, Option, Some, None, refl, sym, ap, subst, ◌∙◌, arith, append_assoc, length-append}
 use Rattle.std.proofs.lemmas.Bool.{ltb-true, leb-true, lt-ltb}
 use Rattle.std.proofs.lemmas.List.{append-nil, map-append}
-use Rattle.std.specs.List.{AllByRecursion}
+use Rattle.std.specs.List.{AllByRecursion, flat_map}
+use Rattle.std.proofs.lemmas.Grind.{flat_map-append}
 use Rattle.reg_base.specs.Rising.{IsRising}
 use Rattle.reg_text.specs.declared.reading.tag.Tag.{Tag}
 use Rattle.reg_text.specs.declared.reading.tag.Tag.TheVariants as tag
@@ -10,8 +11,8 @@ use Rattle.reg_text.specs.Records.{Record}
 use Rattle.reg_text.specs.Tags.{rule, is_once}
 use Rattle.reg_text.specs.Lasts.{last_of, is_above}
 use Rattle.reg_text.specs.Grammar.{Said, row, row_text}
-use Rattle.reg_text.specs.Sections.{Section, section_rows, all_rows, key, follows, IsOrdered, most, is_room, AreFew, IsSection}
-use Rattle.reg_text.specs.DraftLimits.{StandsAt}
+use Rattle.reg_text.specs.Sections.{Section, item_rows, section_rows, all_rows, key, follows, IsOrdered, most, is_room, AreFew, IsSection}
+use Rattle.reg_text.specs.DraftLimits.{stands_at, comes_once, StandsAt}
 use Rattle.reg_text.proofs.ListFacts.{all-push, all-append, all-first, all-rest, all-both}
 use Rattle.reg_text.proofs.RisingFacts.{rising-push, rising-above, last-key}
 
@@ -27,16 +28,16 @@ rows-append (s ∷ a) b = ap (λ (t : List Record). section_rows s ++ t) (rows-a
 
 -- the rows with one more at the end of a section behind which nothing stands
 abbrev pub grown : (t : Tag) → List (Said t) → Said t → List Section → List Section
-grown t xs x behind = (t, xs ++ x ∷ []) ∷ behind
+grown t xs x behind = (Some t, xs ++ x ∷ []) ∷ behind
 
 abbrev pub shorter : (t : Tag) → List (Said t) → List Section → List Section
-shorter t xs behind = (t, xs) ∷ behind
+shorter t xs behind = (Some t, xs) ∷ behind
 
 pub push : (before : List Section) (t : Tag) (xs : List (Said t)) (x : Said t) (behind : List Section) → AllByRecursion (λ (s : Section). s.1 ≡ []) behind
     → all_rows (before ++ grown t xs x behind) ≡ all_rows (before ++ shorter t xs behind) ++ row_text t x ∷ []
 push [] t xs x behind e =
-    let more = map-append (row_text t) xs (x ∷ []) in
-    rw (no-rows behind e) (append-nil (map (row_text t) (xs ++ x ∷ [])) ∙ more ∙ ap (λ (rows : List Record). rows ++ row_text t x ∷ []) (sym (append-nil (map (row_text t) xs))))
+    let more = flat_map-append (item_rows (Some t)) xs (x ∷ []) in
+    rw (no-rows behind e) (append-nil _ ∙ more ∙ ap (λ (rows : List Record). rows ++ row_text t x ∷ []) (sym (append-nil (flat_map (item_rows (Some t)) xs))))
 push (b ∷ before) t xs x behind e =
     ap (λ (rows : List Record). section_rows b ++ rows) (push before t xs x behind e) ∙ sym (append_assoc (section_rows b) (all_rows (before ++ shorter t xs behind)) (row_text t x ∷ []))
 
@@ -63,26 +64,20 @@ all-at P [] x others all = all.0
 all-at P (y ∷ xs) x others all = all-at P xs x others all.1
 
 -- a section with one row more
-pub section-push : (t : Tag) (xs : List (Said t)) (x : Said t) → IsSection (t, xs) → (row t).Fits x → follows (key t) (last_of xs) x ≡ true → is_room (most t) (length xs) ≡ true → IsSection (t, xs ++ x ∷ [])
+pub section-push : (t : Tag) (xs : List (Said t)) (x : Said t) → IsSection (Some t, xs) → (row t).Fits x → follows (key t) (last_of xs) x ≡ true → is_room (most t) (length xs) ≡ true → IsSection (Some t, xs ++ x ∷ [])
 section-push t xs x h fits order room = record {
   fits = all-push (row t).Fits xs x h.fits fits;
-  ordered = ordered-push (key t) xs x h.ordered order;
-  few = few-push (most t) xs x room;
+  listed = record { ordered = ordered-push (key t) xs x h.listed.ordered order; few = few-push (most t) xs x room };
 }
 
 -- ---- where sections stand
 
 -- a section of a later row; a section of an earlier one, which has come before this row if it stands once
 pub record IsLater (t : Tag) (s : Section) : Type 0 where
-  pub above : (rule t).place < (rule s.0).place
+  pub above : (rule t).place < stands_at s.0
 
 pub record IsEarlier (t : Tag) (s : Section) : Type 0 where
-  pub before : is_once s.0 ≡ true → (rule s.0).place ≤ (rule t).from
-
--- a row stands not before the row that it follows
-to-place : (t : Tag) → nat_le (rule t).to (rule t).place ≡ true
-to-place tag.Format = refl
-to-place t = refl
+  pub before : comes_once s.0 ≡ true → stands_at s.0 ≤ (rule t).from
 
 once-from : (t : Tag) → is_once t ≡ true → (rule t).to < (rule t).place
 once-from t e = ltb-true _ _ e
@@ -92,10 +87,9 @@ nothing-more {X = X} xs x e = ap (λ (l : List X). l ++ x ∷ []) e
 
 -- after a row more, each section stands as it should
 pub stand-push : (at : ℕ) (t : Tag) (before : List Section) (xs : List (Said t)) (x : Said t) (behind : List Section)
-    → (rule t).from ≤ at → at ≤ (rule t).to → AllByRecursion (IsEarlier t) before → AllByRecursion (IsLater t) behind
+    → (rule t).from ≤ at → at ≤ (rule t).to → at ≤ (rule t).place → AllByRecursion (IsEarlier t) before → AllByRecursion (IsLater t) behind
     → AllByRecursion (StandsAt at) (before ++ shorter t xs behind) → AllByRecursion (StandsAt (rule t).place) (before ++ grown t xs x behind)
-stand-push at t before xs x behind low high earlier later h =
-    let up : at ≤ (rule t).place = omega (arith, leb-true _ _ (to-place t)) in
+stand-push at t before xs x behind low high up earlier later h =
     let tail = all-rest (StandsAt at) before (shorter t xs behind) h in
     all-append (StandsAt (rule t).place) before (grown t xs x behind)
     (all-both (IsEarlier t) (StandsAt at) (StandsAt (rule t).place) (λ s e k. record { begun = λ lt. k.begun (omega arith); come = λ le once. k.come (omega (arith, e.before once)) once })
@@ -105,6 +99,6 @@ stand-push at t before xs x behind low high earlier later h =
     )
 
 -- behind the section of a row nothing has begun
-pub empty-behind : (at : ℕ) (t : Tag) (behind : List Section) → at ≤ (rule t).to → AllByRecursion (IsLater t) behind → AllByRecursion (StandsAt at) behind → AllByRecursion (λ (s : Section). s.1 ≡ []) behind
-empty-behind at t behind high later h =
-    all-both (IsLater t) (StandsAt at) (λ (s : Section). s.1 ≡ []) (λ s e k. k.begun (omega (arith, e.above, leb-true _ _ (to-place t)))) behind later h
+pub empty-behind : (at : ℕ) (t : Tag) (behind : List Section) → at ≤ (rule t).place → AllByRecursion (IsLater t) behind → AllByRecursion (StandsAt at) behind → AllByRecursion (λ (s : Section). s.1 ≡ []) behind
+empty-behind at t behind up later h =
+    all-both (IsLater t) (StandsAt at) (λ (s : Section). s.1 ≡ []) (λ s e k. k.begun (omega (arith, e.above))) behind later h

@@ -1,30 +1,34 @@
 -- What is spelled is taken: the rows of a day text read as its day.
-use Rattle.std.proofs.Common.{◌≡◌, ℕ, ◌+◌, ◌-◌, ◌≤◌, true, List, [], ◌∷◌, ◌++◌, length, Option, Some, Ok, refl, sym, ap, subst, ◌∙◌, arith, length-append, append_assoc}
+use Rattle.std.proofs.Common.{◌≡◌, ℕ, ◌+◌, ◌-◌, ◌<◌, ◌≤◌, true, List, [], ◌∷◌, ◌++◌, map, length, Option, Some, None, Ok, refl, sym, ap, subst, ◌∙◌, arith, length-append, append_assoc}
 use mathlib.Core.List.{map-id}
+use Rattle.std.specs.List.{AllByRecursion, flat_map}
 use Rattle.std.proofs.lemmas.List.Elements.{recursion_from_All}
-use Rattle.std.proofs.lemmas.Bool.{le-leb}
-use Rattle.std.proofs.lemmas.List.{append-nil}
-use Rattle.reg_base.specs.declared.limits.TheConstants.{MOST_RECORD}
+use Rattle.std.proofs.lemmas.Bool.{le-leb, lt-ltb}
+use Rattle.std.proofs.lemmas.List.{append-nil, map-append}
+use Rattle.reg_base.specs.declared.limits.TheConstants.{MOST_ACCOUNTS, MOST_RECORD}
+use Rattle.reg_base.specs.Numbers.{IsUserNo, IsDayNo}
+use Rattle.reg_base.specs.Instructions.{IsInstruction}
 use Rattle.reg_base.specs.Rising.{IsRising}
+use Rattle.reg_account.specs.Account.{AccountValue, IsAccount}
+use Rattle.reg_text.specs.declared.reading.account_row.AccountHead.{AccountHead}
 use Rattle.reg_text.specs.declared.reading.tag.Tag.{Tag}
 use Rattle.reg_text.specs.declared.reading.tag.Tag.TheVariants as tag
 use Rattle.reg_text.specs.Records.{Record}
 use Rattle.reg_text.specs.Tags.{tag_word}
-use Rattle.reg_text.specs.Lasts.{last_of}
+use Rattle.reg_text.specs.Lasts.{last_of, as_list}
 use Rattle.reg_text.specs.Grammar.{Said, row, row_text}
-use Rattle.reg_text.specs.Sections.{section_rows, all_rows, key, follows, most, IsSection}
-use Rattle.reg_text.specs.Drafts.{DraftValue, listed, nothing_read}
+use Rattle.reg_text.specs.Sections.{head_of, account_with, account_block, section_rows, all_rows, key, follows, most, IsSection}
+use Rattle.reg_text.specs.Drafts.{DraftValue, listed, accounts_in, account_count, nothing_read}
 use Rattle.reg_text.specs.Day.{DayValue}
 use Rattle.reg_text.specs.Spelling.{lags_in, day_text}
-use Rattle.reg_base.specs.Numbers.{IsUserNo, IsDayNo}
-use Rattle.reg_base.specs.Instructions.{IsInstruction}
-use Rattle.reg_account.specs.Account.{IsAccount}
 use Rattle.reg_text.specs.Reading.{IsPair, CanBeSaid}
 use Rattle.reg_text.specs.Faults.{with, in_order, has_room, with_row, next_draft, after_rows}
 use Rattle.reg_text.proofs.ListFacts.{all-weaker}
 use Rattle.reg_text.proofs.GrammarLaws.{each-row}
 use Rattle.reg_text.proofs.RowLaws.{fit-lags, fit-account, fit-instruction}
+use Rattle.reg_text.proofs.RisingFacts.{rising-above, last_of-append}
 use Rattle.reg_text.proofs.SectionLaws.{ordered-at, room-at, all-at}
+use Rattle.reg_text.proofs.DraftSteps.{count-accounts}
 use Rattle.reg_text.proofs.TagLaws.{MayFollow, tag-again, goes_on, later}
 
 -- whatever the number of the first row, these rows say this day after the draft
@@ -50,40 +54,62 @@ pub record Grown (t : Tag) (state : Option Tag → List (Said t) → DraftValue)
   pub list : (last : Option Tag) (xs : List (Said t)) → listed t (state last xs) ≡ xs
   pub more : (last : Option Tag) (xs : List (Said t)) (x : Said t) → with t (state last xs) x ≡ state (Some t) (xs ++ x ∷ [])
 
-section-step : (t : Tag) (state : Option Tag → List (Said t) → DraftValue) → Grown t state → (last : Option Tag) (xs : List (Said t)) (x : Said t) (others : List (Said t)) → MayFollow last t → IsSection (t, xs ++ x ∷ others)
+section-step : (t : Tag) (state : Option Tag → List (Said t) → DraftValue) → Grown t state → (last : Option Tag) (xs : List (Said t)) (x : Said t) (others : List (Said t)) → MayFollow last t → IsSection (Some t, xs ++ x ∷ others)
     → has_room t (state last xs) ≡ true → next_draft (state last xs) (row_text t x) ≡ Ok (state (Some t) (xs ++ x ∷ []))
 section-step t state g last xs x others may whole room =
-    let order : in_order t (state last xs) x ≡ true = ap (λ (l : List (Said t)). follows (key t) (last_of l) x) (g.list last xs) ∙ ordered-at (key t) xs x others whole.ordered in
+    let order : in_order t (state last xs) x ≡ true = ap (λ (l : List (Said t)). follows (key t) (last_of l) x) (g.list last xs) ∙ ordered-at (key t) xs x others whole.listed.ordered in
     taken t (state last xs) x (subst (λ (l : Option Tag). MayFollow l t) (sym (g.last last xs)) may) (all-at (row t).Fits xs x others whole.fits) order room ∙ ap (λ (d : DraftValue). Ok d) (g.more last xs x)
 
 pub section-taken : (t : Tag) (state : Option Tag → List (Said t) → DraftValue) → Grown t state → MayFollow (Some t) t
-    → (Whole : List (Said t) → Type 0) → ((l : List (Said t)) → Whole l → IsSection (t, l))
+    → (Whole : List (Said t) → Type 0) → ((l : List (Said t)) → Whole l → IsSection (Some t, l))
     → ((last : Option Tag) (xs : List (Said t)) (x : Said t) (others : List (Said t)) → Whole (xs ++ x ∷ others) → has_room t (state last xs) ≡ true)
     → (others : List (Said t)) (last : Option Tag) (xs : List (Said t)) (rest : List Record) (v : DayValue) → MayFollow last t → Whole (xs ++ others)
-    → ((after : Option Tag) → MayFollow after t → Reach (state after (xs ++ others)) rest v) → Reach (state last xs) (section_rows (t, others) ++ rest) v
+    → ((after : Option Tag) → MayFollow after t → Reach (state after (xs ++ others)) rest v) → Reach (state last xs) (section_rows (Some t, others) ++ rest) v
 section-taken t state g again Whole is room [] last xs rest v may whole more = let then = more last may in rw append-nil at then
 section-taken t state g again Whole is room (x ∷ others) last xs rest v may whole more =
     let same : (xs ++ x ∷ []) ++ others ≡ xs ++ x ∷ others = append_assoc xs (x ∷ []) others in
-    reach-row (state last xs) (state (Some t) (xs ++ x ∷ [])) (row_text t x) (section_rows (t, others) ++ rest) v (section-step t state g last xs x others may (is (xs ++ x ∷ others) whole) (room last xs x others whole))
+    reach-row (state last xs) (state (Some t) (xs ++ x ∷ [])) (row_text t x) (section_rows (Some t, others) ++ rest) v (section-step t state g last xs x others may (is (xs ++ x ∷ others) whole) (room last xs x others whole))
     (section-taken t state g again Whole is room others (Some t) (xs ++ x ∷ []) rest v again (subst Whole (sym same) whole)
     (λ after may'. subst (λ (l : List (Said t)). Reach (state after l) rest v) (sym same) (more after may')))
 
+-- ---- the blocks of accounts
+
+abbrev account_number : AccountValue → ℕ
+account_number a = a.number
+
+-- an account that is above the ones before it comes after the open one
+next-account : (accounts : List AccountValue) (head : Option AccountHead) (a : AccountValue) (others : List AccountValue) → IsRising (map account_number ((accounts ++ map account_with (as_list head)) ++ a ∷ others)) → follows (key tag.Account) (last_of (as_list head)) (head_of a) ≡ true
+next-account accounts None a others rises = refl
+next-account accounts (Some h) a others rises =
+    let all = rising-above (map account_number (accounts ++ account_with h ∷ [])) a.number (map account_number others) (rw map-append at rises) in
+    rw (map-append account_number accounts (account_with h ∷ []), last_of-append (map account_number accounts) h.number) at all
+
+pub blocks-taken : (d : DraftValue) (others : List AccountValue) (last : Option Tag) (accounts : List AccountValue) (head : Option AccountHead) (rest : List Record) (v : DayValue) → MayFollow last tag.Account → AllByRecursion IsAccount others
+    → IsRising (map account_number ((accounts ++ map account_with (as_list head)) ++ others)) → length ((accounts ++ map account_with (as_list head)) ++ others) ≤ MOST_ACCOUNTS
+    → ((after : Option Tag) (all : List AccountValue) (opened : Option AccountHead) → MayFollow after tag.Account → all ++ map account_with (as_list opened) ≡ (accounts ++ map account_with (as_list head)) ++ others → Reach (record d { last = after; accounts = all; head = opened }) rest v)
+    → Reach (record d { last = last; accounts = accounts; head = head }) (flat_map account_block others ++ rest) v
+blocks-taken d [] last accounts head rest v may fit rises few more = more last accounts head may (sym (append-nil (accounts ++ map account_with (as_list head))))
+blocks-taken d (a ∷ others) last accounts head rest v may fit rises few more =
+    let now = record d { last = last; accounts = accounts; head = head } in
+    let all = accounts_in now in
+    let same : (all ++ a ∷ []) ++ others ≡ all ++ a ∷ others = append_assoc all (a ∷ []) others in
+    let room : account_count now < MOST_ACCOUNTS = omega (arith, few, length-append all (a ∷ others), count-accounts accounts head) in
+    reach-row now (with tag.Account now (head_of a)) (row_text tag.Account (head_of a)) (flat_map account_block others ++ rest) v (taken tag.Account now (head_of a) may (fit-account a fit.0) (next-account accounts head a others rises) (lt-ltb _ _ room))
+    (blocks-taken d others (Some tag.Account) all (Some (head_of a)) rest v refl fit.1 (rw same rises) (rw same few) (λ after ones opened may' is. more after ones opened may' (is ∙ same)))
+
 -- ---- the sections of a day
 
-surrender-section : (v : DayValue) → CanBeSaid v → IsSection (tag.Surrender, v.rules.surrender)
-surrender-section v h = record { fits = all-weaker IsPair (row tag.Surrender).Fits (λ p is. ((tt, tt), is)) v.rules.surrender (recursion_from_All IsPair v.rules.surrender h.pairs); ordered = h.pairs_rise; few = tt }
+surrender-section : (v : DayValue) → CanBeSaid v → IsSection (Some tag.Surrender, v.rules.surrender)
+surrender-section v h = record { fits = all-weaker IsPair (row tag.Surrender).Fits (λ p is. ((tt, tt), is)) v.rules.surrender (recursion_from_All IsPair v.rules.surrender h.pairs); listed = record { ordered = h.pairs_rise; few = tt } }
 
-admin-section : (v : DayValue) → CanBeSaid v → IsSection (tag.Admin, v.rules.admins)
-admin-section v h = record { fits = recursion_from_All IsUserNo v.rules.admins h.day.rules.each_admin; ordered = subst IsRising (sym (map-id v.rules.admins)) h.day.rules.fit.admins_rise; few = h.day.rules.fit.few_admins }
+admin-section : (v : DayValue) → CanBeSaid v → IsSection (Some tag.Admin, v.rules.admins)
+admin-section v h = record { fits = recursion_from_All IsUserNo v.rules.admins h.day.rules.each_admin; listed = record { ordered = subst IsRising (sym (map-id v.rules.admins)) h.day.rules.fit.admins_rise; few = h.day.rules.fit.few_admins } }
 
-work-section : (v : DayValue) → CanBeSaid v → IsSection (tag.Work, v.rules.calendar)
-work-section v h = let days = h.day.rules.working_days in record { fits = recursion_from_All IsDayNo v.rules.calendar days.each_day; ordered = subst IsRising (sym (map-id v.rules.calendar)) days.rising; few = tt }
+work-section : (v : DayValue) → CanBeSaid v → IsSection (Some tag.Work, v.rules.calendar)
+work-section v h = let days = h.day.rules.working_days in record { fits = recursion_from_All IsDayNo v.rules.calendar days.each_day; listed = record { ordered = subst IsRising (sym (map-id v.rules.calendar)) days.rising; few = tt } }
 
-account-section : (v : DayValue) → CanBeSaid v → IsSection (tag.Account, v.book.accounts)
-account-section v h = record { fits = all-weaker IsAccount (row tag.Account).Fits fit-account v.book.accounts (recursion_from_All IsAccount v.book.accounts h.day.book.within_limits); ordered = h.day.book.rising; few = h.day.book.few }
-
-do-section : (v : DayValue) → CanBeSaid v → IsSection (tag.Do, v.batch.instructions)
-do-section v h = record { fits = all-weaker IsInstruction (row tag.Do).Fits fit-instruction v.batch.instructions (recursion_from_All IsInstruction v.batch.instructions h.day.batch.each); ordered = tt; few = h.day.batch.few }
+do-section : (v : DayValue) → CanBeSaid v → IsSection (Some tag.Do, v.batch.instructions)
+do-section v h = record { fits = all-weaker IsInstruction (row tag.Do).Fits fit-instruction v.batch.instructions (recursion_from_All IsInstruction v.batch.instructions h.day.batch.each); listed = record { ordered = tt; few = h.day.batch.few } }
 
 -- the drafts on the way
 abbrev headed : ℕ → DayValue → DraftValue
@@ -116,13 +142,14 @@ head-taken version v rest known h more =
 
 -- the instructions, each with a record number
 abbrev AreNumbered : DayValue → List (Said tag.Do) → Type 0
-AreNumbered v l = IsSection (tag.Do, l) × (v.book.next + length l ≤ MOST_RECORD + 1)
+AreNumbered v l = IsSection (Some tag.Do, l) × (v.book.next + length l ≤ MOST_RECORD + 1)
 
 has-number : (v : DayValue) (xs : List (Said tag.Do)) (x : Said tag.Do) (others : List (Said tag.Do)) → v.book.next + length (xs ++ x ∷ others) ≤ MOST_RECORD + 1 → v.book.next + length xs ≤ MOST_RECORD
 has-number v xs x others h = omega (arith, length-append xs (x ∷ others), h)
 
-closed : (version : ℕ) (v : DayValue) → v.book.next - 1 ≡ v.batch.base → Reach (record (headed version v) { last = Some tag.End; surrender = v.rules.surrender; admins = v.rules.admins; work = v.rules.calendar; accounts = v.book.accounts; instructions = v.batch.instructions }) [] v
-closed version v base number = ap (λ (n : ℕ). Ok (record v { batch = record v.batch { base = n } })) base
+whole : (version : ℕ) (v : DayValue) (accounts : List AccountValue) (head : Option AccountHead) → v.book.next - 1 ≡ v.batch.base → accounts ++ map account_with (as_list head) ≡ v.book.accounts
+    → Reach (record (headed version v) { last = Some tag.End; surrender = v.rules.surrender; admins = v.rules.admins; work = v.rules.calendar; accounts = accounts; head = head; instructions = v.batch.instructions }) [] v
+whole version v accounts head base all number = rw all (ap (λ (n : ℕ). Ok (record v { batch = record v.batch { base = n } })) base)
 
 pub text-taken : (version : ℕ) (v : DayValue) → version ≡ 1 → CanBeSaid v → Reach nothing_read (day_text version v) v
 text-taken version v known h =
@@ -131,22 +158,21 @@ text-taken version v known h =
     let d1 = record d0 { surrender = v.rules.surrender } in
     let d2 = record d1 { admins = v.rules.admins } in
     let d3 = record d2 { work = v.rules.calendar } in
-    let d4 = record d3 { accounts = v.book.accounts } in
-    let d5 = record d4 { instructions = v.batch.instructions } in
-    let rows5 : List Record = all_rows ((tag.End, tt ∷ []) ∷ []) in
-    let rows4 : List Record = section_rows (tag.Do, v.batch.instructions) ++ rows5 in
-    let rows3 : List Record = section_rows (tag.Account, v.book.accounts) ++ rows4 in
-    let rows2 : List Record = section_rows (tag.Work, v.rules.calendar) ++ rows3 in
-    let rows1 : List Record = section_rows (tag.Admin, v.rules.admins) ++ rows2 in
-    head-taken version v (section_rows (tag.Surrender, v.rules.surrender) ++ rows1) known h
-    (section-taken tag.Surrender (λ last l. record d0 { last = last; surrender = l }) (record { last = λ last xs. refl; list = λ last xs. refl; more = λ last xs x. refl }) refl (λ l. IsSection (tag.Surrender, l)) (λ l whole. whole) (λ last xs x others whole. refl)
+    let rows5 : List Record = all_rows ((Some tag.End, tt ∷ []) ∷ []) in
+    let rows4 : List Record = section_rows (Some tag.Do, v.batch.instructions) ++ rows5 in
+    let rows3 : List Record = flat_map account_block v.book.accounts ++ rows4 in
+    let rows2 : List Record = section_rows (Some tag.Work, v.rules.calendar) ++ rows3 in
+    let rows1 : List Record = section_rows (Some tag.Admin, v.rules.admins) ++ rows2 in
+    head-taken version v (section_rows (Some tag.Surrender, v.rules.surrender) ++ rows1) known h
+    (section-taken tag.Surrender (λ last l. record d0 { last = last; surrender = l }) (record { last = λ last xs. refl; list = λ last xs. refl; more = λ last xs x. refl }) refl (λ l. IsSection (Some tag.Surrender, l)) (λ l whole. whole) (λ last xs x others whole. refl)
     v.rules.surrender (Some tag.Lags) [] rows1 v refl (surrender-section v h) (λ last1 may1.
-    section-taken tag.Admin (λ last l. record d1 { last = last; admins = l }) (record { last = λ last xs. refl; list = λ last xs. refl; more = λ last xs x. refl }) refl (λ l. IsSection (tag.Admin, l)) (λ l whole. whole) (λ last xs x others whole. room-at (most tag.Admin) xs x others whole.few)
+    section-taken tag.Admin (λ last l. record d1 { last = last; admins = l }) (record { last = λ last xs. refl; list = λ last xs. refl; more = λ last xs x. refl }) refl (λ l. IsSection (Some tag.Admin, l)) (λ l whole. whole) (λ last xs x others whole. room-at (most tag.Admin) xs x others whole.listed.few)
     v.rules.admins last1 [] rows2 v (later last1 tag.Surrender tag.Admin (omega arith) (omega arith) may1) (admin-section v h) (λ last2 may2.
-    section-taken tag.Work (λ last l. record d2 { last = last; work = l }) (record { last = λ last xs. refl; list = λ last xs. refl; more = λ last xs x. refl }) refl (λ l. IsSection (tag.Work, l)) (λ l whole. whole) (λ last xs x others whole. refl)
+    section-taken tag.Work (λ last l. record d2 { last = last; work = l }) (record { last = λ last xs. refl; list = λ last xs. refl; more = λ last xs x. refl }) refl (λ l. IsSection (Some tag.Work, l)) (λ l whole. whole) (λ last xs x others whole. refl)
     v.rules.calendar last2 [] rows3 v (later last2 tag.Admin tag.Work (omega arith) (omega arith) may2) (work-section v h) (λ last3 may3.
-    section-taken tag.Account (λ last l. record d3 { last = last; accounts = l }) (record { last = λ last xs. refl; list = λ last xs. refl; more = λ last xs x. refl }) refl (λ l. IsSection (tag.Account, l)) (λ l whole. whole) (λ last xs x others whole. room-at (most tag.Account) xs x others whole.few)
-    v.book.accounts last3 [] rows4 v (later last3 tag.Work tag.Account (omega arith) (omega arith) may3) (account-section v h) (λ last4 may4.
-    section-taken tag.Do (λ last l. record d4 { last = last; instructions = l }) (record { last = λ last xs. refl; list = λ last xs. refl; more = λ last xs x. refl }) refl (AreNumbered v) (λ l whole. whole.0) (λ last xs x others whole. rw (room-at (most tag.Do) xs x others whole.0.few, le-leb _ _ (has-number v xs x others whole.1)) refl)
+    blocks-taken d3 v.book.accounts last3 [] None rows4 v (later last3 tag.Work tag.Account (omega arith) (omega arith) may3) (recursion_from_All IsAccount v.book.accounts h.day.book.within_limits) h.day.book.rising h.day.book.few (λ last4 accounts head may4 all.
+    let d4 = record d3 { accounts = accounts; head = head } in
+    let d5 = record d4 { instructions = v.batch.instructions } in
+    section-taken tag.Do (λ last l. record d4 { last = last; instructions = l }) (record { last = λ last xs. refl; list = λ last xs. refl; more = λ last xs x. refl }) refl (AreNumbered v) (λ l whole. whole.0) (λ last xs x others whole. rw (room-at (most tag.Do) xs x others whole.0.listed.few, le-leb _ _ (has-number v xs x others whole.1)) refl)
     v.batch.instructions last4 [] rows5 v (later last4 tag.Account tag.Do (omega arith) (omega arith) may4) (do-section v h, omega (arith, h.day.follows, h.day.batch.numbered)) (λ last5 may5.
-    reach-row (record d5 { last = last5 }) (record d5 { last = Some tag.End }) (row_text tag.End tt) [] v (taken tag.End (record d5 { last = last5 }) tt (later last5 tag.Do tag.End (omega arith) (omega arith) may5) tt refl refl) (closed version v base)))))))
+    reach-row (record d5 { last = last5 }) (record d5 { last = Some tag.End }) (row_text tag.End tt) [] v (taken tag.End (record d5 { last = last5 }) tt (later last5 tag.Do tag.End (omega arith) (omega arith) may5) tt refl refl) (whole version v accounts head base all)))))))

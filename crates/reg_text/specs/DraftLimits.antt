@@ -1,15 +1,16 @@
 -- What holds of every draft: its sections are within their limits, and in the order of the grammar.
-use Rattle.std.specs.Prelude.{◌≡◌, ℕ, ◌+◌, ◌<◌, ◌≤◌, true, List, [], ◌∷◌, length, Option, IfSome, Result, MatchResult}
+use Rattle.std.specs.Prelude.{◌≡◌, ℕ, ◌+◌, ◌<◌, ◌≤◌, Bool, true, false, List, [], ◌∷◌, map, length, Option, Some, None, IfSome, Result, MatchResult}
 use Rattle.std.specs.List.{AllByRecursion}
-use Rattle.reg_base.specs.declared.limits.TheConstants.{MOST_LAG, MOST_RECORD}
+use Rattle.reg_base.specs.declared.limits.TheConstants.{MOST_ACCOUNTS, MOST_LAG, MOST_RECORD}
+use Rattle.reg_base.specs.Rising.{IsRising}
 use Rattle.reg_text.specs.declared.cause.DayFault.{DayFault}
 use Rattle.reg_text.specs.declared.reading.tag.Tag.{Tag}
 use Rattle.reg_text.specs.declared.reading.heading_rows.Lags.{Lags}
 use Rattle.reg_text.specs.Records.{Record}
 use Rattle.reg_text.specs.Tags.{place, rule, is_once}
 use Rattle.reg_text.specs.Grammar.{Said}
-use Rattle.reg_text.specs.Sections.{Section, IsSection}
-use Rattle.reg_text.specs.Drafts.{DraftValue, sections}
+use Rattle.reg_text.specs.Sections.{Section, Item, IsSection}
+use Rattle.reg_text.specs.Drafts.{DraftValue, accounts_in, account_count, sections}
 use Rattle.reg_text.specs.Faults.{next_in, with, after_rows, AnswersFault}
 
 -- the lags and the window, each within its limit
@@ -19,15 +20,32 @@ pub record AreLags (lags : Lags) : Type 0 where
   pub listed : lags.list ≤ MOST_LAG
   pub reversal : lags.reversal ≤ MOST_LAG
 
+-- where a section stands, whether its row occurs once, and the blocks that are over before the open one
+abbrev pub stands_at : Option Tag → ℕ
+stands_at None = 75
+stands_at (Some t) = (rule t).place
+
+abbrev pub comes_once : Option Tag → Bool
+comes_once None = false
+comes_once (Some t) = is_once t
+
 -- after a row at this place: a section of later rows has not begun, and a row that occurs once has come if its place is not later
 pub record StandsAt (at : ℕ) (s : Section) : Type 0 where
-  pub begun : at < (rule s.0).place → s.1 ≡ []
-  pub come : (rule s.0).place ≤ at → is_once s.0 ≡ true → (x : Said s.0) × (s.1 ≡ x ∷ [])
+  pub begun : at < stands_at s.0 → s.1 ≡ []
+  pub come : stands_at s.0 ≤ at → comes_once s.0 ≡ true → (x : Item s.0) × (s.1 ≡ x ∷ [])
 
-pub record IsDraft (d : DraftValue) : Type 0 where
+-- what was read is within its limits and in the order of the grammar
+pub record FitsSoFar (d : DraftValue) : Type 0 where
   pub within : AllByRecursion IsSection (sections d)
   pub stand : AllByRecursion (StandsAt (place d.last)) (sections d)
+  pub rising : IsRising (map (λ a. a.number) (accounts_in d))
+  pub few : account_count d ≤ MOST_ACCOUNTS
   pub numbered : IfSome (next_in d.days) (λ next. next + length d.instructions ≤ MOST_RECORD + 1)
+
+-- and before the first account none is open
+pub record IsDraft (d : DraftValue) : Type 0 where
+  pub fits : FitsSoFar d
+  pub first : d.head ≡ None → d.accounts ≡ []
 
 -- a row with this number and tag was taken after a row with the last tag, whatever the draft
 pub record IsTaken (number : ℕ) (t : Tag) (last : Option Tag) (left rows : List Record) (x : Said t) : Type 0 where

@@ -1,6 +1,6 @@
 -- The rows of a text in turn: what each adds, and the first that is wrong, with its cause.
 use Rattle.std.specs.Prelude.{◌≡◌, ℕ, ◌+◌, Bool, true, ◌&&◌, nat_lt, nat_le, List, [], ◌∷◌, ◌++◌, length, Option, Some, None, Result, Ok, Err, if◌then◌else◌}
-use Rattle.reg_base.specs.declared.limits.TheConstants.{MOST_INSTRUCTIONS, MOST_RECORD}
+use Rattle.reg_base.specs.declared.limits.TheConstants.{MOST_ACCOUNTS, MOST_INSTRUCTIONS, MOST_RECORD}
 use Rattle.reg_text.specs.declared.cause.Cause.{Cause}
 use Rattle.reg_text.specs.declared.cause.Cause.TheVariants as cause
 use Rattle.reg_text.specs.declared.cause.DayFault.{DayFault}
@@ -15,7 +15,7 @@ use Rattle.reg_text.specs.Records.{Record, field}
 use Rattle.reg_text.specs.Tags.{tag_after}
 use Rattle.reg_text.specs.Grammar.{Said, row}
 use Rattle.reg_text.specs.Sections.{key, follows, most, is_room}
-use Rattle.reg_text.specs.Drafts.{DraftValue, listed, nothing_read}
+use Rattle.reg_text.specs.Drafts.{DraftValue, listed, account_count, closed, nothing_read}
 use Rattle.reg_text.specs.Day.{DayValue, is_over, day_said}
 
 -- ---- one row
@@ -29,7 +29,7 @@ with tag.Lags d x = record d { last = Some tag.Lags; lags = d.lags ++ x ∷ [] }
 with tag.Surrender d x = record d { last = Some tag.Surrender; surrender = d.surrender ++ x ∷ [] }
 with tag.Admin d x = record d { last = Some tag.Admin; admins = d.admins ++ x ∷ [] }
 with tag.Work d x = record d { last = Some tag.Work; work = d.work ++ x ∷ [] }
-with tag.Account d x = record d { last = Some tag.Account; accounts = d.accounts ++ x ∷ [] }
+with tag.Account d x = record (closed d) { last = Some tag.Account; head = Some x }
 with tag.Do d x = record d { last = Some tag.Do; instructions = d.instructions ++ x ∷ [] }
 with tag.End d x = record d { last = Some tag.End }
 
@@ -49,6 +49,7 @@ in_order t d x = follows (key t) (last_of (listed t d)) x
 
 -- its section may have one more row, and an instruction has a record number
 abbrev pub has_room : (t : Tag) → DraftValue → Bool
+has_room tag.Account d = nat_lt (account_count d) MOST_ACCOUNTS
 has_room tag.Do d = nat_lt (length d.instructions) MOST_INSTRUCTIONS && is_number_left (next_in d.days) (length d.instructions)
 has_room t d = is_room (most t) (length (listed t d))
 

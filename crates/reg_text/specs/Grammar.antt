@@ -6,11 +6,11 @@ use Rattle.reg_base.specs.declared.kinds.AccountKind.{AccountKind}
 use Rattle.reg_base.specs.declared.kinds.AccountKind.TheVariants.{Total, Allocation, Operator, Aircraft, Trading}
 use Rattle.reg_base.specs.declared.kinds.AllowanceKind.{AllowanceKind}
 use Rattle.reg_base.specs.declared.instruction.Instruction.{Instruction}
-use Rattle.reg_account.specs.Account.{AccountValue}
 use Rattle.reg_text.specs.declared.cause.Cause.{Cause}
 use Rattle.reg_text.specs.declared.cause.Cause.TheVariants as cause
 use Rattle.reg_text.specs.declared.reading.tag.Tag.{Tag}
 use Rattle.reg_text.specs.declared.reading.tag.Tag.TheVariants as tag
+use Rattle.reg_text.specs.declared.reading.account_row.AccountHead.{AccountHead}
 use Rattle.reg_text.specs.declared.reading.heading_rows.Lags.{Lags}
 use Rattle.reg_text.specs.Causes.{test}
 use Rattle.reg_text.specs.Records.{Record}
@@ -67,7 +67,7 @@ abbrev pub pair_fields : Fields (AccountKind × AllowanceKind)
 pair_fields = provided (λ p. may_surrender p.0) cause.Word (a_word account_kind_word account_kind_of ▸ last (a_word kind_word kind_of))
 
 -- NO,ACCOUNTKIND,HOLDER,STATUS,OUTSIDE,WAIVER,CORRECTION,GENERAL,AVIATION
-abbrev pub account_fields : Fields AccountValue
+abbrev pub account_fields : Fields AccountHead
 account_fields = made
     (λ p. record { number = p.0; kind = p.1.0; holder = p.1.1.0; status = p.1.1.1.0; outside = p.1.1.1.1.0; waiver = p.1.1.1.1.1.0; correction = p.1.1.1.1.1.1.0; held = record { general = p.1.1.1.1.1.1.1.0; aviation = p.1.1.1.1.1.1.1.1 } })
     (λ a. (a.number, (a.kind, (a.holder, (a.status, (a.outside, (a.waiver, (a.correction, (a.held.general, a.held.aviation)))))))))
@@ -84,7 +84,7 @@ Said tag.Lags = Lags
 Said tag.Surrender = AccountKind × AllowanceKind
 Said tag.Admin = ℕ
 Said tag.Work = ℕ
-Said tag.Account = AccountValue
+Said tag.Account = AccountHead
 Said tag.Do = Instruction
 Said tag.End = Unit {0}
 

@@ -1,25 +1,51 @@
--- Sections: the rows of one tag one after another, their order, and how many there may be.
+-- Sections: the rows of one tag one after another, or whole blocks of accounts; their order, and how many there may be.
 use Rattle.std.specs.Prelude.{ℕ, Bool, true, ◌≤◌, nat_lt, List, [], ◌∷◌, ◌++◌, map, length, Option, Some, None}
-use Rattle.std.specs.List.{AllByRecursion}
-use Rattle.reg_base.specs.declared.limits.TheConstants.{MOST_ADMINISTRATORS, MOST_ACCOUNTS, MOST_INSTRUCTIONS}
+use Rattle.std.specs.List.{AllByRecursion, flat_map}
+use Rattle.reg_base.specs.declared.limits.TheConstants.{MOST_ADMINISTRATORS, MOST_INSTRUCTIONS}
 use Rattle.reg_base.specs.declared.kinds.AccountKind.{AccountKind}
 use Rattle.reg_base.specs.declared.kinds.AccountKind.TheVariants.{Aircraft}
 use Rattle.reg_base.specs.declared.kinds.AllowanceKind.{AllowanceKind}
 use Rattle.reg_base.specs.declared.kinds.AllowanceKind.TheVariants.{General, Aviation}
 use Rattle.reg_base.specs.Rising.{IsRising}
+use Rattle.reg_account.specs.Account.{AccountValue, IsAccount}
+use Rattle.reg_text.specs.declared.reading.account_row.AccountHead.{AccountHead}
 use Rattle.reg_text.specs.declared.reading.tag.Tag.{Tag}
 use Rattle.reg_text.specs.declared.reading.tag.Tag.TheVariants as tag
 use Rattle.reg_text.specs.Records.{Record}
 use Rattle.reg_text.specs.Lasts.{is_above}
 use Rattle.reg_text.specs.Grammar.{Said, row, row_text}
 
--- a tag, and what its rows say
+-- ---- an account's block
+
+-- what the row of an account says of it
+abbrev pub head_of : AccountValue → AccountHead
+head_of a = record { number = a.number; kind = a.kind; holder = a.holder; status = a.status; outside = a.outside; waiver = a.waiver; correction = a.correction; held = a.held }
+
+-- the account of this row
+abbrev pub account_with : AccountHead → AccountValue
+account_with h = record { number = h.number; kind = h.kind; holder = h.holder; status = h.status; outside = h.outside; waiver = h.waiver; correction = h.correction; held = h.held }
+
+-- the rows of an account: its own, and then those of its lists
+abbrev pub account_block : AccountValue → List Record
+account_block a = row_text tag.Account (head_of a) ∷ []
+
+-- ---- sections
+
+-- what a section has: whole blocks of accounts, or rows with a tag
+abbrev pub Item : Option Tag → Type 0
+Item None = AccountValue
+Item (Some t) = Said t
+
 abbrev pub Section : Type 0
-Section = (t : Tag) × List (Said t)
+Section = (part : Option Tag) × List (Item part)
+
+abbrev pub item_rows : (part : Option Tag) → Item part → List Record
+item_rows None a = account_block a
+item_rows (Some t) x = row_text t x ∷ []
 
 -- its rows
 abbrev pub section_rows : Section → List Record
-section_rows s = map (row_text s.0) s.1
+section_rows s = flat_map (item_rows s.0) s.1
 
 -- the rows of sections one after another
 abbrev pub all_rows : List Section → List Record
@@ -40,7 +66,7 @@ abbrev pub key : (t : Tag) → Option (Said t → ℕ)
 key tag.Surrender = Some pair_place
 key tag.Admin = Some (λ n. n)
 key tag.Work = Some (λ day. day)
-key tag.Account = Some (λ a. a.number)
+key tag.Account = Some (λ h. h.number)
 key t = None
 
 abbrev pub key_of : {X : Type 0} → (X → ℕ) → Option X → Option ℕ
@@ -62,7 +88,6 @@ IsOrdered (Some by) xs = IsRising (map by xs)
 -- how many rows a section may have, if that is limited
 abbrev pub most : Tag → Option ℕ
 most tag.Admin = Some MOST_ADMINISTRATORS
-most tag.Account = Some MOST_ACCOUNTS
 most tag.Do = Some MOST_INSTRUCTIONS
 most t = None
 
@@ -76,7 +101,19 @@ AreFew (Some limit) count = count ≤ limit
 
 -- ---- what holds of a section
 
+-- rows of one list: each after the one before it, and not too many
+pub record IsList (t : Tag) (xs : List (Said t)) : Type 0 where
+  pub ordered : IsOrdered (key t) xs
+  pub few : AreFew (most t) (length xs)
+
+abbrev pub Fits : (part : Option Tag) → Item part → Type 0
+Fits None a = IsAccount a
+Fits (Some t) x = (row t).Fits x
+
+abbrev pub Lists : (part : Option Tag) → List (Item part) → Type 0
+Lists None xs = Unit {0}
+Lists (Some t) xs = IsList t xs
+
 pub record IsSection (s : Section) : Type 0 where
-  pub fits : AllByRecursion (row s.0).Fits s.1
-  pub ordered : IsOrdered (key s.0) s.1
-  pub few : AreFew (most s.0) (length s.1)
+  pub fits : AllByRecursion (Fits s.0) s.1
+  pub listed : Lists s.0 s.1

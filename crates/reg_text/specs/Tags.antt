@@ -25,7 +25,8 @@ tag_word Account = codes "account"
 tag_word Do = codes "do"
 tag_word End = codes "end"
 
--- the grammar: the place of a row with this tag, and between which places the row before it stands; places leave gaps for other tags
+-- the grammar: the place of a row with this tag, and between which places the row before it stands; places leave gaps for other tags,
+-- and 80 to 89 are those of an account's block, behind whose last row another block may begin
 abbrev pub rule : Tag → Rule
 rule Format = record { place = 10; from = 0; to = 0 }
 rule Day = record { place = 20; from = 10; to = 10 }
@@ -34,7 +35,7 @@ rule Lags = record { place = 40; from = 30; to = 30 }
 rule Surrender = record { place = 50; from = 40; to = 50 }
 rule Admin = record { place = 60; from = 40; to = 60 }
 rule Work = record { place = 70; from = 40; to = 70 }
-rule Account = record { place = 80; from = 40; to = 80 }
+rule Account = record { place = 80; from = 40; to = 89 }
 rule Do = record { place = 90; from = 40; to = 90 }
 rule End = record { place = 100; from = 40; to = 90 }
 

@@ -69,7 +69,8 @@ impl Word for Tag {
     }
 }
 
-/// Where a row with a tag is allowed. Places leave gaps for other tags.
+/// Where a row with a tag is allowed. Places leave gaps for other tags. Those of an account's block are 80 to 89, and
+/// another block may begin behind each of its rows.
 #[derive(Clone, Copy, Debug, PartialEq, Eq)]
 pub(crate) struct Rule {
     /// Its place among the rows of a text.
@@ -101,7 +102,7 @@ impl Tag {
             Tag::Surrender => Rule::new(50, 40, 50),
             Tag::Admin => Rule::new(60, 40, 60),
             Tag::Work => Rule::new(70, 40, 70),
-            Tag::Account => Rule::new(80, 40, 80),
+            Tag::Account => Rule::new(80, 40, 89),
             Tag::Do => Rule::new(90, 40, 90),
             Tag::End => Rule::new(100, 40, 90),
         }

@@ -1,19 +1,17 @@
 //! What each row after the heading adds to the draft.
 
-ghost use Rattle.std.specs.Prelude.{◌≡◌, ◌+◌, ◌&&◌, nat_lt, nat_le, Some, map, IsTrue};
-ghost use Rattle.reg_base.specs.declared.limits.TheConstants.{MOST_INSTRUCTIONS, MOST_RECORD};
+ghost use Rattle.std.specs.Prelude.{◌≡◌, ◌+◌, ◌<◌, ◌&&◌, nat_lt, nat_le, ◌∷◌, ◌++◌, [], length, map, OnOk, OnErr};
+ghost use Rattle.reg_base.specs.declared.limits.TheConstants.{MOST_ACCOUNTS, MOST_INSTRUCTIONS, MOST_RECORD};
 ghost use Rattle.csv.specs.Records.{fields_of};
 ghost use Rattle.reg_base.specs.Rising.{IsRising};
-ghost use Rattle.reg_text.specs.Lasts.{is_above};
-ghost use Rattle.reg_text.specs.Drafts.{draft_of};
-ghost use Rattle.reg_text.specs.DraftLimits.{IsDraft};
-ghost use Rattle.reg_text.specs.Faults.{Takes, with, has_room, with_row, next_draft};
-ghost use Rattle.reg_text.specs.Causes.{test};
-ghost use Rattle.reg_text.specs.declared.cause.Cause.TheVariants as cause;
+ghost use Rattle.reg_book.specs.Book.{with_account};
+ghost use Rattle.reg_text.specs.Drafts.{draft_of, closed};
+ghost use Rattle.reg_text.specs.DraftLimits.{FitsSoFar, IsDraft};
+ghost use Rattle.reg_text.specs.Faults.{Takes, with_row, next_draft};
 ghost use Rattle.reg_text.specs.declared.reading.tag.Tag.TheVariants as tag;
 
 use crate::cause::{Cause, RowError};
-use crate::reading::account_row::read_account_row;
+use crate::reading::account_row::{make_account, read_account_row};
 use crate::reading::draft::Draft;
 use crate::reading::instruction_row::read_instruction_row;
 use crate::reading::list_rows::{comes_after, read_admin_row, read_surrender_row, read_work_row};
@@ -21,8 +19,10 @@ use crate::reading::row::{field_at, has_fields};
 use crate::reading::tag::{Tag, read_tag};
 use csv::ByteRecord;
 use reg_account::Account;
-use reg_base::{Instruction, MOST_ADMINISTRATORS, MOST_INSTRUCTIONS, MOST_RECORD};
-use reg_book::BookFault;
+use reg_base::{
+    Instruction, MOST_ACCOUNTS, MOST_ADMINISTRATORS, MOST_INSTRUCTIONS, MOST_RECORD, NoMemory,
+};
+use reg_book::{BookDraft, BookFault};
 
 #[tactic(auto, unfolding(crate::specs::Faults::with_row))]
 fn take_surrender(draft: &mut Draft, row: &ByteRecord) -> Result<(), RowError>
@@ -70,37 +70,54 @@ fn take_work(draft: &mut Draft, row: &ByteRecord) -> Result<(), RowError>
     Ok(())
 }
 
-// Adds an account, whose number is above that of the last one.
-fn add_account(draft: &mut Draft, account: Account) -> Result<(), RowError>
-    requires rising { IsRising (map (λ a. a.number) draft.old.book.accounts) }
-    requires above { IsTrue (is_above draft.old.last_account account.number) }
-    ensures { Takes (draft_of draft.new) result (test (has_room tag.Account (draft_of draft.old)) cause.Limit (with tag.Account (draft_of draft.old) account)) }
+// Inserts an account whose number is above all others.
+fn insert_account(book: &mut BookDraft, account: Account) -> Result<(), NoMemory>
+    requires rising { IsRising (map (λ a. a.number) (book.old.accounts ++ account ∷ [])) }
+    requires room { length book.old.accounts < MOST_ACCOUNTS }
+    ensures ok { OnOk result (book.new ≡ with_account book.old account) }
+    ensures err { OnErr result (book.new ≡ book.old) }
 {
-    let number = account.number();
-    match draft.book.insert(account) {
-        Ok(()) => {}
-        Err((_, BookFault::Full)) => return Err(RowError::Fault(Cause::Limit)),
-        Err((_, BookFault::NoMemory)) => return Err(RowError::NoMemory),
-        // The account numbers rise, so none of them is the new one.
+    match book.insert(account) {
+        Ok(()) => Ok(()),
+        Err((_, BookFault::NoMemory)) => Err(NoMemory),
+        // There is room, and the account numbers rise, so that none of them is the new one.
+        Err((_, BookFault::Full)) => unreachable!(),
         Err((_, BookFault::Repeated)) => unreachable!(),
     }
-    draft.last_account = Some(number);
-    draft.last = Tag::Account;
+}
+
+/// Puts the open account, if there is one, among those whose blocks are over.
+pub(crate) fn close_account(draft: &mut Draft) -> Result<(), NoMemory>
+    requires { FitsSoFar (draft_of draft.old) }
+    ensures closed { OnOk result (draft_of draft.new ≡ closed (draft_of draft.old)) }
+    ensures count { OnOk result (draft.new.count ≡ draft.old.count) }
+{
+    if let Some(head) = draft.head {
+        insert_account(&mut draft.book, make_account(head))?;
+        draft.head = None;
+    }
     Ok(())
 }
 
 #[tactic(auto, unfolding(crate::specs::Faults::with_row))]
 fn take_account(draft: &mut Draft, row: &ByteRecord) -> Result<(), RowError>
-    requires { IsRising (map (λ a. a.number) draft.old.book.accounts) }
+    requires { IsDraft (draft_of draft.old) }
     ensures { Takes (draft_of draft.new) result (with_row tag.Account (draft_of draft.old) (fields_of row.now)) }
 {
-    let account = read_account_row(row)?;
-    if let Some(before) = draft.last_account {
-        if account.number() <= before {
+    let head = read_account_row(row)?;
+    if let Some(before) = draft.head {
+        if head.number <= before.number {
             return Err(RowError::Fault(Cause::Order));
         }
     }
-    add_account(draft, account)
+    if draft.count >= MOST_ACCOUNTS {
+        return Err(RowError::Fault(Cause::Limit));
+    }
+    close_account(draft)?;
+    draft.head = Some(head);
+    draft.count += 1;
+    draft.last = Tag::Account;
+    Ok(())
 }
 
 // Whether there is a place and a record number for one more instruction.

@@ -1,20 +1,12 @@
-use Rattle.std.proofs.Common.{◌≡◌, subst, rules}
-use mathlib.Core.List.{map-id}
-use Rattle.reg_base.specs.Rising.{IsRising}
-use Rattle.reg_account.specs.Account.{AccountValue}
-use Rattle.reg_text.proofs.Orders.{rising-same}
+use Rattle.std.proofs.Common.{◌∙◌, Some, ap, sym}
+use Rattle.reg_text.specs.declared.reading.tag.Tag.{Tag}
+use Rattle.reg_text.specs.Day.{is_over, day_said}
+use Rattle.reg_text.proofs.DraftSteps.{closed-fits}
+use Rattle.reg_text.proofs.Readings.{closed-says}
 use Rattle.reg_text.proofs.reading.day.finish.Goals as goal
 
-pub make_rules-rules-requires-clause-admins_rise : goal.make_rules-rules-requires-clause-admins_rise
-make_rules-rules-requires-clause-admins_rise c = subst IsRising (map-id c.args.draft.admins.items) c.requires.draft.within.1.1.1.1.1.0.ordered
+pub make_day-requires-clause-draft : goal.make_day-requires-clause-draft
+make_day-requires-clause-draft c = rw c.in_ok-close_account.ensures.closed (closed-fits _ c.requires.draft)
 
-pub make_rules-rules-requires-clause-work : goal.make_rules-rules-requires-clause-work
-make_rules-rules-requires-clause-work c = subst IsRising (map-id c.args.draft.work.items) c.requires.draft.within.1.1.1.1.1.1.0.ordered
-
--- the accounts came in the order of their numbers, so that the book has them as they came
 pub returns : goal.returns
-returns c =
-    let draft = c.args.draft.book in
-    let accounts = rising-same (λ (a : AccountValue). a.number) draft.accounts c.finish.result.accounts c.requires.draft.within.1.1.1.1.1.1.1.0.ordered c.finish.ensures.rising c.finish.ensures.same in
-    let book : c.finish.result ≡ draft = λ i. record { accounts = accounts i; next = c.finish.ensures.next_stays i } in
-    rw book (search rules)
+returns c = sym (closed-says _ c.requires.draft (ap (λ (t : Tag). is_over (Some t)) c.requires.over)) ∙ ap day_said (sym c.in_ok-close_account.ensures.closed) ∙ c.make_day.ensures
