@@ -8,15 +8,18 @@ use reg_front::Command;
 use std::alloc::{AllocError, Global};
 use std::convert::AsStr;
 
-// What the help says after the list of commands.
-const EXAMPLES_AND_STATUSES: &str = "\
-Example, at the top of the repository:
-  ./run settle < examples/first-transfer.csv
+const WHAT_IT_DOES: &str = "\
+Settles one day of an emission allowance registry: reads a day text from standard input,
+and writes the text of a command to standard output";
+
+const EXAMPLE_AND_STATUSES: &str = "\
+Example:
+  registry settle < examples/first-transfer.csv
 
 Exit statuses:
   0  the text was written
   2  the words, the number of workers or the account were not taken
-  3  the input is not a day text; the line names the first faulty row and its cause
+  3  the input is not a day text: standard error names the first faulty row and the cause
   4  memory ran out
   5  standard input or standard output failed";
 
@@ -64,16 +67,15 @@ fn statement_found(found: &ArgMatches<'_>) -> Option<Command> {
 // The program and its commands, as its help shows them.
 fn describe_program<'a>(alloc: Global) -> Result<Program<'a>, AllocError> {
     Program::new(alloc, "registry")
-        .about(
-            "Settles one day of an emission allowance registry: reads a day text from standard input, and writes the text of a command to standard output",
-        )
-        .after_help(EXAMPLES_AND_STATUSES)
+        .bin_name("registry")?
+        .about(WHAT_IT_DOES)
+        .after_help(EXAMPLE_AND_STATUSES)
         .no_binary_name(true)
         .subcommand_required(true)
         .arg_required_else_help(true)
         .subcommand(describe_settle(alloc)?)?
-        .subcommand(describe_statement(alloc)?)?
         .subcommand(describe_plan(alloc))?
+        .subcommand(describe_statement(alloc)?)?
         .subcommand(describe_totals(alloc))
 }
 
@@ -83,10 +85,16 @@ fn describe_settle<'a>(alloc: Global) -> Result<Program<'a>, AllocError> {
         .value_name("N")
         .value_parser(value_parser!(u32))
         .default_value("4")
-        .help("How many workers settle, 1 to 8; the text does not depend on it");
+        .help("How many workers settle the day, 1 to 8; what is written does not depend on it");
     Program::new(alloc, "settle")
-        .about("Settles the day: the log, the accounts after the day, and the totals")
+        .about("Settle the day; write its log, the accounts after it and the totals")
         .arg(workers)
+}
+
+fn describe_plan<'a>(alloc: Global) -> Program<'a> {
+    Program::new(alloc, "plan").about(
+        "Write which instructions must wait for which others; settle nothing",
+    )
 }
 
 fn describe_statement<'a>(alloc: Global) -> Result<Program<'a>, AllocError> {
@@ -96,20 +104,12 @@ fn describe_statement<'a>(alloc: Global) -> Result<Program<'a>, AllocError> {
         .value_parser(ValueParser::unsigned(1, 999_999_999))
         .help("The number of the account");
     Program::new(alloc, "statement")
-        .about(
-            "Settles the day: what one account held before, its log rows, and what it holds after",
-        )
+        .about("Settle the day; write what an account held, its log rows, and what it holds then")
         .arg(account)
-}
-
-fn describe_plan<'a>(alloc: Global) -> Program<'a> {
-    Program::new(alloc, "plan").about(
-        "Settles nothing: which instructions have to wait for which others",
-    )
 }
 
 fn describe_totals<'a>(alloc: Global) -> Program<'a> {
     Program::new(alloc, "totals").about(
-        "Settles the day: how much all accounts hold, have surrendered and have deleted after it",
+        "Settle the day; write what all accounts hold, have surrendered and have deleted then",
     )
 }
