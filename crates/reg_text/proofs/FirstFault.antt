@@ -1,7 +1,9 @@
--- The row that a fault names is the first with which no day text begins.
-use Rattle.std.proofs.Common.{◌≡◌, ◌⊎◌, inl, inr, ℕ, suc, ◌+◌, ◌-◌, ◌<◌, ◌≤◌, true, List, [], ◌∷◌, ◌++◌, length, take, Option, Some, None, Result, Ok, Err, refl, sym, ap, subst, ◌∙◌, arith, append_assoc}
+-- The row that a fault names is the first with which no day text begins, and its cause is the first of the table's.
+use Rattle.std.proofs.Common.{◌≡◌, ◌⊎◌, inl, inr, ℕ, suc, ◌+◌, ◌-◌, ◌<◌, ◌≤◌, true, ◌&&◌, nat_le, List, [], ◌∷◌, ◌++◌, length, take, get_or, Option, Some, None, Result, Ok, Err, refl, sym, ap, subst, ◌∙◌, arith, append_assoc}
+use Rattle.std.proofs.lemmas.Bool.{and_parts, leb-true}
 use Rattle.std.proofs.lemmas.List.{append-nil}
-use Rattle.reg_base.specs.declared.limits.TheConstants.{FIRST_DAY, FIRST_YEAR}
+use Rattle.reg_base.specs.Numbers.{IsBetween}
+use Rattle.reg_base.specs.declared.limits.TheConstants.{MOST_LAG, FIRST_DAY, FIRST_YEAR}
 use Rattle.reg_text.specs.declared.cause.Cause.{Cause}
 use Rattle.reg_text.specs.declared.cause.Cause.TheVariants as cause
 use Rattle.reg_text.specs.declared.reading.tag.Tag.{Tag}
@@ -12,10 +14,13 @@ use Rattle.reg_text.specs.Drafts.{DraftValue, nothing_read}
 use Rattle.reg_text.specs.Day.{DayValue, is_over, day_said}
 use Rattle.reg_text.specs.DraftLimits.{IsDraft}
 use Rattle.reg_text.specs.Reading.{IsReading, Begins, IsFirstFaulty}
-use Rattle.reg_text.specs.Faults.{with, in_order, has_room, next_draft, at_row, at_end, after_rows, day_of_rows}
+use Rattle.reg_text.specs.FieldTests.{fault_of}
+use Rattle.reg_text.specs.Faults.{with, in_order, has_room, next_draft, drafted, at_row, at_end, after_rows, day_of_rows}
+use Rattle.reg_text.specs.Table.{IsCauseOf}
 use Rattle.reg_text.proofs.TagLaws.{MayFollow}
 use Rattle.reg_text.proofs.DraftSteps.{rows_so_far, grows, grows-with, nothing-fits}
 use Rattle.reg_text.proofs.Readings.{closes, reading-to}
+use Rattle.reg_text.proofs.TableLaws.{first-fault}
 
 -- ---- the rows of a draft begin a day text
 
@@ -29,6 +34,9 @@ with-one t d x h may fits order room more =
     let g = grows-with t d x h may fits order room in
     begin-with (rows_so_far d) (row_text t x) (rows_so_far (with t d x)) g.rows (more g.draft)
 
+ranged : (low high n : ℕ) → (nat_le low n && nat_le n high) ≡ true → IsBetween low high n
+ranged low high n e = let both = and_parts (nat_le low n) (nat_le n high) e in record { low = leb-true _ _ both.0; high = leb-true _ _ both.1 }
+
 over-begins : (d : DraftValue) → IsDraft d → is_over d.last ≡ true → Begins (rows_so_far d)
 over-begins d h over = let c = closes d h over in ([], c.day, subst (λ (text : List Record). IsReading text c.day) (sym (append-nil (rows_so_far d))) c.reading)
 
@@ -37,13 +45,13 @@ from-lags d h may = with-one tag.End d tt h may tt refl refl (λ k. over-begins 
 
 from-period : (d : DraftValue) → IsDraft d → MayFollow d.last tag.Lags → Begins (rows_so_far d)
 from-period d h may =
-    with-one tag.Lags d (record { trusted = 0; other = 0; list = 0; reversal = 0 }) h may ((omega arith, omega arith), ((omega arith, omega arith), ((omega arith, omega arith), (omega arith, omega arith)))) refl refl (λ k. from-lags _ k refl)
+    with-one tag.Lags d (record { trusted = 0; other = 0; list = 0; reversal = 0 }) h may (ranged 0 MOST_LAG 0 refl, (ranged 0 MOST_LAG 0 refl, (ranged 0 MOST_LAG 0 refl, ranged 0 MOST_LAG 0 refl))) refl refl (λ k. from-lags _ k refl)
 
 from-day : (d : DraftValue) → IsDraft d → MayFollow d.last tag.Period → Begins (rows_so_far d)
-from-day d h may = with-one tag.Period d (FIRST_YEAR, FIRST_YEAR) h may (((omega arith, omega arith), (omega arith, omega arith)), refl) refl refl (λ k. from-period _ k refl)
+from-day d h may = with-one tag.Period d (FIRST_YEAR, FIRST_YEAR) h may ((ranged _ _ FIRST_YEAR refl, ranged _ _ FIRST_YEAR refl), refl) refl refl (λ k. from-period _ k refl)
 
 from-format : (d : DraftValue) → IsDraft d → MayFollow d.last tag.Day → Begins (rows_so_far d)
-from-format d h may = with-one tag.Day d (FIRST_DAY, 1) h may ((omega arith, omega arith), (omega arith, omega arith)) refl refl (λ k. from-day _ k refl)
+from-format d h may = with-one tag.Day d (FIRST_DAY, 1) h may (ranged _ _ FIRST_DAY refl, ranged _ _ 1 refl) refl refl (λ k. from-day _ k refl)
 
 from-nothing : (d : DraftValue) → IsDraft d → MayFollow d.last tag.Format → Begins (rows_so_far d)
 from-nothing d h may = with-one tag.Format d 1 h may refl refl refl (λ k. from-format _ k refl)
@@ -62,16 +70,18 @@ begins-draft d h = begins-by d.last d refl h
 -- ---- where reading stops
 
 -- after k rows the reading stands at a draft, and then the row or the end of the rows is wrong
-pub record Stops (number : ℕ) (d : DraftValue) (rows : List Record) (row : ℕ) (c : Cause) : Type 0 where
-  pub count : ℕ
-  pub at : row ≡ number + count
-  pub within : count ≤ length rows
-  pub last_draft : DraftValue
-  pub fits : IsDraft last_draft
-  pub stands : rows_so_far last_draft ≡ rows_so_far d ++ take count rows
+record Stops (number : ℕ) (d : DraftValue) (rows : List Record) (row : ℕ) (c : Cause) : Type 0 where
+  count : ℕ
+  at : row ≡ number + count
+  within : count ≤ length rows
+  last_draft : DraftValue
+  fits : IsDraft last_draft
+  made : drafted d (take count rows) ≡ Ok last_draft
+  stands : rows_so_far last_draft ≡ rows_so_far d ++ take count rows
+  refused : count < length rows → next_draft last_draft (get_or rows count []) ≡ Err c
   -- whatever follows the faulty row, the fault stays
-  pub stays : count < length rows → (more : List Record) → after_rows number d (take (count + 1) rows ++ more) ≡ Err (row, c)
-  pub too_short : count ≡ length rows → c ≡ cause.End
+  stays : count < length rows → (more : List Record) → after_rows number d (take (count + 1) rows ++ more) ≡ Err (row, c)
+  too_short : count ≡ length rows → c ≡ cause.End
 
 abbrev fault_at : ℕ → Cause → Result DayValue (ℕ × Cause)
 fault_at row c = Err (row, c)
@@ -79,21 +89,21 @@ fault_at row c = Err (row, c)
 same_fault : (row row' : ℕ) (c c' : Cause) → fault_at row c ≡ fault_at row' c' → (row ≡ row') × (c ≡ c')
 same_fault row row' c c' e = let pair : ◌≡◌ {A = ℕ × Cause} (row, c) (row', c') = cc in (ap (λ (p : ℕ × Cause). p.0) pair, ap (λ (p : ℕ × Cause). p.1) pair)
 
-pub faulty_row : (number : ℕ) (read : Result DraftValue Cause) (more : DraftValue → Result DayValue (ℕ × Cause)) (row : ℕ) (c : Cause) → at_row number read more ≡ Err (row, c)
+faulty_row : (number : ℕ) (read : Result DraftValue Cause) (more : DraftValue → Result DayValue (ℕ × Cause)) (row : ℕ) (c : Cause) → at_row number read more ≡ Err (row, c)
     → ((read ≡ Err c) × (row ≡ number)) ⊎ ((d : DraftValue) × (read ≡ Ok d) × (more d ≡ Err (row, c)))
 faulty_row number (Ok d) more row c e = inr (d, refl, e)
 faulty_row number (Err b) more row c e = let same = same_fault number row b c e in inl (ap (λ (x : Cause). Err x) same.1, sym same.0)
 
-pub fault_at_end : (number : ℕ) (o : Option DayValue) (row : ℕ) (c : Cause) → at_end number o ≡ Err (row, c) → (row ≡ number) × (c ≡ cause.End)
+fault_at_end : (number : ℕ) (o : Option DayValue) (row : ℕ) (c : Cause) → at_end number o ≡ Err (row, c) → (row ≡ number) × (c ≡ cause.End)
 fault_at_end number (Some v) row c e = absurd cc
 fault_at_end number None row c e = let same = same_fault number row cause.End c e in (sym same.0, sym same.1)
 
-pub stops : (rows : List Record) (number : ℕ) (d : DraftValue) (row : ℕ) (c : Cause) → IsDraft d → after_rows number d rows ≡ Err (row, c) → Stops number d rows row c
+stops : (rows : List Record) (number : ℕ) (d : DraftValue) (row : ℕ) (c : Cause) → IsDraft d → after_rows number d rows ≡ Err (row, c) → Stops number d rows row c
 stops [] number d row c h e =
     let a = fault_at_end number (day_said d) row c e in
-    record { count = 0; at = omega (arith, a.0); within = omega arith; last_draft = d; fits = h; stands = sym (append-nil (rows_so_far d)); stays = λ lt more. absurd (omega arith); too_short = λ same. a.1 }
+    record { count = 0; at = omega (arith, a.0); within = omega arith; last_draft = d; fits = h; made = refl; stands = sym (append-nil (rows_so_far d)); refused = λ lt. absurd (omega arith); stays = λ lt more. absurd (omega arith); too_short = λ same. a.1 }
 stops (r ∷ rows) number d row c h e = elim (faulty_row number (next_draft d r) (λ x. after_rows (number + 1) x rows) row c e) [
-  | inl here ↦ record { count = 0; at = omega (arith, here.1); within = omega arith; last_draft = d; fits = h; stands = sym (append-nil (rows_so_far d)); stays = λ lt more. rw here.0 (ap (λ (n : ℕ). Err (n, c)) (sym here.1)); too_short = λ same. absurd (omega arith) }
+  | inl here ↦ record { count = 0; at = omega (arith, here.1); within = omega arith; last_draft = d; fits = h; made = refl; stands = sym (append-nil (rows_so_far d)); refused = λ lt. here.0; stays = λ lt more. rw here.0 (ap (λ (n : ℕ). Err (n, c)) (sym here.1)); too_short = λ same. absurd (omega arith) }
   | inr later ↦
       let g = grows d later.0 r h later.1 in
       let s = stops rows (number + 1) later.0 row c g.draft later.2 in
@@ -103,6 +113,8 @@ stops (r ∷ rows) number d row c h e = elim (faulty_row number (next_draft d r)
         within = omega (arith, s.within);
         last_draft = s.last_draft;
         fits = s.fits;
+        made = rw later.1 s.made;
+        refused = λ lt. s.refused (omega arith);
         stands = s.stands ∙ ap (λ (x : List Record). x ++ take s.count rows) g.rows ∙ append_assoc (rows_so_far d) (r ∷ []) (take s.count rows);
         stays = λ lt more. let plus : suc s.count + 1 ≡ suc (s.count + 1) = omega arith in rw (plus, later.1) (s.stays (omega arith) more);
         too_short = λ same. s.too_short (omega arith);
@@ -134,3 +146,10 @@ first-faulty rows row c e =
       },
       λ same. s.too_short (omega (arith, s.at)),
     )
+
+-- the cause is the first of the table's that applies to the row after the rows before it
+pub cause-at : (rows : List Record) (row : ℕ) (c : Cause) → day_of_rows rows ≡ Err (row, c) → row ≤ length rows → IsCauseOf rows row c
+cause-at rows row c e inside =
+    let s = stops rows 1 nothing_read row c nothing-fits e in
+    let before : row - 1 ≡ s.count = omega (arith, s.at) in
+    record { draft = s.last_draft; made = rw before s.made; first = rw before (sym (first-fault s.last_draft (get_or rows s.count [])) ∙ ap fault_of (s.refused (omega (arith, s.at)))) }

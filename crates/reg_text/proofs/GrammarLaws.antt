@@ -1,41 +1,37 @@
 -- The laws of the codecs of fields, and of the rows made of them.
-use Rattle.std.proofs.Common.{◌≡◌, ℕ, ◌+◌, ◌^◌, ◌<◌, ◌≤◌, nat_le, List, Result, Ok, Option, Some, None, codes, refl, ap, sym, ◌∙◌, arith}
-use Rattle.std.specs.Prelude.{IfSome}
+use Rattle.std.proofs.Common.{◌≡◌, ℕ, ◌+◌, ◌^◌, ◌<◌, nat_le, codes, refl, sym, arith}
 use Rattle.std.specs.Str.{bytes_eq}
 use Rattle.reg_base.specs.declared.limits.TheConstants.{MOST_NUMBER, MOST_HELD, MOST_LAG, MOST_RECORD, FIRST_YEAR, LAST_YEAR}
 use Rattle.reg_base.specs.declared.act.Act.{Act}
 use Rattle.reg_base.specs.declared.act.Act.TheVariants as act
-use Rattle.reg_text.specs.declared.cause.Cause.{Cause}
 use Rattle.reg_text.specs.declared.cause.Cause.TheVariants as cause
 use Rattle.reg_text.specs.declared.reading.instruction_row.ActName.{ActName}
 use Rattle.reg_text.specs.declared.reading.instruction_row.ActName.TheVariants.{Transfer, Return}
 use Rattle.reg_text.specs.declared.reading.tag.Tag.{Tag}
 use Rattle.reg_text.specs.declared.reading.tag.Tag.TheVariants as tag
-use Rattle.reg_base.specs.Numbers.{IsUserNo}
-use Rattle.reg_text.specs.Words.{word_of, kind_word, kinds, kind_of, account_kind_word, account_kinds, account_kind_of, status_word, statuses, status_of, yes_no_word, yes_and_no, yes_no_of}
+use Rattle.reg_text.specs.Words.{kind_word, kinds, kind_of, account_kind_word, account_kinds, account_kind_of, status_word, statuses, status_of, yes_no_word, yes_and_no}
 use Rattle.reg_text.specs.Plain.{IsPlain}
-use Rattle.reg_text.specs.FieldTests.{fault_of, first_cause, word_tests}
-use Rattle.reg_text.specs.Codecs.{IsCodec, AreFields, within_limits, any_number, a_no, factor, a_date, a_word, an_approver, IsRow}
-use Rattle.reg_text.specs.Acts.{act_names, act_word, act_name, act_name_of, ActParts, act_made, act_parts, move_fields, fields_of_act, act_fields, proposal_fields, instruction_row}
+use Rattle.reg_text.specs.Codecs.{IsCodec, AreFields, within_limits, any_number, a_no, factor, a_date, a_word, an_approver, IsRow, row_of}
+use Rattle.reg_text.specs.Acts.{act_names, act_word, act_name, ActParts, act_made, act_parts, move_fields, fields_of_act, an_act_name, instruction_fields_of}
 use Rattle.reg_text.specs.Grammar.{version, a_next, a_year, a_lag, a_holding, yes_or_no, period_fields, lags_fields, may_surrender, pair_fields, account_fields, row}
 use Rattle.reg_text.proofs.Binds.{test_ok}
 use Rattle.reg_text.proofs.CauseLaws.{tested}
 use Rattle.reg_text.proofs.NumberLaws.{number-spelled, number-again, bounded-spelled, bounded-again}
 use Rattle.reg_text.proofs.SignedLaws.{correction-spelled, correction-again}
 use Rattle.reg_text.proofs.DateLaws.{date-spelled, date-again}
-use Rattle.reg_text.proofs.WordLaws.{same_bytes, named-spelled, kind-again, account_kind-again, status-again, yes_no-again, kind-read, account_kind-read, status-read, yes_no-read}
+use Rattle.reg_text.proofs.WordLaws.{same_bytes, is-word, kind-again, account_kind-again, status-again, yes_no-again, act_name-again}
 use Rattle.reg_text.proofs.ApproverLaws.{approver-spelled, approver-again}
 use Rattle.reg_text.proofs.PlainFacts.{plain-decimal, plain-signed, plain-date}
 use Rattle.reg_text.proofs.PlainWords.{plain-kind, plain-approver, plain-account_kind, plain-status, plain-yes_no}
-use Rattle.reg_text.proofs.FieldFaults.{approver, once, only-named, bounded, number-once, correction, date-fault}
-use Rattle.reg_text.proofs.CodecLaws.{are_last, are_then, are_made, are_provided, are_variant, is_row, is_chosen, is_row_made, Form, are_none}
+use Rattle.reg_text.proofs.FieldFaults.{approver, bounded, number-once, correction, date-fault}
+use Rattle.reg_text.proofs.CodecLaws.{are_none, are_last, are_then, are_made, are_provided, are_forms, is_row, is_named_row, Form}
 
 -- ---- the fields
 
 pub is-within : (low high : ℕ) → high < 2 ^ 64 → IsCodec (within_limits low high)
 is-within low high small = record {
-  spelled = λ f n e. let s = bounded-spelled low high f n e in (s.0, (s.1, s.2));
-  again = λ n fits. bounded-again low high n small fits.0 fits.1;
+  spelled = λ f n e. let s = bounded-spelled low high f n e in (s.0, record { low = s.1; high = s.2 });
+  again = λ n fits. bounded-again low high n small fits.low fits.high;
   fault = bounded low high;
   plain = plain-decimal;
 }
@@ -48,36 +44,23 @@ is-factor = record { spelled = correction-spelled; again = correction-again; fau
 
 pub is-date : IsCodec a_date
 is-date = record {
-  spelled = λ f n e. let s = date-spelled f n e in (s.0, (s.1, s.2));
-  again = λ n fits. date-again n fits.0 fits.1;
+  spelled = λ f n e. let s = date-spelled f n e in (s.0, record { low = s.1; high = s.2 });
+  again = λ n fits. date-again n fits.low fits.high;
   fault = date-fault;
   plain = plain-date;
 }
 
-word-fault : {X : Type 0} (spell : X → List ℕ) (xs : List X) (f : List ℕ) (read : Result X Cause) → read ≡ word_of spell xs f → fault_of read ≡ first_cause (word_tests read)
-word-fault {X = X} spell xs f read e = ap fault_of e ∙ once cause.Word (word_of spell xs f) (only-named cause.Word spell xs f) ∙ ap (λ (r : Result X Cause). first_cause (word_tests r)) (sym e)
-
--- a list of words
-pub is-word : {X : Type 0} (spell : X → List ℕ) (xs : List X) (read : List ℕ → Result X Cause) → ((f : List ℕ) → read f ≡ word_of spell xs f) → ((x : X) → read (spell x) ≡ Ok x)
-    → ((x : X) → IsPlain (spell x)) → IsCodec (a_word spell read)
-is-word spell xs read same again plain = record {
-  spelled = λ f x e. ((named-spelled cause.Word spell xs f x (sym (same f) ∙ e)).0, tt);
-  again = λ x fits. again x;
-  fault = λ f. word-fault spell xs f (read f) (same f);
-  plain = plain;
-}
-
 pub is-kind : IsCodec (a_word kind_word kind_of)
-is-kind = is-word kind_word kinds kind_of kind-read kind-again plain-kind
+is-kind = is-word kind_word kinds kind-again plain-kind
 
 pub is-account_kind : IsCodec (a_word account_kind_word account_kind_of)
-is-account_kind = is-word account_kind_word account_kinds account_kind_of account_kind-read account_kind-again plain-account_kind
+is-account_kind = is-word account_kind_word account_kinds account_kind-again plain-account_kind
 
 pub is-status : IsCodec (a_word status_word status_of)
-is-status = is-word status_word statuses status_of status-read status-again plain-status
+is-status = is-word status_word statuses status-again plain-status
 
 pub is-yes_no : IsCodec yes_or_no
-is-yes_no = is-word yes_no_word yes_and_no yes_no_of yes_no-read yes_no-again plain-yes_no
+is-yes_no = is-word yes_no_word yes_and_no yes_no-again plain-yes_no
 
 is-no : IsCodec a_no
 is-no = is-within 1 MOST_NUMBER (omega arith)
@@ -102,27 +85,10 @@ is-version = record {
   plain = λ n. refl;
 }
 
-pub with_limits : (o : Option ℕ) → IfSome o IsUserNo → IfSome o (λ n. (1 ≤ n) × (n ≤ MOST_NUMBER))
-with_limits None h = tt
-with_limits (Some n) h = (h.low, h.high)
-
-pub as_no : (o : Option ℕ) → IfSome o (λ n. (1 ≤ n) × (n ≤ MOST_NUMBER)) → IfSome o IsUserNo
-as_no None h = tt
-as_no (Some n) h = record { low = h.0; high = h.1 }
-
 is-approver : IsCodec an_approver
-is-approver = record {
-  spelled = λ f o e. let s = approver-spelled f o e in (s.0, with_limits o s.1);
-  again = λ o fits. approver-again o (as_no o fits);
-  fault = approver;
-  plain = plain-approver;
-}
+is-approver = record { spelled = approver-spelled; again = approver-again; fault = approver; plain = plain-approver }
 
 -- ---- the acts: a line each
-
-act_name-again : (n : ActName) → act_name_of (act_word n) ≡ Ok n
-act_name-again Transfer = refl
-act_name-again Return = refl
 
 plain-act_word : (n : ActName) → IsPlain (act_word n)
 plain-act_word Transfer = refl
@@ -143,19 +109,13 @@ made-of-parts : (a : Act) → act_made (act_name a) (act_parts a) ≡ a
 made-of-parts (act.Transfer from to kind amount) = refl
 made-of-parts (act.ReturnExcess from to kind amount) = refl
 
-are-acts : (n : ActName) → AreFields (act_fields n)
-are-acts n = are_variant act_name ActParts fields_of_act act_made act_parts each-act parts-of-made made-of-parts n
-
 -- ---- the rows
 
-is-act_name : IsCodec (a_word act_word act_name_of)
-is-act_name = is-word act_word act_names act_name_of (λ f. refl) act_name-again plain-act_word
+is-act_name : IsCodec an_act_name
+is-act_name = is-word act_word act_names act_name-again plain-act_word
 
-are-proposals : AreFields proposal_fields
-are-proposals = are_then _ _ is-date (are_then _ _ is-no (are_last _ is-approver))
-
-are-instructions : IsRow instruction_row
-are-instructions = is_row_made _ _ _ (is_chosen act_name (a_word act_word act_name_of) proposal_fields act_fields is-act_name are-proposals are-acts (λ n b fits. fits.0)) (λ p. refl) (λ i. refl)
+are-instructions : AreFields instruction_fields_of
+are-instructions = are_made _ _ _ (are_then _ _ is-date (are_then _ _ is-no (are_then _ _ is-approver (are_forms act_name ActParts an_act_name fields_of_act act_made act_parts is-act_name each-act parts-of-made made-of-parts)))) (λ p. refl) (λ i. refl)
 
 are-lags : AreFields lags_fields
 are-lags = are_made _ _ _ (are_then _ _ is-lag (are_then _ _ is-lag (are_then _ _ is-lag (are_last _ is-lag)))) (λ p. refl) (λ v. refl)
@@ -173,5 +133,5 @@ each-row tag.Surrender = is_row pair_fields (are_provided (λ p. may_surrender p
 each-row tag.Admin = is_row _ (are_last _ is-no)
 each-row tag.Work = is_row _ (are_last _ is-date)
 each-row tag.Account = is_row _ are-accounts
-each-row tag.Do = are-instructions
+each-row tag.Do = is_named_row 4 an_act_name (row_of instruction_fields_of) (λ i. act_name i.act) is-act_name (is_row _ are-instructions) (λ tag i fits. (omega arith, refl, tt))
 each-row tag.End = is_row _ are_none

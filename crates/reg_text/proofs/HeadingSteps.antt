@@ -1,6 +1,6 @@
 -- The rows of the heading, each of which only one tag may begin.
 use Rattle.std.proofs.Common.{◌≡◌, ℕ, ◌+◌, true, false, List, ◌∷◌, Option, Some, None, Result, Ok, Err, refl, sym, ap, ◌∙◌}
-use Rattle.std.specs.Prelude.{IfOk, IfErr, MatchResult}
+use Rattle.std.specs.Prelude.{IfErr, MatchResult}
 use Rattle.reg_text.specs.declared.cause.Cause.{Cause}
 use Rattle.reg_text.specs.declared.cause.DayFault.{DayFault}
 use Rattle.reg_text.specs.declared.cause.DayFault.TheVariants as fault
@@ -12,7 +12,7 @@ use Rattle.reg_text.specs.Grammar.{Said, row_read}
 use Rattle.reg_text.specs.Drafts.{DraftValue}
 use Rattle.reg_text.specs.Day.{is_over}
 use Rattle.reg_text.specs.Faults.{with, in_order, has_room, with_row, next_draft, at_row, after_rows, AnswersFault}
-use Rattle.reg_text.specs.DraftLimits.{IsDraft}
+use Rattle.reg_text.specs.DraftLimits.{TakesFirst}
 use Rattle.reg_text.proofs.DraftSteps.{grows}
 use Rattle.reg_text.proofs.TagLaws.{MayFollow, tag-spelled}
 
@@ -25,9 +25,6 @@ row-is t d r x read order room = rw (read, order, room) refl
 row-fails : (t : Tag) (d : DraftValue) (r : Record) (c : Cause) → row_read t r ≡ Err c → with_row t d r ≡ Err c
 unfolding with_row
 row-fails t d r c read = rw read refl
-
-next-is : (t : Tag) (d : DraftValue) (r : Record) (y : Result DraftValue Cause) → is_over d.last ≡ false → tag_after d.last (field r 0) ≡ Ok t → with_row t d r ≡ y → next_draft d r ≡ y
-next-is t d r y opened tagged row = rw (opened, tagged) row
 
 -- what a call answers of a row with this number
 abbrev pub AtRow : {X : Type 0} → ℕ → Result X Cause → Result X DayFault → Type 0
@@ -49,32 +46,19 @@ pub record IsOnly (last : Option Tag) (t : Tag) : Type 0 where
   pub order : (d : DraftValue) (x : Said t) → in_order t d x ≡ true
   pub room : (d : DraftValue) → has_room t d ≡ true
 
-only-tag : (last : Option Tag) (t u : Tag) (f : List ℕ) → IsOnly last t → tag_after last f ≡ Ok u → tag_after last f ≡ Ok t
-only-tag last t u f h e = let same = h.only u (tag-spelled last f u e).1 in e ∙ ap (λ (v : Tag). Ok v) same
+next-is : (last : Option Tag) (t : Tag) (d : DraftValue) (r : Record) (u : Tag) (y : Result DraftValue Cause) → IsOnly last t → d.last ≡ last → tag_after last (field r 0) ≡ Ok u → with_row t d r ≡ y → next_draft d r ≡ y
+next-is last t d r u y h l tagged row =
+    let same : tag_after d.last (field r 0) ≡ Ok t = ap (λ (o : Option Tag). tag_after o (field r 0)) l ∙ tagged ∙ ap (λ (v : Tag). Ok v) (h.only u (tag-spelled last (field r 0) u tagged).1) in
+    rw (ap is_over l ∙ h.opened, same) row
 
-pub heading-taken : (number : ℕ) (last : Option Tag) (t : Tag) → IsOnly last t → (left rows : List Record) (r : Record) (u : Tag) → left ≡ r ∷ rows → tag_after last (field r 0) ≡ Ok u
-    → (read : Result (Said t) Cause) → read ≡ row_read t r → (result : Result (Said t) DayFault) → AtRow number read result
-    → IfOk result (λ x. (d : DraftValue) → d.last ≡ last → after_rows number d left ≡ after_rows (number + 1) (with t d x) rows)
-heading-taken number last t h left rows r u is tagged read same (Ok x) at = λ d l.
-    let one = next-is t d r (Ok (with t d x)) (ap is_over l ∙ h.opened) (ap (λ (o : Option Tag). tag_after o (field r 0)) l ∙ only-tag last t u (field r 0) h tagged) (row-is t d r x (sym same ∙ at) (h.order d x) (h.room d)) in
-    ap (after_rows number d) is ∙ ap (λ (n : Result DraftValue Cause). at_row number n (λ e. after_rows (number + 1) e rows)) one
-heading-taken number last t h left rows r u is tagged read same (Err e) at = tt
-
-pub heading-fault : (number : ℕ) (last : Option Tag) (t : Tag) → IsOnly last t → (left rows : List Record) (r : Record) (u : Tag) → left ≡ r ∷ rows → tag_after last (field r 0) ≡ Ok u
-    → (read : Result (Said t) Cause) → read ≡ row_read t r → (result : Result (Said t) DayFault) → AtRow number read result
-    → IfErr result (λ e. (d : DraftValue) → d.last ≡ last → AnswersFault e (after_rows number d left))
-heading-fault number last t h left rows r u is tagged read same (Ok x) at = tt
-heading-fault number last t h left rows r u is tagged read same (Err e) at = λ d l.
-    let one = next-is t d r (Err at.0) (ap is_over l ∙ h.opened) (ap (λ (o : Option Tag). tag_after o (field r 0)) l ∙ only-tag last t u (field r 0) h tagged) (row-fails t d r at.0 (sym same ∙ at.1)) in
+pub heading-row : (number : ℕ) (last : Option Tag) (t : Tag) → IsOnly last t → (left rows : List Record) (r : Record) (u : Tag) → left ≡ r ∷ rows → tag_after last (field r 0) ≡ Ok u
+    → (read : Result (Said t) Cause) → read ≡ row_read t r → (result : Result (Said t) DayFault) → AtRow number read result → TakesFirst number t last result left rows
+heading-row number last t h left rows r u is tagged read same (Ok x) at =
+    let one : (d : DraftValue) → d.last ≡ last → next_draft d r ≡ Ok (with t d x) = λ d l. next-is last t d r u _ h l tagged (row-is t d r x (sym same ∙ at) (h.order d x) (h.room d)) in
+    record { fits = λ d fits l. (grows d (with t d x) r fits (one d l)).draft; goes_on = λ d l. ap (after_rows number d) is ∙ ap (λ (n : Result DraftValue Cause). at_row number n (λ e. after_rows (number + 1) e rows)) (one d l) }
+heading-row number last t h left rows r u is tagged read same (Err e) at = λ d l.
+    let one : next_draft d r ≡ Err at.0 = next-is last t d r u _ h l tagged (row-fails t d r at.0 (sym same ∙ at.1)) in
     rw at.2 (ap (after_rows number d) is ∙ ap (λ (n : Result DraftValue Cause). at_row number n (λ e. after_rows (number + 1) e rows)) one)
-
-pub heading-fits : (number : ℕ) (last : Option Tag) (t : Tag) → IsOnly last t → (r : Record) (u : Tag) → tag_after last (field r 0) ≡ Ok u
-    → (read : Result (Said t) Cause) → read ≡ row_read t r → (result : Result (Said t) DayFault) → AtRow number read result
-    → IfOk result (λ x. (d : DraftValue) → IsDraft d → d.last ≡ last → IsDraft (with t d x))
-heading-fits number last t h r u tagged read same (Ok x) at = λ d fits l.
-    let one = next-is t d r (Ok (with t d x)) (ap is_over l ∙ h.opened) (ap (λ (o : Option Tag). tag_after o (field r 0)) l ∙ only-tag last t u (field r 0) h tagged) (row-is t d r x (sym same ∙ at) (h.order d x) (h.room d)) in
-    (grows d (with t d x) r fits one).draft
-heading-fits number last t h r u tagged read same (Err e) at = tt
 
 -- ---- the four tags
 

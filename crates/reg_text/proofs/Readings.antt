@@ -77,19 +77,19 @@ says-a-day d h k =
     let accounts = h.within.1.1.1.1.1.1.1.0 in
     let due = h.within.1.1.1.1.1.1.1.1.0 in
     let numbered = numbered-day (next_in d.days) k.day.1 (length d.instructions) (ap next_in k.one_day) h.numbered in
-    let from = day.1.0 in
+    let from = day.1.low in
     record {
       day = record {
-        book = record { rising = accounts.ordered; few = accounts.few; within_limits = each-one (row tag.Account).Fits IsAccount account-fits d.accounts accounts.fits; next = record { from_one = day.1.0; to_the_end = day.1.1 } };
+        book = record { rising = accounts.ordered; few = accounts.few; within_limits = each-one (row tag.Account).Fits IsAccount account-fits d.accounts accounts.fits; next = record { from_one = day.1.low; to_the_end = day.1.high } };
         rules = record {
-          working_days = record { rising = subst IsRising (map-id d.work) work.ordered; each_day = each-one (row tag.Work).Fits IsDayNo (λ n f. record { low = f.0; high = f.1 }) d.work work.fits };
-          each_admin = each-one (row tag.Admin).Fits IsUserNo (λ n f. record { low = f.0; high = f.1 }) d.admins admins.fits;
-          from_year = record { low = period.0.0.0; high = period.0.0.1 };
-          to_year = record { low = period.0.1.0; high = period.0.1.1 };
+          working_days = record { rising = subst IsRising (map-id d.work) work.ordered; each_day = All-from_recursion IsDayNo d.work work.fits };
+          each_admin = All-from_recursion IsUserNo d.admins admins.fits;
+          from_year = period.0.0;
+          to_year = period.0.1;
           fit = record { few_admins = admins.few; admins_rise = subst IsRising (map-id d.admins) admins.ordered; lags_fit = record { trusted = lags.trusted; other = lags.other; listed = lags.listed; reversal = lags.reversal }; period = leb-true _ _ period.1 };
         };
         batch = record {
-          settlement_day = record { low = day.0.0; high = day.0.1 };
+          settlement_day = day.0;
           each = each-one (row tag.Do).Fits IsInstruction instruction-fits d.instructions due.fits;
           few = due.few;
           numbered = omega (arith, numbered, from);

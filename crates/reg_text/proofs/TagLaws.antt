@@ -4,6 +4,7 @@ use Rattle.std.proofs.lemmas.Bool.{and_parts, leb-true, le-leb}
 use Rattle.reg_text.specs.declared.cause.Cause.TheVariants as cause
 use Rattle.reg_text.specs.declared.reading.tag.Tag.{Tag}
 use Rattle.reg_text.specs.declared.reading.tag.Tag.TheVariants as tag
+use Rattle.reg_base.specs.Numbers.{IsBetween}
 use Rattle.reg_text.specs.Words.{named}
 use Rattle.reg_text.specs.Tags.{all_tags, tag_word, rule, place, may_follow, tag_after}
 use Rattle.reg_text.specs.Day.{is_over}
@@ -31,20 +32,16 @@ word-again t = refl
 pub tag-again : (last : Option Tag) (t : Tag) → MayFollow last t → tag_after last (tag_word t) ≡ Ok t
 tag-again last t h = rw (word-again t, h) refl
 
-pub record IsBetween (low high n : ℕ) : Type 0 where
-  pub from : low ≤ n
-  pub to : n ≤ high
-
 -- a tag may stand after a row at these places, and at no others
 pub place-of : (last : Option Tag) (t : Tag) → MayFollow last t → IsBetween (rule t).from (rule t).to (place last)
-place-of last t h = let both = and_parts (nat_le (rule t).from (place last)) (nat_le (place last) (rule t).to) h in record { from = leb-true _ _ both.0; to = leb-true _ _ both.1 }
+place-of last t h = let both = and_parts (nat_le (rule t).from (place last)) (nat_le (place last) (rule t).to) h in record { low = leb-true _ _ both.0; high = leb-true _ _ both.1 }
 
 pub may-at : (last : Option Tag) (t : Tag) → (rule t).from ≤ place last → place last ≤ (rule t).to → MayFollow last t
 may-at last t h k = rw (le-leb (rule t).from (place last) h, le-leb (place last) (rule t).to k) refl
 
 -- behind one section the next
 pub later : (last : Option Tag) (t u : Tag) → (rule u).from ≤ (rule t).from → (rule t).to ≤ (rule u).to → MayFollow last t → MayFollow last u
-later last t u low high may = let p = place-of last t may in may-at last u (omega (arith, p.from)) (omega (arith, p.to))
+later last t u low high may = let p = place-of last t may in may-at last u (omega (arith, p.low)) (omega (arith, p.high))
 
 -- nothing may stand after the closing row
 end-follows-nothing : (t : Tag) → may_follow (Some tag.End) t ≡ false

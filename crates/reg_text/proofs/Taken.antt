@@ -1,8 +1,6 @@
 -- What is spelled is taken: the rows of a day text read as its day.
 use Rattle.std.proofs.Common.{◌≡◌, ℕ, ◌+◌, ◌-◌, ◌≤◌, true, List, [], ◌∷◌, ◌++◌, length, Option, Some, Ok, refl, sym, ap, subst, ◌∙◌, arith, length-append, append_assoc}
 use mathlib.Core.List.{map-id}
-use Rattle.std.specs.Prelude.{All}
-use Rattle.std.specs.List.{AllByRecursion}
 use Rattle.std.proofs.lemmas.List.Elements.{recursion_from_All}
 use Rattle.std.proofs.lemmas.Bool.{le-leb}
 use Rattle.std.proofs.lemmas.List.{append-nil}
@@ -72,32 +70,20 @@ section-taken t state g again Whole is room (x ∷ others) last xs rest v may wh
 
 -- ---- the sections of a day
 
--- what is said of each in a day is said of each value of a section
-each-one : {X : Type 0} (P Q : X → Type 0) → ((x : X) → P x → Q x) → (xs : List X) → All P xs → AllByRecursion Q xs
-each-one P Q follow xs h = all-weaker P Q follow xs (recursion_from_All P xs h)
-
 surrender-section : (v : DayValue) → CanBeSaid v → IsSection (tag.Surrender, v.rules.surrender)
-surrender-section v h = record { fits = each-one IsPair (row tag.Surrender).Fits (λ p is. ((tt, tt), is)) v.rules.surrender h.pairs; ordered = h.pairs_rise; few = tt }
+surrender-section v h = record { fits = all-weaker IsPair (row tag.Surrender).Fits (λ p is. ((tt, tt), is)) v.rules.surrender (recursion_from_All IsPair v.rules.surrender h.pairs); ordered = h.pairs_rise; few = tt }
 
 admin-section : (v : DayValue) → CanBeSaid v → IsSection (tag.Admin, v.rules.admins)
-admin-section v h = record {
-  fits = each-one IsUserNo (row tag.Admin).Fits (λ n is. (is.low, is.high)) v.rules.admins h.day.rules.each_admin;
-  ordered = subst IsRising (sym (map-id v.rules.admins)) h.day.rules.fit.admins_rise;
-  few = h.day.rules.fit.few_admins;
-}
+admin-section v h = record { fits = recursion_from_All IsUserNo v.rules.admins h.day.rules.each_admin; ordered = subst IsRising (sym (map-id v.rules.admins)) h.day.rules.fit.admins_rise; few = h.day.rules.fit.few_admins }
 
 work-section : (v : DayValue) → CanBeSaid v → IsSection (tag.Work, v.rules.calendar)
-work-section v h = record {
-  fits = each-one IsDayNo (row tag.Work).Fits (λ n is. (is.low, is.high)) v.rules.calendar h.day.rules.working_days.each_day;
-  ordered = subst IsRising (sym (map-id v.rules.calendar)) h.day.rules.working_days.rising;
-  few = tt;
-}
+work-section v h = let days = h.day.rules.working_days in record { fits = recursion_from_All IsDayNo v.rules.calendar days.each_day; ordered = subst IsRising (sym (map-id v.rules.calendar)) days.rising; few = tt }
 
 account-section : (v : DayValue) → CanBeSaid v → IsSection (tag.Account, v.book.accounts)
-account-section v h = record { fits = each-one IsAccount (row tag.Account).Fits fit-account v.book.accounts h.day.book.within_limits; ordered = h.day.book.rising; few = h.day.book.few }
+account-section v h = record { fits = all-weaker IsAccount (row tag.Account).Fits fit-account v.book.accounts (recursion_from_All IsAccount v.book.accounts h.day.book.within_limits); ordered = h.day.book.rising; few = h.day.book.few }
 
 do-section : (v : DayValue) → CanBeSaid v → IsSection (tag.Do, v.batch.instructions)
-do-section v h = record { fits = each-one IsInstruction (row tag.Do).Fits fit-instruction v.batch.instructions h.day.batch.each; ordered = tt; few = h.day.batch.few }
+do-section v h = record { fits = all-weaker IsInstruction (row tag.Do).Fits fit-instruction v.batch.instructions (recursion_from_All IsInstruction v.batch.instructions h.day.batch.each); ordered = tt; few = h.day.batch.few }
 
 -- the drafts on the way
 abbrev headed : ℕ → DayValue → DraftValue
@@ -113,10 +99,7 @@ head-taken : (version : ℕ) (v : DayValue) (rest : List Record) → version ≡
     → Reach nothing_read (row_text tag.Format version ∷ row_text tag.Day (v.batch.day, v.book.next) ∷ row_text tag.Period (v.rules.first_year, v.rules.last_year) ∷ row_text tag.Lags (lags_in v.rules) ∷ rest) v
 head-taken version v rest known h more =
     let lags = h.day.rules.fit.lags_fit in
-    let day_in = h.day.batch.settlement_day in
     let next_in = h.day.book.next in
-    let first = h.day.rules.from_year in
-    let last = h.day.rules.to_year in
     let fits = fit-lags (lags_in v.rules) (record { trusted = lags.trusted; other = lags.other; listed = lags.listed; reversal = lags.reversal }) in
     let day : ℕ × ℕ = (v.batch.day, v.book.next) in
     let period : ℕ × ℕ = (v.rules.first_year, v.rules.last_year) in
@@ -127,8 +110,8 @@ head-taken version v rest known h more =
     let rows2 : List Record = row_text tag.Period period ∷ rows3 in
     let rows1 : List Record = row_text tag.Day day ∷ rows2 in
     reach-row nothing_read d1 (row_text tag.Format version) rows1 v (taken tag.Format nothing_read version refl known refl refl)
-    (reach-row d1 d2 (row_text tag.Day day) rows2 v (taken tag.Day d1 day refl ((day_in.low, day_in.high), (next_in.from_one, next_in.to_the_end)) refl refl)
-    (reach-row d2 d3 (row_text tag.Period period) rows3 v (taken tag.Period d2 period refl (((first.low, first.high), (last.low, last.high)), le-leb _ _ h.day.rules.fit.period) refl refl)
+    (reach-row d1 d2 (row_text tag.Day day) rows2 v (taken tag.Day d1 day refl (h.day.batch.settlement_day, record { low = next_in.from_one; high = next_in.to_the_end }) refl refl)
+    (reach-row d2 d3 (row_text tag.Period period) rows3 v (taken tag.Period d2 period refl ((h.day.rules.from_year, h.day.rules.to_year), le-leb _ _ h.day.rules.fit.period) refl refl)
     (reach-row d3 (headed version v) (row_text tag.Lags (lags_in v.rules)) rest v (taken tag.Lags d3 (lags_in v.rules) refl fits refl refl) more)))
 
 -- the instructions, each with a record number

@@ -11,7 +11,8 @@ ghost use Rattle.reg_text.specs.Tags.{tag_after};
 ghost use Rattle.reg_text.specs.Drafts.{DraftValue, headed};
 ghost use Rattle.reg_text.specs.Day.{is_over};
 ghost use Rattle.reg_text.specs.DraftLimits.{IsDraft};
-ghost use Rattle.reg_text.specs.Faults.{AnswersFault, with, after_rows, day_of_rows};
+ghost use Rattle.reg_text.specs.Faults.{AnswersFault, after_rows, day_of_rows};
+ghost use Rattle.reg_text.specs.DraftLimits.{TakesFirst};
 
 use crate::cause::{Cause, DayFault};
 use crate::reading::heading_rows::{
@@ -61,9 +62,7 @@ fn take_format(reader: &mut Reader<&[u8]>, row: &mut ByteRecord) -> Result<u8, D
     requires { IsOpen reader.old }
     ensures open { IfOk result (λ _. IsOpen reader.new) }
     ensures fewer { IfOk result (λ _. length (rows_left reader.new) ≤ length (rows_left reader.old)) }
-    ensures fits { IfOk result (λ x. (d : DraftValue) → IsDraft d → d.last ≡ None → IsDraft (with tag.Format d x)) }
-    ensures taken { IfOk result (λ x. (d : DraftValue) → d.last ≡ None → after_rows 1 d (rows_left reader.old) ≡ after_rows 2 (with tag.Format d x) (rows_left reader.new)) }
-    ensures fault { IfErr result (λ e. (d : DraftValue) → d.last ≡ None → AnswersFault e (after_rows 1 d (rows_left reader.old))) }
+    ensures row { TakesFirst 1 tag.Format None result (rows_left reader.old) (rows_left reader.new) }
 {
     next_tag(reader, row, 1, None)?;
     at_row(1, read_format_row(row))
@@ -74,9 +73,7 @@ fn take_day(reader: &mut Reader<&[u8]>, row: &mut ByteRecord) -> Result<(Day, u6
     ensures open { IfOk result (λ _. IsOpen reader.new) }
     ensures next { IfOk result (λ x. IsNext x.1) }
     ensures fewer { IfOk result (λ _. length (rows_left reader.new) ≤ length (rows_left reader.old)) }
-    ensures fits { IfOk result (λ x. (d : DraftValue) → IsDraft d → d.last ≡ Some tag.Format → IsDraft (with tag.Day d x)) }
-    ensures taken { IfOk result (λ x. (d : DraftValue) → d.last ≡ Some tag.Format → after_rows 2 d (rows_left reader.old) ≡ after_rows 3 (with tag.Day d x) (rows_left reader.new)) }
-    ensures fault { IfErr result (λ e. (d : DraftValue) → d.last ≡ Some tag.Format → AnswersFault e (after_rows 2 d (rows_left reader.old))) }
+    ensures row { TakesFirst 2 tag.Day (Some tag.Format) result (rows_left reader.old) (rows_left reader.new) }
 {
     next_tag(reader, row, 2, Some(Tag::Format))?;
     at_row(2, read_day_row(row))
@@ -86,9 +83,7 @@ fn take_period(reader: &mut Reader<&[u8]>, row: &mut ByteRecord) -> Result<(Year
     requires { IsOpen reader.old }
     ensures open { IfOk result (λ _. IsOpen reader.new) }
     ensures fewer { IfOk result (λ _. length (rows_left reader.new) ≤ length (rows_left reader.old)) }
-    ensures fits { IfOk result (λ x. (d : DraftValue) → IsDraft d → d.last ≡ Some tag.Day → IsDraft (with tag.Period d x)) }
-    ensures taken { IfOk result (λ x. (d : DraftValue) → d.last ≡ Some tag.Day → after_rows 3 d (rows_left reader.old) ≡ after_rows 4 (with tag.Period d x) (rows_left reader.new)) }
-    ensures fault { IfErr result (λ e. (d : DraftValue) → d.last ≡ Some tag.Day → AnswersFault e (after_rows 3 d (rows_left reader.old))) }
+    ensures row { TakesFirst 3 tag.Period (Some tag.Day) result (rows_left reader.old) (rows_left reader.new) }
 {
     next_tag(reader, row, 3, Some(Tag::Day))?;
     at_row(3, read_period_row(row))
@@ -98,9 +93,7 @@ fn take_lags(reader: &mut Reader<&[u8]>, row: &mut ByteRecord) -> Result<Lags, D
     requires { IsOpen reader.old }
     ensures open { IfOk result (λ _. IsOpen reader.new) }
     ensures fewer { IfOk result (λ _. length (rows_left reader.new) ≤ length (rows_left reader.old)) }
-    ensures fits { IfOk result (λ x. (d : DraftValue) → IsDraft d → d.last ≡ Some tag.Period → IsDraft (with tag.Lags d x)) }
-    ensures taken { IfOk result (λ x. (d : DraftValue) → d.last ≡ Some tag.Period → after_rows 4 d (rows_left reader.old) ≡ after_rows 5 (with tag.Lags d x) (rows_left reader.new)) }
-    ensures fault { IfErr result (λ e. (d : DraftValue) → d.last ≡ Some tag.Period → AnswersFault e (after_rows 4 d (rows_left reader.old))) }
+    ensures row { TakesFirst 4 tag.Lags (Some tag.Period) result (rows_left reader.old) (rows_left reader.new) }
 {
     next_tag(reader, row, 4, Some(Tag::Period))?;
     at_row(4, read_lags_row(row))

@@ -9,7 +9,7 @@ ghost use Rattle.reg_text.specs.Sections.{pair_place as place, follows};
 use crate::cause::Cause;
 use crate::fields::dates::read_date;
 use crate::fields::limits::read_user_no;
-use crate::fields::words::{read_account_kind, read_kind};
+use crate::fields::words::read_word;
 use crate::reading::row::{field_at, has_fields};
 use csv::ByteRecord;
 use reg_base::{AccountKind, AllowanceKind, Day, UserNo};
@@ -57,8 +57,8 @@ pub(crate) fn read_surrender_row(row: &ByteRecord) -> Result<(AccountKind, Allow
     if !has_fields(row, 3) {
         return Err(Cause::Fields);
     }
-    let account = read_account_kind(field_at(row, 1))?;
-    let allowance = read_kind(field_at(row, 2))?;
+    let account = read_word(field_at(row, 1))?;
+    let allowance = read_word(field_at(row, 2))?;
     if !may_surrender(account) {
         return Err(Cause::Word);
     }

@@ -1,12 +1,10 @@
 //! Tags: the first field of each row, and which tag may follow which.
 
 ghost use Rattle.std.specs.Prelude.{◌≡◌};
-ghost use Rattle.reg_text.specs.declared.cause.Cause.TheVariants as cause;
-ghost use Rattle.reg_text.specs.Words.{named};
-ghost use Rattle.reg_text.specs.Tags.{all_tags as every_tag, tag_word, rule, place, tag_after};
+ghost use Rattle.reg_text.specs.Tags.{rule, place, tag_after};
 
 use crate::cause::Cause;
-use crate::fields::words::is_word;
+use crate::fields::words::{Word, read_named};
 
 /// The kind of a row, which its first field names.
 #[derive(Clone, Copy, Debug, PartialEq, Eq)]
@@ -33,11 +31,14 @@ pub enum Tag {
     End,
 }
 
-impl Tag {
-    /// The word of the tag.
-    pub(crate) fn word(self) -> &'static [u8]
-        ensures { result.now ≡ tag_word self }
-    {
+impl Word for Tag {
+    ghost use Rattle.reg_text.specs.Tags.{tag_word, all_tags};
+
+    ghost spelling = { tag_word };
+
+    ghost values = { all_tags };
+
+    fn word(self) -> &'static [u8] {
         match self {
             Tag::Format => b"format",
             Tag::Day => b"day",
@@ -50,6 +51,21 @@ impl Tag {
             Tag::Do => b"do",
             Tag::End => b"end",
         }
+    }
+
+    fn all() -> &'static [Tag] {
+        &[
+            Tag::Account,
+            Tag::Do,
+            Tag::Work,
+            Tag::Admin,
+            Tag::Surrender,
+            Tag::Format,
+            Tag::Day,
+            Tag::Period,
+            Tag::Lags,
+            Tag::End,
+        ]
     }
 }
 
@@ -92,37 +108,6 @@ impl Tag {
     }
 }
 
-// All tags, frequent ones first.
-fn all_tags() -> &'static [Tag]
-    ensures { result.now ≡ every_tag }
-{
-    &[
-        Tag::Account,
-        Tag::Do,
-        Tag::Work,
-        Tag::Admin,
-        Tag::Surrender,
-        Tag::Format,
-        Tag::Day,
-        Tag::Period,
-        Tag::Lags,
-        Tag::End,
-    ]
-}
-
-// The tag that a field names.
-fn named_tag(field: &[u8]) -> Result<Tag, Cause>
-    ensures { result ≡ named cause.Tag tag_word every_tag field.now }
-{
-    let tags = all_tags();
-    for tag in tags {
-        if is_word(field, tag.word()) {
-            return Ok(*tag);
-        }
-    }
-    Err(Cause::Tag)
-}
-
 // The place of the last row; 0 before the first.
 fn place_of(last: Option<Tag>) -> u8
     ensures { result ≡ place last }
@@ -137,7 +122,7 @@ fn place_of(last: Option<Tag>) -> u8
 pub(crate) fn read_tag(last: Option<Tag>, field: &[u8]) -> Result<Tag, Cause>
     ensures { result ≡ tag_after last field.now }
 {
-    let tag = named_tag(field)?;
+    let tag: Tag = read_named(field, Cause::Tag)?;
     let rule = tag.rule();
     let at = place_of(last);
     if rule.from <= at && at <= rule.to {

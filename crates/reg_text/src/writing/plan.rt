@@ -6,58 +6,61 @@ ghost use Rattle.reg_text.specs.Report.{text_of};
 ghost use Rattle.reg_text.specs.PlanText.{task_row, arrow_row, place_rows, places_rows, plan_rows};
 
 use crate::writing::report::put_end;
+use crate::writing::row::RowText;
 use crate::writing::text::Text;
 use reg_base::NoMemory;
 use reg_plan::{Arrow, Plan};
 use std::alloc::Global;
 
 // Adds the row of a place and its level.
-fn put_task(text: &mut Text, place: u32, level: u32) -> Result<(), NoMemory>
+fn put_task(text: &mut Text, row: &mut RowText, place: u32, level: u32) -> Result<(), NoMemory>
     ensures { OnOk result (text.new ≡ text.old ++ row_text default_writer (task_row place level)) }
 {
-    text.begin(b"task")?;
-    text.number(place.into())?;
-    text.number(level.into())?;
-    text.end()
+    row.begin();
+    row.number(level.into());
+    row.number(place.into());
+    row.put(b"task");
+    text.append(row.as_slice())
 }
 
 // Adds the row of an arrow.
-fn put_arrow(text: &mut Text, arrow: &Arrow) -> Result<(), NoMemory>
+fn put_arrow(text: &mut Text, row: &mut RowText, arrow: &Arrow) -> Result<(), NoMemory>
     ensures { OnOk result (text.new ≡ text.old ++ row_text default_writer (arrow_row arrow.now)) }
 {
-    text.begin(b"arrow")?;
-    text.number(arrow.from.into())?;
-    text.number(arrow.to.into())?;
-    text.number(arrow.account.get().into())?;
-    text.end()
+    row.begin();
+    row.number(arrow.account.get().into());
+    row.number(arrow.to.into());
+    row.number(arrow.from.into());
+    row.put(b"arrow");
+    text.append(row.as_slice())
 }
 
 // Adds the rows of arrows, in order.
-fn put_arrows(text: &mut Text, arrows: &[Arrow]) -> Result<(), NoMemory>
+fn put_arrows(text: &mut Text, row: &mut RowText, arrows: &[Arrow]) -> Result<(), NoMemory>
     ensures { OnOk result (text.new ≡ text.old ++ text_of (map arrow_row arrows.now)) }
 {
     for arrow in arrows {
-        put_arrow(text, arrow)?;
+        put_arrow(text, row, arrow)?;
     }
     Ok(())
 }
 
 // Adds a place of the plan and the arrows that lead to it.
-fn put_place(text: &mut Text, plan: &Plan, place: u32) -> Result<(), NoMemory>
+fn put_place(text: &mut Text, row: &mut RowText, plan: &Plan, place: u32) -> Result<(), NoMemory>
     requires from_one { 1 ≤ place }
     requires within { place ≤ length plan.now.levels }
     ensures { OnOk result (text.new ≡ text.old ++ text_of (place_rows plan.now place)) }
 {
-    put_task(text, place, plan.levels()[place as usize - 1])?;
-    put_arrows(text, plan.inward(place))
+    put_task(text, row, place, plan.levels()[place as usize - 1])?;
+    put_arrows(text, row, plan.inward(place))
 }
 
 // Adds all places of the plan, in order.
-fn put_places(text: &mut Text, plan: &Plan) -> Result<(), NoMemory>
+fn put_places(text: &mut Text, row: &mut RowText, plan: &Plan) -> Result<(), NoMemory>
     ensures { OnOk result (text.new ≡ text.old ++ text_of (places_rows plan.now (length plan.now.levels))) }
 {
     for before in 0..plan.len() {
-        put_place(text, plan, before + 1)?;
+        put_place(text, row, plan, before + 1)?;
     }
     Ok(())
 }
@@ -72,7 +75,8 @@ pub fn plan_text(alloc: Global, plan: &Plan) -> Result<Vec<u8>, NoMemory>
     ensures { IfOk result (λ text. text.items ≡ text_of (plan_rows plan.now)) }
 {
     let mut text = Text::new(alloc);
-    put_places(&mut text, plan)?;
+    let mut row = RowText::new();
+    put_places(&mut text, &mut row, plan)?;
     put_end(&mut text)?;
     Ok(text.into_bytes())
 }

@@ -1,10 +1,11 @@
 //! Writing the statement of an account.
 
-ghost use Rattle.std.specs.Prelude.{◌≡◌, [], ◌∷◌, ◌++◌, true, find, filter_map, option_map, ◌==◌, IfOk, OnOk, MatchResult};
+ghost use Rattle.std.specs.Prelude.{◌≡◌, ◌<◌, length, [], ◌∷◌, ◌++◌, true, find, filter_map, option_map, ◌==◌, IfOk, OnOk, MatchResult};
 ghost use Rattle.std.specs.List.{last_or};
 ghost use Rattle.csv.specs.Writing.{default_writer, row_text};
 ghost use Rattle.reg_rules.specs.State.{account};
 ghost use Rattle.reg_rules.specs.Step.{held_now};
+ghost use Rattle.reg_text.specs.declared.writing.row.TheConstants.{MOST_FIELD};
 ghost use Rattle.reg_text.specs.Plain.{IsPlain};
 ghost use Rattle.reg_text.specs.Log.{holding_fields};
 ghost use Rattle.reg_text.specs.Report.{text_of, log_rows};
@@ -12,6 +13,7 @@ ghost use Rattle.reg_text.specs.Statement.{concerns, rows_about, told_by, last_t
 
 use crate::writing::log::put_log_row;
 use crate::writing::report::put_end;
+use crate::writing::row::RowText;
 use crate::writing::text::Text;
 use reg_base::{AccountNo, AllowanceKind, Directory, NoMemory};
 use reg_book::Book;
@@ -68,39 +70,43 @@ fn told_by(number: AccountNo, row: &LogRow) -> Option<HeldNow>
 }
 
 // Adds the row with this tag of an account and what it holds.
-fn put_held(text: &mut Text, tag: &[u8], held: &HeldNow) -> Result<(), NoMemory>
-    requires { IsPlain tag.now }
+fn put_held(text: &mut Text, row: &mut RowText, tag: &[u8], held: &HeldNow) -> Result<(), NoMemory>
+    requires plain { IsPlain tag.now }
+    requires short { length tag.now < MOST_FIELD }
     ensures { OnOk result (text.new ≡ text.old ++ row_text default_writer (tag.now ∷ holding_fields held.now)) }
 {
-    text.begin(tag)?;
-    text.number(held.account.get().into())?;
-    text.number(held.general)?;
-    text.number(held.aviation)?;
-    text.end()
+    row.begin();
+    row.number(held.aviation);
+    row.number(held.general);
+    row.number(held.account.get().into());
+    row.put(tag);
+    text.append(row.as_slice())
 }
 
 // Adds a log row if the account is in its footprint. Answers what the row tells of the account, or if it tells
 // nothing, what was told before.
 fn put_row_about(
     text: &mut Text,
+    row: &mut RowText,
     directory: &Directory,
     number: AccountNo,
-    row: &LogRow,
+    log: &LogRow,
     told: Option<HeldNow>,
 ) -> Result<Option<HeldNow>, NoMemory>
-    ensures text { OnOk result (text.new ≡ text.old ++ text_of (log_rows (rows_about directory.now number (row.now ∷ [])))) }
-    ensures told { IfOk result (λ last. last ≡ last_or told (filter_map (told_by number) (rows_about directory.now number (row.now ∷ [])))) }
+    ensures text { OnOk result (text.new ≡ text.old ++ text_of (log_rows (rows_about directory.now number (log.now ∷ [])))) }
+    ensures told { IfOk result (λ last. last ≡ last_or told (filter_map (told_by number) (rows_about directory.now number (log.now ∷ [])))) }
 {
-    if !concerns(directory, number, row) {
+    if !concerns(directory, number, log) {
         return Ok(told);
     }
-    put_log_row(text, row)?;
-    Ok(told_by(number, row).or(told))
+    put_log_row(text, row, log)?;
+    Ok(told_by(number, log).or(told))
 }
 
 // Adds the log rows in whose footprint the account is. Answers what the last of them that tells of it says.
 fn put_rows_about(
     text: &mut Text,
+    row: &mut RowText,
     directory: &Directory,
     number: AccountNo,
     rows: &[LogRow],
@@ -109,8 +115,8 @@ fn put_rows_about(
     ensures told { IfOk result (λ told. told ≡ last_told directory.now number rows.now) }
 {
     let mut told = None;
-    for row in rows {
-        told = put_row_about(text, directory, number, row, told)?;
+    for log in rows {
+        told = put_row_about(text, row, directory, number, log, told)?;
     }
     Ok(told)
 }
@@ -125,9 +131,10 @@ fn make_statement(
     ensures { IfOk result (λ text. text.items ≡ text_of (statement_rows directory.now opening.now rows.now)) }
 {
     let mut text = Text::new(alloc);
-    put_held(&mut text, b"opening", opening)?;
-    let told = put_rows_about(&mut text, directory, opening.account, rows)?;
-    put_held(&mut text, b"closing", &told.unwrap_or(*opening))?;
+    let mut row = RowText::new();
+    put_held(&mut text, &mut row, b"opening", opening)?;
+    let told = put_rows_about(&mut text, &mut row, directory, opening.account, rows)?;
+    put_held(&mut text, &mut row, b"closing", &told.unwrap_or(*opening))?;
     put_end(&mut text)?;
     Ok(text.into_bytes())
 }

@@ -5,6 +5,7 @@ ghost use Rattle.reg_text.specs.Report.{text_of};
 ghost use Rattle.reg_text.specs.Totals.{totals_rows};
 
 use crate::writing::report::{put_end, put_totals};
+use crate::writing::row::RowText;
 use crate::writing::text::Text;
 use reg_base::{AllowanceKind, NoMemory};
 use reg_book::Book;
@@ -19,8 +20,9 @@ pub fn totals_text(alloc: Global, book: &Book) -> Result<Vec<u8>, NoMemory>
     ensures { IfOk result (λ text. text.items ≡ text_of (totals_rows book.now)) }
 {
     let mut text = Text::new(alloc);
-    put_totals(&mut text, book, AllowanceKind::General)?;
-    put_totals(&mut text, book, AllowanceKind::Aviation)?;
+    let mut row = RowText::new();
+    put_totals(&mut text, &mut row, book, AllowanceKind::General)?;
+    put_totals(&mut text, &mut row, book, AllowanceKind::Aviation)?;
     put_end(&mut text)?;
     Ok(text.into_bytes())
 }

@@ -1,12 +1,5 @@
-use Rattle.csv.specs.Records.{fields_of}
-use Rattle.reg_text.proofs.HeadingSteps.{heading-taken, heading-fault, heading-fits, format-only}
+use Rattle.reg_text.proofs.HeadingSteps.{heading-row, format-only}
 use Rattle.reg_text.proofs.reading.heading.take_format.Goals as goal
 
-pub returns-clause-taken : goal.returns-clause-taken
-returns-clause-taken c = heading-taken 1 _ _ format-only _ _ _ _ c.in_ok-next_tag.ensures.rows c.in_ok-next_tag.ensures.tag _ c.read_format_row.ensures _ c.at_row.ensures
-
-pub returns-clause-fault : goal.returns-clause-fault
-returns-clause-fault c = heading-fault 1 _ _ format-only _ _ _ _ c.in_ok-next_tag.ensures.rows c.in_ok-next_tag.ensures.tag _ c.read_format_row.ensures _ c.at_row.ensures
-
-pub returns-clause-fits : goal.returns-clause-fits
-returns-clause-fits c = heading-fits 1 _ _ format-only (fields_of c.next_tag.new.row) _ c.in_ok-next_tag.ensures.tag _ c.read_format_row.ensures _ c.at_row.ensures
+pub returns-clause-row : goal.returns-clause-row
+returns-clause-row c = heading-row 1 _ _ format-only _ _ _ _ c.in_ok-next_tag.ensures.rows c.in_ok-next_tag.ensures.tag _ c.read_format_row.ensures _ c.at_row.ensures

@@ -1,9 +1,10 @@
+use Rattle.std.proofs.Common.{◌∙◌}
 use Rattle.std.proofs.lemmas.Result.{on_ok_weaker}
-use Rattle.reg_text.proofs.RowFacts.{more, row-whole}
+use Rattle.reg_text.proofs.RowFacts.{appended}
+use Rattle.reg_text.proofs.TextSteps.{held-text}
 use Rattle.reg_text.proofs.writing.statements.put_held.Goals as goal
 
 pub returns : goal.returns
 returns c =
-    let account = rw (c.into.ensures, c.get.ensures.value) at c.in_ok-number.ensures in
-    let two = more _ _ _ _ _ account c.in_ok-number-2.ensures in
-    on_ok_weaker _ (row-whole c.args.text.now _ _ _ c.args.tag.now _ _ c.in_ok-begin.ensures (more _ _ _ _ _ two c.in_ok-number-3.ensures)) c.end.ensures
+    let row = rw (c.number-3.ensures.text, c.number-2.ensures.text, c.number.ensures.text, c.into.ensures, c.get.ensures.value, c.begin.ensures) at c.put.ensures in
+    on_ok_weaker _ (appended _ _ _ _ _ (c.as_slice.ensures ∙ row) (held-text c.args.tag.now c.args.held.now c.requires.plain)) c.append.ensures
