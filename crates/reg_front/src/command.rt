@@ -1,5 +1,7 @@
 //! What to do with a day text.
 
+use reg_base::AccountNo;
+
 /// What [`run`](crate::run) does with the day that it reads.
 #[derive(Clone, Copy, Debug, PartialEq, Eq)]
 pub enum Command {
@@ -8,4 +10,13 @@ pub enum Command {
         /// The number of workers, 1 to 8. The report does not depend on it. This version only checks the number.
         workers: u32,
     },
+    /// Writes which instructions of the day have to wait for which others. Settles nothing.
+    Plan,
+    /// Settles the day and writes what an account held before, its log rows, and what it holds after.
+    Statement {
+        /// The account.
+        account: AccountNo,
+    },
+    /// Settles the day and writes the totals after it.
+    Totals,
 }

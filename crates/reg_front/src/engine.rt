@@ -1,32 +1,30 @@
 //! One command, from its input to its output.
 
-ghost use Rattle.std.specs.Prelude.{◌≡◌, ◌+◌, true, IfOk, IfErr, IfSome, OnOk, MatchResult};
+ghost use Rattle.std.specs.Prelude.{◌≡◌, ◌+◌, IfOk, IfErr, IfSome, OnOk};
 ghost use Rattle.std.specs.Io.KnownBytes.{IsAtEnd};
 ghost use Rattle.reg_text.specs.Rows.{rows_of};
 ghost use Rattle.reg_text.specs.Reading.{IsReading};
 ghost use Rattle.reg_text.specs.Inputs.{day_of_input};
-ghost use Rattle.reg_front.specs.Runs.{are_workers, report_of, IsFault, WritesText, Leaves, IsReadingFault, IsSettlingFault};
+ghost use Rattle.reg_front.specs.Runs.{IsFault, WritesText, Leaves, IsReadingFault};
 
 use crate::command::Command;
 use crate::device::{read_all, write_all};
 use crate::fault::FrontFault;
-use reg_book::{SettleFault, settle_plain};
-use reg_text::{DayInput, read_day, write_report_over};
+use crate::texts::make_text;
+use reg_text::{DayInput, read_day};
 use std::alloc::Global;
 use std::io::{Read, Write};
 
-// The most workers of a settlement.
-const MOST_WORKERS: u32 = 8;
-
-/// Reads the whole input, carries out the command on the day that it describes, and writes the report. The whole
-/// report is made before its first byte is written.
+/// Reads the whole input, carries out the command on the day that it describes, and writes the command's text. The
+/// whole text is made before its first byte is written.
 ///
 /// # Errors
 /// - `Read` if the reader fails, or the input has more than 2^30 bytes.
 /// - `Row` if the input is not a day text, with the first faulty row and the first cause that applies to it.
 /// - `Workers` if the input is a day text and the number of workers is not 1 to 8.
+/// - `NoAccount` if the input is a day text and the account of a statement is not in its book.
 /// - `NoMemory` if memory ran out.
-/// - `WriteFailed` if the writer fails. A prefix of the report has then been written.
+/// - `WriteFailed` if the writer fails. A prefix of the text has then been written.
 ///
 /// After all faults except `WriteFailed`, nothing has been written.
 pub fn run<R: Read, W: Write>(
@@ -41,9 +39,7 @@ pub fn run<R: Read, W: Write>(
     ensures left { IfErr result (λ fault. Leaves command (R.remaining reader.old) fault (W.contents writer.old) (W.contents writer.new)) }
 {
     let (day, input) = read_input(alloc, reader)?;
-    let text = match command {
-        Command::Settle { workers } => settle(alloc, day, input, workers)?,
-    };
+    let text = make_text(alloc, day, input, &command)?;
     if write_all(writer, text.as_slice()).is_err() {
         return Err(FrontFault::WriteFailed);
     }
@@ -60,38 +56,4 @@ fn read_input<R: Read>(alloc: Global, reader: &mut R) -> Result<(DayInput, Vec<u
     let input = read_all(alloc, reader)?;
     let day = read_day(alloc, input.as_slice())?;
     Ok((day, input))
-}
-
-// Whether this number of workers is within its limits.
-fn is_allowed(workers: u32) -> bool
-    ensures { result ≡ are_workers workers }
-{
-    1 <= workers && workers <= MOST_WORKERS
-}
-
-// The report of the settled day, in the place of bytes that are no longer needed.
-fn settle(alloc: Global, day: DayInput, bytes: Vec<u8>, workers: u32) -> Result<Vec<u8>, FrontFault>
-    requires { day.batch.base + 1 ≡ day.book.next }
-    ensures { MatchResult result
-        (λ report. (are_workers workers ≡ true) × (report.items ≡ report_of (day_of_input day)))
-        (IsSettlingFault workers) }
-{
-    if !is_allowed(workers) {
-        return Err(FrontFault::Workers);
-    }
-    let DayInput {
-        rules,
-        mut book,
-        batch,
-    } = day;
-    let settled = match settle_plain(alloc, &book, &rules, &batch) {
-        Ok(settled) => settled,
-        Err(SettleFault::NoMemory) => return Err(FrontFault::NoMemory),
-        Err(SettleFault::WrongBase { .. }) => unreachable!(),
-    };
-    let log = match book.commit(settled) {
-        Ok(log) => log,
-        Err(_) => unreachable!(),
-    };
-    Ok(write_report_over(bytes, &book, log.as_slice())?)
 }

@@ -1,4 +1,4 @@
-//! Why a command gave no report.
+//! Why a command gave no text.
 
 ghost use Rattle.std.specs.Prelude.{◌≡◌};
 ghost use Rattle.reg_front.specs.declared.fault.FrontFault.TheVariants.{NoMemory};
@@ -9,7 +9,7 @@ use reg_base::NoMemory;
 use reg_text::{Cause, DayFault};
 use thiserror::Error;
 
-/// Why [`run`](crate::run) gave no report. `Display` gives the line on standard error.
+/// Why [`run`](crate::run) gave no text. `Display` gives the line on standard error.
 #[derive(Clone, Copy, Debug, PartialEq, Eq, Error)]
 pub enum FrontFault {
     /// The input is not a day text.
@@ -27,10 +27,13 @@ pub enum FrontFault {
     /// The number of workers is not 1 to 8.
     #[error("workers must be 1 to 8")]
     Workers,
+    /// The account of a statement is not in the book.
+    #[error("no such account")]
+    NoAccount,
     /// Memory ran out.
     #[error("out of memory")]
     NoMemory,
-    /// The writer failed. It may have taken a prefix of the report.
+    /// The writer failed. It may have taken a prefix of the text.
     #[error("write failed")]
     WriteFailed,
 }

@@ -1,10 +1,12 @@
-//! The engine of the registry, from bytes to bytes: reads a day text, settles the day, and writes the report.
+//! The engine of the registry, from bytes to bytes: reads a day text, carries out a command on the day,
+//! and writes the command's text.
 #![tactic(auto)]
 
 mod command;
 mod device;
 mod engine;
 mod fault;
+mod texts;
 
 pub use command::Command;
 pub use engine::run;

@@ -1,20 +1,18 @@
 -- The laws of the codecs of fields, and of the rows made of them.
-use Rattle.std.proofs.Common.{◌≡◌, ℕ, ◌+◌, ◌^◌, ◌<◌, nat_le, List, Result, Ok, codes, refl, ap, sym, ◌∙◌, arith}
+use Rattle.std.proofs.Common.{◌≡◌, ℕ, ◌+◌, ◌^◌, ◌<◌, nat_le, codes, refl, sym, arith}
 use Rattle.std.specs.Str.{bytes_eq}
 use Rattle.reg_base.specs.declared.limits.TheConstants.{MOST_NUMBER, MOST_HELD, MOST_LAG, MOST_RECORD, FIRST_YEAR, LAST_YEAR}
 use Rattle.reg_base.specs.declared.act.Act.{Act}
 use Rattle.reg_base.specs.declared.act.Act.TheVariants as act
-use Rattle.reg_text.specs.declared.cause.Cause.{Cause}
 use Rattle.reg_text.specs.declared.cause.Cause.TheVariants as cause
 use Rattle.reg_text.specs.declared.reading.instruction_row.ActName.{ActName}
 use Rattle.reg_text.specs.declared.reading.instruction_row.ActName.TheVariants.{Transfer, Return}
 use Rattle.reg_text.specs.declared.reading.tag.Tag.{Tag}
 use Rattle.reg_text.specs.declared.reading.tag.Tag.TheVariants as tag
-use Rattle.reg_text.specs.Words.{word_of, kind_word, kinds, kind_of, account_kind_word, account_kinds, account_kind_of, status_word, statuses, status_of, yes_no_word, yes_and_no, yes_no_of}
+use Rattle.reg_text.specs.Words.{kind_word, kinds, kind_of, account_kind_word, account_kinds, account_kind_of, status_word, statuses, status_of, yes_no_word, yes_and_no}
 use Rattle.reg_text.specs.Plain.{IsPlain}
-use Rattle.reg_text.specs.FieldTests.{fault_of, first_cause, word_tests}
 use Rattle.reg_text.specs.Codecs.{IsCodec, AreFields, within_limits, any_number, a_no, factor, a_date, a_word, an_approver, IsRow, row_of}
-use Rattle.reg_text.specs.Acts.{act_names, act_word, act_name, act_name_of, ActParts, act_made, act_parts, move_fields, fields_of_act, an_act_name, instruction_fields_of}
+use Rattle.reg_text.specs.Acts.{act_names, act_word, act_name, ActParts, act_made, act_parts, move_fields, fields_of_act, an_act_name, instruction_fields_of}
 use Rattle.reg_text.specs.Grammar.{version, a_next, a_year, a_lag, a_holding, yes_or_no, period_fields, lags_fields, may_surrender, pair_fields, account_fields, row}
 use Rattle.reg_text.proofs.Binds.{test_ok}
 use Rattle.reg_text.proofs.CauseLaws.{tested}

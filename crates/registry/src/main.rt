@@ -1,36 +1,101 @@
-//! Settles one day of an emission allowance registry: reads a day text from standard input and writes the report to
-//! standard output. A fault is one line on standard error.
+//! Settles one day of an emission allowance registry: reads a day text from standard input and writes the text of a
+//! command to standard output. A fault is one line on standard error.
 #![tactic(auto)]
 
 ghost use Rattle.std.specs.Prelude.{◌≡◌};
 ghost use Rattle.registry.specs.Statuses.{status_of};
 
+mod words;
+
+use crate::words::read_words;
+use clap::error::ErrorKind;
 use reg_front::{Command, FrontFault, run};
 use std::alloc::{AllocError, Global};
 use std::convert::AsStr;
-use std::io::{Read, Write};
+use std::io::{IsTerminal, Read, Write};
 use std::process::ExitCode;
 use std::rt::Env;
 use std::{env, io};
 
-// The number of workers.
-const WORKERS: u32 = 4;
+// What somebody sees who has started the program at a terminal without a text.
+const HINT: &str = "reading a day text from the terminal; Ctrl-D ends it";
 
-/// Settles the day text from `reader` and writes the report to `writer`. The arguments are ignored in this version.
+// Where the day text comes from.
+#[derive(Clone, Copy, Debug, PartialEq, Eq)]
+enum Source {
+    // Somebody types it.
+    Terminal,
+    // A file or another program.
+    Stream,
+}
+
+/// Carries out the command of these words, which stand without the program's name: reads a day text from `reader`
+/// and writes the command's text to `writer`. Help goes to `writer` too.
 ///
-/// Answers the exit status of the program: 0, or the status of the fault. A fault is written as one line to `faults`;
-/// the status is the same if this line can't be written.
+/// Answers the exit status of the program: 0, or the status of the fault. A fault is written as one line to `faults`,
+/// and words that are not taken as a longer text, before any input is read. The status is the same if these can't be
+/// written.
 pub fn serve<S: AsStr, R: Read, W: Write, F: Write>(
     alloc: Global,
-    _words: &[S],
+    words: &[S],
     reader: &mut R,
     writer: &mut W,
     faults: &mut F,
 ) -> u8 {
-    match run(alloc, reader, writer, Command::Settle { workers: WORKERS }) {
+    serve_from(Source::Stream, alloc, words, reader, writer, faults)
+}
+
+// The same, with a hint for somebody who types the text.
+fn serve_from<S: AsStr, R: Read, W: Write, F: Write>(
+    source: Source,
+    alloc: Global,
+    words: &[S],
+    reader: &mut R,
+    writer: &mut W,
+    faults: &mut F,
+) -> u8 {
+    match read_words(alloc, words) {
+        Ok(command) => {
+            give_hint(source, faults);
+            carry_out(alloc, command, reader, writer, faults)
+        }
+        Err(error) => show(&error, writer, faults),
+    }
+}
+
+// Says that the program waits for somebody to type.
+fn give_hint<F: Write>(source: Source, faults: &mut F) {
+    if source == Source::Terminal {
+        let _ = writeln!(faults, "{HINT}");
+    }
+}
+
+// Runs the command, and answers the status.
+fn carry_out<R: Read, W: Write, F: Write>(
+    alloc: Global,
+    command: Command,
+    reader: &mut R,
+    writer: &mut W,
+    faults: &mut F,
+) -> u8 {
+    match run(alloc, reader, writer, command) {
         Ok(()) => 0,
         Err(fault) => tell(fault, faults),
     }
+}
+
+// Shows help, or why the words are not taken, and answers the status.
+fn show<W: Write, F: Write>(error: &clap::Error, writer: &mut W, faults: &mut F) -> u8 {
+    if error.kind() == ErrorKind::OutOfMemory {
+        return tell(FrontFault::NoMemory, faults);
+    }
+    if error.use_stderr() {
+        let _ = write!(faults, "{error}");
+        return WORDS_NOT_TAKEN;
+    }
+    let _ = write!(writer, "{error}");
+    let _ = writer.flush();
+    0
 }
 
 // Writes the line of a fault, and answers its status.
@@ -41,20 +106,23 @@ fn tell<F: Write>(fault: FrontFault, faults: &mut F) -> u8
     status(fault)
 }
 
+// The exit status if the words are not taken.
+const WORDS_NOT_TAKEN: u8 = 2;
+
 // The exit status of a fault.
 fn status(fault: FrontFault) -> u8
     ensures { result ≡ status_of fault }
 {
     match fault {
-        FrontFault::Workers => 2,
+        FrontFault::Workers | FrontFault::NoAccount => WORDS_NOT_TAKEN,
         FrontFault::Row { .. } => 3,
         FrontFault::NoMemory => 4,
         FrontFault::Read | FrontFault::WriteFailed => 5,
     }
 }
 
-// The arguments after the program's name, or none if one of them is not UTF-8.
-fn words<R: Env + AllocGlobal>(rt: &R) -> Result<Vec<String>, AllocError> {
+// The arguments after the program's name, or none if one of them is not UTF-8: then the help is shown.
+fn read_arguments<R: Env + AllocGlobal>(rt: &R) -> Result<Vec<String>, AllocError> {
     match env::args(rt) {
         Ok(args) => args.skip(1).collect(rt.alloc()),
         Err(fault) => match fault.kind() {
@@ -65,12 +133,19 @@ fn words<R: Env + AllocGlobal>(rt: &R) -> Result<Vec<String>, AllocError> {
 }
 
 fn main(rt: HostRuntime) -> ExitCode {
+    let mut input = rt.stdin();
     let mut faults = rt.stderr();
-    let status = match words(&rt) {
-        Ok(words) => serve(
+    let source = if input.is_terminal() {
+        Source::Terminal
+    } else {
+        Source::Stream
+    };
+    let status = match read_arguments(&rt) {
+        Ok(words) => serve_from(
+            source,
             rt.alloc(),
             words.as_slice(),
-            &mut rt.stdin(),
+            &mut input,
             &mut rt.stdout(),
             &mut faults,
         ),

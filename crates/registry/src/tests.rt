@@ -141,3 +141,17 @@ fn a_fault_that_cannot_be_reported_keeps_its_status(rt: HostRuntime) {
         assert_eq!(rt; served.faults.as_slice(), &b"row 1: end\n"[..call - 1]);
     }
 }
+
+// The reader fails at its first call, and was not called.
+#[test]
+fn wrong_words_end_before_any_input_is_read(rt: HostRuntime) {
+    let alloc = rt.alloc();
+    let mut reader = make_device(alloc, DAY.as_bytes(), 1);
+    let mut writer = make_device(alloc, b"", 0);
+    let mut faults = make_device(alloc, b"", 0);
+    let words = ["statement", "0"];
+    let status = serve(alloc, &words, &mut reader, &mut writer, &mut faults);
+    assert_eq!(rt; status, 2);
+    assert_eq!(rt; reader.calls_until_failure, 1);
+    assert_eq!(rt; writer.written.as_slice(), b"".as_slice());
+}

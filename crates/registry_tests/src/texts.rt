@@ -62,12 +62,13 @@ the next record number is 2
 fn faults_of_texts_and_of_the_engine_have_their_texts(rt: HostRuntime) {
     let (row, cause) = (28, Cause::Fields);
     let text = format!(in rt.alloc();
-        "{}\n{}\n{}\n{}\n{}\n{}\n{}\n",
+        "{}\n{}\n{}\n{}\n{}\n{}\n{}\n{}\n",
         DayFault::Row { row, cause },
         DayFault::NoMemory,
         FrontFault::Row { row, cause },
         FrontFault::Read,
         FrontFault::Workers,
+        FrontFault::NoAccount,
         FrontFault::NoMemory,
         FrontFault::WriteFailed,
     );
@@ -77,6 +78,7 @@ out of memory
 row 28: fields
 read failed
 workers must be 1 to 8
+no such account
 out of memory
 write failed
 ";

@@ -1,4 +1,4 @@
-use Rattle.std.proofs.Common.{◌≡◌, ◌+◌, ◌≤◌, ◌++◌, length, drop, sym, ap, ◌∙◌, arith, rules, length-drop, length-append}
+use Rattle.std.proofs.Common.{◌≡◌, ◌≤◌, length, drop, ap, arith, rules, length-drop, length-append}
 use Rattle.std.proofs.lemmas.Fmt.{length-decimal-le}
 use Rattle.std.specs.Fmt.{decimal}
 use Rattle.reg_text.proofs.writing.row.RowText.digits.Goals as goal

@@ -1,0 +1,159 @@
+//! The text of each command, for a day that was read.
+
+ghost use Rattle.std.specs.Prelude.{◌≡◌, ◌+◌, true, None, Some, IfOk, MatchResult, if◌then◌else◌};
+ghost use Rattle.reg_book.specs.Day.{settled_day, log_of};
+ghost use Rattle.reg_book.specs.Settled.{IsOfBook};
+ghost use Rattle.reg_text.specs.Inputs.{day_of_input};
+ghost use Rattle.reg_text.specs.Report.{text_of};
+ghost use Rattle.reg_text.specs.Totals.{totals_rows};
+ghost use Rattle.reg_text.specs.Statement.{statement_of, has_account};
+ghost use Rattle.reg_front.specs.Runs.{are_workers, report_of, book_after, command_fault, IsPlanOf, IsTextFor, IsCommandFault};
+
+use crate::command::Command;
+use crate::fault::FrontFault;
+use reg_base::{AccountNo, NoMemory};
+use reg_book::{Book, SettleFault, Settled, settle_plain};
+use reg_plan::Plan;
+use reg_rules::LogRow;
+use reg_text::{DayInput, StatementFault, plan_text, statement, totals_text, write_report_over};
+use std::alloc::Global;
+
+// The most workers of a settlement.
+const MOST_WORKERS: u32 = 8;
+
+/// The text of a command for a day. `bytes` are no longer needed: a report takes their memory.
+///
+/// # Errors
+/// `Workers` if the number of workers is not 1 to 8. `NoAccount` if the account of a statement is not in the book.
+/// Otherwise `NoMemory` if memory ran out.
+pub(crate) fn make_text(
+    alloc: Global,
+    day: DayInput,
+    bytes: Vec<u8>,
+    command: &Command,
+) -> Result<Vec<u8>, FrontFault>
+    requires { day.batch.base + 1 ≡ day.book.next }
+    ensures { MatchResult result
+        (λ text. (command_fault command.now day.book ≡ None) × IsTextFor command.now (day_of_input day) text.items)
+        (IsCommandFault command.now day.book) }
+{
+    match find_fault(command, &day.book) {
+        Some(fault) => Err(fault),
+        None => match make_accepted(alloc, day, bytes, command) {
+            Ok(text) => Ok(text),
+            Err(NoMemory) => Err(FrontFault::NoMemory),
+        },
+    }
+}
+
+// Why the command is refused for a day with this book, if it is.
+fn find_fault(command: &Command, book: &Book) -> Option<FrontFault>
+    ensures { result ≡ command_fault command.now book.now }
+{
+    match *command {
+        Command::Settle { workers } => fault_unless(is_allowed(workers), FrontFault::Workers),
+        Command::Statement { account } => {
+            fault_unless(book.get(account).is_some(), FrontFault::NoAccount)
+        }
+        Command::Plan | Command::Totals => None,
+    }
+}
+
+fn fault_unless(holds: bool, fault: FrontFault) -> Option<FrontFault>
+    ensures { result ≡ (if holds then None else Some fault) }
+{
+    if holds { None } else { Some(fault) }
+}
+
+// Whether this number of workers is within its limits.
+fn is_allowed(workers: u32) -> bool
+    ensures { result ≡ are_workers workers }
+{
+    1 <= workers && workers <= MOST_WORKERS
+}
+
+// The text of a command that is not refused.
+fn make_accepted(
+    alloc: Global,
+    day: DayInput,
+    bytes: Vec<u8>,
+    command: &Command,
+) -> Result<Vec<u8>, NoMemory>
+    requires follows { day.batch.base + 1 ≡ day.book.next }
+    requires accepted { command_fault command.now day.book ≡ None }
+    ensures { IfOk result (λ text. IsTextFor command.now (day_of_input day) text.items) }
+{
+    match *command {
+        Command::Settle { .. } => make_report(alloc, day, bytes),
+        Command::Plan => make_plan(alloc, &day),
+        Command::Statement { account } => make_statement(alloc, &day, account),
+        Command::Totals => make_totals(alloc, day),
+    }
+}
+
+// The report of the settled day, in the place of bytes that are no longer needed.
+fn make_report(alloc: Global, day: DayInput, bytes: Vec<u8>) -> Result<Vec<u8>, NoMemory>
+    requires { day.batch.base + 1 ≡ day.book.next }
+    ensures { IfOk result (λ text. text.items ≡ report_of (day_of_input day)) }
+{
+    let (book, log) = close_day(alloc, day)?;
+    write_report_over(bytes, &book, log.as_slice())
+}
+
+// The plan of the day's instructions.
+fn make_plan(alloc: Global, day: &DayInput) -> Result<Vec<u8>, NoMemory>
+    ensures { IfOk result (λ text. IsPlanOf (day_of_input day.now) text.items) }
+{
+    let plan = Plan::of(alloc, &day.batch, day.book.directory())?;
+    plan_text(alloc, &plan)
+}
+
+// The statement of an account of the book.
+fn make_statement(alloc: Global, day: &DayInput, account: AccountNo) -> Result<Vec<u8>, NoMemory>
+    requires follows { day.now.batch.base + 1 ≡ day.now.book.next }
+    requires known { has_account day.now.book account ≡ true }
+    ensures { IfOk result (λ text. text.items ≡ text_of (statement_of day.now.book (log_of (day_of_input day.now)) account)) }
+{
+    let settled = settle(alloc, day)?;
+    match statement(alloc, &day.book, settled.rows(), account) {
+        Ok(text) => Ok(text),
+        Err(StatementFault::NoMemory) => Err(NoMemory),
+        Err(StatementFault::UnknownAccount) => unreachable!(),
+    }
+}
+
+// The totals after the day.
+fn make_totals(alloc: Global, day: DayInput) -> Result<Vec<u8>, NoMemory>
+    requires { day.batch.base + 1 ≡ day.book.next }
+    ensures { IfOk result (λ text. text.items ≡ text_of (totals_rows (book_after (day_of_input day)))) }
+{
+    let (book, _log) = close_day(alloc, day)?;
+    totals_text(alloc, &book)
+}
+
+// Settles the day. Its book stays as it is.
+fn settle(alloc: Global, day: &DayInput) -> Result<Settled, NoMemory>
+    requires { day.now.batch.base + 1 ≡ day.now.book.next }
+    ensures settled { IfOk result (λ s. s ≡ settled_day (day_of_input day.now)) }
+    ensures of_book { IfOk result (λ s. IsOfBook day.now.book s) }
+{
+    match settle_plain(alloc, &day.book, &day.rules, &day.batch) {
+        Ok(settled) => Ok(settled),
+        Err(SettleFault::NoMemory) => Err(NoMemory),
+        Err(SettleFault::WrongBase { .. }) => unreachable!(),
+    }
+}
+
+// Settles the day and commits it to its book. Answers the book after the day, and the log.
+fn close_day(alloc: Global, day: DayInput) -> Result<(Book, Vec<LogRow>), NoMemory>
+    requires { day.batch.base + 1 ≡ day.book.next }
+    ensures book { IfOk result (λ closed. closed.0 ≡ book_after (day_of_input day)) }
+    ensures log { IfOk result (λ closed. closed.1.items ≡ log_of (day_of_input day)) }
+{
+    let settled = settle(alloc, &day)?;
+    let mut book = day.book;
+    match book.commit(settled) {
+        Ok(log) => Ok((book, log)),
+        Err(_) => unreachable!(),
+    }
+}

@@ -1,0 +1,68 @@
+-- The statement of an account over a day: what it held before, the log rows that concern it, and what it holds after.
+use Rattle.std.specs.Prelude.{◌≡◌, ℕ, Bool, true, false, ◌==◌, List, [], ◌∷◌, ◌++◌, filter, filter_map, find, Option, None, unwrap_or, is_some, codes}
+use Rattle.std.specs.List.{last_or}
+use Rattle.reg_base.specs.Directory.{DirectoryValue}
+use Rattle.reg_base.specs.Footprint.{footprint, is_among}
+use Rattle.reg_rules.specs.declared.reply.HeldNow.{HeldNow}
+use Rattle.reg_rules.specs.declared.reply.Reply.{Reply}
+use Rattle.reg_rules.specs.declared.reply.Reply.TheVariants.{Done, Refused}
+use Rattle.reg_rules.specs.declared.reply.LogRow.{LogRow}
+use Rattle.reg_rules.specs.State.{account}
+use Rattle.reg_rules.specs.Step.{held_now}
+use Rattle.reg_book.specs.Book.{BookValue, directory_of}
+use Rattle.reg_text.specs.declared.writing.statements.StatementFault.{StatementFault}
+use Rattle.reg_text.specs.declared.writing.statements.StatementFault.TheVariants.{UnknownAccount, NoMemory}
+use Rattle.reg_text.specs.Records.{Record}
+use Rattle.reg_text.specs.Spelling.{end_row}
+use Rattle.reg_text.specs.Log.{holding_fields}
+use Rattle.reg_text.specs.Report.{log_rows}
+
+-- the account is in the footprint of the row's instruction
+abbrev pub concerns : DirectoryValue → ℕ → LogRow → Bool
+concerns directory a row = is_among (footprint directory row.instruction.act) a
+
+-- the log rows in whose footprint the account is, in order
+abbrev pub rows_about : DirectoryValue → ℕ → List LogRow → List LogRow
+rows_about directory a rows = filter (concerns directory a) rows
+
+-- the closing list of a reply; a refusal has none
+abbrev pub closing_list : Reply → List HeldNow
+closing_list (Done closing figure) = closing
+closing_list (Refused refusal) = []
+
+-- what the account holds after a row, if the row's closing list has the account
+abbrev pub told_by : ℕ → LogRow → Option HeldNow
+told_by a row = find (λ held. held.account == a) (closing_list row.reply)
+
+-- what the last row about the account tells of it, if one does
+abbrev pub last_told : DirectoryValue → ℕ → List LogRow → Option HeldNow
+last_told directory a rows = last_or None (filter_map (told_by a) (rows_about directory a rows))
+
+-- what the account holds after the day: what the last row about it tells of it, else what it held before
+abbrev pub closing : DirectoryValue → HeldNow → List LogRow → HeldNow
+closing directory opening rows = unwrap_or (last_told directory opening.account rows) opening
+
+-- opening,NO,GENERAL,AVIATION and closing,NO,GENERAL,AVIATION
+abbrev pub opening_row : HeldNow → Record
+opening_row held = codes "opening" ∷ holding_fields held
+
+abbrev pub closing_row : HeldNow → Record
+closing_row held = codes "closing" ∷ holding_fields held
+
+-- the statement of an account that held this before the day, and the row end
+abbrev pub statement_rows : DirectoryValue → HeldNow → List LogRow → List Record
+statement_rows directory opening rows =
+    opening_row opening ∷ log_rows (rows_about directory opening.account rows) ++ closing_row (closing directory opening rows) ∷ end_row ∷ []
+
+-- the statement of an account of the book before the day
+abbrev pub statement_of : BookValue → List LogRow → ℕ → List Record
+statement_of book rows a = statement_rows (directory_of book.accounts) (held_now book.accounts a) rows
+
+-- whether the account is in the book
+abbrev pub has_account : BookValue → ℕ → Bool
+has_account book a = is_some (account book.accounts a)
+
+-- why there is no statement: the account is not in the book, or it is there and memory ran out
+abbrev pub IsStatementFault : BookValue → ℕ → StatementFault → Type 0
+IsStatementFault book a UnknownAccount = has_account book a ≡ false
+IsStatementFault book a NoMemory = has_account book a ≡ true

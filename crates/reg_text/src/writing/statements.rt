@@ -1,0 +1,167 @@
+//! Writing the statement of an account.
+
+ghost use Rattle.std.specs.Prelude.{◌≡◌, ◌<◌, length, [], ◌∷◌, ◌++◌, true, find, filter_map, option_map, ◌==◌, IfOk, OnOk, MatchResult};
+ghost use Rattle.std.specs.List.{last_or};
+ghost use Rattle.csv.specs.Writing.{default_writer, row_text};
+ghost use Rattle.reg_rules.specs.State.{account};
+ghost use Rattle.reg_rules.specs.Step.{held_now};
+ghost use Rattle.reg_text.specs.declared.writing.row.TheConstants.{MOST_FIELD};
+ghost use Rattle.reg_text.specs.Plain.{IsPlain};
+ghost use Rattle.reg_text.specs.Log.{holding_fields};
+ghost use Rattle.reg_text.specs.Report.{text_of, log_rows};
+ghost use Rattle.reg_text.specs.Statement.{concerns, rows_about, told_by, last_told, statement_rows, statement_of, has_account, IsStatementFault};
+
+use crate::writing::log::put_log_row;
+use crate::writing::report::put_end;
+use crate::writing::row::RowText;
+use crate::writing::text::Text;
+use reg_base::{AccountNo, AllowanceKind, Directory, NoMemory};
+use reg_book::Book;
+use reg_rules::{HeldNow, LogRow, Reply};
+use std::alloc::Global;
+use thiserror::Error;
+
+/// Why there is no statement.
+#[derive(Clone, Copy, Debug, PartialEq, Eq, Error)]
+pub enum StatementFault {
+    /// The account is not in the book.
+    #[error("no such account")]
+    UnknownAccount,
+    /// Memory ran out.
+    #[error("out of memory")]
+    NoMemory,
+}
+
+// What the account holds, if it is in the book.
+fn find_held_in(book: &Book, number: AccountNo) -> Option<HeldNow>
+    ensures { result ≡ option_map (λ v. held_now book.now.accounts number) (account book.now.accounts number) }
+{
+    let account = book.get(number)?;
+    Some(HeldNow {
+        account: number,
+        general: account.held(AllowanceKind::General),
+        aviation: account.held(AllowanceKind::Aviation),
+    })
+}
+
+// Whether the account is in the footprint of the row's instruction.
+fn concerns(directory: &Directory, number: AccountNo, row: &LogRow) -> bool
+    ensures { result ≡ concerns directory.now number row.now }
+{
+    let touched = row.instruction.touches(directory);
+    touched.as_slice().iter().any(|known| *known == number)
+}
+
+// What the closing list says of the account.
+fn find_held(closing: &[HeldNow], number: AccountNo) -> Option<HeldNow>
+    ensures { result ≡ find (λ held. held.account == number) closing.now }
+{
+    closing.iter().copied().find(|held| held.account == number)
+}
+
+// What the account holds after a row, if the row's closing list has the account.
+fn told_by(number: AccountNo, row: &LogRow) -> Option<HeldNow>
+    ensures { result ≡ told_by number row.now }
+{
+    match &row.reply {
+        Reply::Done { closing, .. } => find_held(closing.as_slice(), number),
+        Reply::Refused(_) => None,
+    }
+}
+
+// Adds the row with this tag of an account and what it holds.
+fn put_held(text: &mut Text, row: &mut RowText, tag: &[u8], held: &HeldNow) -> Result<(), NoMemory>
+    requires plain { IsPlain tag.now }
+    requires short { length tag.now < MOST_FIELD }
+    ensures { OnOk result (text.new ≡ text.old ++ row_text default_writer (tag.now ∷ holding_fields held.now)) }
+{
+    row.begin();
+    row.number(held.aviation);
+    row.number(held.general);
+    row.number(held.account.get().into());
+    row.put(tag);
+    text.append(row.as_slice())
+}
+
+// Adds a log row if the account is in its footprint. Answers what the row tells of the account, or if it tells
+// nothing, what was told before.
+fn put_row_about(
+    text: &mut Text,
+    row: &mut RowText,
+    directory: &Directory,
+    number: AccountNo,
+    log: &LogRow,
+    told: Option<HeldNow>,
+) -> Result<Option<HeldNow>, NoMemory>
+    ensures text { OnOk result (text.new ≡ text.old ++ text_of (log_rows (rows_about directory.now number (log.now ∷ [])))) }
+    ensures told { IfOk result (λ last. last ≡ last_or told (filter_map (told_by number) (rows_about directory.now number (log.now ∷ [])))) }
+{
+    if !concerns(directory, number, log) {
+        return Ok(told);
+    }
+    put_log_row(text, row, log)?;
+    Ok(told_by(number, log).or(told))
+}
+
+// Adds the log rows in whose footprint the account is. Answers what the last of them that tells of it says.
+fn put_rows_about(
+    text: &mut Text,
+    row: &mut RowText,
+    directory: &Directory,
+    number: AccountNo,
+    rows: &[LogRow],
+) -> Result<Option<HeldNow>, NoMemory>
+    ensures text { OnOk result (text.new ≡ text.old ++ text_of (log_rows (rows_about directory.now number rows.now))) }
+    ensures told { IfOk result (λ told. told ≡ last_told directory.now number rows.now) }
+{
+    let mut told = None;
+    for log in rows {
+        told = put_row_about(text, row, directory, number, log, told)?;
+    }
+    Ok(told)
+}
+
+// The statement of an account that held this before the day.
+fn make_statement(
+    alloc: Global,
+    directory: &Directory,
+    opening: &HeldNow,
+    rows: &[LogRow],
+) -> Result<Vec<u8>, NoMemory>
+    ensures { IfOk result (λ text. text.items ≡ text_of (statement_rows directory.now opening.now rows.now)) }
+{
+    let mut text = Text::new(alloc);
+    let mut row = RowText::new();
+    put_held(&mut text, &mut row, b"opening", opening)?;
+    let told = put_rows_about(&mut text, &mut row, directory, opening.account, rows)?;
+    put_held(&mut text, &mut row, b"closing", &told.unwrap_or(*opening))?;
+    put_end(&mut text)?;
+    Ok(text.into_bytes())
+}
+
+/// The statement of an account over a day: what it held before, the log rows in whose footprint it is, what it holds
+/// after, and the row `end`. `book` is the book before the day, and `rows` are the day's log.
+///
+/// What it holds after is what the last of these rows says that lists the account among its closing holdings; if
+/// there is none, it is what the account held before.
+///
+/// # Errors
+/// `UnknownAccount` if the account is not in the book. Otherwise `NoMemory` if memory ran out.
+pub fn statement(
+    alloc: Global,
+    book: &Book,
+    rows: &[LogRow],
+    number: AccountNo,
+) -> Result<Vec<u8>, StatementFault>
+    ensures { MatchResult result
+        (λ text. (has_account book.now number ≡ true) × (text.items ≡ text_of (statement_of book.now rows.now number)))
+        (IsStatementFault book.now number) }
+{
+    let Some(opening) = find_held_in(book, number) else {
+        return Err(StatementFault::UnknownAccount);
+    };
+    match make_statement(alloc, book.directory(), &opening, rows) {
+        Ok(text) => Ok(text),
+        Err(NoMemory) => Err(StatementFault::NoMemory),
+    }
+}

@@ -1,0 +1,115 @@
+//! The program's words: which command they ask for.
+
+use clap::builder::ValueParser;
+use clap::error::ErrorKind;
+use clap::{Arg, ArgMatches, Command as Program, Error, value_parser};
+use reg_base::AccountNo;
+use reg_front::Command;
+use std::alloc::{AllocError, Global};
+use std::convert::AsStr;
+
+const WHAT_IT_DOES: &str = "\
+Settles one day of an emission allowance registry: reads a day text from standard input,
+and writes the text of a command to standard output";
+
+const EXAMPLE_AND_STATUSES: &str = "\
+Example:
+  registry settle < examples/first-transfer.csv
+
+Exit statuses:
+  0  the text was written
+  2  the words, the number of workers or the account were not taken
+  3  the input is not a day text: standard error names the first faulty row and the cause
+  4  memory ran out
+  5  standard input or standard output failed";
+
+/// The command that these words ask for. They stand without the program's name.
+///
+/// # Errors
+/// What is to be shown in place of a run: the help that was asked for, or why the words are not taken. `OutOfMemory`
+/// if memory ran out.
+pub(crate) fn read_words<'a, S: AsStr>(alloc: Global, words: &'a [S]) -> Result<Command, Error> {
+    let mut program = describe_program(alloc)?;
+    let matches = program.try_get_matches_from_mut(words)?;
+    match find_command(&matches) {
+        Some(command) => Ok(command),
+        None => Err(program.error(ErrorKind::MissingSubcommand, "a command is needed")?),
+    }
+}
+
+// The command that was found among the words, with its values.
+fn find_command(matches: &ArgMatches<'_>) -> Option<Command> {
+    if let Some(found) = matches.subcommand_matches("settle") {
+        return settle_found(found);
+    }
+    if let Some(found) = matches.subcommand_matches("statement") {
+        return statement_found(found);
+    }
+    if matches.subcommand_matches("plan").is_some() {
+        return Some(Command::Plan);
+    }
+    if matches.subcommand_matches("totals").is_some() {
+        return Some(Command::Totals);
+    }
+    None
+}
+
+fn settle_found(found: &ArgMatches<'_>) -> Option<Command> {
+    let workers = found.get_one::<u32>("workers")?;
+    Some(Command::Settle { workers })
+}
+
+fn statement_found(found: &ArgMatches<'_>) -> Option<Command> {
+    let account = AccountNo::new(found.get_one::<u32>("account")?)?;
+    Some(Command::Statement { account })
+}
+
+// The program and its commands, as its help shows them.
+fn describe_program<'a>(alloc: Global) -> Result<Program<'a>, AllocError> {
+    Program::new(alloc, "registry")
+        .bin_name("registry")?
+        .about(WHAT_IT_DOES)
+        .after_help(EXAMPLE_AND_STATUSES)
+        .no_binary_name(true)
+        .subcommand_required(true)
+        .arg_required_else_help(true)
+        .subcommand(describe_settle(alloc)?)?
+        .subcommand(describe_plan(alloc))?
+        .subcommand(describe_statement(alloc)?)?
+        .subcommand(describe_totals(alloc))
+}
+
+fn describe_settle<'a>(alloc: Global) -> Result<Program<'a>, AllocError> {
+    let workers = Arg::new(alloc, "workers")
+        .long("workers")
+        .value_name("N")
+        .value_parser(value_parser!(u32))
+        .default_value("4")
+        .help("How many workers settle the day, 1 to 8; what is written does not depend on it");
+    Program::new(alloc, "settle")
+        .about("Settle the day; write its log, the accounts after it and the totals")
+        .arg(workers)
+}
+
+fn describe_plan<'a>(alloc: Global) -> Program<'a> {
+    Program::new(alloc, "plan").about(
+        "Write which instructions must wait for which others; settle nothing",
+    )
+}
+
+fn describe_statement<'a>(alloc: Global) -> Result<Program<'a>, AllocError> {
+    let account = Arg::new(alloc, "account")
+        .required(true)
+        .value_name("ACCOUNT")
+        .value_parser(ValueParser::unsigned(1, 999_999_999))
+        .help("The number of the account");
+    Program::new(alloc, "statement")
+        .about("Settle the day; write what an account held, its log rows, and what it holds then")
+        .arg(account)
+}
+
+fn describe_totals<'a>(alloc: Global) -> Program<'a> {
+    Program::new(alloc, "totals").about(
+        "Settle the day; write what all accounts hold, have surrendered and have deleted then",
+    )
+}
