@@ -19,6 +19,13 @@ IsNamed name book rules batch = (day : Day) → name ≡ Some day → day_of boo
 abbrev pub IsValue : Option Day → AccountValue → ℕ → Type 0
 IsValue name value after = (day : Day) → name ≡ Some day → value_at day value.number after ≡ Some value
 
+-- each account is as the instruction at its place left it
+abbrev pub AreValues : Option Day → List AccountValue → List ℕ → Type 0
+AreValues name [] [] = Unit {0}
+AreValues name [] (t ∷ ts) = ⊥
+AreValues name (v ∷ vs) [] = ⊥
+AreValues name (v ∷ vs) (t ∷ ts) = IsValue name v t × AreValues name vs ts
+
 -- if a day is named, this is the row of that place
 abbrev pub IsRow : Option Day → ℕ → LogRow → Type 0
 IsRow name place row = (day : Day) → name ≡ Some day → row_at day place ≡ Some row

@@ -8,6 +8,7 @@ mod naming;
 mod needs;
 mod outcome;
 mod parcel;
+mod run;
 mod task;
 
 pub use context::Context;
