@@ -1,5 +1,5 @@
 -- A complete task has the values that its instruction needs.
-use Rattle.std.proofs.Common.{◌≡◌, ℕ, ◌-◌, ◌≤◌, Bool, true, false, ◌||◌, eqb, List, [], ◌∷◌, length, Option, Some, refl, sym, ap, subst, ◌∙◌}
+use Rattle.std.proofs.Common.{◌≡◌, ℕ, ◌-◌, ◌≤◌, Bool, true, false, ◌||◌, eqb, List, [], ◌∷◌, length, refl, sym, ap, subst, ◌∙◌}
 use Rattle.std.proofs.lemmas.Bool.{eq-eqb}
 use Rattle.std.proofs.Props.{props}
 use mathlib.Core.Logic.{∥∥₁_elim}
@@ -8,7 +8,7 @@ use Rattle.reg_base.specs.Touches.{last_toucher, LastToucherIsLast}
 use Rattle.reg_plan.specs.Plans.{PlanValue, IsPlan, inward}
 use Rattle.reg_plan.specs.Laws.{TailsAreLastTouchers}
 use Rattle.reg_book.specs.Day.{Day}
-use Rattle.reg_graph.specs.Pool.{directory, footprint_at, tail_of}
+use Rattle.reg_graph.specs.Pool.{directory, footprint_at}
 use Rattle.reg_graph.specs.Names.{names_needed, before_place, AreNeeded}
 use Rattle.reg_graph.proofs.Known.{footprint_touches}
 use Rattle.reg_graph.proofs.Tails.{Touches, tail_is_last}

@@ -1,11 +1,11 @@
 -- Names of parcels: those that a place needs, and how they are put in order.
-use Rattle.std.proofs.Common.{◌≡◌, ℕ, zero, suc, ◌+◌, ◌-◌, ◌<◌, ◌≤◌, inl, inr, ◌⊎◌, Bool, true, false, cond, ◌&&◌, ◌||◌, eqb, List, [], ◌∷◌, ◌++◌, map, length, get_or, take, drop, Option, Some, None, refl, sym, ap, subst, ◌∙◌, arith}
+use Rattle.std.proofs.Common.{◌≡◌, ℕ, zero, suc, ◌+◌, ◌<◌, ◌≤◌, inl, inr, Bool, true, false, ◌&&◌, ◌||◌, eqb, List, [], ◌∷◌, ◌++◌, length, get_or, take, drop, None, refl, sym, ap, ◌∙◌, arith}
 use Rattle.std.specs.Prelude.{IsPermutation}
 use Rattle.std.specs.List.{IsDistinct, list_all, list_any, swap}
 use Rattle.std.proofs.lemmas.Bool.{cases_eq, cases_lt, eq-eqb, eqb-true}
-use Rattle.std.proofs.lemmas.List.{take_all, drop_all, append-nil, length-map, get_or-map, ext_get_or}
+use Rattle.std.proofs.lemmas.List.{take_all, drop_all, append-nil, ext_get_or}
 use Rattle.std.proofs.lemmas.List.Edits.{length-swap, swapped_from_swap}
-use Rattle.std.proofs.lemmas.List.Sorted.{IsPermutation-swap, IsPermutation-trans, IsPermutation-map, list_any-IsPermutation, length_permutation}
+use Rattle.std.proofs.lemmas.List.Sorted.{IsPermutation-map, list_any-IsPermutation, length_permutation}
 use Rattle.std.proofs.lemmas.Map.Keys.{apart_from_distinct}
 use Rattle.reg_plan.specs.declared.arrow.Arrow.{Arrow}
 use Rattle.reg_graph.specs.Pool.{tail_in}
@@ -80,7 +80,7 @@ pub is_behind : (arrows : List Arrow) (accounts : List ℕ) (names : List (ℕ �
     → (m : ℕ) × (k ≤ m) × (m < length names) × (get_or names m (0, 0) ≡ get_or (names_needed arrows accounts) k (0, 0))
 is_behind arrows accounts names k distinct lt h =
     let each = (and_both (eqb (length names) (length accounts)) (list_all (λ w. list_any (λ n. is_name n w) names) (names_needed arrows accounts))
-        (sym (names_test arrows accounts names (length names) refl) ∙ h.needed)).1 in
+    (sym (names_test arrows accounts names (length names) refl) ∙ h.needed)).1 in
     let w : ℕ × ℕ = get_or (names_needed arrows accounts) k (0, 0) in
     let some : list_any (λ n. is_name n w) names ≡ true = all_at (λ v. list_any (λ n. is_name n v) names) (names_needed arrows accounts) k (0, 0) (omega (arith, lt, length_needed arrows accounts)) each in
     let found = any_at (λ n. is_name n w) names (0, 0) some in
@@ -90,7 +90,7 @@ is_behind arrows accounts names k distinct lt h =
       | inr le ↦ (m, le, found.1, is)
       | inl early ↦
           let same : (get_or accounts m 0, tail_in arrows (get_or accounts m 0)) ≡ (get_or accounts k 0, tail_in arrows (get_or accounts k 0)) =
-              sym (needed_at arrows accounts m (omega (arith, early, lt))) ∙ sym (h.first m early) ∙ is ∙ needed_at arrows accounts k lt in
+          sym (needed_at arrows accounts m (omega (arith, early, lt))) ∙ sym (h.first m early) ∙ is ∙ needed_at arrows accounts k lt in
           let number : get_or accounts m 0 ≡ get_or accounts k 0 = ap (λ (n : ℕ × ℕ). n.0) same in
           absurd (clash (eq-eqb (get_or accounts m 0) (get_or accounts k 0) number) (apart_from_distinct eqb accounts m k 0 distinct early lt))
     ]
@@ -120,8 +120,7 @@ module _ {N : Type 0} {b : Ghosts N} where
   names_swapped [] ys i j i_in j_in e = absurd (omega arith)
   names_swapped (d ∷ xs) ys i j i_in j_in e =
       let moved = swapped_from_swap (d ∷ xs) ys i j d i_in j_in e in
-      let size : length ys ≡ length (d ∷ xs) = ap length e ∙ length-swap (d ∷ xs) i j in
-      (
+      let size : length ys ≡ length (d ∷ xs) = ap length e ∙ length-swap (d ∷ xs) i j in (
         name_of ys i d (0, 0) (omega (arith, size, i_in)) ∙ ap (λ (x : Parcel N b). (x.value.number, x.after)) moved.0 ∙ sym (name_of (d ∷ xs) j d (0, 0) j_in),
         λ m lt not_i not_j. name_of ys m d (0, 0) (omega (arith, size, lt)) ∙ ap (λ (x : Parcel N b). (x.value.number, x.after)) (moved.2 m not_i not_j) ∙ sym (name_of (d ∷ xs) m d (0, 0) lt),
       )

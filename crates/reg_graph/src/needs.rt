@@ -24,7 +24,10 @@ pub(crate) fn tail_in(arrows: &[Arrow], account: AccountNo) -> u32
 fn arrow_at(arrows: &[Arrow], account: AccountNo) -> Option<Arrow>
     ensures { result ≡ find (λ arrow. arrow.account == account) arrows.now }
 {
-    arrows.iter().copied().find(|arrow| arrow.account == account)
+    arrows
+        .iter()
+        .copied()
+        .find(|arrow| arrow.account == account)
 }
 
 fn is_named<N: Naming>(parcel: &Parcel<N>, account: AccountNo, after: u32) -> bool

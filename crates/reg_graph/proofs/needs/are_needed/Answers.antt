@@ -1,4 +1,4 @@
-use Rattle.std.proofs.Common.{sym, ap, ◌∙◌, length, eqb, ◌&&◌}
+use Rattle.std.proofs.Common.{sym, ap, ◌∙◌, length, ◌&&◌}
 use Rattle.std.specs.List.{list_all, list_any}
 use Rattle.std.proofs.lemmas.Bool.{eq-eqb, ne_eqb}
 use Rattle.reg_graph.specs.Names.{names_needed, is_name}

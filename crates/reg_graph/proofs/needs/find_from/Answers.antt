@@ -1,4 +1,4 @@
-use Rattle.std.proofs.Common.{sym, ◌∙◌}
+use Rattle.std.proofs.Common.{sym}
 use Rattle.reg_graph.proofs.Names.{none_more}
 use Rattle.reg_graph.proofs.needs.find_from.Goals as goal
 

@@ -1,8 +1,7 @@
-use Rattle.std.proofs.Common.{◌≡◌, ap, sym, ◌∙◌, length, take, drop, ◌++◌, rules}
+use Rattle.std.proofs.Common.{◌≡◌, ap, ◌∙◌, length, rules}
 use Rattle.std.proofs.lemmas.List.Sorted.{length_permutation}
 use Rattle.reg_plan.specs.Plans.{inward}
 use Rattle.reg_book.specs.Day.{day_of}
-use Rattle.reg_graph.specs.Pool.{footprint_at}
 use Rattle.reg_graph.specs.Names.{names_needed, has_names}
 use Rattle.reg_graph.specs.Parcels.{names_of}
 use Rattle.reg_graph.proofs.Names.{written_whole}
