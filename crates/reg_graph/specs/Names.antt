@@ -1,13 +1,14 @@
 -- What a name says of the values and the places that belong to its day.
-use Rattle.std.specs.Prelude.{◌≡◌, ℕ, ◌-◌, ◌≤◌, ◌<◌, Bool, true, false, MatchOption, slice_index_or, ◌&&◌, ◌==◌, List, [], ◌∷◌, length, Option, Some}
+use Rattle.std.specs.Prelude.{◌≡◌, ℕ, ◌-◌, ◌≤◌, ◌<◌, Bool, true, false, MatchOption, slice_index_or, ◌&&◌, ◌==◌, List, [], ◌∷◌, length, map, Option, Some}
 use Rattle.std.specs.List.{list_all, list_any}
 use Rattle.reg_base.specs.Rules.{RulesValue}
 use Rattle.reg_base.specs.Batch.{BatchValue}
 use Rattle.reg_base.specs.Touches.{last_toucher}
 use Rattle.reg_account.specs.Account.{AccountValue}
+use Rattle.reg_rules.specs.declared.reply.LogRow.{LogRow}
 use Rattle.reg_plan.specs.declared.arrow.Arrow.{Arrow}
 use Rattle.reg_book.specs.Book.{BookValue}
-use Rattle.reg_book.specs.Day.{Day, day_of, value_at}
+use Rattle.reg_book.specs.Day.{Day, day_of, value_at, row_at}
 use Rattle.reg_graph.specs.Pool.{directory, footprint_at, tail_in}
 
 -- if a day is named, these are its book, its rules and its batch
@@ -62,3 +63,7 @@ pub record AreNeeded (day : Day) (place : ℕ) (names : List (ℕ × ℕ)) : Typ
 -- if a day is named, the names are those
 abbrev pub AreComplete : Option Day → ℕ → List (ℕ × ℕ) → Type 0
 AreComplete name place names = (day : Day) → name ≡ Some day → AreNeeded day place names
+
+-- if a day is named, these are the accounts of the place's footprint, each with the place
+abbrev pub AreLeft : Option Day → ℕ → List (ℕ × ℕ) → Type 0
+AreLeft name place names = (day : Day) → name ≡ Some day → names ≡ map (λ a. (a, place)) (footprint_at day place)

@@ -76,6 +76,7 @@ pub(crate) fn pack<N: Naming>(
     mut parcels: Vec<Parcel<N>>,
 ) -> Vec<Parcel<N>>
     requires right { AreValues N.day own.items afters.now }
+    requires same { length own.items ≡ length afters.now }
     requires empty { parcels.items ≡ [] }
     requires fits { length own.items ≤ vec_capacity parcels }
     ensures values { values_of result.items ≡ own.items }
