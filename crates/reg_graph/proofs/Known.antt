@@ -48,7 +48,7 @@ some_by true w o = refl
 some_by false w o = refl
 
 -- an account is found exactly where its number stands in the list
-found_among : (xs : State) (a : ℕ) → is_some (account xs a) ≡ is_among (numbers xs) a
+pub found_among : (xs : State) (a : ℕ) → is_some (account xs a) ≡ is_among (numbers xs) a
 found_among [] a = refl
 found_among (w ∷ ws) a = some_by (eqb w.number a) w (account ws a) ∙ ap (λ b. eqb w.number a || b) (found_among ws a)
 

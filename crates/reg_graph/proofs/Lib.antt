@@ -4,5 +4,6 @@ pub mod Needed
 pub mod Names
 pub mod Known
 pub mod Complete
+pub mod Running
 pub mod Executing
 pub mod Orders

@@ -1,13 +1,15 @@
 -- What a name says of the values and the places that belong to its day.
-use Rattle.std.specs.Prelude.{◌≡◌, ℕ, ◌-◌, ◌≤◌, ◌<◌, Bool, true, false, MatchOption, slice_index_or, ◌&&◌, ◌==◌, List, [], ◌∷◌, length, Option, Some}
+use Rattle.std.specs.Prelude.{◌≡◌, ℕ, ◌-◌, ◌≤◌, ◌<◌, Bool, true, false, MatchOption, slice_index_or, ◌&&◌, ◌==◌, List, [], ◌∷◌, length, map, Option, Some}
 use Rattle.std.specs.List.{list_all, list_any}
+use Rattle.reg_base.specs.declared.limits.TheConstants.{MOST_TOUCHED}
 use Rattle.reg_base.specs.Rules.{RulesValue}
 use Rattle.reg_base.specs.Batch.{BatchValue}
 use Rattle.reg_base.specs.Touches.{last_toucher}
 use Rattle.reg_account.specs.Account.{AccountValue}
+use Rattle.reg_rules.specs.declared.reply.LogRow.{LogRow}
 use Rattle.reg_plan.specs.declared.arrow.Arrow.{Arrow}
 use Rattle.reg_book.specs.Book.{BookValue}
-use Rattle.reg_book.specs.Day.{Day, day_of, value_at}
+use Rattle.reg_book.specs.Day.{Day, day_of, value_at, row_at}
 use Rattle.reg_graph.specs.Pool.{directory, footprint_at, tail_in}
 
 -- if a day is named, these are its book, its rules and its batch
@@ -17,6 +19,17 @@ IsNamed name book rules batch = (day : Day) → name ≡ Some day → day_of boo
 -- if a day is named, this is the account as the instruction at that place left it, or, at place 0, as it was at first
 abbrev pub IsValue : Option Day → AccountValue → ℕ → Type 0
 IsValue name value after = (day : Day) → name ≡ Some day → value_at day value.number after ≡ Some value
+
+-- each account is as the instruction at its place left it
+abbrev pub AreValues : Option Day → List AccountValue → List ℕ → Type 0
+AreValues name [] [] = Unit {0}
+AreValues name [] (t ∷ ts) = ⊥
+AreValues name (v ∷ vs) [] = ⊥
+AreValues name (v ∷ vs) (t ∷ ts) = IsValue name v t × AreValues name vs ts
+
+-- if a day is named, this is the row of that place
+abbrev pub IsRow : Option Day → ℕ → LogRow → Type 0
+IsRow name place row = (day : Day) → name ≡ Some day → row_at day place ≡ Some row
 
 -- these are the names of the values that a place needs of these accounts, by the arrows that lead there
 abbrev pub names_needed : List Arrow → List ℕ → List (ℕ × ℕ)
@@ -51,3 +64,14 @@ pub record AreNeeded (day : Day) (place : ℕ) (names : List (ℕ × ℕ)) : Typ
 -- if a day is named, the names are those
 abbrev pub AreComplete : Option Day → ℕ → List (ℕ × ℕ) → Type 0
 AreComplete name place names = (day : Day) → name ≡ Some day → AreNeeded day place names
+
+-- if a day is named, these are the accounts of the place's footprint, each with the place
+abbrev pub AreLeft : Option Day → ℕ → List (ℕ × ℕ) → Type 0
+AreLeft name place names = (day : Day) → name ≡ Some day → names ≡ map (λ a. (a, place)) (footprint_at day place)
+
+-- the place is one of the day's, and these are the values of the accounts that its instruction touches
+pub record IsFor (day : Day) (place : ℕ) (own : List AccountValue) : Type 0 where
+  pub low : 1 ≤ place
+  pub high : place ≤ length day.batch.instructions
+  pub touched : map (λ v. v.number) own ≡ footprint_at day place
+  pub few : length own ≤ MOST_TOUCHED

@@ -6,10 +6,13 @@ mod context;
 pub mod laws;
 mod naming;
 mod needs;
+mod outcome;
 mod parcel;
+mod run;
 mod task;
 
 pub use context::Context;
 pub use naming::{Naming, Unnamed};
+pub use outcome::{Outcome, Ran};
 pub use parcel::Parcel;
 pub use task::Task;

@@ -2,9 +2,10 @@
 
 ghost use Rattle.std.specs.Prelude.{◌≡◌, ◌==◌, true, find, nat_eq, IsPermutation};
 ghost use Rattle.std.specs.List.{list_any, list_all, IsDistinct};
+ghost use Rattle.reg_rules.specs.State.{numbers};
 ghost use Rattle.reg_graph.specs.Pool.{tail_in};
 ghost use Rattle.reg_graph.specs.Names.{names_needed, has_names, is_name, FindsFrom};
-ghost use Rattle.reg_graph.specs.Parcels.{names_of};
+ghost use Rattle.reg_graph.specs.Parcels.{names_of, values_of};
 
 use crate::naming::Naming;
 use crate::parcel::Parcel;
@@ -105,4 +106,19 @@ pub(crate) fn put_in_order<N: Naming>(
             parcels.swap(place, other);
         }
     }
+}
+
+// Whether the parcels are of these accounts, in this order.
+pub(crate) fn are_of<N: Naming>(parcels: &[Parcel<N>], accounts: &[AccountNo]) -> bool
+    ensures { result ≡ true → numbers (values_of parcels.now) ≡ accounts.now }
+{
+    if parcels.len() != accounts.len() {
+        return false;
+    }
+    for place in 0..accounts.len() {
+        if parcels[place].account() != accounts[place] {
+            return false;
+        }
+    }
+    true
 }

@@ -53,4 +53,14 @@ impl<N: Naming> Parcel<N> {
     {
         &self.value
     }
+
+    // Its account and its place.
+    pub(crate) fn into_parts(self) -> (Account, u32)
+        ensures value { result.0 ≡ self.value }
+        ensures after { result.1 ≡ self.after }
+        ensures right { IsValue N.day result.0 result.1 }
+    {
+        let Parcel { value, after, .. } = self;
+        (value, after)
+    }
 }

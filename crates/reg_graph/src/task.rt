@@ -6,10 +6,15 @@ ghost use Rattle.reg_graph.specs.Parcels.{names_of};
 
 use crate::context::Context;
 use crate::naming::Naming;
-use crate::needs::{are_needed, put_in_order};
+use crate::needs::{are_needed, are_of, put_in_order};
+use crate::outcome::Outcome;
 use crate::parcel::Parcel;
+use crate::run::{carry_out, pack, pack_after, unpack};
 use reg_base::laws::{each_footprint_is_sound, last_toucher_is_last};
+use reg_book::{each_is_a_step, value_is_last_touchers};
 use reg_plan::laws::tails_are_last_touchers;
+use reg_rules::step_laws;
+use std::alloc::Global;
 
 /// An instruction with the parcels of its footprint, complete. If a day is named, they are those that the instruction
 /// needs.
@@ -21,11 +26,12 @@ pub struct Task<N: Naming> {
 }
 
 impl<N: Naming> Task<N> {
-    ghost use Rattle.std.specs.Prelude.{◌≤◌, length, is_ok, IfOk, IfErr, IsPermutation};
+    ghost use Rattle.std.specs.Prelude.{◌≤◌, true, Some, length, is_ok, IfOk, IfErr, IsPermutation};
     ghost use Rattle.reg_plan.specs.Plans.{inward};
     ghost use Rattle.reg_book.specs.Day.{day_of};
-    ghost use Rattle.reg_graph.specs.Pool.{footprint_at};
-    ghost use Rattle.reg_graph.specs.Names.{names_needed, has_names};
+    ghost use Rattle.reg_graph.specs.Pool.{footprint_at, run_at};
+    ghost use Rattle.reg_graph.specs.Parcels.{values_of, afters_of};
+    ghost use Rattle.reg_graph.specs.Names.{names_needed, has_names, IsFor};
 
     /// The task of a place, exactly if the parcels are, in any order, one for each account that its instruction
     /// touches, each named by the tail of the arrow that leads there, or by 0 if there is none. The place is counted
@@ -62,5 +68,49 @@ impl<N: Naming> Task<N> {
         ensures { result ≡ self.now.place }
     {
         self.place
+    }
+
+    // Whether its place is one of the context, and its parcels are of the accounts that the instruction touches.
+    fn fits(&self, context: &Context<N>) -> bool
+        ensures { result ≡ true → IsFor (day_of context.now.book.now context.now.rules.now context.now.batch.now) self.now.place (values_of self.now.parcels.items) }
+    {
+        if self.place == 0 || self.place > context.batch().len() {
+            return false;
+        }
+        let touched = context.touched_at(self.place);
+        are_of(&self.parcels, touched.as_slice())
+    }
+
+    /// Runs the instruction on the task's own values. The parcels that come out are named by the task's place.
+    ///
+    /// # Errors
+    /// The task as it was, if memory ran out. If no day is named, also if the task is of another context.
+    pub fn run(self, alloc: Global, context: &Context<N>) -> Result<Outcome<N>, Task<N>>
+        ensures place { IfOk result (λ o. o.place ≡ self.place) }
+        ensures made { IfOk result (λ o. run_at (day_of context.now.book.now context.now.rules.now context.now.batch.now) self.place (values_of self.parcels.items) ≡ Some (values_of o.parcels.items, o.row)) }
+        ensures back { IfErr result (λ t. (t.place ≡ self.place) × (values_of t.parcels.items ≡ values_of self.parcels.items) × (afters_of t.parcels.items ≡ afters_of self.parcels.items)) }
+    {
+        each_footprint_is_sound();
+        step_laws();
+        each_is_a_step();
+        value_is_last_touchers();
+        if !self.fits(context) {
+            return Err(self);
+        }
+        let count = self.parcels.len();
+        let Ok(room) = Vec::with_capacity(alloc, count) else {
+            return Err(self);
+        };
+        let Ok(left) = Vec::with_capacity(alloc, count) else {
+            return Err(self);
+        };
+        let Task { place, parcels } = self;
+        let (mut own, afters) = unpack(parcels, room);
+        let Ok(row) = carry_out(alloc, context, place, &mut own) else {
+            let parcels = pack(own, afters.as_slice(), left);
+            return Err(Task { place, parcels });
+        };
+        let parcels = pack_after(own, place, left);
+        Ok(Outcome::new(place, row, parcels))
     }
 }

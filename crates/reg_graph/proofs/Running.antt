@@ -1,0 +1,146 @@
+-- What a task's own values give is what the day gives.
+use Rattle.std.proofs.Common.{◌≡◌, ℕ, zero, suc, ◌+◌, ◌-◌, inl, inr, Bool, true, false, cond, ◌||◌, eqb, List, [], ◌∷◌, map, Option, Some, None, refl, sym, ap, subst, ◌∙◌, arith}
+use Rattle.std.specs.Prelude.{slice_get, is_some}
+use Rattle.std.specs.Option.{option_map, option_map_or}
+use Rattle.std.specs.List.{IsDistinct, AllByRecursion}
+use Rattle.std.proofs.lemmas.Bool.{eq-eqb, eqb-true}
+use Rattle.std.proofs.lemmas.Option.{same_Some, slice_get_cases}
+use Rattle.std.proofs.lemmas.List.Elements.{All-from_recursion}
+use Rattle.reg_base.specs.declared.instruction.Instruction.{Instruction}
+use Rattle.reg_base.specs.Footprint.{footprint, is_among, EachFootprintIsSound}
+use Rattle.reg_base.specs.Touches.{last_toucher}
+use Rattle.reg_account.specs.Account.{AccountValue}
+use Rattle.reg_rules.specs.declared.reply.LogRow.{LogRow}
+use Rattle.reg_rules.specs.State.{State, account, numbers}
+use Rattle.reg_rules.specs.Step.{step, row_of}
+use Rattle.reg_rules.specs.Laws.{StepLaws}
+use Rattle.reg_book.specs.Day.{Day, setting, state_at, value_at, row_at}
+use Rattle.reg_book.specs.Laws.{EachIsAStep, IsStepOf, ValueIsLastTouchers}
+use Rattle.reg_graph.specs.Pool.{directory, footprint_at, run_at}
+use Rattle.reg_graph.specs.Names.{before_place, AreNeeded, AreComplete, AreValues, IsValue}
+use Rattle.reg_graph.specs.declared.naming.Naming.{Ghosts}
+use Rattle.reg_graph.specs.declared.parcel.Parcel.{Parcel}
+use Rattle.reg_graph.specs.Parcels.{values_of, afters_of, names_of}
+use Rattle.reg_graph.proofs.Members.{all_among}
+use Rattle.reg_graph.proofs.Known.{found_among, footprint_distinct}
+
+-- the accounts agree with those of a state, and there are no others
+abbrev pub AgreeAt : State → List ℕ → State → Type 0
+AgreeAt t accounts own = (b : ℕ) → account own b ≡ cond (is_among accounts b) (account t b) None
+
+module _ {N : Type 0} {b : Ghosts N} (day : Day) (named : b.day ≡ Some day) (values : ValueIsLastTouchers) (place : ℕ) where
+  -- parcels with the names that are needed have the values before the place
+  pub own_agrees : (accounts : List ℕ) (ps : List (Parcel N b)) → names_of ps ≡ before_place day place accounts → AgreeAt (state_at day (place - 1)) accounts (values_of ps)
+  own_agrees [] [] e c = refl
+  own_agrees [] (p ∷ ps) e c = absurd cc
+  own_agrees (a ∷ more) [] e c = absurd cc
+  own_agrees (a ∷ more) (p ∷ ps) e c = by (eqb a c) refl (own_agrees more ps tail c) where
+    head : ◌≡◌ {A = ℕ × ℕ} (p.value.number, p.after) (a, last_toucher (directory day) day.batch.instructions a (place - 1))
+    head = cc
+
+    tail : names_of ps ≡ before_place day place more
+    tail = cc
+
+    number : p.value.number ≡ a
+    number = ap (λ (n : ℕ × ℕ). n.0) head
+
+    after : p.after ≡ last_toucher (directory day) day.batch.instructions a (place - 1)
+    after = ap (λ (n : ℕ × ℕ). n.1) head
+
+    here : account (state_at day (place - 1)) a ≡ Some p.value
+    here = values day a (place - 1) ∙ ap (value_at day a) (sym after) ∙ ap (λ n. value_at day n p.after) (sym number) ∙ p.right day named
+
+    by : (d : Bool) → eqb a c ≡ d → account (values_of ps) c ≡ cond (is_among more c) (account (state_at day (place - 1)) c) None
+        → cond (eqb p.value.number c) (Some p.value) (account (values_of ps) c) ≡ cond (d || is_among more c) (account (state_at day (place - 1)) c) None
+    by true same rest = ap (λ n. cond (eqb n c) (Some p.value) (account (values_of ps) c)) number ∙ ap (λ d. cond d (Some p.value) (account (values_of ps) c)) same
+        ∙ sym here ∙ ap (account (state_at day (place - 1))) (eqb-true a c same)
+    by false other rest = ap (λ n. cond (eqb n c) (Some p.value) (account (values_of ps) c)) number ∙ ap (λ d. cond d (Some p.value) (account (values_of ps) c)) other ∙ rest
+
+-- what a run on such values gives
+pub record IsRight (day : Day) (place : ℕ) (own results : State) (row : LogRow) : Type 0 where
+  pub row_is : row_at day place ≡ Some row
+  pub values : (a : ℕ) → is_among (footprint_at day place) a ≡ true → account results a ≡ value_at day a place
+  pub same_numbers : numbers results ≡ numbers own
+
+pub ran_right : StepLaws → EachIsAStep → (day : Day) (n : ℕ) (i : Instruction) (own results : State) (row : LogRow) → slice_get day.batch.instructions n ≡ Some i
+    → AgreeAt (state_at day n) (footprint_at day (suc n)) own → run_at day (suc n) own ≡ Some (results, row) → IsRight day (suc n) own results row
+ran_right laws each day n i own results row at agree ran =
+    let now : IsStepOf day n i = each day n i at in
+    let made : (State × LogRow) = ((step (setting day) own (day.batch.base + suc n) i).0, row_of (setting day) (day.batch.base + suc n) i (step (setting day) own (day.batch.base + suc n) i).1) in
+    let is : (results, row) ≡ made = same_Some (results, row) made (sym ran
+    ∙ ap (λ o. option_map (λ (x : Instruction). ((step (setting day) own (day.batch.base + suc n) x).0, row_of (setting day) (day.batch.base + suc n) x (step (setting day) own (day.batch.base + suc n) x).1)) o) at) in
+    let results_are : results ≡ (step (setting day) own (day.batch.base + suc n) i).0 = ap (λ (m : State × LogRow). m.0) is in
+    let row_made : row ≡ row_of (setting day) (day.batch.base + suc n) i (step (setting day) own (day.batch.base + suc n) i).1 = ap (λ (m : State × LogRow). m.1) is in
+    let print : footprint_at day (suc n) ≡ footprint (directory day) i.act = ap (λ o. option_map_or (λ (x : Instruction). footprint (directory day) x.act) o []) at in
+    let same : (a : ℕ) → is_among (footprint_at day (suc n)) a ≡ true → account own a ≡ account (state_at day n) a = λ a e. agree a ∙ ap (λ b. cond b (account (state_at day n) a) None) e in
+    let local = laws.local (setting day) own (state_at day n) (day.batch.base + suc n) i
+    (All-from_recursion (λ a. account own a ≡ account (state_at day n) a) (footprint (directory day) i.act)
+    (all_among (λ a. account own a ≡ account (state_at day n) a) (footprint (directory day) i.act) (λ a e. same a (ap (λ ns. is_among ns a) print ∙ e)))) in
+    record {
+      row_is = now.row ∙ ap (λ r. Some (row_of (setting day) (day.batch.base + suc n) i r)) (sym local.0) ∙ ap Some (sym row_made);
+      values = λ a e. ap (λ s. account s a) results_are ∙ local.1 a (same a e) ∙ ap (λ s. account s a) (sym now.state);
+      same_numbers = ap numbers results_are ∙ laws.numbers_stay (setting day) own (day.batch.base + suc n) i;
+    }
+
+module _ {N : Type 0} {b : Ghosts N} where
+  pub parcels_right : (ps : List (Parcel N b)) → AreValues b.day (values_of ps) (afters_of ps)
+  parcels_right [] = tt
+  parcels_right (p ∷ ps) = (p.right, parcels_right ps)
+
+  pub same_names : (xs ys : List (Parcel N b)) → values_of xs ≡ values_of ys → afters_of xs ≡ afters_of ys → names_of xs ≡ names_of ys
+  same_names [] [] e f = refl
+  same_names [] (y ∷ ys) e f = absurd cc
+  same_names (x ∷ xs) [] e f = absurd cc
+  same_names (x ∷ xs) (y ∷ ys) e f =
+      let value : x.value ≡ y.value = cc in
+      let after : x.after ≡ y.after = cc in
+      let more_values : values_of xs ≡ values_of ys = cc in
+      let more_afters : afters_of xs ≡ afters_of ys = cc in
+      ap (λ (v : AccountValue). (v.number, x.after) ∷ names_of xs) value ∙ ap (λ t. (y.value.number, t) ∷ names_of xs) after
+      ∙ ap (λ ns. (y.value.number, y.after) ∷ ns) (same_names xs ys more_values more_afters)
+
+  pub names_after : (ps : List (Parcel N b)) (place : ℕ) → afters_of ps ≡ map (λ v. place) (values_of ps) → names_of ps ≡ map (λ a. (a, place)) (numbers (values_of ps))
+  names_after [] place e = refl
+  names_after (p ∷ ps) place e =
+      let after : p.after ≡ place = cc in
+      let more : afters_of ps ≡ map (λ v. place) (values_of ps) = cc in
+      ap (λ t. (p.value.number, t) ∷ names_of ps) after ∙ ap (λ ns. (p.value.number, place) ∷ ns) (names_after ps place more)
+
+  pub ran_named : StepLaws → EachIsAStep → ValueIsLastTouchers → (D : Day) (place : ℕ) (ps : List (Parcel N b)) (results : State) (row : LogRow)
+      → ((d : Day) → b.day ≡ Some d → D ≡ d) → AreComplete b.day place (names_of ps) → run_at D place (values_of ps) ≡ Some (results, row)
+      → (d : Day) → b.day ≡ Some d → IsRight d place (values_of ps) results row
+  ran_named laws each vals D zero ps results row named complete ran d e = absurd (omega (arith, (complete d e).low))
+  ran_named laws each vals D (suc n) ps results row named complete ran d e =
+      let needed : AreNeeded d (suc n) (names_of ps) = complete d e in
+      let run : run_at d (suc n) (values_of ps) ≡ Some (results, row) = subst (λ (x : Day). run_at x (suc n) (values_of ps) ≡ Some (results, row)) (named d e) ran in
+      let minus : suc n - 1 ≡ n = omega arith in
+      let agree : AgreeAt (state_at d n) (footprint_at d (suc n)) (values_of ps) =
+      subst (λ m. AgreeAt (state_at d m) (footprint_at d (suc n)) (values_of ps)) minus (own_agrees d e vals (suc n) (footprint_at d (suc n)) ps needed.names_are) in
+      elim (slice_get_cases d.batch.instructions n).1 [
+        | inl within ↦ ran_right laws each d n within.0 (values_of ps) results row within.2 agree run
+        | inr past ↦ absurd (omega (arith, past.0, needed.high))
+      ]
+
+found_behind : (v : AccountValue) (vs ws : State) → AllByRecursion (λ n. eqb v.number n ≡ false) (numbers ws) → AllByRecursion (λ w. account vs w.number ≡ Some w) ws → AllByRecursion (λ w. account (v ∷ vs) w.number ≡ Some w) ws
+found_behind v vs [] others found = tt
+found_behind v vs (w ∷ ws) others found = (ap (λ b. cond b (Some v) (account vs w.number)) others.0 ∙ found.0, found_behind v vs ws others.1 found.1)
+
+found_by_number : (s : State) → IsDistinct eqb (numbers s) → AllByRecursion (λ v. account s v.number ≡ Some v) s
+unfolding IsDistinct
+found_by_number [] distinct = tt
+found_by_number (v ∷ vs) distinct = (ap (λ b. cond b (Some v) (account vs v.number)) (eq-eqb v.number v.number refl), found_behind v vs vs distinct.0 (found_by_number vs distinct.1))
+
+pub each_right : (name : Option Day) (place : ℕ) (own results : State) (row : LogRow) → EachFootprintIsSound
+    → ((d : Day) → name ≡ Some d → IsRight d place own results row) → ((d : Day) → name ≡ Some d → numbers own ≡ footprint_at d place) → AllByRecursion (λ v. IsValue name v place) results
+each_right name place own results row sound right touched =
+    go results (λ d e. found_by_number results (subst (IsDistinct eqb) (sym ((right d e).same_numbers ∙ touched d e)) (footprint_distinct sound d place)))
+  where
+    among : (v : AccountValue) → account results v.number ≡ Some v → is_among (numbers results) v.number ≡ true
+    among v e = sym (found_among results v.number) ∙ ap is_some e
+
+    go : (vs : State) → ((d : Day) → name ≡ Some d → AllByRecursion (λ v. account results v.number ≡ Some v) vs) → AllByRecursion (λ v. IsValue name v place) vs
+    go [] all = tt
+    go (v ∷ vs) all = (
+      (λ d e. sym ((right d e).values v.number (ap (λ ns. is_among ns v.number) (sym ((right d e).same_numbers ∙ touched d e)) ∙ among v (all d e).0)) ∙ (all d e).0),
+      go vs (λ d e. (all d e).1),
+    )

@@ -1,0 +1,109 @@
+//! Carrying out an instruction on the values of its own accounts.
+
+ghost use Rattle.std.specs.Prelude.{◌≡◌, ◌≤◌, Some, [], length, map, IfOk, OnErr, vec_len, vec_capacity};
+ghost use Rattle.std.specs.List.{AllByRecursion};
+ghost use Rattle.reg_base.specs.declared.limits.TheConstants.{MOST_TOUCHED};
+ghost use Rattle.reg_rules.specs.State.{numbers};
+ghost use Rattle.reg_book.specs.Day.{day_of};
+ghost use Rattle.reg_graph.specs.Pool.{footprint_at, run_at};
+ghost use Rattle.reg_graph.specs.Names.{IsValue, AreValues};
+ghost use Rattle.reg_graph.specs.Parcels.{values_of, afters_of};
+
+use crate::context::Context;
+use crate::naming::Naming;
+use crate::parcel::Parcel;
+use arrayvec::ArrayVec;
+use reg_account::Account;
+use reg_base::{MOST_TOUCHED, NoMemory, RecordNo};
+use reg_rules::{LogRow, execute, log_row};
+use std::alloc::Global;
+
+// The places after which the values of a task stand.
+pub(crate) type Afters = ArrayVec<u32, MOST_TOUCHED>;
+
+// Carries out the instruction at a place on the values of the accounts that it touches, and answers its row.
+pub(crate) fn carry_out<N: Naming>(
+    alloc: Global,
+    context: &Context<N>,
+    place: u32,
+    own: &mut [Account],
+) -> Result<LogRow, NoMemory>
+    requires from_one { 1 ≤ place }
+    requires within { place ≤ length context.now.batch.now.instructions }
+    requires touched { numbers own.old ≡ footprint_at (day_of context.now.book.now context.now.rules.now context.now.batch.now) place }
+    ensures ok { IfOk result (λ row. run_at (day_of context.now.book.now context.now.rules.now context.now.batch.now) place own.old ≡ Some (own.new, row)) }
+    ensures err { OnErr result (own.new ≡ own.old) }
+{
+    let batch = context.batch();
+    let instruction = batch.at(place);
+    let number = RecordNo::new(batch.base() + u64::from(place)).unwrap();
+    let reply = execute(
+        alloc,
+        context.rules(),
+        batch.day(),
+        number,
+        instruction,
+        context.book().directory(),
+        own,
+    )?;
+    Ok(log_row(number, batch.day(), *instruction, reply))
+}
+
+// The accounts of parcels, in the room that was made for them, and the places after which they stand.
+pub(crate) fn unpack<N: Naming>(
+    parcels: Vec<Parcel<N>>,
+    mut own: Vec<Account>,
+) -> (Vec<Account>, Afters)
+    requires few { length parcels.items ≤ MOST_TOUCHED }
+    requires empty { own.items ≡ [] }
+    requires fits { length parcels.items ≤ vec_capacity own }
+    ensures own { result.0.items ≡ values_of parcels.items }
+    ensures afters { result.1.items ≡ afters_of parcels.items }
+{
+    let mut afters = Afters::new();
+    for parcel in parcels {
+        let (value, after) = parcel.into_parts();
+        own.push(value).unwrap();
+        afters.push(after);
+    }
+    (own, afters)
+}
+
+// The parcels of these accounts, each after a place of its own, in the room that was made for them.
+pub(crate) fn pack<N: Naming>(
+    own: Vec<Account>,
+    afters: &[u32],
+    mut parcels: Vec<Parcel<N>>,
+) -> Vec<Parcel<N>>
+    requires right { AreValues N.day own.items afters.now }
+    requires same { length own.items ≡ length afters.now }
+    requires empty { parcels.items ≡ [] }
+    requires fits { length own.items ≤ vec_capacity parcels }
+    ensures values { values_of result.items ≡ own.items }
+    ensures afters { afters_of result.items ≡ afters.now }
+{
+    let mut index = 0;
+    for value in own {
+        parcels.push(Parcel::new(value, afters[index])).unwrap();
+        index += 1;
+    }
+    parcels
+}
+
+// The parcels of these accounts after this place, in the room that was made for them.
+pub(crate) fn pack_after<N: Naming>(
+    own: Vec<Account>,
+    place: u32,
+    mut parcels: Vec<Parcel<N>>,
+) -> Vec<Parcel<N>>
+    requires right { AllByRecursion (λ v. IsValue N.day v place) own.items }
+    requires empty { parcels.items ≡ [] }
+    requires fits { length own.items ≤ vec_capacity parcels }
+    ensures values { values_of result.items ≡ own.items }
+    ensures afters { afters_of result.items ≡ map (λ v. place) own.items }
+{
+    for value in own {
+        parcels.push(Parcel::new(value, place)).unwrap();
+    }
+    parcels
+}
