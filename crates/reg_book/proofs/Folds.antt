@@ -36,8 +36,8 @@ pub last-number : (rows : List LogRow) (row : LogRow) (base : ℕ) → record_nu
     → row ≡ get_or rows (length rows - 1) row → row.number ≡ base + length rows
 last-number rows row base counted some is =
     let at : (get_or rows (length rows - 1) row).number ≡ base + 1 + (length rows - 1) =
-        sym (get_or-map (λ (r : LogRow). r.number) rows (length rows - 1) row 0 (omega (arith, some))) ∙ ap (λ ns. get_or ns (length rows - 1) 0) counted
-        ∙ counted-at (base + 1) (length rows) (length rows - 1) (omega (arith, some)) in
+    sym (get_or-map (λ (r : LogRow). r.number) rows (length rows - 1) row 0 (omega (arith, some))) ∙ ap (λ ns. get_or ns (length rows - 1) 0) counted
+    ∙ counted-at (base + 1) (length rows) (length rows - 1) (omega (arith, some)) in
     let same : row.number ≡ (get_or rows (length rows - 1) row).number = ap (λ (r : LogRow). r.number) is in
     omega (arith, at, same, some)
 
