@@ -1,11 +1,12 @@
 #!/usr/bin/env python3
 """Writes a large day text: accounts, and transfers between different pairs of them.
 
-usage: days.py [--accounts N] [--instructions N] > day.csv
+usage: days.py [--accounts N] [--instructions N] [--years N] > day.csv
 
-The same arguments always give the same bytes. Each transfer is done: it is due, and the account
-holds enough. The pairs are all different if there are twice as many accounts as instructions; with
-fewer accounts they repeat.
+The same arguments always give the same bytes. Each account has a user who proposes and one who
+approves. Each transfer is done: it is due, and the account holds enough. The pairs are all different
+if there are twice as many accounts as instructions; with fewer accounts they repeat. With --years,
+each operator and aircraft operator has that many surrenders, emissions and determined figures.
 """
 
 import argparse
@@ -17,9 +18,12 @@ SETTLEMENT_DAY = datetime.date(2025, 3, 31)
 FIRST_RECORD = 100_000_001
 KINDS = ("operator", "aircraft", "trading")
 
+FIRST_YEAR = 2021
+
 # The limits of a day text, and what is written where nothing is said.
 FEWEST_ACCOUNTS, MOST_ACCOUNTS = 2, 100_000
 MOST_INSTRUCTIONS = 16_384
+MOST_YEARS = 10  # those of the period
 
 
 def number(index):
@@ -57,6 +61,39 @@ def account(index):
     return f"account,{number(index)},{kind},{index + 1},open,yes,no,0,{holding(index)},{aviation}"
 
 
+def users(index):
+    """The users who propose and approve for the account at an index."""
+    return 3 * index + 1_001, 3 * index + 1_002
+
+
+def representatives(index):
+    """The rows of these users."""
+    proposer, approver = users(index)
+    yield f"user,{proposer},propose"
+    yield f"user,{approver},approve"
+
+
+def has_years(index):
+    """Whether the account at an index has surrenders, emissions and figures."""
+    return KINDS[index % 3] != "trading"
+
+
+def surrendered(place):
+    """What each of these accounts surrendered in the year at a place: what it emitted."""
+    return 10_000 + 37 * place
+
+
+def lists(index, years):
+    """The rows of the lists of one account. All its figures are 0."""
+    if has_years(index):
+        for place in range(years):
+            yield f"retired,{1 + MOST_YEARS * index + place},surrender,general,{surrendered(place)},2025-03-03,no"
+        for place in range(years):
+            yield f"emissions,{FIRST_YEAR + place},{surrendered(place)}"
+        for place in range(years):
+            yield f"figure,{FIRST_YEAR + place},0"
+
+
 def pairs(accounts):
     """The indices of from and to, without end: all accounts once, in a mixed order, then again."""
     even = accounts - accounts % 2
@@ -70,26 +107,29 @@ def pairs(accounts):
 def transfer(place, source, target):
     """The row of one transfer, proposed one to three weeks before the settlement day."""
     proposed = SETTLEMENT_DAY - datetime.timedelta(7 + place % 13)
-    proposer, approver = 3 * source + 1_001, 3 * source + 1_002
+    proposer, approver = users(source)
     return (f"do,{proposed},{proposer},{approver},"
             f"transfer,{number(source)},{number(target)},general,{amount(place)}")
 
 
-def day_text(accounts, instructions):
+def day_text(accounts, instructions, years=0):
     """The rows of a whole day text."""
     yield from heading()
     for index in range(accounts):
         yield account(index)
+        yield from representatives(index)
+        yield from lists(index, years)
     for place, (source, target) in zip(range(instructions), pairs(accounts)):
         yield transfer(place, source, target)
     yield "end"
 
 
-def totals(accounts):
-    """What all accounts hold together, general and aviation. Transfers leave it as it is."""
+def totals(accounts, years=0):
+    """The rows of totals. Transfers leave them as they are."""
     general = sum(holding(index) for index in range(accounts))
     aviation = sum(holding(index) for index in range(accounts) if KINDS[index % 3] == "aircraft")
-    return general, aviation
+    gone = sum(map(surrendered, range(years))) * sum(map(has_years, range(accounts)))
+    return [f"totals,general,{general},{gone},0", f"totals,aviation,{aviation},0,0"]
 
 
 def main():
@@ -97,12 +137,15 @@ def main():
         description=__doc__, formatter_class=argparse.RawDescriptionHelpFormatter)
     words.add_argument("--accounts", type=int, default=MOST_ACCOUNTS)
     words.add_argument("--instructions", type=int, default=MOST_INSTRUCTIONS)
+    words.add_argument("--years", type=int, default=0)
     given = words.parse_args()
     if not FEWEST_ACCOUNTS <= given.accounts <= MOST_ACCOUNTS:
         sys.exit(f"days.py: accounts are {FEWEST_ACCOUNTS} to {MOST_ACCOUNTS}")
     if not 0 <= given.instructions <= MOST_INSTRUCTIONS:
         sys.exit(f"days.py: instructions are 0 to {MOST_INSTRUCTIONS}")
-    sys.stdout.writelines(f"{row}\n" for row in day_text(given.accounts, given.instructions))
+    if not 0 <= given.years <= MOST_YEARS:
+        sys.exit(f"days.py: years are 0 to {MOST_YEARS}")
+    sys.stdout.writelines(f"{row}\n" for row in day_text(given.accounts, given.instructions, given.years))
 
 
 if __name__ == "__main__":

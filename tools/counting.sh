@@ -37,6 +37,7 @@ try_cases() {
   mkdir -p out
   : >"$work/cases-begun"
   count_part "cases/run-cases" cases/run-cases "$1" cases
+  count_part "cases/run-decision-table" cases/run-decision-table "$1"
   count_part "cases/run-large-cases" cases/run-large-cases "$1"
   count_part "cases/run-prefixes" cases/run-prefixes "$1"
   count_part "cases/run-streams" cases/run-streams "$1"
@@ -47,7 +48,7 @@ try_cases() {
 # Whether all cases have passed on this program since it was built, and as they are now.
 have_cases_passed() {
   [ -e "$cases_passed" ] && [ ! "$1" -nt "$cases_passed" ] &&
-    [ -z "$(find cases examples -newer "$cases_passed" -print -quit)" ]
+    [ -z "$(find cases examples docs/RULES.md -newer "$cases_passed" -print -quit)" ]
 }
 
 # Watches from now on which crates the processor time goes to. Nothing but the table is lost if

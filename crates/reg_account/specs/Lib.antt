@@ -1,1 +1,10 @@
+pub mod Users
+pub mod Trusted
+pub mod Rows
+pub mod Years
+pub mod Lists
 pub mod Account
+pub mod Figure
+pub mod Places
+pub mod Sums
+pub mod Laws

@@ -1,14 +1,22 @@
 //! An account within its limits.
 
-ghost use Rattle.std.specs.Prelude.{◌≡◌, ◌+◌, ◌≤◌, find, IfOk, MatchResult};
+ghost use Rattle.std.specs.Prelude.{◌≡◌, ◌+◌, ◌-◌, ◌≤◌, IfOk, IfSome, OnOk, OnErr, MatchResult};
 ghost use Rattle.std.specs.Option.{option_map};
 ghost use Rattle.std.specs.Result.{result_err};
-ghost use Rattle.reg_account.specs.Account.{account_of, account_has, first_account_fault};
-ghost use Rattle.reg_base.specs.declared.limits.TheConstants.{MOST_HELD};
+ghost use Rattle.reg_account.specs.Account.{account_of, amount_of, with_amount, first_account_fault};
+ghost use Rattle.reg_base.specs.declared.limits.TheConstants.{MOST_HELD, MOST_EMISSIONS};
 
-use crate::parts::{AccountFault, AccountParts};
+use crate::faults::find_fault;
+use crate::figure::{FigureFault, figure_of};
+use crate::parts::{AccountFault, AccountParts, Holdings};
+use crate::ranges::{know_emissions, know_figures, know_row, know_rows};
+use crate::rows::{Retirement, RetirementRow, find_row};
+use crate::trusted::{TrustedEntry, find_effective, is_in_effect, know_entries};
+use crate::users::{Representative, find_right, know_users};
+use crate::years::{Emission, Figure, find_emissions, find_figure};
 use reg_base::{
-    AccountKind, AccountNo, AllowanceKind, HolderNo, MOST_CORRECTION, MOST_HELD, NoMemory, Status,
+    AccountKind, AccountNo, AllowanceKind, Day, HolderNo, MOST_HELD, NoMemory, RecordNo, Right,
+    Rules, Status, UserNo, Year,
 };
 use std::alloc::Global;
 use std::marker::Model;
@@ -31,7 +39,13 @@ impl Model for Account {
 }
 
 impl Account {
-    ghost use Rattle.reg_account.specs.Account.{held_by, credited, debited, IsAccount, CorrectionFits};
+    ghost use Rattle.reg_account.specs.declared.rows.Retirement.TheVariants.{Surrendered, Deleted};
+    ghost use Rattle.reg_account.specs.Users.{right_in, UsersFit};
+    ghost use Rattle.reg_account.specs.Trusted.{effective_in, TrustedFit};
+    ghost use Rattle.reg_account.specs.Rows.{row_in, RowsFit};
+    ghost use Rattle.reg_account.specs.Years.{emissions_in, figure_in, EmissionsFit, FiguresFit, FigureFits};
+    ghost use Rattle.reg_account.specs.Account.{held_by, retired_by, credited, debited, retired, unretired, trusts, with_trusted, without_trusted, with_status, with_emissions, with_determined, CanTrust, CanRetire, CanUnretire, IsAccount, CorrectionFits};
+    ghost use Rattle.reg_account.specs.Figure.{figure_of};
 
     /// The account with these parts, exactly if they have no fault. Takes no memory.
     ///
@@ -46,6 +60,11 @@ impl Account {
         }
         parts.number.get();
         parts.holder.get();
+        know_users(parts.lists.users());
+        know_entries(parts.lists.trusted());
+        know_rows(parts.lists.rows());
+        know_emissions(parts.lists.emissions());
+        know_figures(parts.lists.figures());
         Ok(Account { parts })
     }
 
@@ -141,39 +160,252 @@ impl Account {
         }
     }
 
+    /// Sets the status. Nothing else changes. Takes no memory.
+    pub fn set_status(&mut self, status: Status)
+        ensures { self.new ≡ with_status self.old status }
+    {
+        self.parts.status = status;
+    }
+
+    /// Its representatives: at most 64, by rising user number.
+    pub fn users(&self) -> &[Representative]
+        ensures value { result.now ≡ self.now.users }
+        ensures fit { UsersFit result.now }
+    {
+        self.parts.lists.users()
+    }
+
+    /// What this user may do for the account, or `None` if the user is no representative of it. Found by binary search.
+    pub fn right(&self, user: UserNo) -> Option<Right>
+        ensures { result ≡ right_in self.now.users user }
+    {
+        find_right(self.parts.lists.users(), user)
+    }
+
+    /// Its trusted account list: at most 256 entries, by rising account number.
+    pub fn trusted_entries(&self) -> &[TrustedEntry]
+        ensures value { result.now ≡ self.now.trusted }
+        ensures fit { TrustedFit result.now }
+    {
+        self.parts.lists.trusted()
+    }
+
+    /// The day on which this account's entry on the trusted account list takes effect, or `None` if the list has no such
+    /// entry. Found by binary search.
+    pub fn effective(&self, other: AccountNo) -> Option<Day>
+        ensures { result ≡ effective_in self.now.trusted other }
+    {
+        find_effective(self.parts.lists.trusted(), other)
+    }
+
+    /// Whether the other account, which `holder` holds, is trusted on this day: both have the same holder, or it is on
+    /// the trusted account list with an entry that takes effect on this day or took effect before.
+    pub fn trusted(&self, other: AccountNo, holder: HolderNo, day: Day) -> bool
+        ensures { result ≡ trusts self.now other holder day }
+    {
+        self.parts.holder == holder || is_in_effect(self.parts.lists.trusted(), other, day)
+    }
+
+    /// Puts the other account on the trusted account list, with an entry that takes effect on this day. An earlier entry
+    /// of that account is replaced. The list must have fewer than 256 entries. Nothing else changes.
+    ///
+    /// # Errors
+    /// `NoMemory` if there was no room for the entry. The account is unchanged.
+    pub fn trust(&mut self, other: AccountNo, effective: Day) -> Result<(), NoMemory>
+        requires { CanTrust self.old }
+        ensures ok { OnOk result (self.new ≡ with_trusted self.old (record { account = other; effective = effective })) }
+        ensures err { OnErr result (self.new ≡ self.old) }
+    {
+        other.get();
+        effective.get();
+        self.parts.lists.put_trusted(TrustedEntry {
+            account: other,
+            effective,
+        })?;
+        Ok(())
+    }
+
+    /// Takes the other account off the trusted account list, if it is on it. Nothing else changes. Takes no memory.
+    pub fn untrust(&mut self, other: AccountNo)
+        ensures { self.new ≡ without_trusted self.old other }
+    {
+        self.parts.lists.remove_trusted(other);
+    }
+
+    /// How many allowances of this kind it has surrendered, 0 to 10^15. Surrenders that were reversed do not count.
+    pub fn surrendered(&self, kind: AllowanceKind) -> u64
+        ensures value { result ≡ retired_by self.now Surrendered kind }
+        ensures limit { result ≤ MOST_HELD }
+    {
+        self.parts.lists.sum(Retirement::Surrendered, kind) as u64
+    }
+
+    /// How many allowances of this kind it has deleted, 0 to 10^15. Deletions that were reversed do not count.
+    pub fn deleted(&self, kind: AllowanceKind) -> u64
+        ensures value { result ≡ retired_by self.now Deleted kind }
+        ensures limit { result ≤ MOST_HELD }
+    {
+        self.parts.lists.sum(Retirement::Deleted, kind) as u64
+    }
+
+    /// Its surrenders and deletions: at most 4,096, by rising record number.
+    pub fn rows(&self) -> &[RetirementRow]
+        ensures value { result.now ≡ self.now.rows }
+        ensures fit { RowsFit result.now }
+    {
+        self.parts.lists.rows()
+    }
+
+    /// Its surrender or deletion with this record number, found by binary search.
+    pub fn row(&self, number: RecordNo) -> Option<RetirementRow>
+        ensures { result ≡ row_in self.now.rows number }
+    {
+        find_row(self.parts.lists.rows(), number)
+    }
+
+    /// Its emissions of all years, by rising year.
+    pub fn all_emissions(&self) -> &[Emission]
+        ensures value { result.now ≡ self.now.emissions }
+        ensures fit { EmissionsFit result.now }
+    {
+        self.parts.lists.emissions()
+    }
+
+    /// Its emissions of this year, 0 to 10^12 tonnes of carbon dioxide equivalent, or `None` if none were entered.
+    pub fn emissions(&self, year: Year) -> Option<u64>
+        ensures value { result ≡ emissions_in self.now.emissions year }
+        ensures limit { IfSome result (λ tonnes. tonnes ≤ MOST_EMISSIONS) }
+    {
+        find_emissions(self.parts.lists.emissions(), year)
+    }
+
+    /// Its determined figures of all years, by rising year.
+    pub fn all_figures(&self) -> &[Figure]
+        ensures value { result.now ≡ self.now.figures }
+        ensures fit { FiguresFit result.now }
+    {
+        self.parts.lists.figures()
+    }
+
+    /// Its determined compliance figure of this year, -4 x 10^15 to 4 x 10^15 tonnes, or `None` if none was determined.
+    pub fn determined(&self, year: Year) -> Option<i64>
+        ensures { result ≡ figure_in self.now.figures year }
+    {
+        find_figure(self.parts.lists.figures(), year)
+    }
+
+    /// Its compliance figure of this year as of now: the allowances of both kinds that it surrendered for the period,
+    /// minus its emissions of the period up to and including the year, plus its correction factor, in tonnes.
+    ///
+    /// # Errors
+    /// The year is outside the period, or the first year of the period without emissions, if it is this one or earlier.
+    pub fn figure(&self, rules: &Rules, year: Year) -> Result<i64, FigureFault>
+        ensures value { result ≡ figure_of rules.now self.now year }
+        ensures limits { IfOk result FigureFits }
+    {
+        figure_of(rules, self, year)
+    }
+
+    /// Surrenders or deletes allowances: they leave the account, and the row is its last one. The row must not be
+    /// reversed. Its number must be above those of the other rows, the account must hold the amount, and all limits must
+    /// stay met. Nothing else changes.
+    ///
+    /// # Errors
+    /// `NoMemory` if there was no room for the row. The account is unchanged.
+    pub fn retire(&mut self, row: RetirementRow) -> Result<(), NoMemory>
+        requires { CanRetire self.old row }
+        ensures ok { OnOk result (self.new ≡ retired self.old row) }
+        ensures err { OnErr result (self.new ≡ self.old) }
+    {
+        know_row(&row);
+        let added = row;
+        self.parts.lists.push_row(added)?;
+        lower(&mut self.parts.held, row.kind, row.amount);
+        Ok(())
+    }
+
+    /// Reverses the surrender or deletion with this record number: the allowances are back, and the row is marked. There
+    /// must be such a row, it must not be reversed, and the holding must stay within its limit. Nothing else changes.
+    /// Takes no memory.
+    pub fn unretire(&mut self, number: RecordNo)
+        requires { CanUnretire self.old number }
+        ensures { self.new ≡ unretired self.old number }
+    {
+        if let Some(row) = self.parts.lists.reverse(number) {
+            raise(&mut self.parts.held, row.kind, row.amount);
+        }
+    }
+
+    /// Sets the emissions of a year, in tonnes of carbon dioxide equivalent. Earlier ones of that year are replaced.
+    /// Nothing else changes.
+    ///
+    /// # Errors
+    /// `NoMemory` if there was no room for them. The account is unchanged.
+    pub fn set_emissions(&mut self, year: Year, tonnes: u64) -> Result<(), NoMemory>
+        requires { tonnes ≤ MOST_EMISSIONS }
+        ensures ok { OnOk result (self.new ≡ with_emissions self.old (record { year = year; tonnes = tonnes })) }
+        ensures err { OnErr result (self.new ≡ self.old) }
+    {
+        year.get();
+        self.parts.lists.put_emission(Emission { year, tonnes })?;
+        Ok(())
+    }
+
+    /// Sets the determined figure of a year, in tonnes of carbon dioxide equivalent. An earlier one of that year is
+    /// replaced. Nothing else changes.
+    ///
+    /// # Errors
+    /// `NoMemory` if there was no room for it. The account is unchanged.
+    pub fn determine(&mut self, year: Year, tonnes: i64) -> Result<(), NoMemory>
+        requires { FigureFits tonnes }
+        ensures ok { OnOk result (self.new ≡ with_determined self.old (record { year = year; tonnes = tonnes })) }
+        ensures err { OnErr result (self.new ≡ self.old) }
+    {
+        year.get();
+        self.parts.lists.put_figure(Figure { year, tonnes })?;
+        Ok(())
+    }
+
     /// A second account, equal in all parts.
     ///
     /// # Errors
-    /// `NoMemory` if memory ran out. Today this never happens, because no part of an account needs memory.
-    pub fn copy(&self, _alloc: Global) -> Result<Account, NoMemory>
+    /// `NoMemory` if memory ran out, which happens only if a list has something.
+    pub fn copy(&self, alloc: Global) -> Result<Account, NoMemory>
         ensures { IfOk result (λ a. a ≡ self.now) }
     {
-        Ok(Account { parts: self.parts })
+        let parts = AccountParts {
+            number: self.parts.number,
+            kind: self.parts.kind,
+            holder: self.parts.holder,
+            status: self.parts.status,
+            outside: self.parts.outside,
+            waiver: self.parts.waiver,
+            correction: self.parts.correction,
+            held: self.parts.held,
+            lists: self.parts.lists.copy(alloc)?,
+        };
+        Ok(Account { parts })
     }
 }
 
-// The faults that parts can have, in the order in which they are named.
-const FAULTS: [AccountFault; 2] = [AccountFault::Correction, AccountFault::Holding];
-
-// The first fault of the parts.
-fn find_fault(parts: &AccountParts) -> Option<AccountFault>
-    ensures { result ≡ first_account_fault (account_of parts.now) }
+// More allowances of a kind.
+fn raise(held: &mut Holdings, kind: AllowanceKind, amount: u64)
+    requires { amount_of held.old kind + amount ≤ MOST_HELD }
+    ensures { held.new ≡ with_amount held.old kind (amount_of held.old kind + amount) }
 {
-    FAULTS
-        .iter()
-        .copied()
-        .find(|fault| has_fault(parts, *fault))
+    match kind {
+        AllowanceKind::General => held.general += amount,
+        AllowanceKind::Aviation => held.aviation += amount,
+    }
 }
 
-fn has_fault(parts: &AccountParts, fault: AccountFault) -> bool
-    ensures { result ≡ account_has (account_of parts.now) fault }
+// Fewer allowances of a kind.
+fn lower(held: &mut Holdings, kind: AllowanceKind, amount: u64)
+    requires { amount ≤ amount_of held.old kind }
+    ensures { held.new ≡ with_amount held.old kind (amount_of held.old kind - amount) }
 {
-    match fault {
-        AccountFault::Correction => {
-            parts.correction < -MOST_CORRECTION || MOST_CORRECTION < parts.correction
-        }
-        AccountFault::Holding => {
-            MOST_HELD < parts.held.general || MOST_HELD < parts.held.aviation
-        }
+    match kind {
+        AllowanceKind::General => held.general -= amount,
+        AllowanceKind::Aviation => held.aviation -= amount,
     }
 }

@@ -1,5 +1,6 @@
 //! The parts of an account, not yet tested.
 
+use crate::lists::Lists;
 use reg_base::{AccountKind, AccountNo, HolderNo, Status};
 use thiserror::Error;
 
@@ -12,8 +13,8 @@ pub struct Holdings {
     pub aviation: u64,
 }
 
-/// The parts of an account.
-#[derive(Clone, Copy, Debug, PartialEq, Eq)]
+/// The parts of an account, not yet tested.
+#[derive(Debug, Drop)]
 pub struct AccountParts {
     /// Its number.
     pub number: AccountNo,
@@ -31,6 +32,10 @@ pub struct AccountParts {
     pub correction: i64,
     /// What it holds: 0 to 10^15 allowances of each kind.
     pub held: Holdings,
+    /// Its representatives (at most 64, by rising user number), its trusted account list (at most 256 entries, by rising
+    /// account number), its surrenders and deletions (at most 4,096, by rising record number; no surrendered and no deleted amount of a
+    /// kind above 10^15), its emissions and its determined figures (each by rising year).
+    pub lists: Lists,
 }
 
 /// Why parts are not an account: the first of these that applies.
@@ -42,4 +47,22 @@ pub enum AccountFault {
     /// A holding is above 10^15 allowances.
     #[error("a holding is above 10^15 allowances")]
     Holding,
+    /// There are more than 64 representatives, or their numbers don't rise.
+    #[error("the representatives are more than 64, or don't rise")]
+    Users,
+    /// There are more than 256 trusted accounts, or their numbers don't rise.
+    #[error("the trusted accounts are more than 256, or don't rise")]
+    Trusted,
+    /// There are more than 4,096 surrenders and deletions, their numbers don't rise, or an amount is not 1 to 10^15.
+    #[error("the surrenders and deletions are more than 4,096, don't rise, or have an amount that is not 1 to 10^15")]
+    Rows,
+    /// A surrendered or a deleted amount of a kind is above 10^15 allowances.
+    #[error("a surrendered or deleted amount is above 10^15 allowances")]
+    Retired,
+    /// The years of the emissions don't rise, or emissions are above 10^12 tonnes.
+    #[error("the years of the emissions don't rise, or emissions are above 10^12 tonnes")]
+    Emissions,
+    /// The years of the determined figures don't rise, or a figure is not -4 x 10^15 to 4 x 10^15 tonnes.
+    #[error("the years of the figures don't rise, or a figure is not -4 x 10^15 to 4 x 10^15 tonnes")]
+    Figures,
 }

@@ -4,12 +4,14 @@ use Rattle.std.specs.Prelude.{filter, not}
 use Rattle.std.specs.List.{IsDistinct, AllByRecursion, list_all}
 use Rattle.std.proofs.lemmas.Bool.{cond_both, eqb-true, eqb-false, eq-eqb, ne_eqb, not-true}
 use Rattle.std.proofs.lemmas.List.{append-nil, length-map, length-take, map-append, take_more}
+use Rattle.std.specs.Option.{option_to_list}
+use Rattle.std.proofs.lemmas.List.Folds.{list_all-append}
 use Rattle.std.proofs.lemmas.List.Elements.{All-from_recursion}
 use Rattle.reg_base.specs.Directory.{DirectoryValue, is_known}
 use Rattle.reg_base.specs.Footprint.{each_once, is_among, footprint, all_known, IsSound}
 use Rattle.reg_base.specs.declared.act.Act.{Act}
 use Rattle.reg_base.specs.declared.movement.Share.{Share}
-use Rattle.reg_base.specs.Acts.{first, shares, parties}
+use Rattle.reg_base.specs.Acts.{first, shares, parties, also_known}
 
 -- what holds of each element holds of each that a filter keeps
 all-filter : {X : Type 0} (P : X → Type 0) (p : X → Bool) (xs : List X) → AllByRecursion P xs → AllByRecursion P (filter p xs)
@@ -65,7 +67,8 @@ all-passed p (x ∷ xs) h =
 
 -- each account that an act touches has to be known, so the directory has it
 known-parties : (d : DirectoryValue) (act : Act) → all_known d act ≡ true → AllByRecursion (λ a. is_known d a ≡ true) (parties act)
-known-parties d act h = all-passed (is_known d) (parties act) h
+known-parties d act h =
+    all-passed (is_known d) (parties act) (both (list_all (is_known d) (parties act)) (list_all (is_known d) (option_to_list (also_known act))) (sym (list_all-append (is_known d) (parties act) (option_to_list (also_known act))) ∙ h)).0
 
 known-footprint : (d : DirectoryValue) (act : Act) → AllByRecursion (λ a. is_known d a ≡ true) (footprint d act)
 known-footprint d act =
@@ -135,14 +138,6 @@ each_once-append (x ∷ xs) a = ap (λ ys. x ∷ filter (λ y. not (eqb y x)) ys
       ∙ ap (λ b. filter (λ y. not (eqb y x)) (each_once xs) ++ cond (not b) (a ∷ []) []) (ne_eqb a x (λ same. eqb-false x a apart (sym same))))
       ∙ sym (ap (λ b. cond b (x ∷ filter (λ y. not (eqb y x)) (each_once xs)) (x ∷ filter (λ y. not (eqb y x)) (each_once xs) ++ a ∷ []))
       (ap (λ b. b || is_among (filter (λ y. not (eqb y x)) (each_once xs)) a) apart ∙ among-filter x a apart (each_once xs) ∙ among))
-
-all_mapped : {X Y : Type 0} (p : Y → Bool) (f : X → Y) (xs : List X) → list_all p (map f xs) ≡ list_all (λ x. p (f x)) xs
-all_mapped p f [] = refl
-all_mapped p f (x ∷ xs) = ap (λ b. p (f x) && b) (all_mapped p f xs)
-
--- the accounts that have to be known, one by one
-pub known-one_by_one : (d : DirectoryValue) (act : Act) → all_known d act ≡ (is_known d (first act) && list_all (λ share. is_known d share.to) (shares act))
-known-one_by_one d act = ap (λ b. is_known d (first act) && b) (all_mapped (is_known d) (λ share. share.to) (shares act))
 
 -- the footprint with one share more
 pub one-more : (first : ℕ) (shared : List Share) (i : ℕ) (d : Share) (before now : List ℕ) → i < length shared

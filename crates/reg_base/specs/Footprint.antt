@@ -1,13 +1,14 @@
 -- The accounts that an instruction reads or changes.
-use Rattle.std.specs.Prelude.{ℕ, ◌+◌, ◌≤◌, Bool, IsTrue, not, ◌==◌, nat_eq, List, [], ◌∷◌, length, filter, All, if◌then◌else◌}
+use Rattle.std.specs.Prelude.{ℕ, ◌+◌, ◌≤◌, Bool, IsTrue, not, ◌==◌, nat_eq, List, [], ◌∷◌, ◌++◌, length, filter, All, if◌then◌else◌}
+use Rattle.std.specs.Option.{option_to_list}
 use Rattle.std.specs.List.{list_all, list_any, IsDistinct}
 use Rattle.reg_base.specs.declared.act.Act.{Act}
-use Rattle.reg_base.specs.Acts.{shares, parties}
+use Rattle.reg_base.specs.Acts.{shares, parties, also_known}
 use Rattle.reg_base.specs.Directory.{DirectoryValue, is_known}
 
 -- the accounts that must be in the directory; no two of them may be the same
 abbrev pub must_be_known : Act → List ℕ
-must_be_known act = parties act
+must_be_known act = parties act ++ option_to_list (also_known act)
 
 -- each account that must be in the directory is there
 abbrev pub all_known : DirectoryValue → Act → Bool

@@ -1,6 +1,7 @@
 //! Due instructions.
 
-ghost use Rattle.std.specs.Prelude.{◌≡◌, ◌≤◌, ◌&&◌, ◌∷◌, All, length, map};
+ghost use Rattle.std.specs.Prelude.{◌≡◌, ◌≤◌, ◌&&◌, ◌∷◌, true, All, length, map};
+ghost use Rattle.std.specs.Option.{option_map_or};
 ghost use Rattle.std.specs.List.{list_all};
 ghost use Rattle.reg_base.specs.Directory.{is_known};
 ghost use Rattle.reg_base.specs.Acts.{parties};
@@ -29,12 +30,12 @@ pub struct Instruction {
 
 impl Instruction {
     /// The accounts that the instruction reads or changes: its act's first account and those that receive, each
-    /// once. None if one of them is not in the directory.
+    /// once. None if one of them is not in the directory, nor if [`Act::also_known`] is not.
     pub fn touches(&self, directory: &Directory) -> Footprint
         ensures { result ≡ footprint directory.now self.now.act }
     {
         let movement = self.act.movement();
-        if knows_all(directory, &movement) {
+        if knows_all(directory, &movement) && knows_other(directory, self.act.also_known()) {
             footprint_of(movement.first, movement.shares.as_slice())
         } else {
             Footprint::none()
@@ -68,6 +69,16 @@ fn knows_all(directory: &Directory, movement: &Movement) -> bool
     ensures { result ≡ (is_known directory.now movement.now.first && list_all (λ share. is_known directory.now share.to) movement.now.shares) }
 {
     directory.find(movement.first).is_some() && knows_each(directory, movement.shares.as_slice())
+}
+
+// Whether the account is in the directory, if there is one that has to be.
+fn knows_other(directory: &Directory, other: Option<AccountNo>) -> bool
+    ensures { result ≡ option_map_or (is_known directory.now) other true }
+{
+    match other {
+        Some(other) => directory.find(other).is_some(),
+        None => true,
+    }
 }
 
 fn knows_each(directory: &Directory, shares: &[Share]) -> bool

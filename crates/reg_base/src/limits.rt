@@ -12,6 +12,16 @@ pub const MOST_NUMBER: u32 = 999_999_999;
 pub const MOST_RECORD: u64 = 1_000_000_000_000_000;
 /// The most allowances of one kind that one account holds.
 pub const MOST_HELD: u64 = 1_000_000_000_000_000;
+/// The most representatives of one account.
+pub const MOST_USERS: usize = 64;
+/// The most entries of one trusted account list.
+pub const MOST_TRUSTED: usize = 256;
+/// The most surrenders and deletions of one account, together.
+pub const MOST_ROWS: usize = 4_096;
+/// The largest emissions of a year, in tonnes of carbon dioxide equivalent. The smallest are 0.
+pub const MOST_EMISSIONS: u64 = 1_000_000_000_000;
+/// The largest compliance figure that is kept, in tonnes of carbon dioxide equivalent. The smallest is its negative.
+pub const MOST_FIGURE: i64 = 4_000_000_000_000_000;
 /// The largest correction factor, in tonnes of carbon dioxide equivalent. The smallest is its negative.
 pub const MOST_CORRECTION: i64 = 1_000_000_000_000_000;
 /// The longest lag and the longest reversal window, in working days.

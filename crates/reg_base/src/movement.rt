@@ -48,6 +48,16 @@ impl Shares {
         amount: 0,
     };
 
+    /// No share.
+    pub fn none() -> Self
+        ensures { result ≡ [] }
+    {
+        Shares {
+            array: [Shares::UNUSED; MOST_SHARES],
+            count: 0,
+        }
+    }
+
     /// One share.
     pub fn one(to: AccountNo, amount: u64) -> Self
         ensures { result ≡ record { to = to; amount = amount } ∷ [] }

@@ -10,21 +10,25 @@ use Rattle.reg_base.specs.declared.instruction.Instruction.{Instruction}
 use Rattle.reg_base.specs.Directory.{DirectoryValue}
 use Rattle.reg_base.specs.Rising.{IsRising}
 use Rattle.reg_base.specs.Batch.{IsBatch}
-use Rattle.reg_account.specs.Account.{AccountValue}
+use Rattle.reg_base.specs.Instructions.{IsInstruction}
+use Rattle.reg_account.specs.Account.{AccountValue, IsAccount}
 use Rattle.reg_rules.specs.State.{State, Setting, account, numbers}
 use Rattle.reg_rules.specs.Step.{step}
-use Rattle.reg_rules.specs.Laws.{Constants, constants_of, StepLaws}
+use Rattle.reg_rules.specs.Effect.{IsBehind}
+use Rattle.reg_rules.specs.Laws.{Constants, constants_of, StepLaws, IsReady}
 use Rattle.reg_rules.specs.declared.reply.LogRow.{LogRow}
 use Rattle.reg_book.specs.Book.{IsBook, directory_of}
 use Rattle.reg_base.specs.Touches.{is_touched}
 use Rattle.reg_book.specs.Fold.{state_after, rows_of, touched_of}
 use Rattle.reg_book.specs.Settled.{SettledValue, IsSettled, IsOfBook}
-use Rattle.reg_book.specs.Day.{Day, setting, closing_state, settled_day}
+use Rattle.reg_book.specs.Day.{Day, IsDay, setting, log_of, closing_state, settled_day}
 use Rattle.reg_book.proofs.Directories.{listing, length-numbers, get-directory_of}
 use Rattle.reg_book.proofs.Lookups.{account-filter, numbers-filter, rising-distinct}
 use Rattle.reg_book.proofs.Folds.{size-rows_of, count-rows_of, numbers-fold, others-fold, fold-local, rows-local}
 use Rattle.reg_book.proofs.Ranks.{written_whole}
 use Rattle.reg_book.proofs.Turns.{same-state}
+use Rattle.reg_book.proofs.Values.{numbered-day, ready-fold, ready-book}
+use Rattle.std.proofs.lemmas.List.Elements.{All-filter, recursion_from_All}
 
 -- the touched accounts keep the order of their numbers
 pub touched-rising : (directory : DirectoryValue) (is : List Instruction) (s : State) → IsRising (numbers s) → IsRising (numbers (touched_of directory is s))
@@ -151,10 +155,30 @@ module _ (laws : StepLaws) where
     numbered = λ some. omega (arith, fits.numbered, size-rows_of (setting day) day.book.accounts (day.batch.base + 1) day.batch.instructions);
   }
 
-  pub settled-of_book : (day : Day) → IsBook day.book → IsOfBook day.book (settled_day day)
+  pub settled-of_book : (day : Day) → IsDay day → IsOfBook day.book (settled_day day)
   settled-of_book day kept =
-      subst (λ (s : State). AllByRecursion (λ v. fin.get (directory_of day.book.accounts) v.number ≡ Some (v.kind, v.holder)) (touched_of (directory_of day.book.accounts) day.batch.instructions s)) (sym (closing-all day))
-      (touched-like laws (setting day) day.book.accounts (day.batch.base + 1) day.batch.instructions (rising-distinct day.book.accounts kept.rising))
+      let is = day.batch.instructions in
+      let ready = ready-fold laws (setting day) day.book.accounts (day.batch.base + 1) is kept.rules kept.batch.settlement_day (numbered-day day kept) (recursion_from_All IsInstruction is kept.batch.each) (ready-book laws day kept) in
+      let last : day.batch.base + 1 + length is ≡ day.batch.base + length (log_of day) + 1 = omega (arith, size-rows_of (setting day) day.book.accounts (day.batch.base + 1) is) in
+      record {
+        listed = subst (λ (s : State). AllByRecursion (λ v. fin.get (directory_of day.book.accounts) v.number ≡ Some (v.kind, v.holder)) (touched_of (directory_of day.book.accounts) is s)) (sym (closing-all day))
+            (touched-like laws (setting day) day.book.accounts (day.batch.base + 1) is (rising-distinct day.book.accounts kept.book.rising));
+        behind = subst (λ (s : State). AllByRecursion (IsBehind (day.batch.base + length (log_of day) + 1)) (touched_of (directory_of day.book.accounts) is s)) (sym (closing-all day))
+            (subst (λ n. AllByRecursion (IsBehind n) (touched_of (directory_of day.book.accounts) is (state_after (setting day) day.book.accounts (day.batch.base + 1) is))) last
+            (recursion_from_All (IsBehind (day.batch.base + 1 + length is)) _
+            (All-filter (λ v. is_touched (directory_of day.book.accounts) is v.number) (IsBehind (day.batch.base + 1 + length is)) (state_after (setting day) day.book.accounts (day.batch.base + 1) is) ready.behind)));
+      }
+
+  -- the touched accounts are ready for the first record number
+  pub touched-ready : (day : Day) → IsDay day → IsReady (day.batch.base + 1) (touched_of (directory_of day.book.accounts) day.batch.instructions day.book.accounts)
+  touched-ready day kept =
+      let all = ready-book laws day kept in
+      let touched = λ (v : AccountValue). is_touched (directory_of day.book.accounts) day.batch.instructions v.number in
+      record {
+        once = rising-distinct _ (touched-rising (directory_of day.book.accounts) day.batch.instructions day.book.accounts kept.book.rising);
+        fit = All-filter touched IsAccount day.book.accounts all.fit;
+        behind = All-filter touched (IsBehind (day.batch.base + 1)) day.book.accounts all.behind;
+      }
 
   -- what is kept of the calls that settled the day: on, d, is and all are what the book and the batch gave, table are the copies, seen is their slice, own what it became
   pub day-made : (day : Day) (on : ℕ) (d : DirectoryValue) (is : List Instruction) (all table seen own : State) (rows : List LogRow) (base len : ℕ)

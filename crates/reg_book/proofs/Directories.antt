@@ -1,12 +1,13 @@
 -- The directory of accounts answers as the accounts do, whatever their order.
-use Rattle.std.proofs.Common.{◌≡◌, ℕ, zero, suc, ◌<◌, Bool, true, false, cond, eqb, ◌||◌, List, [], ◌∷◌, ◌++◌, map, length, get_or, Option, Some, None, refl, sym, ap, ◌∙◌, arith, tests, inl, inr, ◌⊎◌}
-use Rattle.std.specs.Prelude.{option_map, is_some, is_none, nat_le, Contains, IsPermutation}
+use Rattle.std.proofs.Common.{◌≡◌, ℕ, zero, suc, ◌-◌, ◌<◌, ◌≤◌, Bool, true, false, cond, eqb, leb, ◌||◌, List, [], ◌∷◌, ◌++◌, map, length, get_or, Option, Some, None, refl, sym, ap, ◌∙◌, arith, tests, inl, inr, ◌⊎◌}
+use Rattle.std.specs.Prelude.{option_map, is_some, is_none, nat_le, slice_get, Contains, IsPermutation}
 use Rattle.std.specs.List.{IsDistinct, list_any}
 use Rattle.std.specs.Ordering.{nat_cmp, eq_by_cmp}
 use Rattle.std.specs.Cmp.{nat_cmp_total, nat_eq_equiv, unsigned_tied}
 use Rattle.std.specs.FinMap as fin
 use Rattle.std.specs.Bool.{then_some}
-use Rattle.std.proofs.lemmas.Bool.{eq-eqb, eqb-true}
+use Rattle.std.proofs.lemmas.Bool.{eq-eqb, eqb-true, le-leb, leb-true, leb-false, or_parts}
+use Rattle.std.proofs.Math.Bool.{or-false}
 use Rattle.std.proofs.lemmas.List.{map-append, get_or-map, length-append}
 use Rattle.std.proofs.lemmas.List.Sorted.{Contains-permutation, IsPermutation-map, IsPermutation-sym}
 use Rattle.std.proofs.lemmas.List.Elements.{All-from_recursion, All-push}
@@ -15,11 +16,17 @@ use Rattle.reg_base.specs.declared.kinds.AccountKind.{AccountKind}
 use Rattle.reg_base.specs.Directory.{DirectoryValue}
 use Rattle.reg_base.specs.declared.limits.TheConstants.{MOST_ACCOUNTS}
 use Rattle.reg_base.specs.Footprint.{is_among}
+use Rattle.reg_account.specs.declared.rows.RetirementRow.{RetirementRow}
+use Rattle.reg_account.specs.Rows.{row_numbers, AreBelow}
 use Rattle.reg_account.specs.Account.{AccountValue, IsAccount}
+use Rattle.std.proofs.lemmas.Option.{same_Some, none-some}
+use Rattle.reg_base.specs.Rising.{IsRising}
+use Rattle.reg_book.proofs.RisesFrom.{RisesFrom, rises_from}
 use Rattle.reg_rules.specs.State.{State, account, numbers}
 use Rattle.reg_book.specs.declared.draft.BookFault.{BookFault}
-use Rattle.reg_book.specs.declared.draft.BookFault.TheVariants.{Repeated, Full, NoMemory}
-use Rattle.reg_book.specs.Book.{entry_of, directory_of, IsNext, IsDraft, first_fault, IsBookFault}
+use Rattle.reg_book.specs.declared.draft.BookFault.TheVariants.{Repeated, RowAhead, Full, NoMemory}
+use Rattle.reg_rules.specs.Effect.{IsBehind}
+use Rattle.reg_book.specs.Book.{BookValue, entry_of, directory_of, IsNext, IsDraft, has_row_ahead, first_fault, IsBookFault}
 
 -- the kind and the holder of an account
 abbrev pub listing : AccountValue → AccountKind × ℕ
@@ -179,18 +186,75 @@ empty_draft xs directory next none empty fits =
       few = omega arith;
       within_limits = All-from_recursion IsAccount [] tt;
       next_fits = fits;
+      behind = All-from_recursion (IsBehind next) [] tt;
       listed = fin.same_map nat_cmp_total fin.nat_cmp-IsAntisymmetric _ _ (λ a. fin.get-empty nat_cmp a ∙ sym (get-directory_of [] a));
     })
 
--- an account with which nothing is wrong is new, and there is room for it
-pub can_take : (xs : State) (v : AccountValue) → first_fault xs v ≡ None → (is_among (numbers xs) v.number ≡ false) × (length xs < MOST_ACCOUNTS)
-can_take xs v none = by (is_among (numbers xs) v.number) (nat_le MOST_ACCOUNTS (length xs)) refl refl none
+-- the last of several rows
+abbrev pub last_of : RetirementRow → List RetirementRow → RetirementRow
+last_of row [] = row
+last_of row (r ∷ rs) = last_of r rs
+
+last_low : (low : ℕ) (row : RetirementRow) (rows : List RetirementRow) → RisesFrom low (row_numbers (row ∷ rows)) → low ≤ (last_of row rows).number
+last_low low row [] rises = rises.0
+last_low low row (r ∷ rs) rises = let h = last_low (suc row.number) r rs rises.1 in omega (arith, h, rises.0)
+
+-- the last row has the highest number, so it is ahead if one is
+last_ahead : (next low : ℕ) (row : RetirementRow) (rows : List RetirementRow) → RisesFrom low (row_numbers (row ∷ rows)) → list_any (λ (r : RetirementRow). leb next r.number) (row ∷ rows) ≡ leb next (last_of row rows).number
+last_ahead next low row [] rises = or-false (leb next row.number)
+last_ahead next low row (r ∷ rs) rises =
+    ap (λ b. leb next row.number || b) (last_ahead next (suc row.number) r rs rises.1)
+    ∙ go (leb next row.number) refl where
+      lower : row.number < (last_of r rs).number
+      lower = last_low (suc row.number) r rs rises.1
+
+      go : (b : Bool) → leb next row.number ≡ b → (b || leb next (last_of r rs).number) ≡ leb next (last_of r rs).number
+      go true early = sym (le-leb next (last_of r rs).number (omega (arith, leb-true next row.number early, lower)))
+      go false late = refl
+
+last_get : (row : RetirementRow) (rows : List RetirementRow) → slice_get (row ∷ rows) (length rows) ≡ Some (last_of row rows)
+last_get row [] = refl
+last_get row (r ∷ rs) = last_get r rs
+
+pub ahead_by_last : (next : ℕ) (rows : List RetirementRow) (row : RetirementRow) → IsRising (row_numbers rows) → Some row ≡ slice_get rows (length rows - 1) → list_any (λ (r : RetirementRow). leb next r.number) rows ≡ leb next row.number
+ahead_by_last next [] row rising at = absurd cc
+ahead_by_last next (r ∷ rs) row rising at =
+    let place : length (r ∷ rs) - 1 ≡ length rs = omega arith in
+    let same : row ≡ last_of r rs = same_Some row (last_of r rs) (at ∙ ap (slice_get (r ∷ rs)) place ∙ last_get r rs) in
+    last_ahead next 0 r rs (rises_from 0 (row_numbers (r ∷ rs)) rising (λ some. omega arith)) ∙ ap (λ (x : RetirementRow). leb next x.number) (sym same)
+
+pub ahead_of_none : (next : ℕ) (rows : List RetirementRow) → None ≡ slice_get rows (length rows - 1) → list_any (λ (r : RetirementRow). leb next r.number) rows ≡ false
+ahead_of_none next [] at = refl
+ahead_of_none next (r ∷ rs) at =
+    let place : length (r ∷ rs) - 1 ≡ length rs = omega arith in
+    absurd (none-some (last_of r rs) (at ∙ ap (slice_get (r ∷ rs)) place ∙ last_get r rs))
+
+-- the numbers of an account without a row ahead are below the next one
+none_ahead : (next : ℕ) (rows : List RetirementRow) → list_any (λ (r : RetirementRow). leb next r.number) rows ≡ false → AreBelow next (row_numbers rows)
+none_ahead next [] none = tt
+none_ahead next (r ∷ rs) none =
+    let both = or_parts (leb next r.number) (list_any (λ (x : RetirementRow). leb next x.number) rs) none in
+    (leb-false next r.number both.0, none_ahead next rs both.1)
+
+-- the faults in their order
+abbrev pub fault_by : Bool → Bool → Bool → Option BookFault
+fault_by repeated ahead full = cond repeated (Some Repeated) (cond ahead (Some RowAhead) (cond full (Some Full) None))
+
+-- an account with which nothing is wrong is new, has no row ahead, and there is room for it
+pub record CanTake (b : BookValue) (v : AccountValue) : Type 0 where
+  pub is_new : is_among (numbers b.accounts) v.number ≡ false
+  pub behind : IsBehind b.next v
+  pub room : length b.accounts < MOST_ACCOUNTS
+
+pub can_take : (b : BookValue) (v : AccountValue) → first_fault b v ≡ None → CanTake b v
+can_take b v none = by (is_among (numbers b.accounts) v.number) (has_row_ahead b.next v) (nat_le MOST_ACCOUNTS (length b.accounts)) refl refl refl none
   where
-    by : (repeated full : Bool) → is_among (numbers xs) v.number ≡ repeated → nat_le MOST_ACCOUNTS (length xs) ≡ full
-        → cond repeated (Some Repeated) (cond full (Some Full) None) ≡ None → (is_among (numbers xs) v.number ≡ false) × (length xs < MOST_ACCOUNTS)
-    by true full r f e = absurd cc
-    by false true r f e = absurd cc
-    by false false r f e = (r, grind (arith, tests, f))
+    by : (repeated ahead full : Bool) → is_among (numbers b.accounts) v.number ≡ repeated → has_row_ahead b.next v ≡ ahead → nat_le MOST_ACCOUNTS (length b.accounts) ≡ full
+        → fault_by repeated ahead full ≡ None → CanTake b v
+    by true ahead full r a f e = absurd cc
+    by false true full r a f e = absurd cc
+    by false false true r a f e = absurd cc
+    by false false false r a f e = record { is_new = r; behind = none_ahead b.next v.rows a; room = grind (arith, tests, f) }
 
 -- what a look-up says of whether the account is there
 pub found-at : (xs : State) (directory : DirectoryValue) (a n : ℕ) (r : Option (AccountKind × ℕ)) (b : Bool)
@@ -198,35 +262,44 @@ pub found-at : (xs : State) (directory : DirectoryValue) (a n : ℕ) (r : Option
 found-at xs directory a n r b listed same found answer =
     answer ∙ ap is_some (found ∙ ap (λ d. fin.get d n) listed ∙ ap (λ m. fin.get (directory_of xs) m) same) ∙ known-among xs a
 
-pub repeated_fault : (xs : State) (v : AccountValue) → is_among (numbers xs) v.number ≡ true → Some Repeated ≡ first_fault xs v
-repeated_fault xs v h = sym (ap (λ b. cond b (Some Repeated) (cond (nat_le MOST_ACCOUNTS (length xs)) (Some Full) None)) h)
+pub repeated_fault : (b : BookValue) (v : AccountValue) → is_among (numbers b.accounts) v.number ≡ true → Some Repeated ≡ first_fault b v
+repeated_fault b v h = sym (ap (λ r. fault_by r (has_row_ahead b.next v) (nat_le MOST_ACCOUNTS (length b.accounts))) h)
+
+pub ahead_fault : (b : BookValue) (v : AccountValue) → is_among (numbers b.accounts) v.number ≡ false → has_row_ahead b.next v ≡ true → Some RowAhead ≡ first_fault b v
+ahead_fault b v h a =
+    sym (ap (λ r. fault_by r (has_row_ahead b.next v) (nat_le MOST_ACCOUNTS (length b.accounts))) h ∙ ap (λ r. fault_by false r (nat_le MOST_ACCOUNTS (length b.accounts))) a)
 
 full_by : (b : Bool) → then_some b Full ≡ cond b (Some Full) None
 full_by true = refl
 full_by false = refl
 
-pub full_fault : (xs : State) (v : AccountValue) → is_among (numbers xs) v.number ≡ false → then_some (nat_le MOST_ACCOUNTS (length xs)) Full ≡ first_fault xs v
-full_fault xs v h = full_by (nat_le MOST_ACCOUNTS (length xs)) ∙ sym (ap (λ b. cond b (Some Repeated) (cond (nat_le MOST_ACCOUNTS (length xs)) (Some Full) None)) h)
+pub full_fault : (b : BookValue) (v : AccountValue) → is_among (numbers b.accounts) v.number ≡ false → has_row_ahead b.next v ≡ false → then_some (nat_le MOST_ACCOUNTS (length b.accounts)) Full ≡ first_fault b v
+full_fault b v h a =
+    full_by (nat_le MOST_ACCOUNTS (length b.accounts))
+    ∙ sym (ap (λ r. fault_by r (has_row_ahead b.next v) (nat_le MOST_ACCOUNTS (length b.accounts))) h ∙ ap (λ r. fault_by false r (nat_le MOST_ACCOUNTS (length b.accounts))) a)
 
-pub fault_of_book : (xs : State) (v : AccountValue) (q : BookFault) → Some q ≡ first_fault xs v → IsBookFault xs v q
-fault_of_book xs v Repeated e = sym e
-fault_of_book xs v Full e = sym e
-fault_of_book xs v NoMemory e = absurd (no_memory (is_among (numbers xs) v.number) (nat_le MOST_ACCOUNTS (length xs)) e)
+pub fault_of_book : (b : BookValue) (v : AccountValue) (q : BookFault) → Some q ≡ first_fault b v → IsBookFault b v q
+fault_of_book b v Repeated e = sym e
+fault_of_book b v RowAhead e = sym e
+fault_of_book b v Full e = sym e
+fault_of_book b v NoMemory e = absurd (no_memory (is_among (numbers b.accounts) v.number) (has_row_ahead b.next v) (nat_le MOST_ACCOUNTS (length b.accounts)) e)
   where
-    no_memory : (b c : Bool) → Some NoMemory ≡ cond b (Some Repeated) (cond c (Some Full) None) → ⊥
-    no_memory true c e = cc
-    no_memory false true e = cc
-    no_memory false false e = cc
+    no_memory : (r a f : Bool) → Some NoMemory ≡ fault_by r a f → ⊥
+    no_memory true a f e = cc
+    no_memory false true f e = cc
+    no_memory false false true e = cc
+    no_memory false false false e = cc
 
 -- a draft of one account more
 pub more_draft : (xs ys : State) (v : AccountValue) (directory new : DirectoryValue) (next : ℕ) → IsDraft xs directory next → ys ≡ xs ++ v ∷ [] → new ≡ directory_of (xs ++ v ∷ [])
-    → first_fault xs v ≡ None → IsAccount v → IsDraft ys new next
+    → first_fault (record { accounts = xs; next = next }) v ≡ None → IsAccount v → IsDraft ys new next
 more_draft xs ys v directory new next draft more listed none fits =
-    let (absent, room) = can_take xs v none in
+    let can = can_take (record { accounts = xs; next = next }) v none in
     rw more (record {
-      distinct = distinct_push xs v draft.distinct absent;
-      few = omega (arith, length-append xs (v ∷ []), room);
+      distinct = distinct_push xs v draft.distinct can.is_new;
+      few = omega (arith, length-append xs (v ∷ []), can.room);
       within_limits = All-push IsAccount xs v draft.within_limits fits;
       next_fits = draft.next_fits;
+      behind = All-push (IsBehind next) xs v draft.behind can.behind;
       listed = listed;
     })

@@ -1,14 +1,15 @@
 -- The accounts of an instruction are looked up once each: whether all are known, and where they stand.
-use Rattle.std.proofs.Common.{◌≡◌, ℕ, zero, suc, ◌+◌, ◌<◌, ◌&&◌, Bool, true, false, cond, eqb, not, List, [], ◌∷◌, filter, length, get_or, take, drop, Option, None, refl, sym, ap, ◌∙◌, arith}
+use Rattle.std.proofs.Common.{◌≡◌, ℕ, zero, suc, ◌+◌, ◌<◌, ◌&&◌, Bool, true, false, cond, eqb, not, List, [], ◌∷◌, filter, length, get_or, take, drop, Option, Some, None, refl, sym, ap, ◌∙◌, arith}
 use Rattle.std.specs.Prelude.{option_map, is_some}
+use Rattle.std.specs.Option.{option_map_or, option_to_list}
 use Rattle.std.specs.List.{list_all}
 use Rattle.std.proofs.lemmas.Bool.{eqb-true}
 use Rattle.std.proofs.lemmas.List.{length-map, get_or_default}
-use Rattle.std.proofs.lemmas.List.Folds.{list_all_at, list_all_more}
+use Rattle.std.proofs.lemmas.List.Folds.{list_all-append, list_all_at, list_all_more}
 use Rattle.reg_base.specs.declared.act.Act.{Act}
-use Rattle.reg_base.specs.Acts.{parties}
+use Rattle.reg_base.specs.Acts.{parties, also_known}
 use Rattle.reg_base.specs.Directory.{DirectoryValue, is_known}
-use Rattle.reg_base.specs.Footprint.{footprint, each_once}
+use Rattle.reg_base.specs.Footprint.{footprint, all_known, each_once}
 use Rattle.reg_account.specs.Account.{AccountValue}
 use Rattle.reg_rules.specs.State.{State, account, numbers}
 use Rattle.reg_book.specs.Book.{directory_of}
@@ -57,11 +58,34 @@ all-each_once p (x ∷ xs) = by (p x) refl (all-each_once p xs)
     by false fails more = refl
 
 -- a footprint is all parties if they are all known, and empty if one is not
-pub footprint-known : (d : DirectoryValue) (act : Act) → list_all (is_known d) (each_once (parties act)) ≡ true → each_once (parties act) ≡ footprint d act
-footprint-known d act known = sym (ap (λ b. cond b (each_once (parties act)) []) (sym (all-each_once (is_known d) (parties act)) ∙ known))
+-- all that must be known are the parties, and the other account if there is one
+in_two : (p : ℕ → Bool) (o : Option ℕ) → list_all p (option_to_list o) ≡ option_map_or p o true
+in_two p None = refl
+in_two p (Some a) = by (p a) where
+  by : (b : Bool) → (b && true) ≡ b
+  by true = refl
+  by false = refl
+
+pub known-in_two : (d : DirectoryValue) (act : Act) → all_known d act ≡ (list_all (is_known d) (each_once (parties act)) && option_map_or (is_known d) (also_known act) true)
+known-in_two d act =
+    list_all-append (is_known d) (parties act) (option_to_list (also_known act))
+    ∙ ap (λ b. b && list_all (is_known d) (option_to_list (also_known act))) (sym (all-each_once (is_known d) (parties act)))
+    ∙ ap (λ b. list_all (is_known d) (each_once (parties act)) && b) (in_two (is_known d) (also_known act))
+
+pub footprint-known : (d : DirectoryValue) (act : Act) → option_map_or (is_known d) (also_known act) true ≡ true → list_all (is_known d) (each_once (parties act)) ≡ true → each_once (parties act) ≡ footprint d act
+footprint-known d act other known =
+    sym (ap (λ b. cond b (each_once (parties act)) []) (known-in_two d act ∙ ap (λ b. b && option_map_or (is_known d) (also_known act) true) known ∙ other))
 
 pub footprint-unknown : (d : DirectoryValue) (act : Act) → list_all (is_known d) (each_once (parties act)) ≡ false → [] ≡ footprint d act
-footprint-unknown d act unknown = sym (ap (λ b. cond b (each_once (parties act)) []) (sym (all-each_once (is_known d) (parties act)) ∙ unknown))
+footprint-unknown d act unknown =
+    sym (ap (λ b. cond b (each_once (parties act)) []) (known-in_two d act ∙ ap (λ b. b && option_map_or (is_known d) (also_known act) true) unknown))
+
+pub footprint-other_unknown : (d : DirectoryValue) (act : Act) → option_map_or (is_known d) (also_known act) true ≡ false → [] ≡ footprint d act
+footprint-other_unknown d act unknown =
+    sym (ap (λ b. cond b (each_once (parties act)) []) (known-in_two d act ∙ ap (λ b. list_all (is_known d) (each_once (parties act)) && b) unknown ∙ by (list_all (is_known d) (each_once (parties act))))) where
+      by : (b : Bool) → (b && false) ≡ false
+      by true = refl
+      by false = refl
 
 -- the place of each wanted number
 pub stands-one : (s : State) (ps wanted : List ℕ) (j p : ℕ) → StandAt (numbers s) ps wanted → j < length ps → p ≡ get_or ps j 0

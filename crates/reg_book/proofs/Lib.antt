@@ -13,3 +13,4 @@ pub mod Ranks
 pub mod RisesFrom
 pub mod Turns
 pub mod Values
+pub mod Conserved

@@ -11,6 +11,7 @@ use Rattle.reg_base.specs.Rising.{IsRising}
 use Rattle.reg_base.specs.Directory.{DirectoryValue}
 use Rattle.reg_account.specs.Account.{AccountValue, IsAccount}
 use Rattle.reg_rules.specs.State.{State, numbers}
+use Rattle.reg_rules.specs.Effect.{IsBehind}
 use Rattle.reg_book.specs.Book.{IsKept, IsDraft}
 use Rattle.reg_book.proofs.Directories.{eqb-sym, length-numbers, number_at, directory_of-permutation}
 
@@ -65,6 +66,7 @@ kept xs ys directory next draft same len rising = record {
     few = omega (arith, len, draft.few);
     within_limits = All-permutation IsAccount xs ys same draft.within_limits;
     next = draft.next_fits;
+    behind = All-permutation (IsBehind next) xs ys same draft.behind;
   };
   listed = draft.listed ∙ directory_of-permutation xs ys draft.distinct same;
 }

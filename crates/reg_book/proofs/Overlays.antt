@@ -3,7 +3,7 @@ use Rattle.std.proofs.Common.{◌≡◌, ◌≢◌, ℕ, zero, suc, ◌+◌, ◌
 use Rattle.std.specs.Prelude.{All, unwrap_or, option_map, slice_set}
 use Rattle.std.specs.List.{AllByRecursion}
 use Rattle.std.specs.FinMap as fin
-use Rattle.std.proofs.lemmas.List.Elements.{All-contains, All-from_recursion}
+use Rattle.std.proofs.lemmas.List.Elements.{All-contains, All-from_recursion, recursion_from_All}
 use Rattle.reg_base.specs.Directory.{DirectoryValue}
 use Rattle.std.proofs.lemmas.Bool.{eq-eqb, ne_eqb, eqb-false, cases_lt}
 use Rattle.std.proofs.Math.Seq.{get_or-append_seam}
@@ -12,7 +12,9 @@ use Rattle.std.proofs.lemmas.Option.{same_Some}
 use Rattle.reg_base.specs.declared.kinds.AccountKind.{AccountKind}
 use Rattle.reg_base.specs.Rising.{IsRising}
 use Rattle.reg_book.proofs.RisesFrom.{RisesFrom, rises_from}
+use Rattle.reg_account.specs.Rows.{row_numbers, AreBelow}
 use Rattle.reg_account.specs.Account.{AccountValue, IsAccount}
+use Rattle.reg_rules.specs.Effect.{IsBehind}
 use Rattle.reg_rules.specs.State.{State, account, numbers}
 use Rattle.reg_book.specs.Book.{overlay, entry_of, directory_of, IsNext, IsKept, AreHigher}
 use Rattle.reg_book.specs.Settled.{SettledValue}
@@ -131,8 +133,27 @@ entries_same xs others (v ∷ vs) stand at =
     (ap (λ es. entry_of v ∷ es) (entries_same xs others vs stand (λ p d lt. at (suc p) d (omega arith))))
 
 -- a book in which accounts were put in place is a book, with the directory that it had
-pub kept_after : (xs ys others : State) (directory : DirectoryValue) (next after : ℕ) → IsKept xs directory next → ys ≡ overlay xs others → All IsAccount ys → StandIn xs others → IsNext after → IsKept ys directory after
-kept_after xs ys others directory next after kept is fit stand fits =
+-- a number that is higher is above the numbers of the rows too
+below_higher : (next after : ℕ) (ns : List ℕ) → next ≤ after → AreBelow next ns → AreBelow after ns
+below_higher next after [] le below = tt
+below_higher next after (n ∷ ns) le below = (omega (arith, le, below.0), below_higher next after ns le below.1)
+
+found_behind : (after a : ℕ) (others : State) (v : AccountValue) → AllByRecursion (IsBehind after) others → IsBehind after v → IsBehind after (unwrap_or (account others a) v)
+found_behind after a [] v all own = own
+found_behind after a (w ∷ ws) v all own = go (eqb w.number a) (found_behind after a ws v all.1 own)
+  where
+    go : (b : Bool) → IsBehind after (unwrap_or (account ws a) v) → IsBehind after (unwrap_or (cond b (Some w) (account ws a)) v)
+    go true more = all.0
+    go false more = more
+
+-- the accounts of a book and the settled ones in their places
+behind_overlay : (next after : ℕ) (xs others : State) → next ≤ after → AllByRecursion (IsBehind next) xs → AllByRecursion (IsBehind after) others → AllByRecursion (IsBehind after) (overlay xs others)
+behind_overlay next after [] others le all settled = tt
+behind_overlay next after (v ∷ vs) others le all settled =
+    (found_behind after v.number others v settled (below_higher next after (row_numbers v.rows) le all.0), behind_overlay next after vs others le all.1 settled)
+
+pub kept_after : (xs ys others : State) (directory : DirectoryValue) (next after : ℕ) → IsKept xs directory next → ys ≡ overlay xs others → All IsAccount ys → StandIn xs others → IsNext after → next ≤ after → AllByRecursion (IsBehind after) others → IsKept ys directory after
+kept_after xs ys others directory next after kept is fit stand fits later settled =
     let rises = rises_from 0 (numbers xs) kept.book.rising (λ some. omega arith) in
     let entries = entries_same xs others xs stand (λ p d lt. account_at 0 xs rises p (get_or xs p d).number d lt refl) in
     record {
@@ -141,6 +162,8 @@ kept_after xs ys others directory next after kept is fit stand fits =
         few = omega (arith, ap length is, length-overlay xs others, kept.book.few);
         within_limits = fit;
         next = fits;
+        behind = All-from_recursion (IsBehind after) ys
+            (subst (AllByRecursion (IsBehind after)) (sym is) (behind_overlay next after xs others later (recursion_from_All (IsBehind next) xs kept.book.behind) settled));
       };
       listed = kept.listed ∙ sym (ap (λ es. fin.from_entries es) (ap (map entry_of) is ∙ entries));
     }

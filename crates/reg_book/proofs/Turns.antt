@@ -1,18 +1,19 @@
 -- An instruction on accounts in another order, and on the first of them alone.
 use Rattle.std.proofs.Common.{Result, Ok, Err, ◌≡◌, ◌≢◌, ℕ, zero, suc, ◌+◌, ◌<◌, ◌≤◌, Bool, true, false, cond, eqb, List, [], ◌∷◌, ◌++◌, map, length, get_or, set, take, drop, refl, sym, ap, subst, ◌∙◌, inl, inr, arith}
-use Rattle.std.specs.List.{IsDistinct, AllByRecursion, swap}
+use Rattle.std.specs.List.{IsDistinct, All, AllByRecursion, swap}
 use Rattle.std.proofs.lemmas.Bool.{cases_eq, eqb-true, eqb-false, ne_eqb}
 use Rattle.std.specs.Result.{IfOk}
 use Rattle.std.proofs.lemmas.List.{map-append, map-set, take-append-drop, take-map, take-set-le, take_more, append-nil, append_assoc, same_lists, length-map, get_or-map}
 use Rattle.std.proofs.lemmas.List.Edits.{length-swap, swapped_from_swap, map_over_more}
 use Rattle.std.specs.Cmp.{nat_eq_equiv}
-use Rattle.std.proofs.lemmas.List.Sorted.{IsPermutation-swap, IsPermutation-map}
+use Rattle.std.proofs.lemmas.List.Sorted.{IsPermutation-swap, IsPermutation-map, All-permutation}
 use Rattle.std.proofs.lemmas.Map.Keys.{IsDistinct-IsPermutation}
 use Rattle.reg_base.specs.declared.instruction.Instruction.{Instruction}
 use Rattle.reg_base.specs.Footprint.{footprint, is_among}
 use Rattle.reg_account.specs.Account.{AccountValue}
 use Rattle.reg_rules.specs.declared.reply.Reply.{Reply}
 use Rattle.reg_rules.specs.State.{State, Setting, account, numbers}
+use Rattle.reg_rules.specs.Effect.{IsBehind}
 use Rattle.reg_rules.specs.Step.{step}
 use Rattle.reg_rules.specs.Laws.{StepLaws}
 use Rattle.reg_book.specs.Places.{StandAt, each_at}
@@ -142,6 +143,9 @@ module _ (laws : StepLaws) where
   swapped-turn c s t own after n i (Err e) a b a_in b_in distinct there stepped back = tt
 
 -- a swap keeps the numbers apart
+pub behind-swap : (n : ℕ) (s t : State) (a b : ℕ) → a < length s → b < length s → All (IsBehind n) s → t ≡ swap s a b → All (IsBehind n) t
+behind-swap n s t a b a_in b_in behind there = All-permutation (IsBehind n) s t (IsPermutation-swap s t a b a_in b_in there) behind
+
 pub distinct-swap : (s t : State) (a b : ℕ) → a < length s → b < length s → IsDistinct eqb (numbers s) → t ≡ swap s a b → IsDistinct eqb (numbers t)
 distinct-swap s t a b a_in b_in distinct there =
     IsDistinct-IsPermutation eqb (λ x y. nat_eq_equiv.symm x y) (numbers s) (numbers t)

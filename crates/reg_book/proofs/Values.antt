@@ -1,20 +1,26 @@
 -- What each instruction makes of a day's accounts, and an account as its last toucher left it.
-use Rattle.std.proofs.Common.{◌≡◌, ℕ, zero, suc, ◌+◌, Bool, true, false, cond, eqb, ◌||◌, List, [], ◌∷◌, take, Some, refl, sym, ap, subst, ◌∙◌, arith}
+use Rattle.std.proofs.Common.{◌≡◌, ℕ, zero, suc, ◌+◌, Bool, true, false, cond, eqb, ◌||◌, List, [], ◌∷◌, take, length, ◌≤◌, add-zero, Some, refl, sym, ap, subst, ◌∙◌, arith}
 use Rattle.std.specs.Prelude.{All, slice_get}
-use Rattle.std.specs.List.{IsDistinct}
+use Rattle.std.specs.List.{IsDistinct, AllByRecursion}
 use Rattle.std.proofs.lemmas.Option.{same_Some}
+use Rattle.std.proofs.lemmas.List.{length-take-le}
+use Rattle.std.proofs.lemmas.List.Elements.{All-take, recursion_from_All}
 use Rattle.reg_base.specs.declared.instruction.Instruction.{Instruction}
+use Rattle.reg_base.specs.declared.limits.TheConstants.{MOST_RECORD}
+use Rattle.reg_base.specs.Numbers.{IsDayNo, IsRecordNo}
 use Rattle.reg_base.specs.Directory.{DirectoryValue}
 use Rattle.reg_base.specs.Footprint.{footprint, is_among}
-use Rattle.reg_account.specs.Account.{IsAccount}
+use Rattle.reg_base.specs.Rules.{AreRules}
+use Rattle.reg_base.specs.Instructions.{IsInstruction}
 use Rattle.reg_rules.specs.State.{State, Setting, account, numbers}
 use Rattle.reg_rules.specs.Step.{step, row_of}
-use Rattle.reg_rules.specs.Laws.{StepLaws}
+use Rattle.reg_rules.specs.Effect.{IsBehind}
+use Rattle.reg_rules.specs.Laws.{StepLaws, IsReady}
 use Rattle.reg_book.specs.Book.{directory_of}
 use Rattle.reg_base.specs.Touches.{is_touched, touches_at, last_toucher}
 use Rattle.reg_book.specs.Fold.{state_after, rows_of}
-use Rattle.reg_book.specs.Day.{setting, state_at, value_at}
-use Rattle.reg_book.specs.Laws.{EachIsAStep, NumbersStay, UntouchedStay, ValueIsLastTouchers, LimitsStay}
+use Rattle.reg_book.specs.Day.{Day, IsDay, setting, state_at, value_at}
+use Rattle.reg_book.specs.Laws.{EachIsAStep, NumbersStay, UntouchedStay, ValueIsLastTouchers, StaysReady}
 use Rattle.reg_book.proofs.Folds.{numbers-fold, others-fold}
 use Rattle.reg_book.proofs.Lookups.{not_contained, or_cases, rising-distinct}
 
@@ -61,6 +67,23 @@ take-untouched d (i ∷ is) a (suc j) none =
     let apart = or_cases (is_among (footprint d i.act) a) (is_touched d is a) none in
     ap (λ b. b || is_touched d (take j is) a) apart.0 ∙ take-untouched d is a j apart.1
 
+-- from this record number on there is one for each instruction
+pub record HaveNumbers (n : ℕ) (is : List Instruction) : Type 0 where
+  pub from_one : 1 ≤ n
+  pub last : n + length is ≤ MOST_RECORD + 1
+
+pub first-numbered : (n : ℕ) (i : Instruction) (is : List Instruction) → HaveNumbers n (i ∷ is) → IsRecordNo n
+first-numbered n i is h = record { low = h.from_one; high = omega (arith, h.last) }
+
+pub others-numbered : (n : ℕ) (i : Instruction) (is : List Instruction) → HaveNumbers n (i ∷ is) → HaveNumbers (n + 1) is
+others-numbered n i is h = record { from_one = omega arith; last = omega (arith, h.last) }
+
+pub numbered-day : (day : Day) → IsDay day → HaveNumbers (day.batch.base + 1) day.batch.instructions
+numbered-day day kept = record { from_one = omega arith; last = omega (arith, kept.batch.numbered) }
+
+numbered-before : (n j : ℕ) (is : List Instruction) → j ≤ length is → HaveNumbers n is → HaveNumbers n (take j is)
+numbered-before n j is few h = record { from_one = h.from_one; last = let size = length-take-le j is few in omega (arith, size, few, h.last) }
+
 module _ (laws : StepLaws) where
   pub numbers-day : NumbersStay
   numbers-day day j = numbers-fold laws (setting day) day.book.accounts (day.batch.base + 1) (take j day.batch.instructions)
@@ -87,11 +110,22 @@ module _ (laws : StepLaws) where
       by true touched before = refl
       by false apart before = passed_by (setting day) day.book.accounts (day.batch.base + 1) day.batch.instructions a k apart ∙ before
 
-  limits-fold : (c : Setting) (s : State) (n : ℕ) (is : List Instruction) → IsDistinct eqb (numbers s) → All IsAccount s → All IsAccount (state_after c s n is)
-  limits-fold c s n [] distinct all = all
-  limits-fold c s n (i ∷ is) distinct all =
-      limits-fold c (step c s n i).0 (n + 1) is (subst (IsDistinct eqb) (sym (laws.numbers_stay c s n i)) distinct) (laws.limits_stay c s n i distinct all)
+  -- states stay ready for the next record number
+  pub ready-fold : (c : Setting) (s : State) (n : ℕ) (is : List Instruction) → AreRules c.rules → IsDayNo c.day → HaveNumbers n is → AllByRecursion IsInstruction is → IsReady n s → IsReady (n + length is) (state_after c s n is)
+  ready-fold c s n [] rules day numbered all ready = subst (λ m. IsReady m s) (sym (add-zero n)) ready
+  ready-fold c s n (i ∷ is) rules day numbered all ready =
+      let more : n + 1 + length is ≡ n + suc (length is) = omega arith in
+      subst (λ m. IsReady m (state_after c (step c s n i).0 (n + 1) is)) more (ready-fold c (step c s n i).0 (n + 1) is rules day (others-numbered n i is numbered) all.1 (laws.stays_ready c s n i rules day (first-numbered n i is numbered) all.0 ready))
 
-  pub limits-day : LimitsStay
-  limits-day day kept j =
-      limits-fold (setting day) day.book.accounts (day.batch.base + 1) (take j day.batch.instructions) (rising-distinct day.book.accounts kept.rising) kept.within_limits
+  pub ready-book : (day : Day) → IsDay day → IsReady (day.batch.base + 1) day.book.accounts
+  ready-book day kept = record {
+    once = rising-distinct day.book.accounts kept.book.rising;
+    fit = kept.book.within_limits;
+    behind = subst (λ n. All (IsBehind n) day.book.accounts) (sym kept.follows) kept.book.behind;
+  }
+
+  pub ready-day : StaysReady
+  ready-day day kept j few =
+      subst (λ m. IsReady (day.batch.base + 1 + m) (state_at day j)) (length-take-le j day.batch.instructions few)
+      (ready-fold (setting day) day.book.accounts (day.batch.base + 1) (take j day.batch.instructions) kept.rules kept.batch.settlement_day (numbered-before (day.batch.base + 1) j day.batch.instructions few (numbered-day day kept))
+      (recursion_from_All IsInstruction (take j day.batch.instructions) (All-take IsInstruction j day.batch.instructions kept.batch.each)) (ready-book day kept))

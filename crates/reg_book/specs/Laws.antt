@@ -1,13 +1,13 @@
 -- What is true of a day's instructions one after another, for each account number.
-use Rattle.std.specs.Prelude.{◌≡◌, ℕ, suc, ◌+◌, false, All, length, slice_get, Some, None, if◌then◌else◌}
+use Rattle.std.specs.Prelude.{◌≡◌, ℕ, suc, ◌+◌, ◌≤◌, false, length, slice_get, Some, None, if◌then◌else◌}
 use Rattle.reg_base.specs.declared.instruction.Instruction.{Instruction}
 use Rattle.reg_base.specs.Touches.{is_touched, last_toucher}
-use Rattle.reg_account.specs.Account.{IsAccount}
 use Rattle.reg_rules.specs.State.{numbers, account}
 use Rattle.reg_rules.specs.Step.{step, row_of}
+use Rattle.reg_rules.specs.Laws.{IsReady}
 use Rattle.reg_book.specs.Book.{IsBook, directory_of}
-use Rattle.reg_book.specs.Settled.{committed}
-use Rattle.reg_book.specs.Day.{Day, setting, state_at, value_at, row_at, closing_state, settled_day}
+use Rattle.reg_book.specs.Settled.{committed, IsSettled, IsOfBook}
+use Rattle.reg_book.specs.Day.{Day, IsDay, setting, state_at, value_at, row_at, closing_state, settled_day}
 
 -- each instruction is carried out on what the ones before it left, and its record is that of this step
 pub record IsStepOf (day : Day) (k : ℕ) (i : Instruction) : Type 0 where
@@ -31,9 +31,10 @@ abbrev pub ValueIsLastTouchers : Type 0
 ValueIsLastTouchers = (day : Day) (a j : ℕ)
     → value_at day a j ≡ value_at day a (last_toucher (directory_of day.book.accounts) day.batch.instructions a j)
 
--- the accounts of a book stay within their limits
-abbrev pub LimitsStay : Type 0
-LimitsStay = (day : Day) → IsBook day.book → (j : ℕ) → All IsAccount (state_at day j)
+-- after the first j instructions the accounts are ready for the record number of the next one: each is there once and
+-- within its limits, and its surrenders and deletions are recorded under lower numbers
+abbrev pub StaysReady : Type 0
+StaysReady = (day : Day) → IsDay day → (j : ℕ) → j ≤ length day.batch.instructions → IsReady (day.batch.base + 1 + j) (state_at day j)
 
 -- the settled day has the account of a number as the last instruction left it if one touched it, and no other
 abbrev pub SettledAreTouched : Type 0
@@ -46,3 +47,11 @@ SettledAreTouched = (day : Day) (a : ℕ)
 abbrev pub CommittedIsClosing : Type 0
 CommittedIsClosing = (day : Day) → IsBook day.book → day.batch.base + 1 ≡ day.book.next
     → committed day.book (settled_day day) ≡ record { accounts = closing_state day; next = day.book.next + length day.batch.instructions }
+
+-- the settled day is in order
+abbrev pub SettledIsInOrder : Type 0
+SettledIsInOrder = (day : Day) → IsDay day → IsSettled (settled_day day)
+
+-- and it belongs to its book
+abbrev pub SettledIsOfBook : Type 0
+SettledIsOfBook = (day : Day) → IsDay day → IsOfBook day.book (settled_day day)

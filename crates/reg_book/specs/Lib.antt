@@ -7,3 +7,4 @@ pub mod Laws
 pub mod Places
 pub mod Marks
 pub mod Turns
+pub mod Conservation

@@ -7,6 +7,7 @@ use Rattle.reg_base.specs.Rising.{IsRising, count_up}
 use Rattle.reg_account.specs.Account.{AccountValue}
 use Rattle.reg_rules.specs.declared.reply.LogRow.{LogRow}
 use Rattle.reg_rules.specs.State.{numbers}
+use Rattle.reg_rules.specs.Effect.{IsBehind}
 use Rattle.reg_book.specs.Book.{BookValue, directory_of, overlay}
 
 -- a settled day as plain data: the last record number before it, its log, and the touched accounts by rising number
@@ -31,6 +32,8 @@ pub record IsSettled (s : SettledValue) : Type 0 where
 abbrev pub committed : BookValue → SettledValue → BookValue
 committed book s = record { accounts = overlay book.accounts s.accounts; next = s.base + length s.rows + 1 }
 
--- each settled account is in the book, with the same kind and holder
-abbrev pub IsOfBook : BookValue → SettledValue → Type 0
-IsOfBook book s = AllByRecursion (λ v. fin.get (directory_of book.accounts) v.number ≡ Some (v.kind, v.holder)) s.accounts
+-- each settled account is in the book, with the same kind and holder, and its surrenders and deletions are recorded under
+-- numbers up to that of the last log row
+pub record IsOfBook (book : BookValue) (s : SettledValue) : Type 0 where
+  pub listed : AllByRecursion (λ v. fin.get (directory_of book.accounts) v.number ≡ Some (v.kind, v.holder)) s.accounts
+  pub behind : AllByRecursion (IsBehind (s.base + length s.rows + 1)) s.accounts

@@ -4,7 +4,8 @@ ghost use Rattle.std.specs.Prelude.{◌≡◌, ◌≢◌, ◌+◌, ◌-◌, ◌<
 ghost use Rattle.std.specs.Option.{option_copied};
 ghost use Rattle.reg_base.specs.declared.limits.TheConstants.{MOST_ACCOUNTS};
 ghost use Rattle.reg_base.specs.Rising.{IsRising};
-ghost use Rattle.reg_account.specs.Account.{IsAccount, held_by};
+ghost use Rattle.reg_account.specs.declared.rows.Retirement.TheVariants.{Surrendered, Deleted};
+ghost use Rattle.reg_account.specs.Account.{IsAccount, held_by, retired_by};
 ghost use Rattle.reg_rules.specs.State.{account, numbers};
 ghost use Rattle.reg_book.specs.Book.{overlay, AreHigher};
 
@@ -19,9 +20,9 @@ use std::marker::Model;
 pub struct Totals {
     /// Allowances held.
     pub held: u128,
-    /// Allowances surrendered and not reversed. Always 0 in this version.
+    /// Allowances surrendered and not reversed.
     pub surrendered: u128,
-    /// Allowances deleted and not reversed. Always 0 in this version.
+    /// Allowances deleted and not reversed.
     pub deleted: u128,
 }
 
@@ -44,7 +45,7 @@ impl Model for Book {
 }
 
 impl Book {
-    ghost use Rattle.reg_book.specs.Book.{directory_of, IsBook, IsKept, total_held};
+    ghost use Rattle.reg_book.specs.Book.{directory_of, IsBook, IsKept, total_held, total_retired};
     ghost use Rattle.reg_book.specs.Settled.{IsOfBook, committed};
 
     /// The book of these accounts, which must be in the order of their numbers and in the directory.
@@ -91,12 +92,12 @@ impl Book {
 
     /// The sums over all accounts for this kind. Takes no memory.
     pub fn totals(&self, kind: AllowanceKind) -> Totals
-        ensures { result ≡ record { held = total_held self.now kind; surrendered = 0; deleted = 0 } }
+        ensures { result ≡ record { held = total_held self.now kind; surrendered = total_retired self.now Surrendered kind; deleted = total_retired self.now Deleted kind } }
     {
         Totals {
             held: sum_held(&self.accounts, kind),
-            surrendered: 0,
-            deleted: 0,
+            surrendered: sum_surrendered(&self.accounts, kind),
+            deleted: sum_deleted(&self.accounts, kind),
         }
     }
 
@@ -194,6 +195,28 @@ fn sum_held(accounts: &[Account], kind: AllowanceKind) -> u128
     let mut sum = 0;
     for account in accounts {
         sum += u128::from(account.held(kind));
+    }
+    sum
+}
+
+fn sum_surrendered(accounts: &[Account], kind: AllowanceKind) -> u128
+    requires { length accounts.now ≤ MOST_ACCOUNTS }
+    ensures { result ≡ sum_by (λ v. retired_by v Surrendered kind) accounts.now }
+{
+    let mut sum = 0;
+    for account in accounts {
+        sum += u128::from(account.surrendered(kind));
+    }
+    sum
+}
+
+fn sum_deleted(accounts: &[Account], kind: AllowanceKind) -> u128
+    requires { length accounts.now ≤ MOST_ACCOUNTS }
+    ensures { result ≡ sum_by (λ v. retired_by v Deleted kind) accounts.now }
+{
+    let mut sum = 0;
+    for account in accounts {
+        sum += u128::from(account.deleted(kind));
     }
     sum
 }

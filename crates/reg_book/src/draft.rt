@@ -1,11 +1,13 @@
 //! A book in the making.
 
-ghost use Rattle.std.specs.Prelude.{◌≡◌, ◌<◌, [], ◌∷◌, ◌++◌, length, vec_len, vec_capacity, MatchResult, OnOk, OnErr, None, IsTrue, ◌↔◌, nat_eq, IsPermutation};
+ghost use Rattle.std.specs.Prelude.{◌≡◌, ◌<◌, [], ◌∷◌, ◌++◌, length, vec_len, vec_capacity, MatchResult, OnOk, OnErr, None, false, IsTrue, ◌↔◌, nat_eq, IsPermutation};
 ghost use Rattle.std.specs.List.{IsDistinct};
 ghost use Rattle.reg_base.specs.Rising.{IsRising};
+ghost use Rattle.reg_base.specs.Footprint.{is_among};
 ghost use Rattle.reg_rules.specs.State.{numbers};
+ghost use Rattle.reg_rules.specs.Effect.{IsBehind};
 ghost use Rattle.reg_account.specs.Account.{IsAccount};
-ghost use Rattle.reg_book.specs.Book.{directory_of, first_fault, IsBookFault};
+ghost use Rattle.reg_book.specs.Book.{directory_of, has_row_ahead, first_fault, IsBookFault};
 
 use crate::book::Book;
 use reg_account::Account;
@@ -20,6 +22,9 @@ pub enum BookFault {
     /// The draft already has an account with this number.
     #[error("an account of this number is there already")]
     Repeated,
+    /// A surrender or a deletion of the account has a number that is not below the next record number.
+    #[error("a surrender or a deletion is recorded under a number that comes only later")]
+    RowAhead,
     /// The draft already has 100,000 accounts.
     #[error("the book has as many accounts as it may have")]
     Full,
@@ -68,10 +73,10 @@ impl BookDraft {
     /// changed.
     pub fn insert(&mut self, account: Account) -> Result<(), (Account, BookFault)>
         ensures { MatchResult result
-            (λ _. (self.new ≡ with_account self.old account) × (first_fault self.old.accounts account ≡ None))
-            (λ e. (self.new ≡ self.old) × (e.0 ≡ account) × IsBookFault self.old.accounts account e.1) }
+            (λ _. (self.new ≡ with_account self.old account) × (first_fault self.old account ≡ None))
+            (λ e. (self.new ≡ self.old) × (e.0 ≡ account) × IsBookFault self.old account e.1) }
     {
-        match take_place(&mut self.accounts, &mut self.directory, &account) {
+        match take_place(&mut self.accounts, &mut self.directory, self.next, &account) {
             Err(fault) => Err((account, fault)),
             Ok(()) => {
                 self.accounts.push(account).unwrap();
@@ -100,6 +105,7 @@ fn put_in_order(accounts: &mut Vec<Account>)
     ensures same { IsPermutation accounts.old.items accounts.new.items }
     ensures len { length accounts.new.items ≡ length accounts.old.items }
     ensures rising { IsRising (numbers accounts.new.items) }
+    ensures as_inserted { IsRising (numbers accounts.old.items) → accounts.new.items ≡ accounts.old.items }
 {
     if !has_rising_numbers(accounts) {
         accounts.sort_unstable_by_key(|account| account.number());
@@ -121,18 +127,20 @@ fn has_rising_numbers(accounts: &[Account]) -> bool
 fn take_place(
     accounts: &mut Vec<Account>,
     directory: &mut Directory,
+    next: u64,
     account: &Account,
 ) -> Result<(), BookFault>
     requires listed { directory.old ≡ directory_of accounts.old.items }
     ensures items { accounts.new.items ≡ accounts.old.items }
     ensures room { OnOk result (vec_len accounts.new < vec_capacity accounts.new) }
     ensures entered { OnOk result (directory.new ≡ directory_of (accounts.old.items ++ account.now ∷ [])) }
-    ensures fault { MatchResult result (λ _. first_fault accounts.old.items account.now ≡ None) (IsBookFault accounts.old.items account.now) }
+    ensures fault { MatchResult result (λ _. first_fault (record { accounts = accounts.old.items; next = next }) account.now ≡ None) (IsBookFault (record { accounts = accounts.old.items; next = next }) account.now) }
     ensures err { OnErr result (directory.new ≡ directory.old) }
     ensures within_limits { IsAccount account.now }
+    ensures behind { OnOk result (IsBehind next account.now) }
 {
     account.is_within_limits();
-    if let Some(fault) = find_fault(accounts, directory, account) {
+    if let Some(fault) = find_fault(accounts, directory, next, account) {
         return Err(fault);
     }
     match make_room(accounts, directory, account) {
@@ -142,14 +150,33 @@ fn take_place(
 }
 
 // What is wrong with taking the account in, if anything is.
-fn find_fault(accounts: &[Account], directory: &Directory, account: &Account) -> Option<BookFault>
+fn find_fault(
+    accounts: &[Account],
+    directory: &Directory,
+    next: u64,
+    account: &Account,
+) -> Option<BookFault>
     requires listed { directory.now ≡ directory_of accounts.now }
-    ensures { result ≡ first_fault accounts.now account.now }
+    ensures { result ≡ first_fault (record { accounts = accounts.now; next = next }) account.now }
 {
     if directory.find(account.number()).is_some() {
         return Some(BookFault::Repeated);
     }
+    if has_row_ahead(next, account) {
+        return Some(BookFault::RowAhead);
+    }
     (accounts.len() >= MOST_ACCOUNTS).then_some(BookFault::Full)
+}
+
+/// Whether a surrender or a deletion of the account has a record number that is not below `next`. Takes no memory. Only
+/// the last row is looked at, which has the highest number.
+pub fn has_row_ahead(next: u64, account: &Account) -> bool
+    ensures { result ≡ has_row_ahead next account.now }
+{
+    match account.rows().last() {
+        Some(row) => next <= row.number.get(),
+        None => false,
+    }
 }
 
 // Makes room for the account among the others, and enters it into the directory.
@@ -159,7 +186,7 @@ fn make_room(
     account: &Account,
 ) -> Result<(), NoMemory>
     requires listed { directory.old ≡ directory_of accounts.old.items }
-    requires is_new { first_fault accounts.old.items account.now ≡ None }
+    requires is_new { is_among (numbers accounts.old.items) account.now.number ≡ false }
     ensures items { accounts.new.items ≡ accounts.old.items }
     ensures room { OnOk result (vec_len accounts.new < vec_capacity accounts.new) }
     ensures entered { OnOk result (directory.new ≡ directory_of (accounts.old.items ++ account.now ∷ [])) }

@@ -1,9 +1,10 @@
 //! What is true of a day's instructions one after another. Each law is the contract of a function that does nothing. A
 //! function whose proof needs a law calls it.
 
-ghost use Rattle.reg_book.specs.Laws.{EachIsAStep, NumbersStay, UntouchedStay, ValueIsLastTouchers, LimitsStay, SettledAreTouched, CommittedIsClosing};
+ghost use Rattle.reg_book.specs.Conservation.{FoldConserves};
+ghost use Rattle.reg_book.specs.Laws.{EachIsAStep, NumbersStay, UntouchedStay, ValueIsLastTouchers, StaysReady, SettledAreTouched, CommittedIsClosing, SettledIsInOrder, SettledIsOfBook};
 
-use reg_rules::step_laws;
+use reg_rules::{step_conserves, step_laws};
 
 /// Each instruction is carried out on what the ones before it left.
 pub fn each_is_a_step()
@@ -25,9 +26,10 @@ pub fn value_is_last_touchers()
     step_laws();
 }
 
-/// Accounts within their limits stay within them.
-pub fn limits_stay()
-    ensures { LimitsStay }
+/// Throughout a day the accounts stay within their limits, and surrenders and deletions have numbers below that of the
+/// next instruction.
+pub fn stays_ready()
+    ensures { StaysReady }
 {
     step_laws();
 }
@@ -39,4 +41,21 @@ pub fn settled_is_closing()
     ensures committed { CommittedIsClosing }
 {
     step_laws();
+}
+
+/// A settled day stands in order, and may be committed to its book.
+pub fn settled_is_of_book()
+    ensures in_order { SettledIsInOrder }
+    ensures of_book { SettledIsOfBook }
+{
+    step_laws();
+}
+
+/// Over a day the number of allowances of a kind that all accounts hold or have surrendered changes only by accepted
+/// creations, deletions and reversals of deletions. A surrender and its reversal leave it as it is.
+pub fn fold_conserves()
+    ensures { FoldConserves }
+{
+    step_laws();
+    step_conserves();
 }

@@ -1,6 +1,7 @@
 //! The places of accounts in a list by rising number.
 
 ghost use Rattle.std.specs.Prelude.{◌≡◌, ◌<◌, ◌≤◌, false, true, None, IfOk, IfSome, MatchOption, length};
+ghost use Rattle.std.specs.Option.{option_map_or};
 ghost use Rattle.std.specs.List.{AllByRecursion, list_all};
 ghost use Rattle.reg_base.specs.declared.limits.TheConstants.{MOST_ACCOUNTS, MOST_TOUCHED};
 ghost use Rattle.reg_base.specs.Directory.{is_known};
@@ -26,10 +27,27 @@ pub(crate) fn places_of(accounts: &[Account], instruction: &Instruction) -> Plac
     requires few { length accounts.now ≤ MOST_ACCOUNTS }
     ensures { StandAt (numbers accounts.now) result.items (footprint (directory_of accounts.now) instruction.now.act) }
 {
+    if !is_there(accounts, instruction.act.also_known()) {
+        return Places::new();
+    }
     let parties = instruction.parties();
     match find_places(accounts, parties.as_slice()) {
         Some(places) => places,
         None => Places::new(),
+    }
+}
+
+// Whether the account is there, if there is one that has to be.
+fn is_there(accounts: &[Account], wanted: Option<AccountNo>) -> bool
+    requires { IsRising (numbers accounts.now) }
+    ensures { result ≡ option_map_or (is_known (directory_of accounts.now)) wanted true }
+{
+    match wanted {
+        Some(number) => match place_of(accounts, number) {
+            Some(_) => true,
+            None => false,
+        },
+        None => true,
     }
 }
 

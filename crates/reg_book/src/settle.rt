@@ -1,8 +1,9 @@
 //! The plain settlement of a day.
 
-ghost use Rattle.std.specs.Prelude.{◌≡◌, ◌+◌, IfOk, OnOk, MatchResult, nat_eq};
-ghost use Rattle.std.specs.List.{IsDistinct};
+ghost use Rattle.std.specs.Prelude.{◌≡◌, ◌+◌, IfOk, OnOk, MatchResult};
+ghost use Rattle.reg_base.specs.Rules.{AreRules};
 ghost use Rattle.reg_rules.specs.State.{numbers};
+ghost use Rattle.reg_rules.specs.Laws.{IsReady};
 ghost use Rattle.reg_book.specs.Fold.{state_after, rows_of};
 ghost use Rattle.reg_book.specs.Settled.{IsOfBook};
 ghost use Rattle.reg_book.specs.Day.{day_of, settled_day};
@@ -71,9 +72,12 @@ fn settle_batch(
     rules: &Rules,
     batch: &Batch,
 ) -> Result<Settled, NoMemory>
+    requires { batch.now.base + 1 ≡ book.now.next }
     ensures settled { IfOk result (λ s. s ≡ settled_day (day_of book.now rules.now batch.now)) }
     ensures of_book { IfOk result (λ s. IsOfBook book.now s) }
 {
+    rules.are_within_limits();
+    let base = batch.base();
     // By the laws, settling the touched accounts gives what settling all accounts would give.
     step_laws();
     let directory = book.directory();
@@ -88,7 +92,7 @@ fn settle_batch(
         directory,
     };
     let rows = settle_all(alloc, &setting, batch, &mut accounts, &places, &ranks)?;
-    Ok(Settled::new(batch.base(), rows, accounts))
+    Ok(Settled::new(base, rows, accounts))
 }
 
 // Carries all instructions of the batch out on the accounts that they touch, and answers the log. The accounts that
@@ -101,12 +105,14 @@ fn settle_all(
     places: &[Places],
     ranks: &[u32],
 ) -> Result<Vec<LogRow>, NoMemory>
-    requires distinct { IsDistinct nat_eq (numbers accounts.old) }
+    requires rules { AreRules setting.now.rules }
+    requires ready { IsReady (batch.now.base + 1) accounts.old }
     requires ranked { AllRanked setting.now.directory (numbers accounts.old) ranks.now (lists_of places.now) batch.now.instructions }
     ensures rows { IfOk result (λ rows. rows.items ≡ rows_of setting.now accounts.old (batch.now.base + 1) batch.now.instructions) }
     ensures accounts { OnOk result (accounts.new ≡ state_after setting.now accounts.old (batch.now.base + 1) batch.now.instructions) }
 {
     step_laws();
+    setting.day.get();
     let instructions = batch.instructions();
     let mut rows = Vec::with_capacity(alloc, instructions.len())?;
     let mut last = batch.base();

@@ -1,9 +1,10 @@
 //! One instruction, executed on a list of accounts that has those that it touches.
 
-ghost use Rattle.std.specs.Prelude.{◌≡◌, ◌+◌, ◌<◌, ◌≤◌, ◌++◌, IfOk, length, map, take, nat_eq};
+ghost use Rattle.std.specs.Prelude.{◌≡◌, ◌+◌, ◌<◌, ◌≤◌, ◌++◌, All, IfOk, length, map, take, nat_eq};
 ghost use Rattle.std.specs.List.{AllByRecursion, IsDistinct};
 ghost use Rattle.reg_base.specs.Footprint.{footprint};
 ghost use Rattle.reg_rules.specs.State.{numbers};
+ghost use Rattle.reg_rules.specs.Effect.{IsBehind};
 ghost use Rattle.reg_rules.specs.Step.{step};
 ghost use Rattle.reg_book.specs.Places.{StandAt};
 ghost use Rattle.reg_book.specs.Turns.{AreLeft, renamed};
@@ -30,6 +31,7 @@ pub(crate) fn take_turn(
     places: &mut [usize],
 ) -> Result<Reply, NoMemory>
     requires distinct { IsDistinct nat_eq (numbers accounts.old) }
+    requires behind { All (IsBehind number) accounts.old }
     requires there { StandAt (numbers accounts.old) places.old (footprint setting.now.directory instruction.now.act) }
     ensures { IfOk result (λ reply. (accounts.new, reply) ≡ step setting.now accounts.old number instruction.now) }
 {
@@ -49,6 +51,7 @@ fn turn_from(
     count: usize,
 ) -> Result<Reply, NoMemory>
     requires distinct { IsDistinct nat_eq (numbers accounts.old) }
+    requires behind { All (IsBehind number) accounts.old }
     requires left { AreLeft count (numbers accounts.old) places.old (footprint setting.now.directory instruction.now.act) }
     ensures { IfOk result (λ reply. (accounts.new, reply) ≡ step setting.now accounts.old number instruction.now) }
 {
@@ -99,6 +102,7 @@ fn turn_at_front(
     count: usize,
 ) -> Result<Reply, NoMemory>
     requires distinct { IsDistinct nat_eq (numbers accounts.old) }
+    requires behind { All (IsBehind number) accounts.old }
     requires within { count ≤ length accounts.old }
     requires first { take count (numbers accounts.old) ≡ footprint setting.now.directory instruction.now.act }
     ensures ok { IfOk result (λ reply. (accounts.new, reply) ≡ step setting.now accounts.old number instruction.now) }

@@ -10,11 +10,12 @@ use Rattle.reg_text.specs.Rows.{rows_of}
 use Rattle.reg_text.specs.Faults.{day_of_rows}
 use Rattle.reg_text.specs.Reading.{IsReading}
 use Rattle.reg_text.specs.Report.{text_of, report_rows}
+use Rattle.reg_text.specs.Determined.{figures_rows}
 use Rattle.reg_text.specs.Totals.{totals_rows}
 use Rattle.reg_text.specs.PlanText.{plan_rows}
 use Rattle.reg_text.specs.Statement.{statement_of, has_account}
 use Rattle.reg_front.specs.declared.command.Command.{Command}
-use Rattle.reg_front.specs.declared.command.Command.TheVariants.{Settle, Plan, Statement, Totals}
+use Rattle.reg_front.specs.declared.command.Command.TheVariants.{Settle, Plan, Statement, Figures, Totals}
 use Rattle.reg_front.specs.declared.fault.FrontFault.{FrontFault}
 use Rattle.reg_front.specs.declared.fault.FrontFault.TheVariants.{Row, Read, Workers, NoAccount, NoMemory, WriteFailed}
 use Rattle.reg_front.specs.Devices.{AppendsFrontOf}
@@ -28,6 +29,7 @@ abbrev pub command_fault : Command → BookValue → Option FrontFault
 command_fault (Settle workers) book = if are_workers workers then None else Some Workers
 command_fault Plan book = None
 command_fault (Statement account) book = if has_account book account then None else Some NoAccount
+command_fault Figures book = None
 command_fault Totals book = None
 
 -- the book after the day
@@ -47,6 +49,7 @@ abbrev pub IsTextFor : Command → DayValue → List ℕ → Type 0
 IsTextFor (Settle workers) day text = text ≡ report_of day
 IsTextFor Plan day text = IsPlanOf day text
 IsTextFor (Statement account) day text = text ≡ text_of (statement_of day.book (log_of day) account)
+IsTextFor Figures day text = text ≡ text_of (figures_rows (book_after day))
 IsTextFor Totals day text = text ≡ text_of (totals_rows (book_after day))
 
 -- the input is a day text, the command is not refused for that day, and this is the text that it writes

@@ -17,6 +17,8 @@ pub enum Command {
         /// The account.
         account: AccountNo,
     },
+    /// Settles the day and writes the determined compliance figures of all accounts after it.
+    Figures,
     /// Settles the day and writes the totals after it.
     Totals,
 }

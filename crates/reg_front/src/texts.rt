@@ -5,6 +5,7 @@ ghost use Rattle.reg_book.specs.Day.{settled_day, log_of};
 ghost use Rattle.reg_book.specs.Settled.{IsOfBook};
 ghost use Rattle.reg_text.specs.Inputs.{day_of_input};
 ghost use Rattle.reg_text.specs.Report.{text_of};
+ghost use Rattle.reg_text.specs.Determined.{figures_rows};
 ghost use Rattle.reg_text.specs.Totals.{totals_rows};
 ghost use Rattle.reg_text.specs.Statement.{statement_of, has_account};
 ghost use Rattle.reg_front.specs.Runs.{are_workers, report_of, book_after, command_fault, IsPlanOf, IsTextFor, IsCommandFault};
@@ -15,13 +16,15 @@ use reg_base::{AccountNo, NoMemory};
 use reg_book::{Book, SettleFault, Settled, settle_plain};
 use reg_plan::Plan;
 use reg_rules::LogRow;
-use reg_text::{DayInput, StatementFault, plan_text, statement, totals_text, write_report_over};
+use reg_text::{
+    DayInput, StatementFault, figures_over, plan_text, statement, totals_text, write_report_over,
+};
 use std::alloc::Global;
 
 // The most workers of a settlement.
 const MOST_WORKERS: u32 = 8;
 
-/// The text of a command for a day. `bytes` are no longer needed: a report takes their memory.
+/// The text of a command for a day. `bytes` are no longer needed: a report and a text of figures take their memory.
 ///
 /// # Errors
 /// `Workers` if the number of workers is not 1 to 8. `NoAccount` if the account of a statement is not in the book.
@@ -55,7 +58,7 @@ fn find_fault(command: &Command, book: &Book) -> Option<FrontFault>
         Command::Statement { account } => {
             fault_unless(book.get(account).is_some(), FrontFault::NoAccount)
         }
-        Command::Plan | Command::Totals => None,
+        Command::Plan | Command::Figures | Command::Totals => None,
     }
 }
 
@@ -87,6 +90,7 @@ fn make_accepted(
         Command::Settle { .. } => make_report(alloc, day, bytes),
         Command::Plan => make_plan(alloc, &day),
         Command::Statement { account } => make_statement(alloc, &day, account),
+        Command::Figures => make_figures(alloc, day, bytes),
         Command::Totals => make_totals(alloc, day),
     }
 }
@@ -120,6 +124,15 @@ fn make_statement(alloc: Global, day: &DayInput, account: AccountNo) -> Result<V
         Err(StatementFault::NoMemory) => Err(NoMemory),
         Err(StatementFault::UnknownAccount) => unreachable!(),
     }
+}
+
+// The determined figures of all accounts after the day, in the place of bytes that are no longer needed.
+fn make_figures(alloc: Global, day: DayInput, bytes: Vec<u8>) -> Result<Vec<u8>, NoMemory>
+    requires { day.batch.base + 1 ≡ day.book.next }
+    ensures { IfOk result (λ text. text.items ≡ text_of (figures_rows (book_after (day_of_input day)))) }
+{
+    let (book, _log) = close_day(alloc, day)?;
+    figures_over(bytes, &book)
 }
 
 // The totals after the day.

@@ -7,3 +7,11 @@ pub mod Complete
 pub mod Running
 pub mod Executing
 pub mod Orders
+pub mod Rising
+pub mod Gathering
+pub mod Whole
+pub mod Slotting
+pub mod Standing
+pub mod Placing
+pub mod OrderSteps
+pub mod Fitting

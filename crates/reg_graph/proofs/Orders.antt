@@ -223,7 +223,7 @@ module _ (k : Known) (day : Day) (plan : PlanValue) (made : IsPlan (directory da
     | inr break ↦ ap is_none break.is_undefined ∙ sym (ap is_some break.some)
   ]
 
-  in_count : (first more x : ℕ) → first ≤ x → x < first + more → In x (count_up first more)
+  pub in_count : (first more x : ℕ) → first ≤ x → x < first + more → In x (count_up first more)
   in_count first zero x le lt = absurd (omega arith)
   in_count first (suc more) x le lt = elim (cases_eq first x) [
     | inl e ↦ inl e
@@ -232,7 +232,7 @@ module _ (k : Known) (day : Day) (plan : PlanValue) (made : IsPlan (directory da
     up : (first ≡ x → ⊥) → first + 1 ≤ x
     up ne = omega (arith, ne)
 
-  in_among : (xs : List ℕ) (x : ℕ) → In x xs → is_among xs x ≡ true
+  pub in_among : (xs : List ℕ) (x : ℕ) → In x xs → is_among xs x ≡ true
   in_among xs x m = any_in (λ n. eqb n x) xs x m (eq-eqb x x refl)
 
   -- an order has come to its end

@@ -1,16 +1,21 @@
 -- What a task's own values give is what the day gives.
-use Rattle.std.proofs.Common.{◌≡◌, ℕ, zero, suc, ◌+◌, ◌-◌, inl, inr, Bool, true, false, cond, ◌||◌, eqb, List, [], ◌∷◌, map, Option, Some, None, refl, sym, ap, subst, ◌∙◌, arith}
-use Rattle.std.specs.Prelude.{slice_get, is_some}
+use Rattle.std.proofs.Common.{◌≡◌, ℕ, zero, suc, ◌+◌, ◌-◌, ◌≤◌, inl, inr, Bool, true, false, cond, ◌||◌, eqb, leb, List, [], ◌∷◌, map, Option, Some, None, refl, sym, ap, subst, ◌∙◌, arith}
+use Rattle.std.specs.Prelude.{slice_get, is_some, not}
 use Rattle.std.specs.Option.{option_map, option_map_or}
-use Rattle.std.specs.List.{IsDistinct, AllByRecursion}
-use Rattle.std.proofs.lemmas.Bool.{eq-eqb, eqb-true}
+use Rattle.std.specs.List.{IsDistinct, AllByRecursion, list_all, list_any}
+use Rattle.std.proofs.lemmas.Bool.{eq-eqb, eqb-true, leb-false, or_parts, and_parts, not-true}
 use Rattle.std.proofs.lemmas.Option.{same_Some, slice_get_cases}
 use Rattle.std.proofs.lemmas.List.Elements.{All-from_recursion}
 use Rattle.reg_base.specs.declared.instruction.Instruction.{Instruction}
 use Rattle.reg_base.specs.Footprint.{footprint, is_among, EachFootprintIsSound}
 use Rattle.reg_base.specs.Touches.{last_toucher}
 use Rattle.reg_account.specs.Account.{AccountValue}
+use Rattle.reg_account.specs.Rows.{row_numbers, AreBelow}
+use Rattle.reg_account.specs.declared.rows.RetirementRow.{RetirementRow}
+use Rattle.reg_rules.specs.Effect.{IsBehind}
+use Rattle.reg_book.specs.Book.{has_row_ahead}
 use Rattle.reg_rules.specs.declared.reply.LogRow.{LogRow}
+use Rattle.reg_rules.specs.declared.reply.Reply.{Reply}
 use Rattle.reg_rules.specs.State.{State, account, numbers}
 use Rattle.reg_rules.specs.Step.{step, row_of}
 use Rattle.reg_rules.specs.Laws.{StepLaws}
@@ -23,6 +28,32 @@ use Rattle.reg_graph.specs.declared.parcel.Parcel.{Parcel}
 use Rattle.reg_graph.specs.Parcels.{values_of, afters_of, names_of}
 use Rattle.reg_graph.proofs.Members.{all_among}
 use Rattle.reg_graph.proofs.Known.{found_among, footprint_distinct}
+
+-- an account without a row ahead has rows of lower numbers alone
+pub none_ahead : (n : ℕ) (rows : List RetirementRow) → list_any (λ (row : RetirementRow). leb n row.number) rows ≡ false → AreBelow n (row_numbers rows)
+none_ahead n [] none = tt
+none_ahead n (row ∷ rows) none =
+    let both = or_parts (leb n row.number) (list_any (λ (r : RetirementRow). leb n r.number) rows) none in
+    (leb-false n row.number both.0, none_ahead n rows both.1)
+
+pub all_behind : (n : ℕ) (vs : State) → list_all (λ (v : AccountValue). not (has_row_ahead n v)) vs ≡ true → AllByRecursion (IsBehind n) vs
+all_behind n [] holds = tt
+all_behind n (v ∷ vs) holds =
+    let both = and_parts (not (has_row_ahead n v)) (list_all (λ (w : AccountValue). not (has_row_ahead n w)) vs) holds in
+    (none_ahead n v.rows (not-true (has_row_ahead n v) both.0), all_behind n vs both.1)
+
+-- a step of the instruction at a place, and its row, are what running it gives
+pub ran_at : (day : Day) (place number : ℕ) (own results : State) (i : Instruction) (reply : Reply) (row : LogRow) → 1 ≤ place → slice_get day.batch.instructions (place - 1) ≡ Some i
+    → number ≡ day.batch.base + place → (results, reply) ≡ step (setting day) own number i → row ≡ row_of (setting day) number i reply → run_at day place own ≡ Some (results, row)
+ran_at day zero number own results i reply row low at same one made = absurd (omega (arith, low))
+ran_at day (suc k) number own results i reply row low at same one made =
+    let run : Instruction → State × LogRow = λ j. let made = step (setting day) own (day.batch.base + suc k) j in (made.0, row_of (setting day) (day.batch.base + suc k) j made.1) in
+    let stepped : ◌≡◌ {A = State × Reply} (step (setting day) own (day.batch.base + suc k) i) (results, reply) = sym (subst (λ n. ◌≡◌ {A = State × Reply} (results, reply) (step (setting day) own n i)) same one) in
+    let rowed : row_of (setting day) (day.batch.base + suc k) i reply ≡ row = sym (subst (λ n. row ≡ row_of (setting day) n i reply) same made) in
+    let back : suc k - 1 ≡ k = omega arith in
+    ap (option_map run) (sym (ap (slice_get day.batch.instructions) back) ∙ at)
+    ∙ ap (λ (p : State × Reply). Some (p.0, row_of (setting day) (day.batch.base + suc k) i p.1)) stepped
+    ∙ ap (λ (r : LogRow). Some (results, r)) rowed
 
 -- the accounts agree with those of a state, and there are no others
 abbrev pub AgreeAt : State → List ℕ → State → Type 0

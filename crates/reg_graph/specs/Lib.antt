@@ -2,3 +2,5 @@ pub mod Pool
 pub mod Laws
 pub mod Names
 pub mod Parcels
+pub mod Gathering
+pub mod Slots

@@ -1,11 +1,12 @@
 -- What a name says of the values and the places that belong to its day.
-use Rattle.std.specs.Prelude.{◌≡◌, ℕ, ◌-◌, ◌≤◌, ◌<◌, Bool, true, false, MatchOption, slice_index_or, ◌&&◌, ◌==◌, List, [], ◌∷◌, length, map, Option, Some}
-use Rattle.std.specs.List.{list_all, list_any}
+use Rattle.std.specs.Prelude.{◌≡◌, ℕ, ◌+◌, ◌-◌, ◌≤◌, ◌<◌, Bool, true, false, MatchOption, slice_index_or, ◌&&◌, ◌==◌, List, [], ◌∷◌, length, map, Option, Some}
+use Rattle.std.specs.List.{list_all, list_any, AllByRecursion}
 use Rattle.reg_base.specs.declared.limits.TheConstants.{MOST_TOUCHED}
 use Rattle.reg_base.specs.Rules.{RulesValue}
 use Rattle.reg_base.specs.Batch.{BatchValue}
 use Rattle.reg_base.specs.Touches.{last_toucher}
 use Rattle.reg_account.specs.Account.{AccountValue}
+use Rattle.reg_rules.specs.Effect.{IsBehind}
 use Rattle.reg_rules.specs.declared.reply.LogRow.{LogRow}
 use Rattle.reg_plan.specs.declared.arrow.Arrow.{Arrow}
 use Rattle.reg_book.specs.Book.{BookValue}
@@ -69,9 +70,11 @@ AreComplete name place names = (day : Day) → name ≡ Some day → AreNeeded d
 abbrev pub AreLeft : Option Day → ℕ → List (ℕ × ℕ) → Type 0
 AreLeft name place names = (day : Day) → name ≡ Some day → names ≡ map (λ a. (a, place)) (footprint_at day place)
 
--- the place is one of the day's, and these are the values of the accounts that its instruction touches
+-- the place is one of the day's, these are the values of the accounts that its instruction touches, and their surrenders
+-- and deletions have lower record numbers
 pub record IsFor (day : Day) (place : ℕ) (own : List AccountValue) : Type 0 where
   pub low : 1 ≤ place
   pub high : place ≤ length day.batch.instructions
   pub touched : map (λ v. v.number) own ≡ footprint_at day place
   pub few : length own ≤ MOST_TOUCHED
+  pub behind : AllByRecursion (IsBehind (day.batch.base + place)) own

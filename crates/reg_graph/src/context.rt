@@ -5,17 +5,19 @@ ghost use Rattle.reg_base.specs.Touches.{is_touched};
 ghost use Rattle.reg_rules.specs.State.{account};
 ghost use Rattle.reg_plan.specs.Plans.{IsPlan, inward};
 ghost use Rattle.reg_book.specs.Book.{directory_of};
-ghost use Rattle.reg_book.specs.Day.{day_of};
+ghost use Rattle.reg_book.specs.Day.{IsDay, day_of};
 ghost use Rattle.reg_book.specs.Settling.{IsSettleFault};
 ghost use Rattle.reg_graph.specs.Pool.{footprint_at};
+ghost use Rattle.reg_base.specs.Rising.{IsRising};
 ghost use Rattle.reg_graph.specs.Names.{IsNamed};
+ghost use Rattle.reg_graph.specs.Slots.{opened_accounts};
 
 use crate::naming::Naming;
 use crate::parcel::Parcel;
 use reg_base::laws::each_footprint_is_sound;
 use reg_base::{AccountNo, Batch, Footprint, NoMemory, Rules};
 use reg_book::{Book, SettleFault};
-use reg_plan::{Arrow, Plan};
+use reg_plan::{Arrow, Opening, Plan};
 use std::alloc::Global;
 use std::marker::PhantomData;
 
@@ -96,6 +98,15 @@ impl<'a, N: Naming> Context<'a, N> {
         self.batch
     }
 
+    // Reads the parts, so that a proof knows that they make a day.
+    pub(crate) fn is_day(&self)
+        ensures { IsDay (day_of self.now.book.now self.now.rules.now self.now.batch.now) }
+    {
+        self.book.next_record();
+        self.rules.are_within_limits();
+        self.batch.len();
+    }
+
     /// The accounts that the instruction at a place touches. The place is counted from 1.
     pub(crate) fn touched_at(&self, place: u32) -> Footprint
         requires from_one { 1 ≤ place }
@@ -103,6 +114,14 @@ impl<'a, N: Naming> Context<'a, N> {
         ensures { result ≡ footprint_at (day_of self.now.book.now self.now.rules.now self.now.batch.now) place }
     {
         self.batch.at(place).touches(self.book.directory())
+    }
+
+    // The first instruction of each touched account, by rising account.
+    pub(crate) fn openings(&self) -> &[Opening]
+        ensures value { result.now ≡ self.now.plan.openings }
+        ensures rising { IsRising (opened_accounts result.now) }
+    {
+        self.plan.openings()
     }
 
     /// The arrows that lead to a place, counted from 1.

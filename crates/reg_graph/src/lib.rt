@@ -3,16 +3,20 @@
 #![tactic(auto)]
 
 mod context;
+mod gather;
 pub mod laws;
 mod naming;
 mod needs;
+mod order;
 mod outcome;
 mod parcel;
 mod run;
+mod slots;
 mod task;
 
 pub use context::Context;
 pub use naming::{Naming, Unnamed};
+pub use order::{RunFault, run_order};
 pub use outcome::{Outcome, Ran};
 pub use parcel::Parcel;
 pub use task::Task;

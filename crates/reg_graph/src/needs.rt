@@ -1,6 +1,6 @@
 //! Which parcels the instruction at a place needs.
 
-ghost use Rattle.std.specs.Prelude.{◌≡◌, ◌==◌, true, find, nat_eq, IsPermutation};
+ghost use Rattle.std.specs.Prelude.{◌≡◌, ◌==◌, ◌↔◌, IsTrue, true, find, nat_eq, IsPermutation};
 ghost use Rattle.std.specs.List.{list_any, list_all, IsDistinct};
 ghost use Rattle.reg_rules.specs.State.{numbers};
 ghost use Rattle.reg_graph.specs.Pool.{tail_in};
@@ -110,7 +110,7 @@ pub(crate) fn put_in_order<N: Naming>(
 
 // Whether the parcels are of these accounts, in this order.
 pub(crate) fn are_of<N: Naming>(parcels: &[Parcel<N>], accounts: &[AccountNo]) -> bool
-    ensures { result ≡ true → numbers (values_of parcels.now) ≡ accounts.now }
+    ensures { IsTrue result ↔ (numbers (values_of parcels.now) ≡ accounts.now) }
 {
     if parcels.len() != accounts.len() {
         return false;

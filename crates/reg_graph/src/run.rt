@@ -1,9 +1,11 @@
 //! Carrying out an instruction on the values of its own accounts.
 
-ghost use Rattle.std.specs.Prelude.{◌≡◌, ◌≤◌, Some, [], length, map, IfOk, OnErr, vec_len, vec_capacity};
-ghost use Rattle.std.specs.List.{AllByRecursion};
+ghost use Rattle.std.specs.Prelude.{◌≡◌, ◌+◌, ◌≤◌, All, Some, [], length, map, not, IfOk, OnErr, vec_len, vec_capacity};
+ghost use Rattle.std.specs.List.{AllByRecursion, list_all};
 ghost use Rattle.reg_base.specs.declared.limits.TheConstants.{MOST_TOUCHED};
+ghost use Rattle.reg_rules.specs.Effect.{IsBehind};
 ghost use Rattle.reg_rules.specs.State.{numbers};
+ghost use Rattle.reg_book.specs.Book.{has_row_ahead};
 ghost use Rattle.reg_book.specs.Day.{day_of};
 ghost use Rattle.reg_graph.specs.Pool.{footprint_at, run_at};
 ghost use Rattle.reg_graph.specs.Names.{IsValue, AreValues};
@@ -15,13 +17,36 @@ use crate::parcel::Parcel;
 use arrayvec::ArrayVec;
 use reg_account::Account;
 use reg_base::{MOST_TOUCHED, NoMemory, RecordNo};
+use reg_book::has_row_ahead;
 use reg_rules::{LogRow, execute, log_row};
 use std::alloc::Global;
 
 // The places after which the values of a task stand.
 pub(crate) type Afters = ArrayVec<u32, MOST_TOUCHED>;
 
-// Carries out the instruction at a place on the values of the accounts that it touches, and answers its row.
+// Whether the values of these parcels have surrenders and deletions of lower record numbers alone.
+pub(crate) fn are_behind<N: Naming>(number: RecordNo, parcels: &[Parcel<N>]) -> bool
+    ensures { result ≡ list_all (λ v. not (has_row_ahead number v)) (values_of parcels.now) }
+{
+    for parcel in parcels {
+        if has_row_ahead(number.get(), parcel.value()) {
+            return false;
+        }
+    }
+    true
+}
+
+// The record number of a place.
+pub(crate) fn number_of<N: Naming>(context: &Context<N>, place: u32) -> RecordNo
+    requires from_one { 1 ≤ place }
+    requires within { place ≤ length context.now.batch.now.instructions }
+    ensures { result ≡ context.now.batch.now.base + place }
+{
+    RecordNo::new(context.batch().base() + u64::from(place)).unwrap()
+}
+
+// Carries out the instruction at a place on the values of the accounts that it touches, which have no record of this
+// place or a later one, and answers its row.
 pub(crate) fn carry_out<N: Naming>(
     alloc: Global,
     context: &Context<N>,
@@ -31,12 +56,13 @@ pub(crate) fn carry_out<N: Naming>(
     requires from_one { 1 ≤ place }
     requires within { place ≤ length context.now.batch.now.instructions }
     requires touched { numbers own.old ≡ footprint_at (day_of context.now.book.now context.now.rules.now context.now.batch.now) place }
+    requires behind { All (IsBehind (context.now.batch.now.base + place)) own.old }
     ensures ok { IfOk result (λ row. run_at (day_of context.now.book.now context.now.rules.now context.now.batch.now) place own.old ≡ Some (own.new, row)) }
     ensures err { OnErr result (own.new ≡ own.old) }
 {
+    let number = number_of(context, place);
     let batch = context.batch();
     let instruction = batch.at(place);
-    let number = RecordNo::new(batch.base() + u64::from(place)).unwrap();
     let reply = execute(
         alloc,
         context.rules(),

@@ -9,9 +9,9 @@ use crate::naming::Naming;
 use crate::needs::{are_needed, are_of, put_in_order};
 use crate::outcome::Outcome;
 use crate::parcel::Parcel;
-use crate::run::{carry_out, pack, pack_after, unpack};
+use crate::run::{are_behind, carry_out, number_of, pack, pack_after, unpack};
 use reg_base::laws::{each_footprint_is_sound, last_toucher_is_last};
-use reg_book::{each_is_a_step, value_is_last_touchers};
+use reg_book::{each_is_a_step, stays_ready, value_is_last_touchers};
 use reg_plan::laws::tails_are_last_touchers;
 use reg_rules::step_laws;
 use std::alloc::Global;
@@ -28,7 +28,7 @@ pub struct Task<N: Naming> {
 impl<N: Naming> Task<N> {
     ghost use Rattle.std.specs.Prelude.{◌≤◌, true, Some, length, is_ok, IfOk, IfErr, IsPermutation};
     ghost use Rattle.reg_plan.specs.Plans.{inward};
-    ghost use Rattle.reg_book.specs.Day.{day_of};
+    ghost use Rattle.reg_book.specs.Day.{Day, day_of};
     ghost use Rattle.reg_graph.specs.Pool.{footprint_at, run_at};
     ghost use Rattle.reg_graph.specs.Parcels.{values_of, afters_of};
     ghost use Rattle.reg_graph.specs.Names.{names_needed, has_names, IsFor};
@@ -70,15 +70,23 @@ impl<N: Naming> Task<N> {
         self.place
     }
 
-    // Whether its place is one of the context, and its parcels are of the accounts that the instruction touches.
+    // Whether the task is of the context: its place is one of the context's, its parcels are of the accounts that the
+    // instruction touches, and their surrenders and deletions have lower record numbers. If a day is named, it is.
     fn fits(&self, context: &Context<N>) -> bool
-        ensures { result ≡ true → IsFor (day_of context.now.book.now context.now.rules.now context.now.batch.now) self.now.place (values_of self.now.parcels.items) }
+        ensures is_for { result ≡ true → IsFor (day_of context.now.book.now context.now.rules.now context.now.batch.now) self.now.place (values_of self.now.parcels.items) }
+        ensures named { (d : Day) → N.day ≡ Some d → result ≡ true }
     {
+        context.is_day();
+        stays_ready();
+        value_is_last_touchers();
         if self.place == 0 || self.place > context.batch().len() {
             return false;
         }
         let touched = context.touched_at(self.place);
-        are_of(&self.parcels, touched.as_slice())
+        if !are_of(&self.parcels, touched.as_slice()) {
+            return false;
+        }
+        are_behind(number_of(context, self.place), &self.parcels)
     }
 
     /// Runs the instruction on the task's own values. The parcels that come out are named by the task's place.

@@ -1,5 +1,6 @@
 pub mod Numbers
 pub mod Passed
+pub mod Administrators
 pub mod Effects
 pub mod Steps
 pub mod Locality
@@ -7,6 +8,14 @@ pub mod Constants
 pub mod Loops
 pub mod Mapped
 pub mod Repeats
+pub mod Firsts
+pub mod Reversals
 pub mod Applied
+pub mod Figures
 pub mod Limits
 pub mod Moves
+pub mod Rows
+pub mod Singles
+pub mod Acts
+pub mod Listings
+pub mod Conserved

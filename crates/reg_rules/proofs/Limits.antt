@@ -1,61 +1,187 @@
--- Accounts stay within their limits.
-use Rattle.std.proofs.Common.{◌≡◌, ℕ, ◌+◌, ◌≤◌, Bool, true, false, cond, eqb, [], ◌∷◌, map, Option, Some, None, refl, arith}
-use Rattle.std.specs.Prelude.{MatchOption}
+-- Accounts stay within their limits, and surrenders and deletions stay recorded under numbers that are taken.
+use Rattle.std.proofs.Common.{◌≡◌, ℕ, ◌+◌, ◌<◌, ◌≤◌, Bool, true, false, cond, eqb, ℤ, List, [], ◌∷◌, ◌++◌, map, Option, Some, None, Result, Ok, Err, refl, sym, subst, arith}
+use Rattle.std.specs.Prelude.{MatchOption, find}
 use Rattle.std.specs.Option.{option_map_or}
-use Rattle.std.specs.List.{AllByRecursion}
+use Rattle.std.specs.List.{All, AllByRecursion, IsDistinct}
+use Rattle.std.proofs.lemmas.Bool.{eqb-true}
+use Rattle.std.proofs.lemmas.Option.{same_Some, none-some}
 use Rattle.std.proofs.lemmas.List.Elements.{All-from_recursion, recursion_from_All}
 use Rattle.reg_base.specs.declared.limits.TheConstants.{MOST_HELD}
 use Rattle.reg_base.specs.declared.kinds.AllowanceKind.{AllowanceKind}
-use Rattle.reg_base.specs.declared.kinds.AllowanceKind.TheVariants.{General, Aviation}
 use Rattle.reg_base.specs.declared.movement.Share.{Share}
-use Rattle.reg_base.specs.declared.movement.Movement.{Movement}
-use Rattle.reg_base.specs.declared.refusals.Refusal.{Refusal}
+use Rattle.reg_base.specs.declared.act.Act.{Act}
+use Rattle.reg_base.specs.declared.act.Act.TheVariants.{Transfer, Surrender, Delete, ReturnExcess, Reverse, Create, CentralMove, Trust, Untrust, SetStatus, EnterEmissions, Assess}
 use Rattle.reg_base.specs.declared.instruction.Instruction.{Instruction}
-use Rattle.reg_base.specs.Acts.{movement_of}
-use Rattle.reg_account.specs.Account.{AccountValue, IsAccount, HoldingsFit, held_by, credited, debited}
+use Rattle.reg_base.specs.declared.refusals.Refusal.{Refusal}
+use Rattle.reg_base.specs.Numbers.{IsAccountNo, IsDayNo, IsRecordNo, IsYearNo}
+use Rattle.reg_base.specs.Calendar.{is_due}
+use Rattle.reg_base.specs.Rules.{AreRules}
+use Rattle.reg_base.specs.Acts.{movement_of, first, shares, years, others}
+use Rattle.reg_account.specs.declared.rows.RetirementRow.{RetirementRow}
+use Rattle.reg_account.specs.declared.figure.FigureFault.{FigureFault}
+use Rattle.reg_account.specs.Rows.{row_numbers, row_in, with_mark, AreBelow}
+use Rattle.reg_account.specs.Years.{FigureFits}
+use Rattle.reg_account.specs.Account.{AccountValue, IsAccount, held_by, credited, unretired_row, CanTrust}
+use Rattle.reg_account.specs.Figure.{figure_of}
+use Rattle.reg_account.specs.Laws.{ChangesKeepLimits}
 use Rattle.reg_rules.specs.State.{State, Setting, account}
 use Rattle.reg_rules.specs.Checks.{refusal}
-use Rattle.reg_rules.specs.Effect.{share_of, given, moved, changed_by, CanMove}
+use Rattle.reg_rules.specs.Trust.{effective_day}
+use Rattle.reg_rules.specs.Effect.{listed_from, assessed, first_after, share_of, given, by_part, with_changes, changed_by, CanFirst, CanChange, IsBehind}
 use Rattle.reg_rules.specs.Step.{step_by}
-use Rattle.reg_rules.specs.Laws.{LimitsStay}
-use Rattle.reg_rules.proofs.Applied.{can-move}
+use Rattle.reg_rules.specs.Laws.{IsReady, StaysReady}
+use Rattle.reg_rules.proofs.Applied.{can-change}
+use Rattle.reg_rules.proofs.Effects.{numbers-effect}
+use Rattle.reg_rules.proofs.Figures.{figure-fits}
 use Rattle.reg_rules.proofs.Numbers.{found-by_number}
 
-fit-debited : (v : AccountValue) (kind : AllowanceKind) (amount : ℕ) → HoldingsFit v.held → HoldingsFit (debited v kind amount).held
-fit-debited v General amount fit = record { general = omega (arith, fit.general); aviation = fit.aviation }
-fit-debited v Aviation amount fit = record { general = fit.general; aviation = omega (arith, fit.aviation) }
+-- the numbers of an act that its effect writes down are in their ranges
+record InRange (act : Act) : Type 0 where
+  years_fit : AllByRecursion IsYearNo (years act)
+  others_fit : AllByRecursion IsAccountNo (others act)
 
-fit-credited : (v : AccountValue) (kind : AllowanceKind) (amount : ℕ) → held_by v kind + amount ≤ MOST_HELD → HoldingsFit v.held → HoldingsFit (credited v kind amount).held
-fit-credited v General amount room fit = record { general = room; aviation = fit.aviation }
-fit-credited v Aviation amount room fit = record { general = fit.general; aviation = room }
+-- a day that is found in a calendar is a day
+day-found : (days : List ℕ) (test : ℕ → Bool) (day : ℕ) → All IsDayNo days → find test days ≡ Some day → IsDayNo day
+day-found days test day all found = go days (recursion_from_All IsDayNo days all) found where
+  go : (xs : List ℕ) → AllByRecursion IsDayNo xs → find test xs ≡ Some day → IsDayNo day
+  go [] fit at = absurd (none-some day at)
+  go (x ∷ xs) fit at = by (test x) at (go xs fit.1) where
+    by : (b : Bool) → cond b (Some x) (find test xs) ≡ Some day → (find test xs ≡ Some day → IsDayNo day) → IsDayNo day
+    by true here more = subst IsDayNo (same_Some x day here) fit.0
+    by false here more = more here
 
-fit-given : (v : AccountValue) (kind : AllowanceKind) (o : Option Share) → MatchOption o (Unit {0}) (λ share. held_by v kind + share.amount ≤ MOST_HELD)
-    → HoldingsFit v.held → HoldingsFit (option_map_or (λ share. credited v kind share.amount) o v).held
-fit-given v kind None room fit = fit
-fit-given v kind (Some share) room fit = fit-credited v kind share.amount room fit
+-- each change keeps an account within its limits
+module _ (laws : ChangesKeepLimits) where
+  fit-assessed : (v : AccountValue) (year : ℕ) (r : Result ℤ FigureFault) → IsYearNo year → ((figure : ℤ) → r ≡ Ok figure → FigureFits figure) → IsAccount v → IsAccount (assessed v year r)
+  fit-assessed v year (Ok figure) in_range fits is = laws.determine v (record { year = year; tonnes = figure }) is (fits figure refl) in_range
+  fit-assessed v year (Err fault) in_range fits is = is
 
-fit-moved : (m : Movement) (v : AccountValue) → CanMove m v → HoldingsFit v.held → HoldingsFit (moved m v).held
-fit-moved m v can fit = go (eqb v.number m.first) where
-  go : (b : Bool) → HoldingsFit (cond b (debited v m.kind m.leaves) (given m.kind m.shares v)).held
-  go true = fit-debited v m.kind m.leaves fit
-  go false = fit-given v m.kind (share_of m.shares v.number) can.room fit
+  fit-listed : (v : AccountValue) (other : ℕ) (o : Option ℕ) → ((day : ℕ) → o ≡ Some day → IsDayNo day) → IsAccountNo other → CanTrust v → IsAccount v → IsAccount (listed_from v other o)
+  fit-listed v other (Some day) days in_range can is = laws.trust v (record { account = other; effective = day }) is can (record { number = in_range; day = days day refl })
+  fit-listed v other None days in_range can is = is
 
-limits-changed : (c : Setting) (n : ℕ) (i : Instruction) (v : AccountValue) → CanMove (movement_of i.act) v → IsAccount v → IsAccount (changed_by c n i.act v)
-limits-changed c n i v can is = record {
-  own_number = is.own_number;
-  own_holder = is.own_holder;
-  correction_fits = is.correction_fits;
-  holdings_fit = fit-moved (movement_of i.act) v can is.holdings_fit;
-}
+  first-fits : (c : Setting) (n : ℕ) (act : Act) (v : AccountValue) → AreRules c.rules → IsDayNo c.day → IsRecordNo n → InRange act → CanFirst c n act v → IsAccount v → IsAccount (first_after c n act v)
+  first-fits c n (Transfer from to kind amount) v rules day numbered in_range can is = laws.debit v kind amount is
+  first-fits c n (Surrender from kind amount) v rules day numbered in_range can is = laws.retire v _ is can (record { number = numbered; day = day })
+  first-fits c n (Delete from kind amount) v rules day numbered in_range can is = laws.retire v _ is can (record { number = numbered; day = day })
+  first-fits c n (ReturnExcess from to kind amount) v rules day numbered in_range can is = laws.debit v kind amount is
+  first-fits c n (Reverse a number) v rules day numbered in_range can is = laws.unretire v number is can
+  first-fits c n (Create to kind amount) v rules day numbered in_range can is = laws.credit v kind amount is can
+  first-fits c n (CentralMove from to kind amount) v rules day numbered in_range can is = laws.debit v kind amount is
+  first-fits c n (Trust a other) v rules day numbered in_range can is = fit-listed v other (effective_day c) (λ effective due. day-found c.rules.calendar (is_due c.rules.calendar c.day c.rules.list_lag) effective rules.working_days.each_day due) in_range.others_fit.0 can is
+  first-fits c n (Untrust a other) v rules day numbered in_range can is = laws.untrust v other is
+  first-fits c n (SetStatus a status) v rules day numbered in_range can is = laws.set_status v status is
+  first-fits c n (EnterEmissions a year tonnes) v rules day numbered in_range can is = laws.set_emissions v (record { year = year; tonnes = tonnes }) is can in_range.years_fit.0
+  first-fits c n (Assess a year) v rules day numbered in_range can is = fit-assessed v year (figure_of c.rules v year) in_range.years_fit.0 (figure-fits c.rules v year rules in_range.years_fit.0 is) is
 
-limits-after : (c : Setting) (s : State) (n : ℕ) (i : Instruction) → refusal c s i ≡ None → (ys : State)
-    → AllByRecursion (λ v. account s v.number ≡ Some v) ys → AllByRecursion IsAccount ys → AllByRecursion IsAccount (map (changed_by c n i.act) ys)
-limits-after c s n i none [] found all = tt
-limits-after c s n i none (y ∷ ys) found all = (limits-changed c n i y (can-move c s i y none found.0) all.0, limits-after c s n i none ys found.1 all.1)
+  fit-given : (v : AccountValue) (kind : AllowanceKind) (o : Option Share) → MatchOption o (Unit {0}) (λ share. held_by v kind + share.amount ≤ MOST_HELD)
+      → IsAccount v → IsAccount (option_map_or (λ share. credited v kind share.amount) o v)
+  fit-given v kind None room is = is
+  fit-given v kind (Some share) room is = laws.credit v kind share.amount is room
 
-pub limits-stay : LimitsStay
-limits-stay c s n i d all =
-    All-from_recursion IsAccount (step_by c s n i (refusal c s i)).0 (go (refusal c s i) refl) where
-      go : (r : Option Refusal) → refusal c s i ≡ r → AllByRecursion IsAccount (step_by c s n i r).0
-      go None none = limits-after c s n i none s (found-by_number s d) (recursion_from_All IsAccount s all)
-      go (Some q) refused = recursion_from_All IsAccount s all
+  fit-by_part : (c : Setting) (n : ℕ) (act : Act) (v : AccountValue) → AreRules c.rules → IsDayNo c.day → IsRecordNo n → InRange act → CanChange c n act v → IsAccount v → IsAccount (by_part c n act v)
+  fit-by_part c n act v rules day numbered in_range can is = go (eqb v.number (first act)) refl where
+    go : (b : Bool) → eqb v.number (first act) ≡ b → IsAccount (cond b (first_after c n act v) (given (movement_of act).kind (shares act) v))
+    go true same = first-fits c n act v rules day numbered in_range (can.as_first (eqb-true v.number (first act) same)) is
+    go false other = fit-given v (movement_of act).kind (share_of (shares act) v.number) can.room is
+
+  -- a state in which nothing refuses stays within its limits
+  limits-after : (c : Setting) (s : State) (n : ℕ) (i : Instruction) → AreRules c.rules → IsDayNo c.day → IsRecordNo n → InRange i.act → refusal c s i ≡ None → (ys : State)
+      → AllByRecursion (λ v. account s v.number ≡ Some v) ys → AllByRecursion (IsBehind n) ys → AllByRecursion IsAccount ys → AllByRecursion IsAccount (map (changed_by c n i.act) ys)
+  limits-after c s n i rules day numbered in_range none [] found behind all = tt
+  limits-after c s n i rules day numbered in_range none (y ∷ ys) found behind all =
+      (fit-changed (by_part c n i.act y) (fit-by_part c n i.act y rules day numbered in_range (can-change c s n i y none found.0 behind.0) all.0), limits-after c s n i rules day numbered in_range none ys found.1 behind.1 all.1) where
+        -- what acts leave of an account has no limits that change
+        fit-changed : (w : AccountValue) → IsAccount w → IsAccount (with_changes y w)
+        fit-changed w is = record {
+          own_number = all.0.own_number;
+          own_holder = all.0.own_holder;
+          correction_fits = all.0.correction_fits;
+          holdings_fit = is.holdings_fit;
+          users_fit = all.0.users_fit;
+          trusted_fit = is.trusted_fit;
+          rows_fit = is.rows_fit;
+          retired_fits = is.retired_fits;
+          emissions_fit = is.emissions_fit;
+          figures_fit = is.figures_fit;
+        }
+
+-- numbers below a record number are below the next one
+below-next : (n : ℕ) (rows : List RetirementRow) → AreBelow n (row_numbers rows) → AreBelow (n + 1) (row_numbers rows)
+below-next n [] all = tt
+below-next n (x ∷ xs) all = (let h = all.0 in omega (arith, h), below-next n xs all.1)
+
+below-added : (n : ℕ) (rows : List RetirementRow) (row : RetirementRow) → row.number ≡ n → AreBelow n (row_numbers rows) → AreBelow (n + 1) (row_numbers (rows ++ row ∷ []))
+below-added n [] row same all = (omega (arith, same), tt)
+below-added n (x ∷ xs) row same all = (let h = all.0 in omega (arith, h), below-added n xs row same all.1)
+
+below-marked : (n number : ℕ) (rows : List RetirementRow) → AreBelow n (row_numbers rows) → AreBelow (n + 1) (row_numbers (with_mark number rows))
+below-marked n number [] all = tt
+below-marked n number (x ∷ xs) all = (go (eqb x.number number), below-marked n number xs all.1) where
+  go : (b : Bool) → (cond b (record x { reversed = true }) x).number < n + 1
+  go true = let h = all.0 in omega (arith, h)
+  go false = let h = all.0 in omega (arith, h)
+
+behind-unretired : (n number : ℕ) (v : AccountValue) (o : Option RetirementRow) → IsBehind n v → IsBehind (n + 1) (option_map_or (unretired_row number v) o v)
+behind-unretired n number v None behind = below-next n v.rows behind
+behind-unretired n number v (Some row) behind = below-marked n number v.rows behind
+
+behind-assessed : (n : ℕ) (v : AccountValue) (year : ℕ) (r : Result ℤ FigureFault) → IsBehind n v → IsBehind (n + 1) (assessed v year r)
+behind-assessed n v year (Ok figure) behind = below-next n v.rows behind
+behind-assessed n v year (Err fault) behind = below-next n v.rows behind
+
+behind-listed : (n : ℕ) (v : AccountValue) (other : ℕ) (o : Option ℕ) → IsBehind n v → IsBehind (n + 1) (listed_from v other o)
+behind-listed n v other (Some day) behind = below-next n v.rows behind
+behind-listed n v other None behind = below-next n v.rows behind
+
+behind-first : (c : Setting) (n : ℕ) (act : Act) (v : AccountValue) → IsBehind n v → IsBehind (n + 1) (first_after c n act v)
+behind-first c n (Transfer from to kind amount) v behind = below-next n v.rows behind
+behind-first c n (Surrender from kind amount) v behind = below-added n v.rows _ refl behind
+behind-first c n (Delete from kind amount) v behind = below-added n v.rows _ refl behind
+behind-first c n (ReturnExcess from to kind amount) v behind = below-next n v.rows behind
+behind-first c n (Reverse a number) v behind = behind-unretired n number v (row_in v.rows number) behind
+behind-first c n (Create to kind amount) v behind = below-next n v.rows behind
+behind-first c n (CentralMove from to kind amount) v behind = below-next n v.rows behind
+behind-first c n (Trust a other) v behind = behind-listed n v other (effective_day c) behind
+behind-first c n (Untrust a other) v behind = below-next n v.rows behind
+behind-first c n (SetStatus a status) v behind = below-next n v.rows behind
+behind-first c n (EnterEmissions a year tonnes) v behind = below-next n v.rows behind
+behind-first c n (Assess a year) v behind = behind-assessed n v year (figure_of c.rules v year) behind
+
+behind-given : (n : ℕ) (v : AccountValue) (kind : AllowanceKind) (o : Option Share) → IsBehind n v → IsBehind (n + 1) (option_map_or (λ share. credited v kind share.amount) o v)
+behind-given n v kind None behind = below-next n v.rows behind
+behind-given n v kind (Some share) behind = below-next n v.rows behind
+
+behind-changed : (c : Setting) (n : ℕ) (act : Act) (v : AccountValue) → IsBehind n v → IsBehind (n + 1) (changed_by c n act v)
+behind-changed c n act v behind = go (eqb v.number (first act)) where
+  go : (b : Bool) → IsBehind (n + 1) (with_changes v (cond b (first_after c n act v) (given (movement_of act).kind (shares act) v)))
+  go true = behind-first c n act v behind
+  go false = behind-given n v (movement_of act).kind (share_of (shares act) v.number) behind
+
+behind-after : (c : Setting) (n : ℕ) (act : Act) (ys : State) → AllByRecursion (IsBehind n) ys → AllByRecursion (IsBehind (n + 1)) (map (changed_by c n act) ys)
+behind-after c n act [] all = tt
+behind-after c n act (y ∷ ys) all = (behind-changed c n act y all.0, behind-after c n act ys all.1)
+
+behind-next : (n : ℕ) (ys : State) → AllByRecursion (IsBehind n) ys → AllByRecursion (IsBehind (n + 1)) ys
+behind-next n [] all = tt
+behind-next n (y ∷ ys) all = (below-next n y.rows all.0, behind-next n ys all.1)
+
+pub stays-ready : ChangesKeepLimits → StaysReady
+stays-ready laws c s n i rules day numbered fit ready = go (refusal c s i) refl where
+  accounts : AllByRecursion IsAccount s
+  accounts = recursion_from_All IsAccount s ready.fit
+
+  late : AllByRecursion (IsBehind n) s
+  late = recursion_from_All (IsBehind n) s ready.behind
+
+  go : (r : Option Refusal) → refusal c s i ≡ r → IsReady (n + 1) (step_by c s n i r).0
+  go None none = record {
+    once = subst (IsDistinct eqb) (sym (numbers-effect c s n i)) ready.once;
+    fit = All-from_recursion IsAccount (map (changed_by c n i.act) s) (limits-after laws c s n i rules day numbered (record { years_fit = recursion_from_All IsYearNo (years i.act) fit.each_year; others_fit = recursion_from_All IsAccountNo (others i.act) fit.each_other }) none s (found-by_number s ready.once) late accounts);
+    behind = All-from_recursion (IsBehind (n + 1)) (map (changed_by c n i.act) s) (behind-after c n i.act s late);
+  }
+  go (Some q) refused = record {
+    once = ready.once;
+    fit = ready.fit;
+    behind = All-from_recursion (IsBehind (n + 1)) s (behind-next n s late);
+  }

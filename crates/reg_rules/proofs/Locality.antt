@@ -8,19 +8,21 @@ use Rattle.std.proofs.lemmas.List.{get_or_default}
 use Rattle.std.proofs.lemmas.List.Elements.{recursion_from_All}
 use Rattle.reg_base.specs.declared.movement.Share.{Share}
 use Rattle.reg_base.specs.declared.act.Act.{Act}
+use Rattle.reg_base.specs.declared.act.Act.TheVariants.{Assess}
 use Rattle.reg_base.specs.declared.instruction.Instruction.{Instruction}
 use Rattle.reg_base.specs.declared.refusals.Refusal.{Refusal}
 use Rattle.reg_base.specs.declared.refusals.Refusal.TheVariants.{UnknownAccount}
 use Rattle.reg_base.specs.Refusals.{checks}
 use Rattle.reg_base.specs.Acts.{movement_of, first, shares, parties}
 use Rattle.reg_base.specs.Footprint.{all_known, each_once, footprint}
-use Rattle.reg_account.specs.Account.{AccountValue, credited, debited}
+use Rattle.reg_account.specs.Years.{figure_in}
+use Rattle.reg_account.specs.Account.{AccountValue, credited}
 use Rattle.reg_rules.specs.declared.reply.HeldNow.{HeldNow}
 use Rattle.reg_rules.specs.declared.reply.Reply.TheVariants.{Done}
 use Rattle.reg_rules.specs.State.{State, Setting, Seen, Receiver, seen, numbers, account}
 use Rattle.reg_rules.specs.Checks.{fails, refusal}
-use Rattle.reg_rules.specs.Effect.{given, with_changes, changed_by, effect}
-use Rattle.reg_rules.specs.Step.{step, step_by, held_now, closing}
+use Rattle.reg_rules.specs.Effect.{first_after, given, with_changes, changed_by, effect}
+use Rattle.reg_rules.specs.Step.{step, step_by, held_now, closing, figure_now}
 use Rattle.reg_rules.specs.Laws.{StepIsLocal, OthersStay, NumbersStay, RefusedChangesNothing}
 use Rattle.reg_rules.proofs.Effects.{account-effect, numbers-effect}
 use Rattle.reg_rules.proofs.Numbers.{account-number}
@@ -78,14 +80,26 @@ closing-local c s t i same =
     map-same (held_now s) (held_now t) (footprint c.directory i.act)
     (all-weaker (λ a. account s a ≡ account t a) (λ a. held_now s a ≡ held_now t a) (λ a e. ap (now-of a) e) (footprint c.directory i.act) same)
 
-reply-by-local : (c : Setting) (s t : State) (n : ℕ) (i : Instruction) (r : Option Refusal)
+-- a figure is that of the act's first account
+figure-local : (s t : State) (act : Act) → account s (first act) ≡ account t (first act) → figure_now s act ≡ figure_now t act
+figure-local s t (Assess account year) same = ap (λ o. option_map_or (λ (v : AccountValue). figure_in v.figures year) o None) same
+figure-local s t act same = refl
+
+-- the first account of an act is in its footprint, if the directory has all that must be known
+at-first : (c : Setting) (i : Instruction) (P : ℕ → Type 0) → all_known c.directory i.act ≡ true → AllByRecursion P (footprint c.directory i.act) → P (first i.act)
+at-first c i P known all = (at-all P (parties i.act) (subst (λ b. AllByRecursion P (cond b (each_once (parties i.act)) [])) known all)).0
+
+reply-by-local : (c : Setting) (s t : State) (n : ℕ) (i : Instruction) (r : Option Refusal) → refusal c s i ≡ r
     → AllByRecursion (λ a. account s a ≡ account t a) (footprint c.directory i.act) → (step_by c s n i r).1 ≡ (step_by c t n i r).1
-reply-by-local c s t n i None same =
-    ap (λ (now : List HeldNow). Done now None)
+reply-by-local c s t n i None none same =
+    let known = not-false (all_known c.directory i.act) (passed c s i UnknownAccount none refl) in
+    ap (λ (now : List HeldNow). Done now (figure_now (effect c s n i) i.act))
     (closing-local c (effect c s n i) (effect c t n i) i
     (all-weaker (λ a. account s a ≡ account t a) (λ a. account (effect c s n i) a ≡ account (effect c t n i) a)
     (effect-local c s t n i) (footprint c.directory i.act) same))
-reply-by-local c s t n i (Some q) same = refl
+    ∙ ap (λ f. Done (closing c (effect c t n i) i) f)
+    (figure-local (effect c s n i) (effect c t n i) i.act (effect-local c s t n i (first i.act) (at-first c i (λ a. account s a ≡ account t a) known same)))
+reply-by-local c s t n i (Some q) refused same = refl
 
 after-by-local : (c : Setting) (s t : State) (n : ℕ) (i : Instruction) (r : Option Refusal) (a : ℕ)
     → account s a ≡ account t a → account (step_by c s n i r).0 a ≡ account (step_by c t n i r).0 a
@@ -95,7 +109,7 @@ after-by-local c s t n i (Some q) a same = same
 pub reply-local : (c : Setting) (s t : State) (n : ℕ) (i : Instruction)
     → AllByRecursion (λ a. account s a ≡ account t a) (footprint c.directory i.act) → (step c s n i).1 ≡ (step c t n i).1
 reply-local c s t n i same =
-    reply-by-local c s t n i (refusal c s i) same ∙ ap (λ r. (step_by c t n i r).1) (refusal-local c s t i same)
+    reply-by-local c s t n i (refusal c s i) refl same ∙ ap (λ r. (step_by c t n i r).1) (refusal-local c s t i same)
 
 pub after-local : (c : Setting) (s t : State) (n : ℕ) (i : Instruction)
     → AllByRecursion (λ a. account s a ≡ account t a) (footprint c.directory i.act)
@@ -110,9 +124,9 @@ step-local c s t n i agree =
     (reply-local c s t n i same, after-local c s t n i same)
 
 -- an act leaves an account that has no part in it
-no-part : (c : Setting) (n : ℕ) (act : Act) (v : AccountValue) → AllByRecursion (λ a. eqb a v.number ≡ false) (parties act) → changed_by c n act v ≡ v
+pub no-part : (c : Setting) (n : ℕ) (act : Act) (v : AccountValue) → AllByRecursion (λ a. eqb a v.number ≡ false) (parties act) → changed_by c n act v ≡ v
 no-part c n act v others =
-    ap (λ b. with_changes v (cond b (debited v (movement_of act).kind (movement_of act).leaves) (given (movement_of act).kind (shares act) v)))
+    ap (λ b. with_changes v (cond b (first_after c n act v) (given (movement_of act).kind (shares act) v)))
     (ne_eqb v.number (first act) (λ same. eqb-false (first act) v.number others.0 (sym same)))
     ∙ ap (λ o. with_changes v (option_map_or (λ share. credited v (movement_of act).kind share.amount) o v)) (no-share (shares act) others.1) where
       no-share : (shared : List Share) → AllByRecursion (λ a. eqb a v.number ≡ false) (map (λ share. share.to) shared) → find (λ share. eqb share.to v.number) shared ≡ None

@@ -1,7 +1,7 @@
 -- What an accepted act that moves allowances from one account to another makes of the state.
-use Rattle.std.proofs.Common.{◌≡◌, ℕ, ◌+◌, ◌-◌, ◌≤◌, Bool, true, false, cond, ◌||◌, ◌&&◌, eqb, ◌∷◌, map, Option, Some, None, refl, sym, ap, ◌∙◌, subst}
+use Rattle.std.proofs.Common.{◌≡◌, ℕ, ◌+◌, ◌-◌, ◌≤◌, Bool, true, false, cond, ◌||◌, ◌&&◌, eqb, [], ◌∷◌, map, Option, Some, None, refl, sym, ap, ◌∙◌, subst}
 use Rattle.std.specs.Prelude.{◌≢◌}
-use Rattle.std.specs.Option.{option_map, option_map_or}
+use Rattle.std.specs.Option.{option_map, option_map_or, option_to_list}
 use Rattle.std.proofs.lemmas.Bool.{eq-eqb, ne_eqb, eqb-false, ltb-false, not-false, and_parts}
 use Rattle.reg_base.specs.declared.kinds.AllowanceKind.{AllowanceKind}
 use Rattle.reg_base.specs.declared.kinds.AllowanceKind.TheVariants.{General, Aviation}
@@ -9,48 +9,57 @@ use Rattle.reg_base.specs.declared.movement.Share.{Share}
 use Rattle.reg_base.specs.declared.movement.Movement.{Movement}
 use Rattle.reg_base.specs.declared.refusals.Refusal.TheVariants.{SameAccount, WrongAccountKind, NotEnough}
 use Rattle.reg_base.specs.declared.instruction.Instruction.{Instruction}
-use Rattle.reg_base.specs.Acts.{between, movement_of}
+use Rattle.reg_base.specs.Acts.{between, movement_of, parties, also_known}
 use Rattle.reg_account.specs.declared.parts.Holdings.{Holdings}
+use Rattle.reg_account.specs.Trusted.{effective_in}
+use Rattle.reg_account.specs.Years.{emissions_in, figure_in}
 use Rattle.reg_account.specs.Account.{AccountValue, amount_of, with_amount, held_by, credited, debited}
 use Rattle.reg_rules.specs.ActRules.{rule_of, fits_first, fits_receiver}
 use Rattle.reg_rules.specs.State.{State, Setting, seen_by, account, held, passes}
-use Rattle.reg_rules.specs.Checks.{has_repeat, has_right_kinds, is_short, refusal}
-use Rattle.reg_rules.specs.Effect.{moved, with_changes, effect}
+use Rattle.reg_rules.specs.Checks.{has_repeat, receivers_fit, has_right_kinds, is_short, refusal}
+use Rattle.reg_rules.specs.Effect.{first_after, given, with_changes, effect}
 use Rattle.reg_rules.specs.Step.{step_by}
-use Rattle.reg_rules.specs.Laws.{set_aside, after_step, IsMoved}
+use Rattle.reg_rules.specs.Laws.{set_aside, after_step}
+use Rattle.reg_rules.specs.ActLaws.{IsMoved}
 use Rattle.reg_rules.proofs.Numbers.{account-number}
 use Rattle.reg_rules.proofs.Passed.{passed}
+use Rattle.reg_rules.proofs.Repeats.{repeats-none}
 use Rattle.reg_rules.proofs.Effects.{account-effect}
-use Rattle.reg_rules.proofs.Applied.{or-left}
+use Rattle.reg_rules.proofs.Firsts.{or-left}
 
 -- the kind that was set, and the other one
-amount-with : (h : Holdings) (kind : AllowanceKind) (n : ℕ) → amount_of (with_amount h kind n) kind ≡ n
+pub amount-with : (h : Holdings) (kind : AllowanceKind) (n : ℕ) → amount_of (with_amount h kind n) kind ≡ n
 amount-with h General n = refl
 amount-with h Aviation n = refl
 
-amount-without : (h : Holdings) (kind other : AllowanceKind) (n : ℕ) → other ≢ kind → amount_of (with_amount h kind n) other ≡ amount_of h other
+pub amount-without : (h : Holdings) (kind other : AllowanceKind) (n : ℕ) → other ≢ kind → amount_of (with_amount h kind n) other ≡ amount_of h other
 amount-without h General General n apart = absurd (apart refl)
 amount-without h General Aviation n apart = refl
 amount-without h Aviation General n apart = refl
 amount-without h Aviation Aviation n apart = absurd (apart refl)
 
 -- a test that passes passes at an account
-there : (test : AccountValue → Bool) (o : Option AccountValue) → passes test o ≡ true → (v : AccountValue) × (o ≡ Some v)
+pub there : (test : AccountValue → Bool) (o : Option AccountValue) → passes test o ≡ true → (v : AccountValue) × (o ≡ Some v)
 there test None h = absurd (let e : false ≡ true = h in cc)
 there test (Some v) h = (v, refl)
 
-held-mapped : (f : AccountValue → AccountValue) (k : AllowanceKind) (o : Option AccountValue) → ((v : AccountValue) → held_by (f v) k ≡ held_by v k)
-    → option_map_or (λ v. held_by v k) (option_map f o) 0 ≡ option_map_or (λ v. held_by v k) o 0
-held-mapped f k None same = refl
-held-mapped f k (Some v) same = same v
+-- what a change keeps of each account, a number leads to as before
+mapped-or : {Y : Type 0} (m : AccountValue → Y) (d : Y) (f : AccountValue → AccountValue) (o : Option AccountValue) → ((v : AccountValue) → m (f v) ≡ m v) → option_map_or m (option_map f o) d ≡ option_map_or m o d
+mapped-or m d f None same = refl
+mapped-or m d f (Some v) same = same v
 
 aside-mapped : (f : AccountValue → AccountValue) (o : Option AccountValue) → ((v : AccountValue) → set_aside (f v) ≡ set_aside v) → option_map set_aside (option_map f o) ≡ option_map set_aside o
 aside-mapped f None same = refl
 aside-mapped f (Some v) same = ap Some (same v)
 
+status-mapped : (f : AccountValue → AccountValue) (o : Option AccountValue) → ((v : AccountValue) → (f v).status ≡ v.status) → option_map (λ (v : AccountValue). v.status) (option_map f o) ≡ option_map (λ (v : AccountValue). v.status) o
+status-mapped f None same = refl
+status-mapped f (Some v) same = ap Some (same v)
+
 module _ (from to : ℕ) (kind : AllowanceKind) (amount : ℕ) where
+  -- an account after the movement: the giver debited, and the other one with its share
   after : AccountValue → AccountValue
-  after v = with_changes v (moved (between from to kind amount) v)
+  after v = with_changes v (cond (eqb v.number from) (debited v kind amount) (given kind (record { to = to; amount = amount } ∷ []) v))
 
   -- an account after the movement, by whether it gives and whether it receives
   after-by : Bool → Bool → AccountValue → AccountValue
@@ -69,6 +78,16 @@ module _ (from to : ℕ) (kind : AllowanceKind) (amount : ℕ) where
   after-other_kind : (other : AllowanceKind) → other ≢ kind → (v : AccountValue) → held_by (after v) other ≡ held_by v other
   after-other_kind other apart v =
       ap (λ (w : AccountValue). held_by w other) (after-is v (eqb v.number from) (eqb to v.number) refl refl) ∙ kept-other_kind other apart (eqb v.number from) (eqb to v.number) v
+
+  -- what does not look at the holdings stays
+  kept : {Y : Type 0} (m : AccountValue → Y) → ((v : AccountValue) (h : Holdings) → m (record v { held = h }) ≡ m v) → (gives takes : Bool) (v : AccountValue) → m (after-by gives takes v) ≡ m v
+  unfolding after-by
+  kept m same true takes v = same v _
+  kept m same false true v = same v _
+  kept m same false false v = refl
+
+  after-keeps : {Y : Type 0} (m : AccountValue → Y) → ((v : AccountValue) (h : Holdings) → m (record v { held = h }) ≡ m v) → (v : AccountValue) → m (after v) ≡ m v
+  after-keeps m same v = ap m (after-is v (eqb v.number from) (eqb to v.number) refl refl) ∙ kept m same (eqb v.number from) (eqb to v.number) v
 
   after-aside : (v : AccountValue) → set_aside (after v) ≡ set_aside v
   unfolding after
@@ -101,9 +120,14 @@ module _ (from to : ℕ) (kind : AllowanceKind) (amount : ℕ) where
         ap (λ o. option_map_or (λ w. held_by w kind) o 0) (changed to ∙ ap (option_map after) takes)
         ∙ after-taker taker (λ same. two (sym same ∙ account-number s to taker takes)) (account-number s to taker takes)
         ∙ ap (λ o. option_map_or (λ w. held_by w kind) o 0 + amount) (sym takes);
-    other_kinds = λ a other differs. ap (λ o. option_map_or (λ w. held_by w other) o 0) (changed a) ∙ held-mapped after other (account s a) (after-other_kind other differs);
+    other_kinds = λ a other differs. ap (λ o. option_map_or (λ w. held_by w other) o 0) (changed a) ∙ mapped-or (λ v. held_by v other) 0 after (account s a) (after-other_kind other differs);
     other_accounts = λ a not-from not-to. changed a ∙ stays a not-from not-to (account s a) refl;
-    rest = λ a. ap (option_map set_aside) (changed a) ∙ aside-mapped after (account s a) after-aside;
+    rows_stay = λ a. ap (λ o. option_map_or (λ (w : AccountValue). w.rows) o []) (changed a) ∙ mapped-or (λ v. v.rows) [] after (account s a) (after-keeps (λ v. v.rows) (λ v h. refl));
+    emissions_stay = λ a year. ap (λ o. option_map_or (λ (w : AccountValue). emissions_in w.emissions year) o None) (changed a) ∙ mapped-or (λ v. emissions_in v.emissions year) None after (account s a) (after-keeps (λ v. emissions_in v.emissions year) (λ v h. refl));
+    figures_stay = λ a year. ap (λ o. option_map_or (λ (w : AccountValue). figure_in w.figures year) o None) (changed a) ∙ mapped-or (λ v. figure_in v.figures year) None after (account s a) (after-keeps (λ v. figure_in v.figures year) (λ v h. refl));
+    lists_stay = λ a other. ap (λ o. option_map_or (λ (w : AccountValue). effective_in w.trusted other) o None) (changed a) ∙ mapped-or (λ v. effective_in v.trusted other) None after (account s a) (after-keeps (λ v. effective_in v.trusted other) (λ v h. refl));
+    statuses_stay = λ a. ap (option_map (λ (w : AccountValue). w.status)) (changed a) ∙ status-mapped after (account s a) (after-keeps (λ v. v.status) (λ v h. refl));
+    rest_stays = λ a. ap (option_map set_aside) (changed a) ∙ aside-mapped after (account s a) after-aside;
   } where
     stays : (a : ℕ) → a ≢ from → a ≢ to → (o : Option AccountValue) → account s a ≡ o → option_map after o ≡ o
     stays a not-from not-to None found = refl
@@ -112,42 +136,44 @@ module _ (from to : ℕ) (kind : AllowanceKind) (amount : ℕ) where
         ap Some (after-neither v (λ same. not-from (sym number ∙ same)) (λ same. not-to (sym number ∙ same)))
 
 module _ (c : Setting) (s : State) (n : ℕ) (i : Instruction) (from to : ℕ) (kind : AllowanceKind) (amount : ℕ)
-    (is : movement_of i.act ≡ between from to kind amount) (none : refusal c s i ≡ None) where
+    (is : movement_of i.act ≡ between from to kind amount) (debits : (v : AccountValue) → first_after c n i.act v ≡ debited v kind amount) (none : refusal c s i ≡ None) where
   two : from ≢ to
   two = λ same.
       eqb-false to from (or-left (eqb to from) false (or-left (eqb to from || false) false
-      (ap (λ (m : Movement). has_repeat (m.first ∷ map (λ share. share.to) m.shares)) (sym is) ∙ passed c s i SameAccount none refl))) (sym same)
+      (ap (λ (m : Movement). has_repeat (m.first ∷ map (λ share. share.to) m.shares)) (sym is)
+      ∙ repeats-none (parties i.act) (option_to_list (also_known i.act)) (passed c s i SameAccount none refl)))) (sym same)
 
   kinds : has_right_kinds (rule_of i.act) (seen_by (between from to kind amount) s) ≡ true
   kinds =
       ap (λ m. has_right_kinds (rule_of i.act) (seen_by m s)) (sym is)
       ∙ not-false (has_right_kinds (rule_of i.act) (seen_by (movement_of i.act) s)) (passed c s i WrongAccountKind none refl)
 
-  first-fits : AccountValue → Bool
-  first-fits v = fits_first (rule_of i.act).kinds v.kind
-
-  receiver-fits : AccountValue → Bool
-  receiver-fits v = fits_receiver (rule_of i.act).kinds v.kind
-
-  both : (passes first-fits (account s from) ≡ true) × ((passes receiver-fits (account s to) && true) ≡ true)
-  unfolding first-fits receiver-fits
-  both = let p = and_parts (passes first-fits (account s from)) (passes receiver-fits (account s to) && true) kinds in (p.0, p.1)
+  -- both accounts are there
+  both : (giver : AccountValue) × (account s from ≡ Some giver) × ((taker : AccountValue) × (account s to ≡ Some taker))
+  both =
+      let giver = there (λ v. fits_first (rule_of i.act).kinds v.kind && receivers_fit (rule_of i.act).kinds v.kind (seen_by (between from to kind amount) s)) (account s from) kinds in
+      let at : (fits_first (rule_of i.act).kinds giver.0.kind && receivers_fit (rule_of i.act).kinds giver.0.kind (seen_by (between from to kind amount) s)) ≡ true =
+      ap (passes (λ v. fits_first (rule_of i.act).kinds v.kind && receivers_fit (rule_of i.act).kinds v.kind (seen_by (between from to kind amount) s))) (sym giver.1) ∙ kinds in
+      let received = (and_parts (fits_first (rule_of i.act).kinds giver.0.kind) (receivers_fit (rule_of i.act).kinds giver.0.kind (seen_by (between from to kind amount) s)) at).1 in
+      let taker = there (λ v. fits_receiver (rule_of i.act).kinds giver.0.kind v.kind) (account s to)
+      (and_parts (passes (λ v. fits_receiver (rule_of i.act).kinds giver.0.kind v.kind) (account s to)) true received).0 in
+      (giver.0, giver.1, taker)
 
   enough : amount ≤ held s from kind
   enough = ltb-false (held s from kind) amount (ap (λ m. is_short m (seen_by m s)) (sym is) ∙ passed c s i NotEnough none refl)
 
   changed : (a : ℕ) → account (effect c s n i) a ≡ option_map (after from to kind amount) (account s a)
   unfolding after
-  changed a = account-effect c s n i a ∙ ap (λ (m : Movement). option_map (λ v. with_changes v (moved m v)) (account s a)) is
+  changed a =
+      account-effect c s n i a
+      ∙ ap (λ (m : Movement). option_map (λ v. with_changes v (cond (eqb v.number m.first) (first_after c n i.act v) (given m.kind m.shares v))) (account s a)) is
+      ∙ ap (λ (f : AccountValue → AccountValue). option_map (λ v. with_changes v (cond (eqb v.number from) (f v) (given kind (record { to = to; amount = amount } ∷ []) v))) (account s a)) (λ j v. debits v j)
 
   moved-effect : IsMoved s (effect c s n i) from to kind amount
-  moved-effect =
-      let giver = there first-fits (account s from) both.0 in
-      let taker = there receiver-fits (account s to) (and_parts (passes receiver-fits (account s to)) true both.1).0 in
-      moved-state from to kind amount s (effect c s n i) two changed giver.0 taker.0 giver.1 taker.1 enough
+  moved-effect = moved-state from to kind amount s (effect c s n i) two changed both.0 both.2.0 both.1 both.2.1 enough
 
 -- an accepted act with such a movement moves its amount
 pub moves : (c : Setting) (s : State) (n : ℕ) (i : Instruction) (from to : ℕ) (kind : AllowanceKind) (amount : ℕ)
-    → movement_of i.act ≡ between from to kind amount → refusal c s i ≡ None → IsMoved s (after_step c s n i) from to kind amount
-moves c s n i from to kind amount is none =
-    subst (λ (r : State). IsMoved s r from to kind amount) (ap (λ r. (step_by c s n i r).0) (sym none)) (moved-effect c s n i from to kind amount is none)
+    → movement_of i.act ≡ between from to kind amount → ((v : AccountValue) → first_after c n i.act v ≡ debited v kind amount) → refusal c s i ≡ None → IsMoved s (after_step c s n i) from to kind amount
+moves c s n i from to kind amount is debits none =
+    subst (λ (r : State). IsMoved s r from to kind amount) (ap (λ r. (step_by c s n i r).0) (sym none)) (moved-effect c s n i from to kind amount is debits none)

@@ -1,54 +1,89 @@
 -- The table of checks. The first that fails names the refusal.
-use Rattle.std.specs.Prelude.{ℕ, ◌+◌, Bool, false, not, ◌==◌, ◌&&◌, ◌||◌, nat_lt, List, [], ◌∷◌, find, Option, is_none}
+use Rattle.std.specs.Prelude.{ℕ, ◌+◌, ℤ, pos, Bool, true, false, not, ◌==◌, ◌&&◌, ◌||◌, nat_le, nat_lt, int_lt, List, [], ◌∷◌, find, reverse, length, Option, None, is_none, Result, Ok, Err, if◌then◌else◌}
 use Rattle.std.specs.Option.{option_map_or}
 use Rattle.std.specs.List.{list_all, list_any}
-use Rattle.reg_base.specs.declared.limits.TheConstants.{MOST_HELD}
+use Rattle.reg_base.specs.declared.limits.TheConstants.{MOST_HELD, MOST_ROWS, MOST_EMISSIONS}
+use Rattle.reg_base.specs.declared.kinds.AccountKind.{AccountKind}
 use Rattle.reg_base.specs.declared.kinds.AllowanceKind.{AllowanceKind}
 use Rattle.reg_base.specs.declared.refusals.Refusal.{Refusal}
 use Rattle.reg_base.specs.declared.refusals.Refusal.TheVariants.{UnknownAccount, SameAccount, WrongAccountKind, SourceStatus, DestinationStatus, NotProposer, ApprovalMissing, SameRepresentative, NotApprover, NotTrusted, OutsideCalendar, NotDue, KindNotAllowed, ZeroAmount, UnknownTransaction, AlreadyReversed, WindowClosed, NotEnough, HoldingTooLarge, RetiredTooLarge, RowsFull, WouldBecomeNonCompliant, AlreadyTrusted, NotOnList, ListFull, YearOutsidePeriod, AmountTooLarge, EmissionsMissing}
 use Rattle.reg_base.specs.declared.movement.Movement.{Movement}
 use Rattle.reg_base.specs.declared.act.Act.{Act}
+use Rattle.reg_base.specs.declared.act.Act.TheVariants.{Surrender, Delete, Reverse, Create, Assess}
 use Rattle.reg_base.specs.declared.instruction.Instruction.{Instruction}
-use Rattle.reg_base.specs.Acts.{movement_of, amounts}
+use Rattle.reg_base.specs.Acts.{movement_of, amounts, tonnes, years}
 use Rattle.reg_base.specs.Calendar.{due}
+use Rattle.reg_base.specs.Rules.{RulesValue, may_surrender}
 use Rattle.reg_base.specs.Footprint.{must_be_known, all_known}
 use Rattle.reg_base.specs.Refusals.{checks}
-use Rattle.reg_account.specs.Account.{held_by}
-use Rattle.reg_rules.specs.declared.rule.LagRule.{LagRule}
-use Rattle.reg_rules.specs.declared.rule.LagRule.TheVariants.{ByTrust, NoLag}
+use Rattle.reg_account.specs.declared.rows.Retirement.{Retirement}
+use Rattle.reg_account.specs.declared.rows.Retirement.TheVariants.{Surrendered, Deleted}
+use Rattle.reg_account.specs.declared.rows.RetirementRow.{RetirementRow}
+use Rattle.reg_account.specs.declared.years.Figure.{Figure}
+use Rattle.reg_account.specs.declared.figure.FigureFault.{FigureFault}
+use Rattle.reg_account.specs.declared.figure.FigureFault.TheVariants.{YearOutsidePeriod as OutsidePeriod, Missing}
+use Rattle.reg_account.specs.Rows.{row_in}
+use Rattle.reg_account.specs.Account.{AccountValue, held_by, retired_by, unretired}
+use Rattle.reg_account.specs.Figure.{is_in_period, is_row_counted, figure_of}
+use Rattle.reg_rules.specs.declared.rule.KindRule.{KindRule}
 use Rattle.reg_rules.specs.declared.rule.ActRule.{ActRule}
-use Rattle.reg_rules.specs.ActRules.{rule_of, fits_first, fits_receiver, fits_status, is_not_closed}
+use Rattle.reg_rules.specs.ActRules.{rule_of, fits_first, fits_receiver, fits_source, fits_first_receiver, is_not_closed}
 use Rattle.reg_rules.specs.State.{State, Setting, Receiver, Seen, seen, passes}
+use Rattle.reg_rules.specs.Entitlements.{is_not_proposer, is_same_representative, is_not_approver}
+use Rattle.reg_rules.specs.Trust.{due_day, lacks_approval, is_not_trusted, has_no_effective_day, is_already_trusted, is_not_on_list, is_list_full}
 
 -- some number occurs twice
 abbrev pub has_repeat : List ℕ → Bool
 has_repeat [] = false
 has_repeat (x ∷ xs) = list_any (λ y. y == x) xs || has_repeat xs
 
+-- each account that receives is of a kind that the row of the act allows after a first account of this kind
+abbrev pub receivers_fit : KindRule → AccountKind → Seen → Bool
+receivers_fit rule first e = list_all (λ r. passes (λ v. fits_receiver rule first v.kind) r.account) e.receivers
+
 -- the accounts are of kinds that the row of the act allows
 abbrev pub has_right_kinds : ActRule → Seen → Bool
-has_right_kinds rule e =
-    passes (λ v. fits_first rule.kinds v.kind) e.first && list_all (λ r. passes (λ v. fits_receiver rule.kinds v.kind) r.account) e.receivers
+has_right_kinds rule e = passes (λ v. fits_first rule.kinds v.kind && receivers_fit rule.kinds v.kind e) e.first
 
--- the first account has the status that the row of the act needs
+-- the first account has the status that the row of the act needs of a source
 abbrev pub source_allows : ActRule → Seen → Bool
-source_allows rule e = passes (λ v. fits_status rule.status v.status) e.first
+source_allows rule e = passes (λ v. fits_source rule.status v.status) e.first
 
--- no account that receives is closed
-abbrev pub destination_allows : Seen → Bool
-destination_allows e = list_all (λ r. passes (λ v. is_not_closed v.status) r.account) e.receivers
+-- no account that receives is closed; the first receives what is created
+abbrev pub destination_allows : ActRule → Seen → Bool
+destination_allows rule e =
+    passes (λ v. fits_first_receiver rule.status v.status) e.first && list_all (λ r. passes (λ v. is_not_closed v.status) r.account) e.receivers
 
--- how many working days lie between the proposal and the due day
-abbrev pub lag_by : Setting → LagRule → ℕ
-lag_by c ByTrust = c.rules.trusted_lag
-lag_by c NoLag = 0
+-- the table of surrenders lacks the first account's kind together with the kind of the allowances
+abbrev pub is_kind_not_allowed : RulesValue → Act → Seen → Bool
+is_kind_not_allowed rules (Surrender from kind amount) e = passes (λ v. not (may_surrender rules v.kind kind)) e.first
+is_kind_not_allowed rules act e = false
 
-abbrev pub lag_of : Setting → Seen → Act → ℕ
-lag_of c e act = lag_by c (rule_of act).lag
+-- the act reverses a surrender or a deletion
+abbrev pub is_reversal : Act → Bool
+is_reversal (Reverse account number) = true
+is_reversal act = false
 
--- the day on which the instruction falls due, if the calendar has it
-abbrev pub due_day : Setting → Seen → Instruction → Option ℕ
-due_day c e i = due c.rules.calendar i.proposed (lag_of c e i.act)
+-- the surrender or deletion that is to be reversed, if the first account has it
+abbrev pub row_to_reverse : Act → Seen → Option RetirementRow
+row_to_reverse (Reverse account number) e = option_map_or (λ v. row_in v.rows number) e.first None
+row_to_reverse act e = None
+
+-- the first account has no surrender or deletion with the record number that is to be reversed
+abbrev pub is_unknown_transaction : Act → Seen → Bool
+is_unknown_transaction act e = is_reversal act && is_none (row_to_reverse act e)
+
+-- what is to be reversed was reversed before
+abbrev pub is_already_reversed : Act → Seen → Bool
+is_already_reversed act e = option_map_or (λ row. row.reversed) (row_to_reverse act e) false
+
+-- the last day on which the row could be reversed is over; without such a day in the calendar, the window stays open
+abbrev pub is_past_window : Setting → RetirementRow → Bool
+is_past_window c row = option_map_or (λ last. nat_lt last c.day) (due c.rules.calendar row.day c.rules.reversal_window) false
+
+-- the window for the reversal is closed
+abbrev pub is_window_closed : Setting → Act → Seen → Bool
+is_window_closed c act e = option_map_or (is_past_window c) (row_to_reverse act e) false
 
 -- the first account holds fewer allowances of the kind than leave it
 abbrev pub is_short : Movement → Seen → Bool
@@ -58,9 +93,90 @@ is_short m e = nat_lt (option_map_or (λ v. held_by v m.kind) e.first 0) m.leave
 abbrev pub overfills : AllowanceKind → Receiver → Bool
 overfills kind r = nat_lt MOST_HELD (option_map_or (λ v. held_by v kind) r.account 0 + r.amount)
 
+-- the first account would hold more than it may with what is created on it, or comes back to it
+abbrev pub overfills_first : Act → Seen → Bool
+overfills_first (Create to kind amount) e = overfills kind (record { account = e.first; amount = amount })
+overfills_first (Reverse account number) e =
+    option_map_or (λ row. overfills row.kind (record { account = e.first; amount = row.amount })) (row_to_reverse (Reverse account number) e) false
+overfills_first act e = false
+
 -- some account that receives would hold more than it may
 abbrev pub overfills_some : Movement → Seen → Bool
 overfills_some m e = list_any (overfills m.kind) e.receivers
+
+-- the account would have surrendered (or deleted) more allowances of the kind than it may
+abbrev pub retires_too_much : Retirement → AllowanceKind → ℕ → Seen → Bool
+retires_too_much way kind amount e = passes (λ v. nat_lt MOST_HELD (retired_by v way kind + amount)) e.first
+
+-- more would be surrendered, or deleted, than may be
+abbrev pub is_retired_too_large : Act → Seen → Bool
+is_retired_too_large (Surrender from kind amount) e = retires_too_much Surrendered kind amount e
+is_retired_too_large (Delete from kind amount) e = retires_too_much Deleted kind amount e
+is_retired_too_large act e = false
+
+-- the first account has as many surrenders and deletions as it may have
+abbrev pub has_all_rows : Seen → Bool
+has_all_rows e = passes (λ v. nat_le MOST_ROWS (length v.rows)) e.first
+
+-- there is no room for the act's row
+abbrev pub are_rows_full : Act → Seen → Bool
+are_rows_full (Surrender from kind amount) e = has_all_rows e
+are_rows_full (Delete from kind amount) e = has_all_rows e
+are_rows_full act e = false
+
+-- the determined figure of the latest year of the period that has one; the figures of an account rise by year
+abbrev pub latest_determined : RulesValue → AccountValue → Option Figure
+latest_determined rules v = find (λ f. is_in_period rules f.year) (reverse v.figures)
+
+-- there is a figure, and it is below 0
+abbrev pub is_negative : Result ℤ FigureFault → Bool
+is_negative (Ok figure) = int_lt figure (pos 0)
+is_negative (Err fault) = false
+
+-- there is a figure, and it is 0 or more
+abbrev pub is_compliant : Result ℤ FigureFault → Bool
+is_compliant (Ok figure) = not (int_lt figure (pos 0))
+is_compliant (Err fault) = false
+
+-- how many allowances of the row count for the figure of the year
+abbrev pub counted_amount : RulesValue → ℕ → RetirementRow → ℕ
+counted_amount rules year row = if is_row_counted rules year row then row.amount else 0
+
+-- by how much the figure of the year falls if this row is reversed
+abbrev pub lost_by : RulesValue → ℕ → Option RetirementRow → ℕ
+lost_by rules year found = option_map_or (counted_amount rules year) found 0
+
+-- the figure of the year is 0 or more, and would be below 0 after the reversal
+abbrev pub turns_negative : RulesValue → ℕ → AccountValue → ℕ → Bool
+turns_negative rules number v year = is_compliant (figure_of rules v year) && is_negative (figure_of rules (unretired v number) year)
+
+-- so it is for the latest year of the period that has a determined figure
+abbrev pub loses_compliance : RulesValue → ℕ → AccountValue → Bool
+loses_compliance rules number v = option_map_or (λ latest. turns_negative rules number v latest.year) (latest_determined rules v) false
+
+-- the reversal would make the first account non-compliant
+abbrev pub would_become_non_compliant : RulesValue → Act → Seen → Bool
+would_become_non_compliant rules (Reverse account number) e = passes (loses_compliance rules number) e.first
+would_become_non_compliant rules act e = false
+
+-- a year that the act names is outside the period
+abbrev pub names_year_outside : RulesValue → Act → Bool
+names_year_outside rules act = list_any (λ year. not (is_in_period rules year)) (years act)
+
+-- emissions that the act enters are too large
+abbrev pub enters_too_much : Act → Bool
+enters_too_much act = list_any (λ n. nat_lt MOST_EMISSIONS n) (tonnes act)
+
+-- there is no figure because a year has no emissions
+abbrev pub is_missing : Result ℤ FigureFault → Bool
+is_missing (Ok figure) = false
+is_missing (Err OutsidePeriod) = false
+is_missing (Err (Missing year)) = true
+
+-- the figure that is to be determined lacks the emissions of a year
+abbrev pub lacks_emissions : RulesValue → Act → Seen → Bool
+lacks_emissions rules (Assess account year) e = passes (λ v. is_missing (figure_of rules v year)) e.first
+lacks_emissions rules act e = false
 
 -- the check of this name fails on what the act sees
 abbrev pub fails : Setting → Seen → Instruction → Refusal → Bool
@@ -68,30 +184,30 @@ fails c e i UnknownAccount = not (all_known c.directory i.act)
 fails c e i SameAccount = has_repeat (must_be_known i.act)
 fails c e i WrongAccountKind = not (has_right_kinds (rule_of i.act) e)
 fails c e i SourceStatus = not (source_allows (rule_of i.act) e)
-fails c e i DestinationStatus = not (destination_allows e)
-fails c e i NotProposer = false
-fails c e i ApprovalMissing = false
-fails c e i SameRepresentative = false
-fails c e i NotApprover = false
-fails c e i NotTrusted = false
-fails c e i OutsideCalendar = is_none (due_day c e i)
+fails c e i DestinationStatus = not (destination_allows (rule_of i.act) e)
+fails c e i NotProposer = is_not_proposer c.rules i e
+fails c e i ApprovalMissing = lacks_approval c i e
+fails c e i SameRepresentative = is_same_representative i
+fails c e i NotApprover = is_not_approver c.rules i e
+fails c e i NotTrusted = is_not_trusted c i.act e
+fails c e i OutsideCalendar = is_none (due_day c e i) || has_no_effective_day c i.act
 fails c e i NotDue = option_map_or (λ w. nat_lt c.day w) (due_day c e i) false
-fails c e i KindNotAllowed = false
+fails c e i KindNotAllowed = is_kind_not_allowed c.rules i.act e
 fails c e i ZeroAmount = list_any (λ n. n == 0) (amounts i.act)
-fails c e i UnknownTransaction = false
-fails c e i AlreadyReversed = false
-fails c e i WindowClosed = false
+fails c e i UnknownTransaction = is_unknown_transaction i.act e
+fails c e i AlreadyReversed = is_already_reversed i.act e
+fails c e i WindowClosed = is_window_closed c i.act e
 fails c e i NotEnough = is_short (movement_of i.act) e
-fails c e i HoldingTooLarge = overfills_some (movement_of i.act) e
-fails c e i RetiredTooLarge = false
-fails c e i RowsFull = false
-fails c e i WouldBecomeNonCompliant = false
-fails c e i AlreadyTrusted = false
-fails c e i NotOnList = false
-fails c e i ListFull = false
-fails c e i YearOutsidePeriod = false
-fails c e i AmountTooLarge = false
-fails c e i EmissionsMissing = false
+fails c e i HoldingTooLarge = overfills_first i.act e || overfills_some (movement_of i.act) e
+fails c e i RetiredTooLarge = is_retired_too_large i.act e
+fails c e i RowsFull = are_rows_full i.act e
+fails c e i WouldBecomeNonCompliant = would_become_non_compliant c.rules i.act e
+fails c e i AlreadyTrusted = is_already_trusted i.act e
+fails c e i NotOnList = is_not_on_list i.act e
+fails c e i ListFull = is_list_full i.act e
+fails c e i YearOutsidePeriod = names_year_outside c.rules i.act
+fails c e i AmountTooLarge = enters_too_much i.act
+fails c e i EmissionsMissing = lacks_emissions c.rules i.act e
 
 -- the first check that fails, or none
 abbrev pub refusal : Setting → State → Instruction → Option Refusal

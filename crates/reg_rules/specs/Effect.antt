@@ -1,15 +1,51 @@
 -- What an accepted act makes of the accounts.
-use Rattle.std.specs.Prelude.{◌≡◌, ℕ, ◌+◌, ◌≤◌, ◌==◌, List, map, find, Option, MatchOption, if◌then◌else◌}
+use Rattle.std.specs.Prelude.{◌≡◌, ℕ, ◌+◌, ◌≤◌, ℤ, false, ◌==◌, List, map, find, Option, Some, None, MatchOption, Result, Ok, Err, if◌then◌else◌}
 use Rattle.std.specs.Option.{option_map_or}
-use Rattle.reg_base.specs.declared.limits.TheConstants.{MOST_HELD}
+use Rattle.reg_base.specs.declared.limits.TheConstants.{MOST_HELD, MOST_EMISSIONS}
 use Rattle.reg_base.specs.declared.kinds.AllowanceKind.{AllowanceKind}
 use Rattle.reg_base.specs.declared.movement.Share.{Share}
-use Rattle.reg_base.specs.declared.movement.Movement.{Movement}
 use Rattle.reg_base.specs.declared.act.Act.{Act}
+use Rattle.reg_base.specs.declared.act.Act.TheVariants.{Transfer, Surrender, Delete, ReturnExcess, Reverse, Create, CentralMove, Trust, Untrust, SetStatus, EnterEmissions, Assess}
 use Rattle.reg_base.specs.declared.instruction.Instruction.{Instruction}
-use Rattle.reg_base.specs.Acts.{movement_of}
-use Rattle.reg_account.specs.Account.{AccountValue, held_by, credited, debited}
+use Rattle.reg_base.specs.Acts.{movement_of, first, shares}
+use Rattle.reg_account.specs.declared.rows.Retirement.{Retirement}
+use Rattle.reg_account.specs.declared.rows.Retirement.TheVariants.{Surrendered, Deleted}
+use Rattle.reg_account.specs.declared.rows.RetirementRow.{RetirementRow}
+use Rattle.reg_account.specs.declared.figure.FigureFault.{FigureFault}
+use Rattle.reg_account.specs.Rows.{row_numbers, AreBelow}
+use Rattle.reg_account.specs.Account.{AccountValue, held_by, credited, debited, retired, unretired, with_emissions, with_determined, with_trusted, without_trusted, with_status, CanRetire, CanUnretire, CanTrust}
+use Rattle.reg_account.specs.Figure.{figure_of}
 use Rattle.reg_rules.specs.State.{State, Setting}
+use Rattle.reg_rules.specs.Trust.{effective_day}
+
+-- the row of a surrender or deletion that is carried out today under this record number
+abbrev pub new_row : Setting → ℕ → Retirement → AllowanceKind → ℕ → RetirementRow
+new_row c number way kind amount = record { number = number; retirement = way; kind = kind; amount = amount; day = c.day; reversed = false }
+
+-- an account with this figure as the determined one of the year, if there is a figure
+abbrev pub assessed : AccountValue → ℕ → Result ℤ FigureFault → AccountValue
+assessed v year (Ok figure) = with_determined v (record { year = year; tonnes = figure })
+assessed v year (Err fault) = v
+
+-- an account whose trusted list has the other one from this day on, if there is such a day
+abbrev pub listed_from : AccountValue → ℕ → Option ℕ → AccountValue
+listed_from v other (Some day) = with_trusted v (record { account = other; effective = day })
+listed_from v other None = v
+
+-- the act's first account after it: a row for each act, which is carried out under this record number
+abbrev pub first_after : Setting → ℕ → Act → AccountValue → AccountValue
+first_after c number (Transfer from to kind amount) v = debited v kind amount
+first_after c number (Surrender from kind amount) v = retired v (new_row c number Surrendered kind amount)
+first_after c number (Delete from kind amount) v = retired v (new_row c number Deleted kind amount)
+first_after c number (ReturnExcess from to kind amount) v = debited v kind amount
+first_after c number (Reverse account reversed) v = unretired v reversed
+first_after c number (Create to kind amount) v = credited v kind amount
+first_after c number (CentralMove from to kind amount) v = debited v kind amount
+first_after c number (Trust account other) v = listed_from v other (effective_day c)
+first_after c number (Untrust account other) v = without_trusted v other
+first_after c number (SetStatus account status) v = with_status v status
+first_after c number (EnterEmissions account year tonnes) v = with_emissions v (record { year = year; tonnes = tonnes })
+first_after c number (Assess account year) v = assessed v year (figure_of c.rules v year)
 
 -- the share of an account, if it has one
 abbrev pub share_of : List Share → ℕ → Option Share
@@ -19,27 +55,46 @@ share_of shares a = find (λ share. share.to == a) shares
 abbrev pub given : AllowanceKind → List Share → AccountValue → AccountValue
 given kind shares v = option_map_or (λ share. credited v kind share.amount) (share_of shares v.number) v
 
--- an account after a movement: allowances have left the first, and the others have their shares
-abbrev pub moved : Movement → AccountValue → AccountValue
-moved m v = if v.number == m.first then debited v m.kind m.leaves else given m.kind m.shares v
+-- an account after the act: the first after its own change, and each other one with its share
+abbrev pub by_part : Setting → ℕ → Act → AccountValue → AccountValue
+by_part c number act v = if v.number == first act then first_after c number act v else given (movement_of act).kind (shares act) v
 
 -- the first account, with all that acts change taken from the second: no act changes more of an account than this
 abbrev pub with_changes : AccountValue → AccountValue → AccountValue
-with_changes v w = record v { held = w.held }
+with_changes v w = record v { status = w.status; held = w.held; trusted = w.trusted; rows = w.rows; emissions = w.emissions; figures = w.figures }
 
 -- an account after the act, which is carried out under this record number
 abbrev pub changed_by : Setting → ℕ → Act → AccountValue → AccountValue
-changed_by c number act v = with_changes v (moved (movement_of act) v)
+changed_by c number act v = with_changes v (by_part c number act v)
 
 -- the state after the instruction
 abbrev pub effect : Setting → State → ℕ → Instruction → State
 effect c s number i = map (changed_by c number i.act) s
 
+-- what the change of the first account needs of it
+abbrev pub CanFirst : Setting → ℕ → Act → AccountValue → Type 0
+CanFirst c number (Transfer from to kind amount) v = amount ≤ held_by v kind
+CanFirst c number (Surrender from kind amount) v = CanRetire v (new_row c number Surrendered kind amount)
+CanFirst c number (Delete from kind amount) v = CanRetire v (new_row c number Deleted kind amount)
+CanFirst c number (ReturnExcess from to kind amount) v = amount ≤ held_by v kind
+CanFirst c number (Reverse account reversed) v = CanUnretire v reversed
+CanFirst c number (Create to kind amount) v = held_by v kind + amount ≤ MOST_HELD
+CanFirst c number (CentralMove from to kind amount) v = amount ≤ held_by v kind
+CanFirst c number (Trust account other) v = CanTrust v
+CanFirst c number (Untrust account other) v = Unit {0}
+CanFirst c number (SetStatus account status) v = Unit {0}
+CanFirst c number (EnterEmissions account year tonnes) v = tonnes ≤ MOST_EMISSIONS
+CanFirst c number (Assess account year) v = Unit {0}
+
 -- the account has room for its share
 abbrev pub CanReceive : AllowanceKind → List Share → AccountValue → Type 0
 CanReceive kind shares v = MatchOption (share_of shares v.number) (Unit {0}) (λ share. held_by v kind + share.amount ≤ MOST_HELD)
 
--- what a movement needs of an account
-pub record CanMove (m : Movement) (v : AccountValue) : Type 0 where
-  pub enough : v.number ≡ m.first → m.leaves ≤ held_by v m.kind
-  pub room : CanReceive m.kind m.shares v
+-- what the act needs of an account
+pub record CanChange (c : Setting) (number : ℕ) (act : Act) (v : AccountValue) : Type 0 where
+  pub as_first : v.number ≡ first act → CanFirst c number act v
+  pub room : CanReceive (movement_of act).kind (shares act) v
+
+-- the record number is above those of the account's surrenders and deletions
+abbrev pub IsBehind : ℕ → AccountValue → Type 0
+IsBehind number v = AreBelow number (row_numbers v.rows)

@@ -1,19 +1,22 @@
 -- The laws of a step. They compare the states at each account number.
-use Rattle.std.specs.Prelude.{◌≡◌, ◌≢◌, ℕ, ℤ, ◌+◌, ◌-◌, ◌≤◌, Bool, nat_eq, List, Option, Some, None}
+use Rattle.std.specs.Prelude.{◌≡◌, ℕ, ℤ, ◌+◌, Bool, nat_eq, List, [], Option, Some}
 use Rattle.std.specs.Option.{option_map}
 use Rattle.std.specs.List.{All, Contains, IsDistinct}
 use Rattle.reg_base.specs.declared.kinds.AccountKind.{AccountKind}
-use Rattle.reg_base.specs.declared.kinds.AllowanceKind.{AllowanceKind}
+use Rattle.reg_base.specs.declared.kinds.Status.TheVariants.{Opened}
 use Rattle.reg_base.specs.declared.refusals.Refusal.{Refusal}
-use Rattle.reg_base.specs.declared.act.Act.{Act}
-use Rattle.reg_base.specs.declared.act.Act.TheVariants.{Transfer, ReturnExcess}
 use Rattle.reg_base.specs.declared.instruction.Instruction.{Instruction}
 use Rattle.reg_base.specs.Footprint.{footprint}
+use Rattle.reg_base.specs.Instructions.{IsInstruction}
+use Rattle.reg_base.specs.Numbers.{IsDayNo, IsRecordNo}
+use Rattle.reg_base.specs.Rules.{AreRules}
+use Rattle.reg_account.specs.declared.users.Representative.{Representative}
 use Rattle.reg_account.specs.Account.{AccountValue, IsAccount}
 use Rattle.reg_rules.specs.declared.reply.Reply.{Reply}
 use Rattle.reg_rules.specs.declared.reply.Reply.TheVariants.{Refused}
-use Rattle.reg_rules.specs.State.{State, Setting, numbers, account, held}
+use Rattle.reg_rules.specs.State.{State, Setting, numbers, account}
 use Rattle.reg_rules.specs.Checks.{refusal}
+use Rattle.reg_rules.specs.Effect.{IsBehind}
 use Rattle.reg_rules.specs.Step.{step}
 
 -- the state after an instruction
@@ -36,15 +39,16 @@ pub record Constants : Type 0 where
   pub outside : Bool
   pub waiver : Bool
   pub correction : ℤ
+  pub users : List Representative
 
 abbrev pub constants_of : AccountValue → Constants
-constants_of v = record { number = v.number; kind = v.kind; holder = v.holder; outside = v.outside; waiver = v.waiver; correction = v.correction }
+constants_of v = record { number = v.number; kind = v.kind; holder = v.holder; outside = v.outside; waiver = v.waiver; correction = v.correction; users = v.users }
 
--- an account with its holdings left out
+-- an account with all that acts change left out
 abbrev pub set_aside : AccountValue → AccountValue
-set_aside v = record v { held = record { general = 0; aviation = 0 } }
+set_aside v = record v { status = Opened; held = record { general = 0; aviation = 0 }; trusted = []; rows = []; emissions = []; figures = [] }
 
--- the account of this number, with its holdings left out
+-- the account of this number, with all that acts change left out
 abbrev pub account_aside : State → ℕ → Option AccountValue
 account_aside s a = option_map set_aside (account s a)
 
@@ -67,7 +71,7 @@ OthersStay = (c : Setting) (s : State) (number : ℕ) (i : Instruction) (a : ℕ
 abbrev pub NumbersStay : Type 0
 NumbersStay = (c : Setting) (s : State) (number : ℕ) (i : Instruction) → numbers (after_step c s number i) ≡ numbers s
 
--- an account keeps its kind, its holder, its two switches and its correction factor
+-- an account keeps its kind, its holder, its two switches, its correction factor and its representatives
 abbrev pub ConstantsStay : Type 0
 ConstantsStay = (c : Setting) (s : State) (number : ℕ) (i : Instruction) (a : ℕ)
     → option_map constants_of (account (after_step c s number i) a) ≡ option_map constants_of (account s a)
@@ -77,33 +81,21 @@ abbrev pub RefusedChangesNothing : Type 0
 RefusedChangesNothing = (c : Setting) (s : State) (number : ℕ) (i : Instruction) (q : Refusal)
     → refusal c s i ≡ Some q → step c s number i ≡ (s, Refused q)
 
--- the second state is the first, except that this amount has moved from one account to another
-pub record IsMoved (s t : State) (from to : ℕ) (kind : AllowanceKind) (amount : ℕ) : Type 0 where
-  pub enough : amount ≤ held s from kind
-  pub lowered : held t from kind ≡ held s from kind - amount
-  pub raised : held t to kind ≡ held s to kind + amount
-  pub other_kinds : (a : ℕ) (other : AllowanceKind) → other ≢ kind → held t a other ≡ held s a other
-  pub other_accounts : (a : ℕ) → a ≢ from → a ≢ to → account t a ≡ account s a
-  pub rest : (a : ℕ) → account_aside t a ≡ account_aside s a
-
--- an accepted instruction with such an act moves the amount, and does nothing else
-abbrev pub Moves : (ℕ → ℕ → AllowanceKind → ℕ → Act) → Type 0
-Moves act = (c : Setting) (s : State) (number : ℕ) (i : Instruction) (from to : ℕ) (kind : AllowanceKind) (amount : ℕ)
-    → i.act ≡ act from to kind amount → refusal c s i ≡ None → IsMoved s (after_step c s number i) from to kind amount
-
--- what each act makes of the state
-pub record ActLaws : Type 0 where
-  pub transfer : Moves (λ from to kind amount. Transfer from to kind amount)
-  pub return_excess : Moves (λ from to kind amount. ReturnExcess from to kind amount)
-
 -- two states are equal if they list the same account numbers, each once, with the same account at each number
 abbrev pub SameState : Type 0
 SameState = (s t : State) → IsDistinct nat_eq (numbers s) → numbers s ≡ numbers t → AgreeOn (numbers s) s t → s ≡ t
 
--- if each number occurs once, accounts within their limits stay within them
-abbrev pub LimitsStay : Type 0
-LimitsStay = (c : Setting) (s : State) (number : ℕ) (i : Instruction)
-    → IsDistinct nat_eq (numbers s) → All IsAccount s → All IsAccount (after_step c s number i)
+-- what a step needs of a state: each account once and within its limits, and its surrenders and deletions recorded under lower numbers
+pub record IsReady (number : ℕ) (s : State) : Type 0 where
+  pub once : IsDistinct nat_eq (numbers s)
+  pub fit : All IsAccount s
+  pub behind : All (IsBehind number) s
+
+-- a state that is ready for a record number is after the step ready for the next one: limits are kept (if the rules, the
+-- settlement day and the record number are within theirs)
+abbrev pub StaysReady : Type 0
+StaysReady = (c : Setting) (s : State) (number : ℕ) (i : Instruction)
+    → AreRules c.rules → IsDayNo c.day → IsRecordNo number → IsInstruction i → IsReady number s → IsReady (number + 1) (after_step c s number i)
 
 -- what holds of every step, whatever its act
 pub record StepLaws : Type 0 where
@@ -113,5 +105,5 @@ pub record StepLaws : Type 0 where
   pub numbers_stay : NumbersStay
   pub constants_stay : ConstantsStay
   pub refused_changes_nothing : RefusedChangesNothing
-  pub limits_stay : LimitsStay
+  pub stays_ready : StaysReady
   pub same_state : SameState

@@ -1,6 +1,10 @@
 pub mod State
 pub mod ActRules
+pub mod Entitlements
+pub mod Trust
 pub mod Checks
 pub mod Effect
 pub mod Step
 pub mod Laws
+pub mod ActLaws
+pub mod Conservation

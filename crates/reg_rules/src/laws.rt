@@ -1,19 +1,36 @@
 //! Laws of every step. Each law is the contract of a function that does nothing. A function whose proof needs a law
 //! calls it.
 
-ghost use Rattle.reg_rules.specs.Laws.{StepLaws, ActLaws};
+ghost use Rattle.reg_rules.specs.ActLaws.{ActLaws};
+ghost use Rattle.reg_rules.specs.Conservation.{StepConserves};
+ghost use Rattle.reg_rules.specs.Laws.{StepLaws};
+
+use reg_account::laws::{changes_keep_limits, number_laws, trust_laws, year_laws};
 
 /// The laws of every step, whatever its act. The accounts that an instruction touches decide its refusal, its reply
 /// and the new value of each account. An account that it does not touch stays as it is. No account is added, removed
-/// or moved. None changes its kind, holder, permissions or correction factor, and each stays within its limits. A
+/// or moved. None changes its kind, holder, permissions, correction factor or representatives, and each stays within its limits. A
 /// refused instruction changes nothing. Two states are equal if they have the same numbers, each once, and the same
 /// account at each of them.
 pub fn step_laws()
     ensures { StepLaws }
-{}
+{
+    changes_keep_limits();
+}
 
-/// What each act does: a transfer and a return of excess move their amount from one account to the other, and change
-/// nothing else.
+/// What each act does, entry by entry: what becomes of holdings, surrenders, deletions, emissions, determined figures,
+/// trusted lists and statuses, and that all else stays.
 pub fn act_laws()
     ensures { ActLaws }
-{}
+{
+    year_laws();
+    trust_laws();
+}
+
+/// An accepted instruction changes the number of allowances only by what it creates, deletes and brings back. A
+/// surrender and its reversal leave the number as it is.
+pub fn step_conserves()
+    ensures { StepConserves }
+{
+    number_laws();
+}

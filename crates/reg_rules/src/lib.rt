@@ -3,14 +3,16 @@
 #![tactic(auto)]
 
 mod checks;
+mod entitlement;
 mod laws;
 mod reply;
 mod rule;
 mod setting;
 mod step;
+mod trust;
 
 pub use checks::decide;
-pub use laws::{act_laws, step_laws};
+pub use laws::{act_laws, step_conserves, step_laws};
 pub use reply::{Closing, HeldNow, Holdings, LogRow, Reply};
 pub use setting::Setting;
 pub use step::{execute, log_row};

@@ -1,17 +1,26 @@
-//! The table of acts: what each asks of its accounts, and how long it waits.
+//! The table of acts: what each asks of its accounts, who proposes and approves it, and how long it waits.
 
 ghost use Rattle.std.specs.Prelude.{◌≡◌};
-ghost use Rattle.reg_rules.specs.ActRules.{row, rule_of, is_holder_kind, is_operator_kind, is_allocation_kind, fits_first, fits_receiver, is_opened, is_not_closed, fits_status};
+ghost use Rattle.reg_rules.specs.ActRules.{row, rule_of, is_holder_kind, is_operator_kind, is_allocation_kind, is_total_kind, is_central_kind, may_go_central, fits_first, fits_receiver, is_opened, is_opened_or_blocked, is_not_closed, fits_source, fits_first_receiver};
 
 use reg_base::{AccountKind, Act, Status};
 
-/// Between which kinds of accounts an act may be.
+/// Between which kinds of accounts an act may be, or of which kind its only account may be.
 #[derive(Clone, Copy, Debug, PartialEq, Eq)]
 pub enum KindRule {
     /// From a holder's account to a holder's account.
     HolderToHolder,
     /// From an operator's or aircraft operator's account to an allocation account.
     OperatorToAllocation,
+    /// From the total quantity account to an allocation account, or from an allocation account back, or to an
+    /// operator's or aircraft operator's account.
+    Central,
+    /// A holder's account.
+    OfHolder,
+    /// An operator's or aircraft operator's account.
+    OfOperator,
+    /// The total quantity account.
+    OfTotal,
 }
 
 /// The status that an act needs of its first account.
@@ -19,14 +28,36 @@ pub enum KindRule {
 pub enum StatusRule {
     /// Opened.
     IsOpened,
+    /// Opened or blocked.
+    OpenedOrBlocked,
     /// Any except closed.
     NotClosed,
+    /// Any except closed, since the first account receives: this is asked when the receivers are asked.
+    AsReceiver,
+}
+
+/// Who proposes and approves an act.
+#[derive(Clone, Copy, Debug, PartialEq, Eq)]
+pub enum Who {
+    /// Authorised representatives of the first account.
+    Representatives,
+    /// Administrators.
+    Administrators,
+}
+
+/// What a user does for an instruction.
+#[derive(Clone, Copy, Debug, PartialEq, Eq)]
+pub enum Role {
+    /// Proposes it.
+    Proposer,
+    /// Approves it.
+    Approver,
 }
 
 /// The lag between the day of the proposal and the due day.
 #[derive(Clone, Copy, Debug, PartialEq, Eq)]
 pub enum LagRule {
-    /// The lag of transfers. In this version every account that receives counts as trusted.
+    /// The lag of transfers: one if the account that receives is trusted on the settlement day, another if it is not.
     ByTrust,
     /// None.
     NoLag,
@@ -39,31 +70,43 @@ pub struct ActRule {
     pub kinds: KindRule,
     /// The status that the first account needs.
     pub status: StatusRule,
+    /// Who proposes and approves.
+    pub who: Who,
     /// The lag.
     pub lag: LagRule,
 }
 
-fn row(kinds: KindRule, status: StatusRule, lag: LagRule) -> ActRule
-    ensures { result ≡ row kinds status lag }
+fn row(kinds: KindRule, status: StatusRule, who: Who, lag: LagRule) -> ActRule
+    ensures { result ≡ row kinds status who lag }
 {
-    ActRule { kinds, status, lag }
+    ActRule {
+        kinds,
+        status,
+        who,
+        lag,
+    }
 }
 
 /// The row of an act.
 pub(crate) fn rule_of(act: &Act) -> ActRule
     ensures { result ≡ rule_of act.now }
 {
+    use KindRule::*;
+    use LagRule::*;
+    use StatusRule::*;
+    use Who::*;
     match *act {
-        Act::Transfer { .. } => row(
-            KindRule::HolderToHolder,
-            StatusRule::IsOpened,
-            LagRule::ByTrust,
-        ),
-        Act::ReturnExcess { .. } => row(
-            KindRule::OperatorToAllocation,
-            StatusRule::NotClosed,
-            LagRule::NoLag,
-        ),
+        Act::Transfer { .. } => row(HolderToHolder, IsOpened, Representatives, ByTrust),
+        Act::Surrender { .. } => row(OfOperator, NotClosed, Representatives, NoLag),
+        Act::Delete { .. } => row(OfHolder, IsOpened, Representatives, NoLag),
+        Act::ReturnExcess { .. } => row(OperatorToAllocation, NotClosed, Representatives, NoLag),
+        Act::Reverse { .. } => row(OfHolder, NotClosed, Administrators, NoLag),
+        Act::Create { .. } => row(OfTotal, AsReceiver, Administrators, NoLag),
+        Act::CentralMove { .. } => row(Central, NotClosed, Administrators, NoLag),
+        Act::Trust { .. } | Act::Untrust { .. } => row(OfHolder, NotClosed, Representatives, NoLag),
+        Act::SetStatus { .. } => row(OfHolder, NotClosed, Administrators, NoLag),
+        Act::EnterEmissions { .. } => row(OfOperator, NotClosed, Administrators, NoLag),
+        Act::Assess { .. } => row(OfOperator, OpenedOrBlocked, Administrators, NoLag),
     }
 }
 
@@ -72,18 +115,22 @@ pub(crate) fn fits_first(rule: KindRule, kind: AccountKind) -> bool
     ensures { result ≡ fits_first rule kind }
 {
     match rule {
-        KindRule::HolderToHolder => is_holder_kind(kind),
-        KindRule::OperatorToAllocation => is_operator_kind(kind),
+        KindRule::HolderToHolder | KindRule::OfHolder => is_holder_kind(kind),
+        KindRule::OperatorToAllocation | KindRule::OfOperator => is_operator_kind(kind),
+        KindRule::Central => is_central_kind(kind),
+        KindRule::OfTotal => is_total_kind(kind),
     }
 }
 
-/// Whether an account that receives may be of this kind.
-pub(crate) fn fits_receiver(rule: KindRule, kind: AccountKind) -> bool
-    ensures { result ≡ fits_receiver rule kind }
+/// Whether an account that receives may be of this kind if the first account is of the kind `first`.
+pub(crate) fn fits_receiver(rule: KindRule, first: AccountKind, kind: AccountKind) -> bool
+    ensures { result ≡ fits_receiver rule first kind }
 {
     match rule {
         KindRule::HolderToHolder => is_holder_kind(kind),
         KindRule::OperatorToAllocation => is_allocation_kind(kind),
+        KindRule::Central => may_go_central(first, kind),
+        KindRule::OfHolder | KindRule::OfOperator | KindRule::OfTotal => false,
     }
 }
 
@@ -115,13 +162,57 @@ fn is_allocation_kind(kind: AccountKind) -> bool
     }
 }
 
-/// Whether the status is one that the rule allows.
-pub(crate) fn fits_status(rule: StatusRule, status: Status) -> bool
-    ensures { result ≡ fits_status rule status }
+fn is_total_kind(kind: AccountKind) -> bool
+    ensures { result ≡ is_total_kind kind }
+{
+    match kind {
+        AccountKind::Total => true,
+        AccountKind::Allocation
+        | AccountKind::Operator
+        | AccountKind::Aircraft
+        | AccountKind::Trading => false,
+    }
+}
+
+fn is_central_kind(kind: AccountKind) -> bool
+    ensures { result ≡ is_central_kind kind }
+{
+    match kind {
+        AccountKind::Total | AccountKind::Allocation => true,
+        AccountKind::Operator | AccountKind::Aircraft | AccountKind::Trading => false,
+    }
+}
+
+// Whether allowances may go from a central account of the first kind to an account of the second.
+fn may_go_central(from: AccountKind, to: AccountKind) -> bool
+    ensures { result ≡ may_go_central from to }
+{
+    match from {
+        AccountKind::Total => is_allocation_kind(to),
+        AccountKind::Allocation => is_total_kind(to) || is_operator_kind(to),
+        AccountKind::Operator | AccountKind::Aircraft | AccountKind::Trading => false,
+    }
+}
+
+/// Whether the first account may have this status as the source.
+pub(crate) fn fits_source(rule: StatusRule, status: Status) -> bool
+    ensures { result ≡ fits_source rule status }
 {
     match rule {
         StatusRule::IsOpened => is_opened(status),
+        StatusRule::OpenedOrBlocked => is_opened_or_blocked(status),
         StatusRule::NotClosed => is_not_closed(status),
+        StatusRule::AsReceiver => true,
+    }
+}
+
+/// Whether the first account may have this status as a receiver.
+pub(crate) fn fits_first_receiver(rule: StatusRule, status: Status) -> bool
+    ensures { result ≡ fits_first_receiver rule status }
+{
+    match rule {
+        StatusRule::AsReceiver => is_not_closed(status),
+        StatusRule::IsOpened | StatusRule::OpenedOrBlocked | StatusRule::NotClosed => true,
     }
 }
 
@@ -131,6 +222,15 @@ fn is_opened(status: Status) -> bool
     match status {
         Status::Opened => true,
         Status::Blocked | Status::Excluded | Status::Closed => false,
+    }
+}
+
+fn is_opened_or_blocked(status: Status) -> bool
+    ensures { result ≡ is_opened_or_blocked status }
+{
+    match status {
+        Status::Opened | Status::Blocked => true,
+        Status::Excluded | Status::Closed => false,
     }
 }
 

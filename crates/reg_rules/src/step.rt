@@ -1,30 +1,37 @@
 //! One step: carrying out an instruction, or refusing it.
 
-ghost use Rattle.std.specs.Prelude.{◌≡◌, ◌≤◌, [], ◌∷◌, None, IfOk, OnErr, length, map, nat_eq};
+ghost use Rattle.std.specs.Prelude.{◌≡◌, ◌≤◌, [], None, IfOk, OnOk, OnErr, length, map, nat_eq, All};
 ghost use Rattle.std.specs.List.{AllByRecursion, IsDistinct};
+ghost use Rattle.reg_base.specs.Acts.{parties};
 ghost use Rattle.reg_base.specs.Footprint.{footprint};
+ghost use Rattle.reg_account.specs.Figure.{figure_of};
 ghost use Rattle.reg_rules.specs.State.{numbers};
+ghost use Rattle.reg_account.specs.Account.{CanTrust};
+ghost use Rattle.reg_rules.specs.Trust.{effective_day};
 ghost use Rattle.reg_rules.specs.Checks.{refusal};
-ghost use Rattle.reg_rules.specs.Effect.{share_of, given, moved, CanReceive, CanMove};
-ghost use Rattle.reg_rules.specs.Step.{step, holdings_of};
+ghost use Rattle.reg_rules.specs.Effect.{share_of, given, first_after, with_changes, changed_by, new_row as row_of_today, assessed, listed_from, CanFirst, CanReceive, CanChange, IsBehind};
+ghost use Rattle.reg_rules.specs.Step.{step, holdings_of, figure_now};
 
-use crate::checks::decide;
+use crate::checks::{decide, find_account};
 use crate::reply::{Closing, HeldNow, Holdings, LogRow, Reply};
-use reg_account::Account;
+use crate::setting::Setting;
+use crate::trust::effective_day;
+use reg_account::{Account, Retirement, RetirementRow};
 use reg_base::laws::each_footprint_is_sound;
 use reg_base::{
-    AccountNo, AllowanceKind, Day, Directory, Instruction, Movement, NoMemory, RecordNo, Rules,
-    Share,
+    AccountNo, Act, AllowanceKind, Day, Directory, Instruction, NoMemory, RecordNo, Rules, Share,
+    Year,
 };
 use std::alloc::Global;
 
 /// Carries the instruction out, or refuses it. A refused instruction changes nothing and takes no memory.
 ///
-/// `accounts` must be the accounts that the instruction touches, in the order of [`Instruction::touches`].
+/// `accounts` must be the accounts that the instruction touches, in the order of [`Instruction::touches`]. The record
+/// number must be above those of their surrenders and deletions.
 ///
 /// # Errors
-/// `NoMemory` if there was no memory for the closing holdings. No check fails in this case, and the accounts are
-/// unchanged.
+/// `NoMemory` if there was no memory for the closing holdings, or for what the act adds to its first account. No check
+/// fails in this case, and the accounts are unchanged.
 pub fn execute(
     alloc: Global,
     rules: &Rules,
@@ -34,7 +41,8 @@ pub fn execute(
     directory: &Directory,
     accounts: &mut [Account],
 ) -> Result<Reply, NoMemory>
-    requires { numbers accounts.old ≡ footprint directory.now instruction.now.act }
+    requires own { numbers accounts.old ≡ footprint directory.now instruction.now.act }
+    requires behind { All (IsBehind number) accounts.old }
     ensures ok { IfOk result (λ reply. (accounts.new, reply) ≡ step (record { rules = rules.now; day = day; directory = directory.now }) accounts.old number instruction.now) }
     ensures err { OnErr result ((accounts.new ≡ accounts.old) × (refusal (record { rules = rules.now; day = day; directory = directory.now }) accounts.old instruction.now ≡ None)) }
 {
@@ -42,12 +50,17 @@ pub fn execute(
         return Ok(Reply::Refused(refusal));
     }
     each_footprint_is_sound();
+    let setting = Setting {
+        rules,
+        day,
+        directory,
+    };
     // The room comes first, so that the accounts are as they were if memory runs out.
     let room = Holdings::with_capacity(alloc, accounts.len())?;
-    apply(&instruction.act.movement(), accounts);
+    apply(&setting, number, &instruction.act, accounts)?;
     Ok(Reply::Done {
         closing: closing_of(room, accounts),
-        figure: None,
+        figure: figure_now(&instruction.act, accounts),
     })
 }
 
@@ -63,16 +76,116 @@ pub fn log_row(number: RecordNo, day: Day, instruction: Instruction, reply: Repl
     }
 }
 
-// The movement of an act that no check refuses: allowances leave the first account, and the others get their shares.
-fn apply(movement: &Movement, accounts: &mut [Account])
-    requires own { numbers accounts.old ≡ movement.now.first ∷ map (λ share. share.to) movement.now.shares }
+// The effect of an act that no check refuses: the change of the first account, and then the shares of the others. Only
+// the first change can run out of memory.
+fn apply(
+    setting: &Setting,
+    number: RecordNo,
+    act: &Act,
+    accounts: &mut [Account],
+) -> Result<(), NoMemory>
+    requires own { numbers accounts.old ≡ parties act.now }
     requires distinct { IsDistinct nat_eq (numbers accounts.old) }
-    requires can { AllByRecursion (CanMove movement.now) accounts.old }
-    ensures { accounts.new ≡ map (moved movement.now) accounts.old }
+    requires can { AllByRecursion (CanChange setting.now number act.now) accounts.old }
+    ensures ok { OnOk result (accounts.new ≡ map (changed_by setting.now number act.now) accounts.old) }
+    ensures err { OnErr result (accounts.new ≡ accounts.old) }
 {
-    prove!(movement.leaves <= u128::from(accounts[0].held(movement.kind)));
-    accounts[0].debit(movement.kind, movement.leaves as u64);
+    change_first(setting, number, act, &mut accounts[0])?;
+    let movement = act.movement();
     give_shares(movement.kind, movement.shares.as_slice(), accounts);
+    Ok(())
+}
+
+// What the act makes of its first account.
+fn change_first(
+    setting: &Setting,
+    number: RecordNo,
+    act: &Act,
+    account: &mut Account,
+) -> Result<(), NoMemory>
+    requires { CanFirst setting.now number act.now account.old }
+    ensures ok { OnOk result (account.new ≡ with_changes account.old (first_after setting.now number act.now account.old)) }
+    ensures err { OnErr result (account.new ≡ account.old) }
+{
+    match *act {
+        Act::Transfer { kind, amount, .. }
+        | Act::ReturnExcess { kind, amount, .. }
+        | Act::CentralMove { kind, amount, .. } => {
+            account.debit(kind, amount);
+            Ok(())
+        }
+        Act::Surrender { kind, amount, .. } => {
+            account.retire(new_row(setting, number, Retirement::Surrendered, kind, amount))
+        }
+        Act::Delete { kind, amount, .. } => {
+            account.retire(new_row(setting, number, Retirement::Deleted, kind, amount))
+        }
+        Act::Reverse {
+            number: reversed,
+            ..
+        } => {
+            account.unretire(reversed);
+            Ok(())
+        }
+        Act::Create { kind, amount, .. } => {
+            account.credit(kind, amount);
+            Ok(())
+        }
+        Act::Trust { other, .. } => trust(setting, account, other),
+        Act::Untrust { other, .. } => {
+            account.untrust(other);
+            Ok(())
+        }
+        Act::SetStatus { status, .. } => {
+            account.set_status(status);
+            Ok(())
+        }
+        Act::EnterEmissions { year, tonnes, .. } => account.set_emissions(year, tonnes),
+        Act::Assess { year, .. } => assess(setting.rules, account, year),
+    }
+}
+
+// The row of a surrender or deletion that is carried out now.
+fn new_row(
+    setting: &Setting,
+    number: RecordNo,
+    retirement: Retirement,
+    kind: AllowanceKind,
+    amount: u64,
+) -> RetirementRow
+    ensures { result ≡ row_of_today setting.now number retirement kind amount }
+{
+    RetirementRow {
+        number,
+        retirement,
+        kind,
+        amount,
+        day: setting.day,
+        reversed: false,
+    }
+}
+
+// Puts the other account on the list, from the day of effect of what is added today, if there is such a day.
+fn trust(setting: &Setting, account: &mut Account, other: AccountNo) -> Result<(), NoMemory>
+    requires { CanTrust account.old }
+    ensures ok { OnOk result (account.new ≡ listed_from account.old other (effective_day setting.now)) }
+    ensures err { OnErr result (account.new ≡ account.old) }
+{
+    match effective_day(setting) {
+        Some(day) => account.trust(other, day),
+        None => Ok(()),
+    }
+}
+
+// Determines the figure of the year, if there is one.
+fn assess(rules: &Rules, account: &mut Account, year: Year) -> Result<(), NoMemory>
+    ensures ok { OnOk result (account.new ≡ assessed account.old year (figure_of rules.now account.old year)) }
+    ensures err { OnErr result (account.new ≡ account.old) }
+{
+    match account.figure(rules, year) {
+        Ok(figure) => account.determine(year, figure),
+        Err(_) => Ok(()),
+    }
 }
 
 // Gives each account its share.
@@ -100,6 +213,19 @@ fn find_share(shares: &[Share], number: AccountNo) -> Option<Share>
     ensures { result ≡ share_of shares.now number }
 {
     shares.iter().copied().find(|share| share.to == number)
+}
+
+// The figure that the act determined, as it stands in its account now.
+fn figure_now(act: &Act, accounts: &[Account]) -> Option<i64>
+    ensures { result ≡ figure_now accounts.now act.now }
+{
+    match *act {
+        Act::Assess { account, year } => match find_account(accounts, account) {
+            Some(account) => account.determined(year),
+            None => None,
+        },
+        _ => None,
+    }
 }
 
 // What the accounts hold now, in the room that was made for it.

@@ -3,11 +3,8 @@ use Rattle.std.proofs.Common.{◌≡◌, ℕ, ◌<◌, eqb, Bool, true, false, c
 use Rattle.std.specs.Prelude.{IfSome}
 use Rattle.std.proofs.lemmas.Bool.{eqb-true, ne_eqb}
 use Rattle.std.proofs.lemmas.List.{nil_from_length}
-use Rattle.reg_base.specs.declared.limits.TheConstants.{MOST_NUMBER}
-use Rattle.reg_text.specs.Causes.{◌>>=◌}
-use Rattle.reg_text.specs.Numbers.{number}
-use Rattle.reg_text.specs.Limits.{user_no_of, approver_text, approver_of}
-use Rattle.reg_base.specs.Numbers.{IsUserNo}
+use Rattle.reg_text.proofs.Names.{MOST_NUMBER, ◌>>=◌, number, user_no_of, approver_text, approver_of, IsUserNo, IsPlain}
+use Rattle.reg_text.proofs.PlainFacts.{plain-decimal}
 use Rattle.reg_text.proofs.Binds.{bind_ok, ok_is}
 use Rattle.reg_text.proofs.NumberLaws.{bounded-spelled, bounded-again, digit-first}
 
@@ -35,3 +32,7 @@ pub approver-again : (o : Option ℕ) → IfSome o IsUserNo → approver_of (app
 unfolding approver_of
 approver-again None h = refl
 approver-again (Some n) h = some_by_test (number n) n (digit-first n (omega (arith, h.high))).0 (bounded-again 1 MOST_NUMBER n (omega arith) h.low h.high)
+
+pub plain-approver : (user : Option ℕ) → IsPlain (approver_text user)
+plain-approver None = refl
+plain-approver (Some user) = plain-decimal user

@@ -2,21 +2,10 @@
 use Rattle.std.proofs.Common.{◌≡◌, ◌⊎◌, inl, inr, ℕ, suc, ◌+◌, ◌-◌, ◌<◌, ◌≤◌, true, ◌&&◌, nat_le, List, [], ◌∷◌, ◌++◌, length, take, get_or, Option, Some, None, Result, Ok, Err, refl, sym, ap, subst, ◌∙◌, arith, append_assoc}
 use Rattle.std.proofs.lemmas.Bool.{and_parts, leb-true}
 use Rattle.std.proofs.lemmas.List.{append-nil}
-use Rattle.reg_base.specs.Numbers.{IsBetween}
-use Rattle.reg_base.specs.declared.limits.TheConstants.{MOST_LAG, FIRST_DAY, FIRST_YEAR}
-use Rattle.reg_text.specs.declared.cause.Cause.{Cause}
+use Rattle.reg_text.proofs.Names.{IsBetween, MOST_LAG, FIRST_DAY, FIRST_YEAR, Cause, Tag, Record, Said, row, DraftValue, nothing_read, DayValue, is_over, day_said, IsDraft, IsReading, Begins, IsFirstFaulty, fault_of, with, in_order, has_room, next_draft, drafted, at_row, at_end, after_rows, day_of_rows, IsCauseOf}
 use Rattle.reg_text.specs.declared.cause.Cause.TheVariants as cause
-use Rattle.reg_text.specs.declared.reading.tag.Tag.{Tag}
 use Rattle.reg_text.specs.declared.reading.tag.Tag.TheVariants as tag
-use Rattle.reg_text.specs.Records.{Record}
-use Rattle.reg_text.specs.Grammar.{Said, row, row_text}
-use Rattle.reg_text.specs.Drafts.{DraftValue, nothing_read}
-use Rattle.reg_text.specs.Day.{DayValue, is_over, day_said}
-use Rattle.reg_text.specs.DraftLimits.{IsDraft}
-use Rattle.reg_text.specs.Reading.{IsReading, Begins, IsFirstFaulty}
-use Rattle.reg_text.specs.FieldTests.{fault_of}
-use Rattle.reg_text.specs.Faults.{with, in_order, has_room, next_draft, drafted, at_row, at_end, after_rows, day_of_rows}
-use Rattle.reg_text.specs.Table.{IsCauseOf}
+use Rattle.reg_text.specs.Grammar.{row_text}
 use Rattle.reg_text.proofs.TagLaws.{MayFollow}
 use Rattle.reg_text.proofs.DraftSteps.{rows_so_far, grows, grows-with, nothing-fits}
 use Rattle.reg_text.proofs.Readings.{closes, reading-to}
@@ -28,7 +17,7 @@ begin-with : (rows : List Record) (r : Record) (all : List Record) → all ≡ r
 begin-with rows r all e begins = (r ∷ begins.0, begins.1, subst (λ (text : List Record). IsReading text begins.1) (ap (λ (x : List Record). x ++ begins.0) e ∙ append_assoc rows (r ∷ []) begins.0) begins.2)
 
 -- one row more
-with-one : (t : Tag) (d : DraftValue) (x : Said t) → IsDraft d → MayFollow d.last t → (row t).Fits x → in_order t d x ≡ true → has_room t d ≡ true
+with-one : (t : Tag) (d : DraftValue) (x : Said t) → IsDraft d → MayFollow d.last t → (row t).Fits x → in_order t d x ≡ true → has_room t d x ≡ true
     → (IsDraft (with t d x) → Begins (rows_so_far (with t d x))) → Begins (rows_so_far d)
 with-one t d x h may fits order room more =
     let g = grows-with t d x h may fits order room in

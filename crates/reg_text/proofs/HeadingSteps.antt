@@ -1,24 +1,16 @@
 -- The rows of the heading, each of which only one tag may begin.
 use Rattle.std.proofs.Common.{◌≡◌, ℕ, ◌+◌, true, false, List, ◌∷◌, Option, Some, None, Result, Ok, Err, refl, sym, ap, ◌∙◌}
 use Rattle.std.specs.Prelude.{IfErr, MatchResult}
-use Rattle.reg_text.specs.declared.cause.Cause.{Cause}
+use Rattle.reg_text.proofs.Names.{Cause, Tag, Record, field, tag_after, Said, row_read, DraftValue, is_over, with, in_order, has_room, with_row, next_draft, at_row, after_rows, AnswersFault, TakesFirst}
 use Rattle.reg_text.specs.declared.cause.DayFault.{DayFault}
 use Rattle.reg_text.specs.declared.cause.DayFault.TheVariants as fault
-use Rattle.reg_text.specs.declared.reading.tag.Tag.{Tag}
 use Rattle.reg_text.specs.declared.reading.tag.Tag.TheVariants as tag
-use Rattle.reg_text.specs.Records.{Record, field}
-use Rattle.reg_text.specs.Tags.{tag_after}
-use Rattle.reg_text.specs.Grammar.{Said, row_read}
-use Rattle.reg_text.specs.Drafts.{DraftValue}
-use Rattle.reg_text.specs.Day.{is_over}
-use Rattle.reg_text.specs.Faults.{with, in_order, has_room, with_row, next_draft, at_row, after_rows, AnswersFault}
-use Rattle.reg_text.specs.DraftLimits.{TakesFirst}
 use Rattle.reg_text.proofs.DraftSteps.{grows}
 use Rattle.reg_text.proofs.TagLaws.{MayFollow, tag-spelled}
 
 -- ---- one row, by what was read of it
 
-row-is : (t : Tag) (d : DraftValue) (r : Record) (x : Said t) → row_read t r ≡ Ok x → in_order t d x ≡ true → has_room t d ≡ true → with_row t d r ≡ Ok (with t d x)
+row-is : (t : Tag) (d : DraftValue) (r : Record) (x : Said t) → row_read t r ≡ Ok x → in_order t d x ≡ true → has_room t d x ≡ true → with_row t d r ≡ Ok (with t d x)
 unfolding with_row
 row-is t d r x read order room = rw (read, order, room) refl
 
@@ -44,7 +36,7 @@ pub record IsOnly (last : Option Tag) (t : Tag) : Type 0 where
   pub opened : is_over last ≡ false
   pub only : (u : Tag) → MayFollow last u → u ≡ t
   pub order : (d : DraftValue) (x : Said t) → in_order t d x ≡ true
-  pub room : (d : DraftValue) → has_room t d ≡ true
+  pub room : (d : DraftValue) (x : Said t) → has_room t d x ≡ true
 
 next-is : (last : Option Tag) (t : Tag) (d : DraftValue) (r : Record) (u : Tag) (y : Result DraftValue Cause) → IsOnly last t → d.last ≡ last → tag_after last (field r 0) ≡ Ok u → with_row t d r ≡ y → next_draft d r ≡ y
 next-is last t d r u y h l tagged row =
@@ -54,7 +46,7 @@ next-is last t d r u y h l tagged row =
 pub heading-row : (number : ℕ) (last : Option Tag) (t : Tag) → IsOnly last t → (left rows : List Record) (r : Record) (u : Tag) → left ≡ r ∷ rows → tag_after last (field r 0) ≡ Ok u
     → (read : Result (Said t) Cause) → read ≡ row_read t r → (result : Result (Said t) DayFault) → AtRow number read result → TakesFirst number t last result left rows
 heading-row number last t h left rows r u is tagged read same (Ok x) at =
-    let one : (d : DraftValue) → d.last ≡ last → next_draft d r ≡ Ok (with t d x) = λ d l. next-is last t d r u _ h l tagged (row-is t d r x (sym same ∙ at) (h.order d x) (h.room d)) in
+    let one : (d : DraftValue) → d.last ≡ last → next_draft d r ≡ Ok (with t d x) = λ d l. next-is last t d r u _ h l tagged (row-is t d r x (sym same ∙ at) (h.order d x) (h.room d x)) in
     record { fits = λ d fits l. (grows d (with t d x) r fits (one d l)).draft; goes_on = λ d l. ap (after_rows number d) is ∙ ap (λ (n : Result DraftValue Cause). at_row number n (λ e. after_rows (number + 1) e rows)) (one d l) }
 heading-row number last t h left rows r u is tagged read same (Err e) at = λ d l.
     let one : next_draft d r ≡ Err at.0 = next-is last t d r u _ h l tagged (row-fails t d r at.0 (sym same ∙ at.1)) in
@@ -79,13 +71,13 @@ only-lags tag.Lags e = refl
 only-lags u e = absurd cc
 
 pub format-only : IsOnly None tag.Format
-format-only = record { opened = refl; only = only-format; order = λ d x. refl; room = λ d. refl }
+format-only = record { opened = refl; only = only-format; order = λ d x. refl; room = λ d x. refl }
 
 pub day-only : IsOnly (Some tag.Format) tag.Day
-day-only = record { opened = refl; only = only-day; order = λ d x. refl; room = λ d. refl }
+day-only = record { opened = refl; only = only-day; order = λ d x. refl; room = λ d x. refl }
 
 pub period-only : IsOnly (Some tag.Day) tag.Period
-period-only = record { opened = refl; only = only-period; order = λ d x. refl; room = λ d. refl }
+period-only = record { opened = refl; only = only-period; order = λ d x. refl; room = λ d x. refl }
 
 pub lags-only : IsOnly (Some tag.Period) tag.Lags
-lags-only = record { opened = refl; only = only-lags; order = λ d x. refl; room = λ d. refl }
+lags-only = record { opened = refl; only = only-lags; order = λ d x. refl; room = λ d x. refl }

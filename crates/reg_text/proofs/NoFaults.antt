@@ -3,12 +3,9 @@ use Rattle.std.proofs.Common.{◌≡◌, ℕ, suc, Bool, true, false, eqb, ◌||
 use Rattle.std.specs.Prelude.{Contains}
 use Rattle.std.proofs.lemmas.Bool.{eqb-true, lt-leb, false_from_ne_true}
 use Rattle.std.proofs.lemmas.List.{map-append}
-use Rattle.reg_base.specs.declared.limits.TheConstants.{MOST_ACCOUNTS}
+use Rattle.reg_text.proofs.Names.{MOST_ACCOUNTS, IsRising, AccountValue, BookValue, first_fault, has_row_ahead}
 use Rattle.reg_base.specs.Footprint.{is_among}
-use Rattle.reg_base.specs.Rising.{IsRising}
-use Rattle.reg_account.specs.Account.{AccountValue}
 use Rattle.reg_rules.specs.State.{numbers}
-use Rattle.reg_book.specs.Book.{first_fault}
 use Rattle.reg_text.proofs.RisingFacts.{not-there}
 
 pub no-fault : {F : Type 0} (o : Option F) (f : F) → Some f ≡ o → o ≡ None → ⊥
@@ -26,8 +23,9 @@ among-in : (xs : List ℕ) (n : ℕ) → is_among xs n ≡ true → Contains xs 
 among-in [] n e = absurd cc
 among-in (x ∷ xs) n e = among-by (eqb x n) x xs n refl e (among-in xs n)
 
--- an account whose number is above all others has no fault if there is room
-pub no-book-fault : (accounts : List AccountValue) (a : AccountValue) → IsRising (map (λ (v : AccountValue). v.number) (accounts ++ a ∷ [])) → length accounts < MOST_ACCOUNTS → first_fault accounts a ≡ None
-no-book-fault accounts a rises room =
+-- an account whose number is above all others has no fault if there is room, and no row of it is ahead
+pub no-book-fault : (b : BookValue) (a : AccountValue) → IsRising (map (λ (v : AccountValue). v.number) (b.accounts ++ a ∷ [])) → length b.accounts < MOST_ACCOUNTS → has_row_ahead b.next a ≡ false → first_fault b a ≡ None
+no-book-fault b a rises room behind =
+    let accounts = b.accounts in
     let new : is_among (numbers accounts) a.number ≡ false = false_from_ne_true _ (λ e. not-there (numbers accounts) a.number (subst IsRising (map-append (λ (v : AccountValue). v.number) accounts (a ∷ [])) rises) (among-in (numbers accounts) a.number e)) in
-    rw (new, lt-leb _ _ room) refl
+    rw (new, behind, lt-leb _ _ room) refl

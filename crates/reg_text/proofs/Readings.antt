@@ -6,23 +6,9 @@ use mathlib.Core.List.{map-id}
 use Rattle.std.specs.Prelude.{IfSome, All}
 use Rattle.std.proofs.lemmas.List.Elements.{All-from_recursion}
 use Rattle.std.specs.List.{AllByRecursion}
-use Rattle.reg_base.specs.declared.limits.TheConstants.{MOST_RECORD}
-use Rattle.reg_base.specs.Rising.{IsRising}
-use Rattle.reg_text.specs.declared.cause.Cause.{Cause}
-use Rattle.reg_text.specs.declared.reading.tag.Tag.{Tag}
+use Rattle.reg_text.proofs.Names.{MOST_RECORD, IsRising, Cause, Tag, Record, place, Said, row, DraftValue, accounts_in, closed, ended, nothing_read, DayValue, day_with, is_over, day_said, day_text, IsUserNo, IsDayNo, IsInstruction, AccountValue, IsAccount, IsBehind, AreRecorded, IsPair, CanBeSaid, IsReading, FitsSoFar, IsDraft, next_in, next_draft, at_row, at_end, after_rows}
+use Rattle.reg_text.proofs.Names.{day_of_rows}
 use Rattle.reg_text.specs.declared.reading.tag.Tag.TheVariants as tag
-use Rattle.reg_text.specs.Records.{Record}
-use Rattle.reg_text.specs.Tags.{place}
-use Rattle.reg_text.specs.Grammar.{Said, row}
-use Rattle.reg_text.specs.Drafts.{DraftValue, accounts_in, closed, ended, nothing_read}
-use Rattle.reg_text.specs.Day.{DayValue, day_with, is_over, day_said}
-use Rattle.reg_text.specs.Spelling.{day_text}
-use Rattle.reg_base.specs.Numbers.{IsUserNo, IsDayNo}
-use Rattle.reg_base.specs.Instructions.{IsInstruction}
-use Rattle.reg_account.specs.Account.{AccountValue, IsAccount}
-use Rattle.reg_text.specs.Reading.{IsPair, CanBeSaid, IsReading}
-use Rattle.reg_text.specs.DraftLimits.{FitsSoFar, IsDraft}
-use Rattle.reg_text.specs.Faults.{next_in, next_draft, at_row, at_end, after_rows, day_of_rows}
 use Rattle.reg_text.proofs.ListFacts.{all-weaker}
 use Rattle.reg_text.proofs.RowLaws.{lags-fit, instruction-fits}
 use Rattle.reg_text.proofs.DraftSteps.{rows_so_far, closed-rows, closed-fits, grows, nothing-fits}
@@ -61,6 +47,9 @@ headed d h over =
 numbered-day : (o : Option ℕ) (next count : ℕ) → o ≡ Some next → IfSome o (λ n. n + count ≤ MOST_RECORD + 1) → next + count ≤ MOST_RECORD + 1
 numbered-day o next count e h = rw e at h
 
+recorded-day : (o : Option ℕ) (next : ℕ) (accounts : List AccountValue) → o ≡ Some next → IfSome o (AreRecorded accounts []) → AreRecorded accounts [] next
+recorded-day o next accounts e h = rw e at h
+
 -- what is said of each value of a section is said of each in a day
 each-one : {X : Type 0} (P Q : X → Type 0) → ((x : X) → P x → Q x) → (xs : List X) → AllByRecursion P xs → All Q xs
 each-one P Q follow xs h = All-from_recursion Q xs (all-weaker P Q follow xs h)
@@ -75,12 +64,14 @@ says-a-day d h k =
     let admins = h.within.1.1.1.1.1.0 in
     let work = h.within.1.1.1.1.1.1.0 in
     let over = closed-fits d h in
-    let due = h.within.1.1.1.1.1.1.1.1.1.0 in
+    let due = h.within.1.1.1.1.1.1.1.1.1.1.1.1.1.1.0 in
+    let blocks = over.within.1.1.1.1.1.1.1.0.fits in
     let numbered = numbered-day (next_in d.days) k.day.1 (length d.instructions) (ap next_in k.one_day) h.numbered in
     let from = day.1.low in
+    let recorded = recorded-day (next_in d.days) k.day.1 (accounts_in d) (ap next_in k.one_day) over.recorded in
     record {
       day = record {
-        book = record { rising = h.rising; few = omega (arith, over.few); within_limits = All-from_recursion IsAccount (accounts_in d) over.within.1.1.1.1.1.1.1.0.fits; next = record { from_one = day.1.low; to_the_end = day.1.high } };
+        book = record { rising = h.rising; few = omega (arith, over.few); within_limits = All-from_recursion IsAccount (accounts_in d) blocks; next = record { from_one = day.1.low; to_the_end = day.1.high }; behind = All-from_recursion (IsBehind k.day.1) (accounts_in d) recorded.closed };
         rules = record {
           working_days = record { rising = subst IsRising (map-id d.work) work.listed.ordered; each_day = All-from_recursion IsDayNo d.work work.fits };
           each_admin = All-from_recursion IsUserNo d.admins admins.fits;
@@ -131,7 +122,7 @@ closes d h over =
       reading = record {
         version = k.version;
         is_known = the_one (row tag.Format).Fits d.versions k.version k.one_version h.within.0.fits;
-        spelled = sym (closed-rows d) ∙ said-rows d k.version k.day k.period k.lags closed k.one_version k.one_day k.one_period k.one_lags;
+        spelled = sym (closed-rows d h) ∙ said-rows d k.version k.day k.period k.lags closed k.one_version k.one_day k.one_period k.one_lags;
         fits = says-a-day d h k;
       };
     }

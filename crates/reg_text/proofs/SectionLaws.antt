@@ -1,18 +1,11 @@
 -- Sections: one row more at the end of one, and what stays of the others.
-use Rattle.std.proofs.Common.{◌≡◌, ℕ, ◌<◌, ◌≤◌, true, nat_le, List, [], ◌∷◌, ◌++◌, length, map, Option, Some, None, refl, sym, ap, subst, ◌∙◌, arith, append_assoc, length-append}
-use Rattle.std.proofs.lemmas.Bool.{ltb-true, leb-true, lt-ltb}
+use Rattle.std.proofs.Common.{◌≡◌, ℕ, ◌<◌, ◌≤◌, true, List, [], ◌∷◌, ◌++◌, length, map, Option, Some, None, refl, sym, ap, subst, ◌∙◌, arith, append_assoc, length-append}
+use Rattle.std.proofs.lemmas.Bool.{ltb-true, lt-ltb}
 use Rattle.std.proofs.lemmas.List.{append-nil, map-append}
 use Rattle.std.specs.List.{AllByRecursion, flat_map}
 use Rattle.std.proofs.lemmas.Grind.{flat_map-append}
-use Rattle.reg_base.specs.Rising.{IsRising}
-use Rattle.reg_text.specs.declared.reading.tag.Tag.{Tag}
-use Rattle.reg_text.specs.declared.reading.tag.Tag.TheVariants as tag
-use Rattle.reg_text.specs.Records.{Record}
-use Rattle.reg_text.specs.Tags.{rule, is_once}
-use Rattle.reg_text.specs.Lasts.{last_of, is_above}
-use Rattle.reg_text.specs.Grammar.{Said, row, row_text}
-use Rattle.reg_text.specs.Sections.{Section, item_rows, section_rows, all_rows, key, follows, IsOrdered, most, is_room, AreFew, IsSection}
-use Rattle.reg_text.specs.DraftLimits.{stands_at, comes_once, StandsAt}
+use Rattle.reg_text.proofs.Names.{IsRising, Tag, Record, rule, is_once, last_of, is_above, Said, row, Section, item_rows, section_rows, all_rows, key, follows, IsOrdered, most, is_room, AreFew, IsSection, stands_at, comes_once, StandsAt}
+use Rattle.reg_text.specs.Grammar.{row_text}
 use Rattle.reg_text.proofs.ListFacts.{all-push, all-append, all-first, all-rest, all-both}
 use Rattle.reg_text.proofs.RisingFacts.{rising-push, rising-above, last-key}
 

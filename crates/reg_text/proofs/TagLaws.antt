@@ -2,12 +2,8 @@
 use Rattle.std.proofs.Common.{◌≡◌, ℕ, ◌≤◌, true, false, nat_le, Option, Some, List, Ok, refl, subst, arith}
 use Rattle.std.proofs.lemmas.Bool.{and_parts, leb-true, le-leb}
 use Rattle.reg_text.specs.declared.cause.Cause.TheVariants as cause
-use Rattle.reg_text.specs.declared.reading.tag.Tag.{Tag}
+use Rattle.reg_text.proofs.Names.{Tag, IsBetween, named, all_tags, tag_word, rule, place, may_follow, tag_after, is_over}
 use Rattle.reg_text.specs.declared.reading.tag.Tag.TheVariants as tag
-use Rattle.reg_base.specs.Numbers.{IsBetween}
-use Rattle.reg_text.specs.Words.{named}
-use Rattle.reg_text.specs.Tags.{all_tags, tag_word, rule, place, may_follow, tag_after}
-use Rattle.reg_text.specs.Day.{is_over}
 use Rattle.reg_text.proofs.Binds.{bind_ok, test_ok}
 use Rattle.reg_text.proofs.WordLaws.{named-spelled}
 

@@ -5,27 +5,14 @@ use Rattle.std.specs.List.{AllByRecursion, flat_map}
 use Rattle.std.proofs.lemmas.List.Elements.{recursion_from_All}
 use Rattle.std.proofs.lemmas.Bool.{le-leb, lt-ltb}
 use Rattle.std.proofs.lemmas.List.{append-nil, map-append}
-use Rattle.reg_base.specs.declared.limits.TheConstants.{MOST_ACCOUNTS, MOST_RECORD}
-use Rattle.reg_base.specs.Numbers.{IsUserNo, IsDayNo}
-use Rattle.reg_base.specs.Instructions.{IsInstruction}
-use Rattle.reg_base.specs.Rising.{IsRising}
-use Rattle.reg_account.specs.Account.{AccountValue, IsAccount}
-use Rattle.reg_text.specs.declared.reading.account_row.AccountHead.{AccountHead}
-use Rattle.reg_text.specs.declared.reading.tag.Tag.{Tag}
+use Rattle.reg_text.proofs.Names.{MOST_ACCOUNTS, MOST_RECORD, IsUserNo, IsDayNo, IsInstruction, IsRising, AccountValue, IsAccount, IsBehind, AreBelow, RetiredFits, RetirementRow, ListsValue, row_numbers, no_lists, AccountHead, Tag, Record, tag_word, last_of, as_list, Said, row, head_of, lists_of, account_with, account_block, each_row, section_rows, all_rows, key, follows, most, IsSection, DraftValue, listed, accounts_in, account_count, nothing_read, DayValue}
+use Rattle.reg_text.proofs.Names.{lags_in, day_text, IsPair, CanBeSaid, with, in_order, has_room, with_row, next_in, next_draft, after_rows}
 use Rattle.reg_text.specs.declared.reading.tag.Tag.TheVariants as tag
-use Rattle.reg_text.specs.Records.{Record}
-use Rattle.reg_text.specs.Tags.{tag_word}
-use Rattle.reg_text.specs.Lasts.{last_of, as_list}
-use Rattle.reg_text.specs.Grammar.{Said, row, row_text}
-use Rattle.reg_text.specs.Sections.{head_of, account_with, account_block, section_rows, all_rows, key, follows, most, IsSection}
-use Rattle.reg_text.specs.Drafts.{DraftValue, listed, accounts_in, account_count, nothing_read}
-use Rattle.reg_text.specs.Day.{DayValue}
-use Rattle.reg_text.specs.Spelling.{lags_in, day_text}
-use Rattle.reg_text.specs.Reading.{IsPair, CanBeSaid}
-use Rattle.reg_text.specs.Faults.{with, in_order, has_room, with_row, next_draft, after_rows}
+use Rattle.reg_text.specs.Grammar.{row_text}
 use Rattle.reg_text.proofs.ListFacts.{all-weaker}
 use Rattle.reg_text.proofs.GrammarLaws.{each-row}
-use Rattle.reg_text.proofs.RowLaws.{fit-lags, fit-account, fit-instruction}
+use Rattle.reg_text.proofs.RowLaws.{fit-lags, fit-account, fit-lists, fit-instruction}
+use Rattle.reg_text.proofs.Retirements.{below-at, sum-left}
 use Rattle.reg_text.proofs.RisingFacts.{rising-above, last_of-append}
 use Rattle.reg_text.proofs.SectionLaws.{ordered-at, room-at, all-at}
 use Rattle.reg_text.proofs.DraftSteps.{count-accounts}
@@ -38,12 +25,12 @@ Reach d rows v = (number : ℕ) → after_rows number d rows ≡ Ok v
 reach-row : (d e : DraftValue) (r : Record) (rows : List Record) (v : DayValue) → next_draft d r ≡ Ok e → Reach e rows v → Reach d (r ∷ rows) v
 reach-row d e r rows v step more number = rw step (more (number + 1))
 
-by_row : (t : Tag) (d : DraftValue) (x : Said t) → (row t).Fits x → in_order t d x ≡ true → has_room t d ≡ true → with_row t d (row_text t x) ≡ Ok (with t d x)
+by_row : (t : Tag) (d : DraftValue) (x : Said t) → (row t).Fits x → in_order t d x ≡ true → has_room t d x ≡ true → with_row t d (row_text t x) ≡ Ok (with t d x)
 unfolding with_row
 by_row t d x fits ordered room = rw ((each-row t).again (tag_word t) x fits, ordered, room) refl
 
 -- a row that may stand here, is in order and has room is taken
-pub taken : (t : Tag) (d : DraftValue) (x : Said t) → MayFollow d.last t → (row t).Fits x → in_order t d x ≡ true → has_room t d ≡ true → next_draft d (row_text t x) ≡ Ok (with t d x)
+pub taken : (t : Tag) (d : DraftValue) (x : Said t) → MayFollow d.last t → (row t).Fits x → in_order t d x ≡ true → has_room t d x ≡ true → next_draft d (row_text t x) ≡ Ok (with t d x)
 taken t d x may fits ordered room = rw (goes_on d.last t may, tag-again d.last t may) (by_row t d x fits ordered room)
 
 -- ---- a section: rows of a list, each of which is taken while the whole list is as it should be
@@ -55,14 +42,14 @@ pub record Grown (t : Tag) (state : Option Tag → List (Said t) → DraftValue)
   pub more : (last : Option Tag) (xs : List (Said t)) (x : Said t) → with t (state last xs) x ≡ state (Some t) (xs ++ x ∷ [])
 
 section-step : (t : Tag) (state : Option Tag → List (Said t) → DraftValue) → Grown t state → (last : Option Tag) (xs : List (Said t)) (x : Said t) (others : List (Said t)) → MayFollow last t → IsSection (Some t, xs ++ x ∷ others)
-    → has_room t (state last xs) ≡ true → next_draft (state last xs) (row_text t x) ≡ Ok (state (Some t) (xs ++ x ∷ []))
+    → has_room t (state last xs) x ≡ true → next_draft (state last xs) (row_text t x) ≡ Ok (state (Some t) (xs ++ x ∷ []))
 section-step t state g last xs x others may whole room =
     let order : in_order t (state last xs) x ≡ true = ap (λ (l : List (Said t)). follows (key t) (last_of l) x) (g.list last xs) ∙ ordered-at (key t) xs x others whole.listed.ordered in
     taken t (state last xs) x (subst (λ (l : Option Tag). MayFollow l t) (sym (g.last last xs)) may) (all-at (row t).Fits xs x others whole.fits) order room ∙ ap (λ (d : DraftValue). Ok d) (g.more last xs x)
 
 pub section-taken : (t : Tag) (state : Option Tag → List (Said t) → DraftValue) → Grown t state → MayFollow (Some t) t
     → (Whole : List (Said t) → Type 0) → ((l : List (Said t)) → Whole l → IsSection (Some t, l))
-    → ((last : Option Tag) (xs : List (Said t)) (x : Said t) (others : List (Said t)) → Whole (xs ++ x ∷ others) → has_room t (state last xs) ≡ true)
+    → ((last : Option Tag) (xs : List (Said t)) (x : Said t) (others : List (Said t)) → Whole (xs ++ x ∷ others) → has_room t (state last xs) x ≡ true)
     → (others : List (Said t)) (last : Option Tag) (xs : List (Said t)) (rest : List Record) (v : DayValue) → MayFollow last t → Whole (xs ++ others)
     → ((after : Option Tag) → MayFollow after t → Reach (state after (xs ++ others)) rest v) → Reach (state last xs) (section_rows (Some t, others) ++ rest) v
 section-taken t state g again Whole is room [] last xs rest v may whole more = let then = more last may in rw append-nil at then
@@ -77,25 +64,65 @@ section-taken t state g again Whole is room (x ∷ others) last xs rest v may wh
 abbrev account_number : AccountValue → ℕ
 account_number a = a.number
 
--- an account that is above the ones before it comes after the open one
-next-account : (accounts : List AccountValue) (head : Option AccountHead) (a : AccountValue) (others : List AccountValue) → IsRising (map account_number ((accounts ++ map account_with (as_list head)) ++ a ∷ others)) → follows (key tag.Account) (last_of (as_list head)) (head_of a) ≡ true
-next-account accounts None a others rises = refl
-next-account accounts (Some h) a others rises =
-    let all = rising-above (map account_number (accounts ++ account_with h ∷ [])) a.number (map account_number others) (rw map-append at rises) in
-    rw (map-append account_number accounts (account_with h ∷ []), last_of-append (map account_number accounts) h.number) at all
+-- surrenders and deletions of an account, recorded under numbers below the next one
+abbrev AreRetired : ℕ → List RetirementRow → Type 0
+AreRetired next rows = IsSection (Some tag.Retired, rows) × (AreBelow next (row_numbers rows) × RetiredFits rows)
 
-pub blocks-taken : (d : DraftValue) (others : List AccountValue) (last : Option Tag) (accounts : List AccountValue) (head : Option AccountHead) (rest : List Record) (v : DayValue) → MayFollow last tag.Account → AllByRecursion IsAccount others
-    → IsRising (map account_number ((accounts ++ map account_with (as_list head)) ++ others)) → length ((accounts ++ map account_with (as_list head)) ++ others) ≤ MOST_ACCOUNTS
-    → ((after : Option Tag) (all : List AccountValue) (opened : Option AccountHead) → MayFollow after tag.Account → all ++ map account_with (as_list opened) ≡ (accounts ++ map account_with (as_list head)) ++ others → Reach (record d { last = after; accounts = all; head = opened }) rest v)
-    → Reach (record d { last = last; accounts = accounts; head = head }) (flat_map account_block others ++ rest) v
-blocks-taken d [] last accounts head rest v may fit rises few more = more last accounts head may (sym (append-nil (accounts ++ map account_with (as_list head))))
-blocks-taken d (a ∷ others) last accounts head rest v may fit rises few more =
-    let now = record d { last = last; accounts = accounts; head = head } in
+-- behind the row of an account the rows of its lists are taken
+lists-taken : (d : DraftValue) (next : ℕ) (a : AccountValue) (rest : List Record) (v : DayValue) → next_in d.days ≡ Some next → IsAccount a → IsBehind next a
+    → ((last : Option Tag) → MayFollow last tag.Figure → Reach (record d { last = last; lists = lists_of a }) rest v)
+    → Reach (record d { last = Some tag.Account; lists = no_lists }) (each_row tag.User a.users ++ (each_row tag.Trusted a.trusted ++ (each_row tag.Retired a.rows ++ (each_row tag.Emissions a.emissions ++ (each_row tag.Figure a.figures ++ rest))))) v
+lists-taken d next a rest v is h behind more =
+    let fit = fit-lists a h in
+    let l1 : ListsValue = record no_lists { users = a.users } in
+    let l2 : ListsValue = record l1 { trusted = a.trusted } in
+    let l3 : ListsValue = record l2 { rows = a.rows } in
+    let l4 : ListsValue = record l3 { emissions = a.emissions } in
+    let rows4 : List Record = section_rows (Some tag.Figure, a.figures) ++ rest in
+    let rows3 : List Record = section_rows (Some tag.Emissions, a.emissions) ++ rows4 in
+    let rows2 : List Record = section_rows (Some tag.Retired, a.rows) ++ rows3 in
+    let rows1 : List Record = section_rows (Some tag.Trusted, a.trusted) ++ rows2 in
+    section-taken tag.User (λ last l. record d { last = last; lists = record no_lists { users = l } }) (record { last = λ last xs. refl; list = λ last xs. refl; more = λ last xs x. refl }) refl (λ l. IsSection (Some tag.User, l)) (λ l whole. whole) (λ last xs x others whole. room-at (most tag.User) xs x others whole.listed.few)
+    a.users (Some tag.Account) [] rows1 v refl fit.users (λ last1 may1.
+    section-taken tag.Trusted (λ last l. record d { last = last; lists = record l1 { trusted = l } }) (record { last = λ last xs. refl; list = λ last xs. refl; more = λ last xs x. refl }) refl (λ l. IsSection (Some tag.Trusted, l)) (λ l whole. whole) (λ last xs x others whole. room-at (most tag.Trusted) xs x others whole.listed.few)
+    a.trusted last1 [] rows2 v (later last1 tag.User tag.Trusted (omega arith) (omega arith) may1) fit.trusted (λ last2 may2.
+    section-taken tag.Retired (λ last l. record d { last = last; lists = record l2 { rows = l } }) (record { last = λ last xs. refl; list = λ last xs. refl; more = λ last xs x. refl }) refl (AreRetired next) (λ l whole. whole.0)
+    (λ last xs x others whole. rw (room-at (most tag.Retired) xs x others whole.0.listed.few, is, below-at next xs x others whole.1.0, sum-left xs x others whole.1.1) refl)
+    a.rows last2 [] rows3 v (later last2 tag.Trusted tag.Retired (omega arith) (omega arith) may2) (fit.rows, (behind, h.retired_fits)) (λ last3 may3.
+    section-taken tag.Emissions (λ last l. record d { last = last; lists = record l3 { emissions = l } }) (record { last = λ last xs. refl; list = λ last xs. refl; more = λ last xs x. refl }) refl (λ l. IsSection (Some tag.Emissions, l)) (λ l whole. whole) (λ last xs x others whole. refl)
+    a.emissions last3 [] rows4 v (later last3 tag.Retired tag.Emissions (omega arith) (omega arith) may3) fit.emissions (λ last4 may4.
+    section-taken tag.Figure (λ last l. record d { last = last; lists = record l4 { figures = l } }) (record { last = λ last xs. refl; list = λ last xs. refl; more = λ last xs x. refl }) refl (λ l. IsSection (Some tag.Figure, l)) (λ l whole. whole) (λ last xs x others whole. refl)
+    a.figures last4 [] rest v (later last4 tag.Emissions tag.Figure (omega arith) (omega arith) may4) fit.figures more))))
+
+-- an account that is above the ones before it comes after the open one
+next-account : (accounts : List AccountValue) (head : Option AccountHead) (l : ListsValue) (a : AccountValue) (others : List AccountValue) → IsRising (map account_number ((accounts ++ map (account_with l) (as_list head)) ++ a ∷ others)) → follows (key tag.Account) (last_of (as_list head)) (head_of a) ≡ true
+next-account accounts None l a others rises = refl
+next-account accounts (Some h) l a others rises =
+    let all = rising-above (map account_number (accounts ++ account_with l h ∷ [])) a.number (map account_number others) (rw map-append at rises) in
+    rw (map-append account_number accounts (account_with l h ∷ []), last_of-append (map account_number accounts) h.number) at all
+
+-- the rows of an account's lists, of the other accounts, and what comes behind
+block-rest : (users trusted rows emissions figures others rest : List Record) → ((users ++ (trusted ++ (rows ++ (emissions ++ figures)))) ++ others) ++ rest ≡ users ++ (trusted ++ (rows ++ (emissions ++ (figures ++ (others ++ rest)))))
+block-rest users trusted rows emissions figures others rest = simp append_assoc refl
+
+pub blocks-taken : (d : DraftValue) (next : ℕ) (others : List AccountValue) (last : Option Tag) (accounts : List AccountValue) (head : Option AccountHead) (l : ListsValue) (rest : List Record) (v : DayValue) → next_in d.days ≡ Some next → MayFollow last tag.Account
+    → AllByRecursion IsAccount others → AllByRecursion (IsBehind next) others
+    → IsRising (map account_number ((accounts ++ map (account_with l) (as_list head)) ++ others)) → length ((accounts ++ map (account_with l) (as_list head)) ++ others) ≤ MOST_ACCOUNTS
+    → ((after : Option Tag) (all : List AccountValue) (opened : Option AccountHead) (m : ListsValue) → MayFollow after tag.Account → all ++ map (account_with m) (as_list opened) ≡ (accounts ++ map (account_with l) (as_list head)) ++ others → Reach (record d { last = after; accounts = all; head = opened; lists = m }) rest v)
+    → Reach (record d { last = last; accounts = accounts; head = head; lists = l }) (flat_map account_block others ++ rest) v
+blocks-taken d next [] last accounts head l rest v is may fit behind rises few more = more last accounts head l may (sym (append-nil (accounts ++ map (account_with l) (as_list head))))
+blocks-taken d next (a ∷ others) last accounts head l rest v is may fit behind rises few more =
+    let now = record d { last = last; accounts = accounts; head = head; lists = l } in
     let all = accounts_in now in
     let same : (all ++ a ∷ []) ++ others ≡ all ++ a ∷ others = append_assoc all (a ∷ []) others in
-    let room : account_count now < MOST_ACCOUNTS = omega (arith, few, length-append all (a ∷ others), count-accounts accounts head) in
-    reach-row now (with tag.Account now (head_of a)) (row_text tag.Account (head_of a)) (flat_map account_block others ++ rest) v (taken tag.Account now (head_of a) may (fit-account a fit.0) (next-account accounts head a others rises) (lt-ltb _ _ room))
-    (blocks-taken d others (Some tag.Account) all (Some (head_of a)) rest v refl fit.1 (rw same rises) (rw same few) (λ after ones opened may' is. more after ones opened may' (is ∙ same)))
+    let room : account_count now < MOST_ACCOUNTS = omega (arith, few, length-append all (a ∷ others), count-accounts accounts head l) in
+    let behind_it : List Record = flat_map account_block others ++ rest in
+    let lists : List Record = each_row tag.User a.users ++ (each_row tag.Trusted a.trusted ++ (each_row tag.Retired a.rows ++ (each_row tag.Emissions a.emissions ++ (each_row tag.Figure a.figures ++ behind_it)))) in
+    let split : flat_map account_block (a ∷ others) ++ rest ≡ row_text tag.Account (head_of a) ∷ lists = ap (λ (rs : List Record). row_text tag.Account (head_of a) ∷ rs) (block-rest (each_row tag.User a.users) (each_row tag.Trusted a.trusted) (each_row tag.Retired a.rows) (each_row tag.Emissions a.emissions) (each_row tag.Figure a.figures) (flat_map account_block others) rest) in
+    subst (λ (rs : List Record). Reach now rs v) (sym split)
+    (reach-row now (with tag.Account now (head_of a)) (row_text tag.Account (head_of a)) lists v (taken tag.Account now (head_of a) may (fit-account a fit.0) (next-account accounts head l a others rises) (lt-ltb _ _ room))
+    (lists-taken (record d { accounts = all; head = Some (head_of a) }) next a behind_it v is fit.0 behind.0 (λ last1 may1.
+    blocks-taken d next others last1 all (Some (head_of a)) (lists_of a) rest v is (later last1 tag.Figure tag.Account (omega arith) (omega arith) may1) fit.1 behind.1 (rw same rises) (rw same few) (λ after ones opened m may' equal. more after ones opened m may' (equal ∙ same)))))
 
 -- ---- the sections of a day
 
@@ -110,6 +137,9 @@ work-section v h = let days = h.day.rules.working_days in record { fits = recurs
 
 do-section : (v : DayValue) → CanBeSaid v → IsSection (Some tag.Do, v.batch.instructions)
 do-section v h = record { fits = all-weaker IsInstruction (row tag.Do).Fits fit-instruction v.batch.instructions (recursion_from_All IsInstruction v.batch.instructions h.day.batch.each); listed = record { ordered = tt; few = h.day.batch.few } }
+
+accounts : (v : DayValue) → CanBeSaid v → AllByRecursion IsAccount v.book.accounts
+accounts v h = recursion_from_All IsAccount v.book.accounts h.day.book.within_limits
 
 -- the drafts on the way
 abbrev headed : ℕ → DayValue → DraftValue
@@ -147,9 +177,9 @@ AreNumbered v l = IsSection (Some tag.Do, l) × (v.book.next + length l ≤ MOST
 has-number : (v : DayValue) (xs : List (Said tag.Do)) (x : Said tag.Do) (others : List (Said tag.Do)) → v.book.next + length (xs ++ x ∷ others) ≤ MOST_RECORD + 1 → v.book.next + length xs ≤ MOST_RECORD
 has-number v xs x others h = omega (arith, length-append xs (x ∷ others), h)
 
-whole : (version : ℕ) (v : DayValue) (accounts : List AccountValue) (head : Option AccountHead) → v.book.next - 1 ≡ v.batch.base → accounts ++ map account_with (as_list head) ≡ v.book.accounts
-    → Reach (record (headed version v) { last = Some tag.End; surrender = v.rules.surrender; admins = v.rules.admins; work = v.rules.calendar; accounts = accounts; head = head; instructions = v.batch.instructions }) [] v
-whole version v accounts head base all number = rw all (ap (λ (n : ℕ). Ok (record v { batch = record v.batch { base = n } })) base)
+whole : (version : ℕ) (v : DayValue) (accounts : List AccountValue) (head : Option AccountHead) (l : ListsValue) → v.book.next - 1 ≡ v.batch.base → accounts ++ map (account_with l) (as_list head) ≡ v.book.accounts
+    → Reach (record (headed version v) { last = Some tag.End; surrender = v.rules.surrender; admins = v.rules.admins; work = v.rules.calendar; accounts = accounts; head = head; lists = l; instructions = v.batch.instructions }) [] v
+whole version v accounts head l base all number = rw all (ap (λ (n : ℕ). Ok (record v { batch = record v.batch { base = n } })) base)
 
 pub text-taken : (version : ℕ) (v : DayValue) → version ≡ 1 → CanBeSaid v → Reach nothing_read (day_text version v) v
 text-taken version v known h =
@@ -170,9 +200,9 @@ text-taken version v known h =
     v.rules.admins last1 [] rows2 v (later last1 tag.Surrender tag.Admin (omega arith) (omega arith) may1) (admin-section v h) (λ last2 may2.
     section-taken tag.Work (λ last l. record d2 { last = last; work = l }) (record { last = λ last xs. refl; list = λ last xs. refl; more = λ last xs x. refl }) refl (λ l. IsSection (Some tag.Work, l)) (λ l whole. whole) (λ last xs x others whole. refl)
     v.rules.calendar last2 [] rows3 v (later last2 tag.Admin tag.Work (omega arith) (omega arith) may2) (work-section v h) (λ last3 may3.
-    blocks-taken d3 v.book.accounts last3 [] None rows4 v (later last3 tag.Work tag.Account (omega arith) (omega arith) may3) (recursion_from_All IsAccount v.book.accounts h.day.book.within_limits) h.day.book.rising h.day.book.few (λ last4 accounts head may4 all.
-    let d4 = record d3 { accounts = accounts; head = head } in
+    blocks-taken d3 v.book.next v.book.accounts last3 [] None no_lists rows4 v refl (later last3 tag.Work tag.Account (omega arith) (omega arith) may3) (accounts v h) (recursion_from_All (IsBehind v.book.next) v.book.accounts h.day.book.behind) h.day.book.rising h.day.book.few (λ last4 accounts head lists may4 all.
+    let d4 = record d3 { accounts = accounts; head = head; lists = lists } in
     let d5 = record d4 { instructions = v.batch.instructions } in
     section-taken tag.Do (λ last l. record d4 { last = last; instructions = l }) (record { last = λ last xs. refl; list = λ last xs. refl; more = λ last xs x. refl }) refl (AreNumbered v) (λ l whole. whole.0) (λ last xs x others whole. rw (room-at (most tag.Do) xs x others whole.0.listed.few, le-leb _ _ (has-number v xs x others whole.1)) refl)
     v.batch.instructions last4 [] rows5 v (later last4 tag.Account tag.Do (omega arith) (omega arith) may4) (do-section v h, omega (arith, h.day.follows, h.day.batch.numbered)) (λ last5 may5.
-    reach-row (record d5 { last = last5 }) (record d5 { last = Some tag.End }) (row_text tag.End tt) [] v (taken tag.End (record d5 { last = last5 }) tt (later last5 tag.Do tag.End (omega arith) (omega arith) may5) tt refl refl) (whole version v accounts head base all)))))))
+    reach-row (record d5 { last = last5 }) (record d5 { last = Some tag.End }) (row_text tag.End tt) [] v (taken tag.End (record d5 { last = last5 }) tt (later last5 tag.Do tag.End (omega arith) (omega arith) may5) tt refl refl) (whole version v accounts head lists base all)))))))

@@ -1,21 +1,14 @@
 -- A text to which the rows of a list are added, one element after another.
-use Rattle.std.proofs.Common.{◌≡◌, ℕ, zero, suc, ◌+◌, ◌<◌, List, [], ◌∷◌, ◌++◌, length, map, take, get_or, refl, ap, ◌∙◌, arith, codes}
+use Rattle.std.proofs.Common.{◌≡◌, ℕ, zero, suc, ◌+◌, ◌<◌, List, [], ◌∷◌, ◌++◌, length, map, take, get_or, ap, ◌∙◌, arith}
 use Rattle.std.proofs.lemmas.List.{append-nil, take_more, map-append}
 use Rattle.std.proofs.lemmas.Grind.{flat_map-append}
 use Rattle.csv.specs.Writing.{default_writer, row_text}
 use Rattle.reg_base.specs.Rising.{count_up}
-use Rattle.reg_plan.specs.declared.arrow.Arrow.{Arrow}
 use Rattle.reg_plan.specs.Plans.{PlanValue}
-use Rattle.reg_rules.specs.declared.reply.HeldNow.{HeldNow}
-use Rattle.reg_text.specs.Numbers.{number}
-use Rattle.reg_text.specs.Plain.{IsPlain, with_commas}
-use Rattle.reg_text.specs.Log.{holding_fields}
 use Rattle.reg_text.specs.Records.{Record}
 use Rattle.reg_text.specs.Report.{text_of}
-use Rattle.reg_text.specs.PlanText.{task_row, arrow_row, place_rows, places_rows}
+use Rattle.reg_text.specs.PlanText.{place_rows, places_rows}
 use Rattle.reg_text.proofs.TextFacts.{rows-more, rows-one}
-use Rattle.reg_text.proofs.RowFacts.{row-plain}
-use Rattle.reg_text.proofs.PlainFacts.{plain-decimal}
 
 -- the rows of the first elements, and of one more
 pub each-more : {X : Type 0} (f : X → Record) (old a b : List ℕ) (xs : List X) (i : ℕ) (x : X) → i < length xs → x ≡ get_or xs i x → a ≡ old ++ text_of (map f (take i xs)) → b ≡ a ++ row_text default_writer (f x) → b ≡ old ++ text_of (map f (take (i + 1) xs))
@@ -39,13 +32,3 @@ places-more plan old a b n ea eb =
     let same : places_rows plan (n + 1) ≡ places_rows plan n ++ place_rows plan (n + 1) =
     rw (counted, flat_map-append (place_rows plan) (count_up 1 n) ((n + 1) ∷ [])) (ap (λ (rows : List Record). places_rows plan n ++ rows) (append-nil (place_rows plan (n + 1)))) in
     rw same (rows-more old a b (places_rows plan n) (place_rows plan (n + 1)) ea eb)
-
--- the text of a row of a plan, and of an account and what it holds
-pub task-text : (place level : ℕ) → row_text default_writer (task_row place level) ≡ codes "task" ++ with_commas (number place ∷ number level ∷ []) (10 ∷ [])
-task-text place level = row-plain (codes "task") _ _ (refl, (plain-decimal place, (plain-decimal level, tt)))
-
-pub arrow-text : (arrow : Arrow) → row_text default_writer (arrow_row arrow) ≡ codes "arrow" ++ with_commas (number arrow.from ∷ number arrow.to ∷ number arrow.account ∷ []) (10 ∷ [])
-arrow-text arrow = row-plain (codes "arrow") _ _ (refl, (plain-decimal arrow.from, (plain-decimal arrow.to, (plain-decimal arrow.account, tt))))
-
-pub held-text : (tag : List ℕ) (held : HeldNow) → IsPlain tag → row_text default_writer (tag ∷ holding_fields held) ≡ tag ++ with_commas (holding_fields held) (10 ∷ [])
-held-text tag held p = row-plain tag _ _ (p, (plain-decimal held.account, (plain-decimal held.general, (plain-decimal held.aviation, tt))))

@@ -1,29 +1,102 @@
--- The acts that an instruction's row may name: of each its word, its parts, and the fields of these.
+-- The acts that an instruction's row may name: of each its word, its fields, and how it is made of them.
 use Rattle.std.specs.Prelude.{ℕ, Bool, List, [], ◌∷◌, Result, Ok, codes}
+use Rattle.reg_base.specs.declared.limits.TheConstants.{MOST_RECORD, FIRST_YEAR, LAST_YEAR}
+use Rattle.reg_base.specs.declared.kinds.AllowanceKind.{AllowanceKind}
+use Rattle.reg_base.specs.declared.kinds.Status.{Status}
 use Rattle.reg_base.specs.declared.act.Act.{Act}
 use Rattle.reg_base.specs.declared.act.Act.TheVariants as act
 use Rattle.reg_base.specs.declared.instruction.Instruction.{Instruction}
 use Rattle.reg_text.specs.declared.cause.Cause.{Cause}
 use Rattle.reg_text.specs.declared.reading.instruction_row.ActName.{ActName}
-use Rattle.reg_text.specs.declared.reading.instruction_row.ActName.TheVariants.{Transfer, Return}
-use Rattle.reg_text.specs.declared.reading.instruction_row.Move.{Move}
+use Rattle.reg_text.specs.declared.reading.instruction_row.ActName.TheVariants.{Transfer, Surrender, Delete, Return, Reverse, Create, Central, Trust, Untrust, SetStatus, Emissions, Assess}
 use Rattle.reg_text.specs.Causes.{◌>>=◌}
 use Rattle.reg_text.specs.Records.{Record}
-use Rattle.reg_text.specs.Words.{word_of, kind_word, kind_of}
-use Rattle.reg_text.specs.Codecs.{Codec, Fields, any_number, a_date, a_no, an_approver, a_word, last, ◌▸◌, made, forms, Row, row_of, named_row}
+use Rattle.reg_text.specs.Words.{word_of, kind_word, kind_of, status_word, status_of}
+use Rattle.reg_text.specs.Codecs.{Codec, Fields, within_limits, any_number, a_date, a_no, an_approver, a_word, last, ◌▸◌, made, forms, Row, row_of, named_row}
+
+-- ---- fields of acts
+
+-- FROM,TO,KIND,AMOUNT
+abbrev pub Move : Type 0
+Move = ℕ × ℕ × AllowanceKind × ℕ
+
+abbrev pub move_fields : Fields Move
+move_fields = made (λ p. (p.0, p.1.0, p.1.1.0, p.1.1.1)) (λ m. (m.0, (m.1, (m.2, m.3)))) (a_no ▸ a_no ▸ a_word kind_word kind_of ▸ last any_number)
+
+-- FROM,KIND,AMOUNT or TO,KIND,AMOUNT
+abbrev pub Amount : Type 0
+Amount = ℕ × AllowanceKind × ℕ
+
+abbrev pub amount_fields : Fields Amount
+amount_fields = made (λ p. (p.0, p.1.0, p.1.1)) (λ m. (m.0, (m.1, m.2))) (a_no ▸ a_word kind_word kind_of ▸ last any_number)
+
+-- ACCOUNT,NUMBER
+abbrev pub record_fields : Fields (ℕ × ℕ)
+record_fields = a_no ▸ last (within_limits 1 MOST_RECORD)
+
+-- ACCOUNT,OTHER
+abbrev pub other_fields : Fields (ℕ × ℕ)
+other_fields = a_no ▸ last a_no
+
+-- ACCOUNT,STATUS
+abbrev pub status_fields : Fields (ℕ × Status)
+status_fields = a_no ▸ last (a_word status_word status_of)
+
+-- ACCOUNT,YEAR,TONNES
+abbrev pub emission_fields : Fields (ℕ × ℕ × ℕ)
+emission_fields = made (λ p. (p.0, p.1.0, p.1.1)) (λ m. (m.0, (m.1, m.2))) (a_no ▸ within_limits FIRST_YEAR LAST_YEAR ▸ last any_number)
+
+-- ACCOUNT,YEAR
+abbrev pub year_fields : Fields (ℕ × ℕ)
+year_fields = a_no ▸ last (within_limits FIRST_YEAR LAST_YEAR)
+
+-- ---- the acts, a row each
+
+-- the word of an act, the fields after it, and how the act is made of them
+pub record ActForm : Type 1 where
+  pub word : List ℕ
+  pub Parts : Type 0
+  pub fields : Fields Parts
+  pub make : Parts → Act
+
+abbrev pub form : ActName → ActForm
+form Transfer = record { word = codes "transfer"; Parts = Move; fields = move_fields; make = λ p. act.Transfer p.0 p.1 p.2 p.3 }
+form Surrender = record { word = codes "surrender"; Parts = Amount; fields = amount_fields; make = λ p. act.Surrender p.0 p.1 p.2 }
+form Delete = record { word = codes "delete"; Parts = Amount; fields = amount_fields; make = λ p. act.Delete p.0 p.1 p.2 }
+form Return = record { word = codes "return"; Parts = Move; fields = move_fields; make = λ p. act.ReturnExcess p.0 p.1 p.2 p.3 }
+form Reverse = record { word = codes "reverse"; Parts = ℕ × ℕ; fields = record_fields; make = λ p. act.Reverse p.0 p.1 }
+form Create = record { word = codes "create"; Parts = Amount; fields = amount_fields; make = λ p. act.Create p.0 p.1 p.2 }
+form Central = record { word = codes "central"; Parts = Move; fields = move_fields; make = λ p. act.CentralMove p.0 p.1 p.2 p.3 }
+form Trust = record { word = codes "trust"; Parts = ℕ × ℕ; fields = other_fields; make = λ p. act.Trust p.0 p.1 }
+form Untrust = record { word = codes "untrust"; Parts = ℕ × ℕ; fields = other_fields; make = λ p. act.Untrust p.0 p.1 }
+form SetStatus = record { word = codes "status"; Parts = ℕ × Status; fields = status_fields; make = λ p. act.SetStatus p.0 p.1 }
+form Emissions = record { word = codes "emissions"; Parts = ℕ × ℕ × ℕ; fields = emission_fields; make = λ p. act.EnterEmissions p.0 p.1 p.2 }
+form Assess = record { word = codes "assess"; Parts = ℕ × ℕ; fields = year_fields; make = λ p. act.Assess p.0 p.1 }
 
 -- the acts that a row may name
 abbrev pub act_names : List ActName
-act_names = Transfer ∷ Return ∷ []
+act_names = Transfer ∷ Surrender ∷ Delete ∷ Return ∷ Reverse ∷ Create ∷ Central ∷ Trust ∷ Untrust ∷ SetStatus ∷ Emissions ∷ Assess ∷ []
 
--- the word of an act
-abbrev pub act_word : ActName → List ℕ
-act_word Transfer = codes "transfer"
-act_word Return = codes "return"
+-- the name and the parts of an act
+abbrev pub said : Act → (n : ActName) × (form n).Parts
+said (act.Transfer from to kind amount) = (Transfer, (from, to, kind, amount))
+said (act.Surrender from kind amount) = (Surrender, (from, kind, amount))
+said (act.Delete from kind amount) = (Delete, (from, kind, amount))
+said (act.ReturnExcess from to kind amount) = (Return, (from, to, kind, amount))
+said (act.Reverse account number) = (Reverse, (account, number))
+said (act.Create to kind amount) = (Create, (to, kind, amount))
+said (act.CentralMove from to kind amount) = (Central, (from, to, kind, amount))
+said (act.Trust account other) = (Trust, (account, other))
+said (act.Untrust account other) = (Untrust, (account, other))
+said (act.SetStatus account status) = (SetStatus, (account, status))
+said (act.EnterEmissions account year tonnes) = (Emissions, (account, year, tonnes))
+said (act.Assess account year) = (Assess, (account, year))
 
 abbrev pub act_name : Act → ActName
-act_name (act.Transfer from to kind amount) = Transfer
-act_name (act.ReturnExcess from to kind amount) = Return
+act_name a = (said a).0
+
+abbrev pub act_word : ActName → List ℕ
+act_word n = (form n).word
 
 -- the act that a field names
 abbrev pub act_name_of : List ℕ → Result ActName Cause
@@ -32,40 +105,13 @@ act_name_of = word_of act_word act_names
 abbrev pub an_act_name : Codec ActName
 an_act_name = a_word act_word act_name_of
 
--- ---- the parts of each act, and how it is made of them
-
-abbrev pub ActParts : ActName → Type 0
-ActParts Transfer = Move
-ActParts Return = Move
-
-abbrev pub act_made : (n : ActName) → ActParts n → Act
-act_made Transfer m = act.Transfer m.from m.to m.kind m.amount
-act_made Return m = act.ReturnExcess m.from m.to m.kind m.amount
-
-abbrev pub act_parts : (a : Act) → ActParts (act_name a)
-act_parts (act.Transfer from to kind amount) = record { from = from; to = to; kind = kind; amount = amount }
-act_parts (act.ReturnExcess from to kind amount) = record { from = from; to = to; kind = kind; amount = amount }
-
--- ---- the fields of each act
-
--- FROM,TO,KIND,AMOUNT
-abbrev pub move_fields : Fields Move
-move_fields = made
-    (λ p. record { from = p.0; to = p.1.0; kind = p.1.1.0; amount = p.1.1.1 })
-    (λ m. (m.from, (m.to, (m.kind, m.amount))))
-    (a_no ▸ a_no ▸ a_word kind_word kind_of ▸ last any_number)
-
-abbrev pub fields_of_act : (n : ActName) → Fields (ActParts n)
-fields_of_act Transfer = move_fields
-fields_of_act Return = move_fields
-
 -- ACT and the fields of the act
 abbrev pub act_fields : Fields Act
-act_fields = forms act_name ActParts an_act_name fields_of_act act_made act_parts
+act_fields = forms act_name (λ n. (form n).Parts) an_act_name (λ n. (form n).fields) (λ n. (form n).make) (λ a. (said a).1)
 
 -- the fields that spell an act
 abbrev pub act_text : Act → Record
-act_text a = (fields_of_act (act_name a)).spell (act_parts a)
+act_text a = (form (act_name a)).fields.spell (said a).1
 
 -- ---- the row of an instruction
 
@@ -82,7 +128,7 @@ instruction_row = named_row 4 an_act_name (row_of instruction_fields_of)
 
 -- what the fields after an act's name say, and whether a row with it has as many as it needs
 abbrev pub act_read : ActName → Record → Result Act Cause
-act_read n r = (fields_of_act n).read 5 r >>= λ p. Ok (act_made n p)
+act_read n r = (form n).fields.read 5 r >>= λ p. Ok ((form n).make p)
 
 abbrev pub act_ends : ActName → Record → Bool
-act_ends n r = (fields_of_act n).ends 5 r
+act_ends n r = (form n).fields.ends 5 r

@@ -3,6 +3,11 @@ use Rattle.std.specs.Prelude.{◌≡◌, ℕ, ◌+◌, ◌<◌, ◌≤◌, Bool,
 use Rattle.std.specs.List.{AllByRecursion}
 use Rattle.reg_base.specs.declared.limits.TheConstants.{MOST_ACCOUNTS, MOST_LAG, MOST_RECORD}
 use Rattle.reg_base.specs.Rising.{IsRising}
+use Rattle.reg_account.specs.declared.rows.RetirementRow.{RetirementRow}
+use Rattle.reg_account.specs.Rows.{AreBelow, RetiredFits, row_numbers}
+use Rattle.reg_account.specs.Account.{AccountValue}
+use Rattle.reg_account.specs.Lists.{no_lists}
+use Rattle.reg_rules.specs.Effect.{IsBehind}
 use Rattle.reg_text.specs.declared.cause.DayFault.{DayFault}
 use Rattle.reg_text.specs.declared.reading.tag.Tag.{Tag}
 use Rattle.reg_text.specs.declared.reading.heading_rows.Lags.{Lags}
@@ -34,18 +39,27 @@ pub record StandsAt (at : ℕ) (s : Section) : Type 0 where
   pub begun : at < stands_at s.0 → s.1 ≡ []
   pub come : stands_at s.0 ≤ at → comes_once s.0 ≡ true → (x : Item s.0) × (s.1 ≡ x ∷ [])
 
--- what was read is within its limits and in the order of the grammar
+-- the surrenders and deletions of these accounts, and of the open one, are recorded under numbers below the next one
+pub record AreRecorded (accounts : List AccountValue) (rows : List RetirementRow) (next : ℕ) : Type 0 where
+  pub closed : AllByRecursion (IsBehind next) accounts
+  pub opened : AreBelow next (row_numbers rows)
+
+-- what was read is within its limits and in the order of the grammar; without an open account there are no lists
 pub record FitsSoFar (d : DraftValue) : Type 0 where
   pub within : AllByRecursion IsSection (sections d)
   pub stand : AllByRecursion (StandsAt (place d.last)) (sections d)
   pub rising : IsRising (map (λ a. a.number) (accounts_in d))
   pub few : account_count d ≤ MOST_ACCOUNTS
   pub numbered : IfSome (next_in d.days) (λ next. next + length d.instructions ≤ MOST_RECORD + 1)
+  pub recorded : IfSome (next_in d.days) (AreRecorded d.accounts d.lists.rows)
+  pub retired : RetiredFits d.lists.rows
+  pub unopened : d.head ≡ None → d.lists ≡ no_lists
 
--- and before the first account none is open
+-- and before the first account none is open, but after each row of a block one is
 pub record IsDraft (d : DraftValue) : Type 0 where
   pub fits : FitsSoFar d
   pub first : d.head ≡ None → d.accounts ≡ []
+  pub opened : d.head ≡ None → 80 ≤ place d.last → 90 ≤ place d.last
 
 -- a row with this number and tag was taken after a row with the last tag, whatever the draft
 pub record IsTaken (number : ℕ) (t : Tag) (last : Option Tag) (left rows : List Record) (x : Said t) : Type 0 where

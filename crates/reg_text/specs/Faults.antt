@@ -1,6 +1,8 @@
 -- The rows of a text in turn: what each adds, and the first that is wrong, with its cause.
 use Rattle.std.specs.Prelude.{◌≡◌, ℕ, ◌+◌, Bool, true, ◌&&◌, nat_lt, nat_le, List, [], ◌∷◌, ◌++◌, length, Option, Some, None, Result, Ok, Err, if◌then◌else◌}
-use Rattle.reg_base.specs.declared.limits.TheConstants.{MOST_ACCOUNTS, MOST_INSTRUCTIONS, MOST_RECORD}
+use Rattle.reg_base.specs.declared.limits.TheConstants.{MOST_ACCOUNTS, MOST_HELD, MOST_INSTRUCTIONS, MOST_RECORD}
+use Rattle.reg_account.specs.declared.rows.RetirementRow.{RetirementRow}
+use Rattle.reg_account.specs.Rows.{retired_in}
 use Rattle.reg_text.specs.declared.cause.Cause.{Cause}
 use Rattle.reg_text.specs.declared.cause.Cause.TheVariants as cause
 use Rattle.reg_text.specs.declared.cause.DayFault.{DayFault}
@@ -30,6 +32,11 @@ with tag.Surrender d x = record d { last = Some tag.Surrender; surrender = d.sur
 with tag.Admin d x = record d { last = Some tag.Admin; admins = d.admins ++ x ∷ [] }
 with tag.Work d x = record d { last = Some tag.Work; work = d.work ++ x ∷ [] }
 with tag.Account d x = record (closed d) { last = Some tag.Account; head = Some x }
+with tag.User d x = record d { last = Some tag.User; lists = record d.lists { users = d.lists.users ++ x ∷ [] } }
+with tag.Trusted d x = record d { last = Some tag.Trusted; lists = record d.lists { trusted = d.lists.trusted ++ x ∷ [] } }
+with tag.Retired d x = record d { last = Some tag.Retired; lists = record d.lists { rows = d.lists.rows ++ x ∷ [] } }
+with tag.Emissions d x = record d { last = Some tag.Emissions; lists = record d.lists { emissions = d.lists.emissions ++ x ∷ [] } }
+with tag.Figure d x = record d { last = Some tag.Figure; lists = record d.lists { figures = d.lists.figures ++ x ∷ [] } }
 with tag.Do d x = record d { last = Some tag.Do; instructions = d.instructions ++ x ∷ [] }
 with tag.End d x = record d { last = Some tag.End }
 
@@ -47,11 +54,22 @@ is_number_left (Some next) count = nat_le (next + count) MOST_RECORD
 abbrev pub in_order : (t : Tag) → DraftValue → Said t → Bool
 in_order t d x = follows (key t) (last_of (listed t d)) x
 
--- its section may have one more row, and an instruction has a record number
-abbrev pub has_room : (t : Tag) → DraftValue → Bool
-has_room tag.Account d = nat_lt (account_count d) MOST_ACCOUNTS
-has_room tag.Do d = nat_lt (length d.instructions) MOST_INSTRUCTIONS && is_number_left (next_in d.days) (length d.instructions)
-has_room t d = is_room (most t) (length (listed t d))
+-- a surrender or a deletion is recorded under a number below the next one
+abbrev pub is_recorded : Option ℕ → RetirementRow → Bool
+is_recorded None row = true
+is_recorded (Some next) row = nat_lt row.number next
+
+-- with it, what was surrendered (or deleted) of its kind is within the limit
+abbrev pub is_sum_left : List RetirementRow → RetirementRow → Bool
+is_sum_left rows row = nat_le (retired_in row.retirement row.kind (rows ++ row ∷ [])) MOST_HELD
+
+-- its section may have one more row, an instruction has a record number, and a surrender or a deletion is one of before the day, and
+-- not too much
+abbrev pub has_room : (t : Tag) → DraftValue → Said t → Bool
+has_room tag.Account d x = nat_lt (account_count d) MOST_ACCOUNTS
+has_room tag.Retired d x = is_room (most tag.Retired) (length d.lists.rows) && (is_recorded (next_in d.days) x && is_sum_left d.lists.rows x)
+has_room tag.Do d x = nat_lt (length d.instructions) MOST_INSTRUCTIONS && is_number_left (next_in d.days) (length d.instructions)
+has_room t d x = is_room (most t) (length (listed t d))
 
 -- a value, if two tests pass
 abbrev pub placed : {A : Type 0} → Bool → Bool → A → Result A Cause
@@ -59,7 +77,7 @@ placed ordered room x = if ordered then test room cause.Limit x else Err cause.O
 
 -- what a row that says this adds
 abbrev pub adding : (t : Tag) → DraftValue → Said t → Result DraftValue Cause
-adding t d x = placed (in_order t d x) (has_room t d) (with t d x)
+adding t d x = placed (in_order t d x) (has_room t d x) (with t d x)
 
 -- what a row with this tag adds
 unfoldable pub with_row : Tag → DraftValue → Record → Result DraftValue Cause

@@ -1,11 +1,16 @@
 -- The rows of a day text: of each tag what its row says, and its fields.
 use Rattle.std.specs.Prelude.{◌≡◌, [], ◌∷◌, ℕ, Bool, true, false, not, nat_le, ◌+◌, Result, codes}
 use Rattle.std.specs.Str.{bytes_eq}
-use Rattle.reg_base.specs.declared.limits.TheConstants.{MOST_HELD, MOST_LAG, MOST_RECORD, FIRST_YEAR, LAST_YEAR}
+use Rattle.reg_base.specs.declared.limits.TheConstants.{MOST_EMISSIONS, MOST_HELD, MOST_LAG, MOST_RECORD, FIRST_YEAR, LAST_YEAR}
 use Rattle.reg_base.specs.declared.kinds.AccountKind.{AccountKind}
 use Rattle.reg_base.specs.declared.kinds.AccountKind.TheVariants.{Total, Allocation, Operator, Aircraft, Trading}
 use Rattle.reg_base.specs.declared.kinds.AllowanceKind.{AllowanceKind}
 use Rattle.reg_base.specs.declared.instruction.Instruction.{Instruction}
+use Rattle.reg_account.specs.declared.users.Representative.{Representative}
+use Rattle.reg_account.specs.declared.trusted.TrustedEntry.{TrustedEntry}
+use Rattle.reg_account.specs.declared.rows.RetirementRow.{RetirementRow}
+use Rattle.reg_account.specs.declared.years.Emission.{Emission}
+use Rattle.reg_account.specs.declared.years.Figure.{Figure}
 use Rattle.reg_text.specs.declared.cause.Cause.{Cause}
 use Rattle.reg_text.specs.declared.cause.Cause.TheVariants as cause
 use Rattle.reg_text.specs.declared.reading.tag.Tag.{Tag}
@@ -14,11 +19,11 @@ use Rattle.reg_text.specs.declared.reading.account_row.AccountHead.{AccountHead}
 use Rattle.reg_text.specs.declared.reading.heading_rows.Lags.{Lags}
 use Rattle.reg_text.specs.Causes.{test}
 use Rattle.reg_text.specs.Records.{Record}
-use Rattle.reg_text.specs.Words.{kind_word, kind_of, account_kind_word, account_kind_of, status_word, status_of, yes_no_word, yes_no_of}
+use Rattle.reg_text.specs.Words.{kind_word, kind_of, account_kind_word, account_kind_of, status_word, status_of, right_word, right_of, retirement_word, retirement_of, yes_no_word, yes_no_of}
 use Rattle.reg_text.specs.Tags.{tag_word}
 use Rattle.reg_text.specs.FieldTests.{when}
 use Rattle.reg_text.specs.Acts.{instruction_row}
-use Rattle.reg_text.specs.Codecs.{Codec, Fields, within_limits, a_no, factor, a_date, a_word, none, last, ◌▸◌, made, provided, Row, row_of}
+use Rattle.reg_text.specs.Codecs.{Codec, Fields, within_limits, a_no, factor, a_figure, a_date, a_word, none, last, ◌▸◌, made, provided, Row, row_of}
 
 -- ---- fields of one kind of row
 
@@ -37,6 +42,15 @@ a_lag = within_limits 0 MOST_LAG
 
 abbrev pub a_holding : Codec ℕ
 a_holding = within_limits 0 MOST_HELD
+
+abbrev pub a_record : Codec ℕ
+a_record = within_limits 1 MOST_RECORD
+
+abbrev pub an_amount : Codec ℕ
+an_amount = within_limits 1 MOST_HELD
+
+abbrev pub some_tonnes : Codec ℕ
+some_tonnes = within_limits 0 MOST_EMISSIONS
 
 abbrev pub yes_or_no : Codec Bool
 yes_or_no = a_word yes_no_word yes_no_of
@@ -73,6 +87,29 @@ account_fields = made
     (λ a. (a.number, (a.kind, (a.holder, (a.status, (a.outside, (a.waiver, (a.correction, (a.held.general, a.held.aviation)))))))))
     (a_no ▸ a_word account_kind_word account_kind_of ▸ a_no ▸ a_word status_word status_of ▸ yes_or_no ▸ yes_or_no ▸ factor ▸ a_holding ▸ last a_holding)
 
+-- USER,RIGHT
+abbrev pub user_fields : Fields Representative
+user_fields = made (λ p. record { user = p.0; right = p.1 }) (λ u. (u.user, u.right)) (a_no ▸ last (a_word right_word right_of))
+
+-- NO,DATE
+abbrev pub trusted_fields : Fields TrustedEntry
+trusted_fields = made (λ p. record { account = p.0; effective = p.1 }) (λ t. (t.account, t.effective)) (a_no ▸ last a_date)
+
+-- NUMBER,WHAT,KIND,AMOUNT,DATE,REVERSED
+abbrev pub retired_fields : Fields RetirementRow
+retired_fields = made
+    (λ p. record { number = p.0; retirement = p.1.0; kind = p.1.1.0; amount = p.1.1.1.0; day = p.1.1.1.1.0; reversed = p.1.1.1.1.1 })
+    (λ r. (r.number, (r.retirement, (r.kind, (r.amount, (r.day, r.reversed))))))
+    (a_record ▸ a_word retirement_word retirement_of ▸ a_word kind_word kind_of ▸ an_amount ▸ a_date ▸ last yes_or_no)
+
+-- YEAR,TONNES
+abbrev pub emissions_fields : Fields Emission
+emissions_fields = made (λ p. record { year = p.0; tonnes = p.1 }) (λ e. (e.year, e.tonnes)) (a_year ▸ last some_tonnes)
+
+-- YEAR,FIGURE
+abbrev pub figure_fields : Fields Figure
+figure_fields = made (λ p. record { year = p.0; tonnes = p.1 }) (λ f. (f.year, f.tonnes)) (a_year ▸ last a_figure)
+
 -- ---- all rows
 
 -- what a row with a tag says
@@ -85,6 +122,11 @@ Said tag.Surrender = AccountKind × AllowanceKind
 Said tag.Admin = ℕ
 Said tag.Work = ℕ
 Said tag.Account = AccountHead
+Said tag.User = Representative
+Said tag.Trusted = TrustedEntry
+Said tag.Retired = RetirementRow
+Said tag.Emissions = Emission
+Said tag.Figure = Figure
 Said tag.Do = Instruction
 Said tag.End = Unit {0}
 
@@ -98,6 +140,11 @@ row tag.Surrender = row_of pair_fields
 row tag.Admin = row_of (last a_no)
 row tag.Work = row_of (last a_date)
 row tag.Account = row_of account_fields
+row tag.User = row_of user_fields
+row tag.Trusted = row_of trusted_fields
+row tag.Retired = row_of retired_fields
+row tag.Emissions = row_of emissions_fields
+row tag.Figure = row_of figure_fields
 row tag.Do = instruction_row
 row tag.End = row_of none
 

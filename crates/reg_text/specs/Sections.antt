@@ -1,13 +1,14 @@
 -- Sections: the rows of one tag one after another, or whole blocks of accounts; their order, and how many there may be.
 use Rattle.std.specs.Prelude.{ℕ, Bool, true, ◌≤◌, nat_lt, List, [], ◌∷◌, ◌++◌, map, length, Option, Some, None}
 use Rattle.std.specs.List.{AllByRecursion, flat_map}
-use Rattle.reg_base.specs.declared.limits.TheConstants.{MOST_ADMINISTRATORS, MOST_INSTRUCTIONS}
+use Rattle.reg_base.specs.declared.limits.TheConstants.{MOST_ADMINISTRATORS, MOST_INSTRUCTIONS, MOST_USERS, MOST_TRUSTED, MOST_ROWS}
 use Rattle.reg_base.specs.declared.kinds.AccountKind.{AccountKind}
 use Rattle.reg_base.specs.declared.kinds.AccountKind.TheVariants.{Aircraft}
 use Rattle.reg_base.specs.declared.kinds.AllowanceKind.{AllowanceKind}
 use Rattle.reg_base.specs.declared.kinds.AllowanceKind.TheVariants.{General, Aviation}
 use Rattle.reg_base.specs.Rising.{IsRising}
 use Rattle.reg_account.specs.Account.{AccountValue, IsAccount}
+use Rattle.reg_account.specs.Lists.{ListsValue}
 use Rattle.reg_text.specs.declared.reading.account_row.AccountHead.{AccountHead}
 use Rattle.reg_text.specs.declared.reading.tag.Tag.{Tag}
 use Rattle.reg_text.specs.declared.reading.tag.Tag.TheVariants as tag
@@ -21,13 +22,21 @@ use Rattle.reg_text.specs.Grammar.{Said, row, row_text}
 abbrev pub head_of : AccountValue → AccountHead
 head_of a = record { number = a.number; kind = a.kind; holder = a.holder; status = a.status; outside = a.outside; waiver = a.waiver; correction = a.correction; held = a.held }
 
--- the account of this row
-abbrev pub account_with : AccountHead → AccountValue
-account_with h = record { number = h.number; kind = h.kind; holder = h.holder; status = h.status; outside = h.outside; waiver = h.waiver; correction = h.correction; held = h.held }
+-- and what its lists have
+abbrev pub lists_of : AccountValue → ListsValue
+lists_of a = record { users = a.users; trusted = a.trusted; rows = a.rows; emissions = a.emissions; figures = a.figures }
+
+-- the account of this row, with these lists
+abbrev pub account_with : ListsValue → AccountHead → AccountValue
+account_with l h = record { number = h.number; kind = h.kind; holder = h.holder; status = h.status; outside = h.outside; waiver = h.waiver; correction = h.correction; held = h.held; users = l.users; trusted = l.trusted; rows = l.rows; emissions = l.emissions; figures = l.figures }
+
+-- a row with this tag for each of these
+abbrev pub each_row : (t : Tag) → List (Said t) → List Record
+each_row t xs = flat_map (λ x. row_text t x ∷ []) xs
 
 -- the rows of an account: its own, and then those of its lists
 abbrev pub account_block : AccountValue → List Record
-account_block a = row_text tag.Account (head_of a) ∷ []
+account_block a = row_text tag.Account (head_of a) ∷ each_row tag.User a.users ++ (each_row tag.Trusted a.trusted ++ (each_row tag.Retired a.rows ++ (each_row tag.Emissions a.emissions ++ each_row tag.Figure a.figures)))
 
 -- ---- sections
 
@@ -67,6 +76,11 @@ key tag.Surrender = Some pair_place
 key tag.Admin = Some (λ n. n)
 key tag.Work = Some (λ day. day)
 key tag.Account = Some (λ h. h.number)
+key tag.User = Some (λ u. u.user)
+key tag.Trusted = Some (λ t. t.account)
+key tag.Retired = Some (λ r. r.number)
+key tag.Emissions = Some (λ e. e.year)
+key tag.Figure = Some (λ f. f.year)
 key t = None
 
 abbrev pub key_of : {X : Type 0} → (X → ℕ) → Option X → Option ℕ
@@ -88,6 +102,9 @@ IsOrdered (Some by) xs = IsRising (map by xs)
 -- how many rows a section may have, if that is limited
 abbrev pub most : Tag → Option ℕ
 most tag.Admin = Some MOST_ADMINISTRATORS
+most tag.User = Some MOST_USERS
+most tag.Trusted = Some MOST_TRUSTED
+most tag.Retired = Some MOST_ROWS
 most tag.Do = Some MOST_INSTRUCTIONS
 most t = None
 

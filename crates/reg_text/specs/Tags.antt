@@ -4,13 +4,13 @@ use Rattle.reg_text.specs.declared.cause.Cause.{Cause}
 use Rattle.reg_text.specs.declared.cause.Cause.TheVariants as cause
 use Rattle.reg_text.specs.declared.reading.tag.Rule.{Rule}
 use Rattle.reg_text.specs.declared.reading.tag.Tag.{Tag}
-use Rattle.reg_text.specs.declared.reading.tag.Tag.TheVariants.{Format, Day, Period, Lags, Surrender, Admin, Work, Account, Do, End}
+use Rattle.reg_text.specs.declared.reading.tag.Tag.TheVariants.{Format, Day, Period, Lags, Surrender, Admin, Work, Account, User, Trusted, Retired, Emissions, Figure, Do, End}
 use Rattle.reg_text.specs.Causes.{◌>>=◌, test}
 use Rattle.reg_text.specs.Words.{named}
 
 -- all tags, frequent ones first
 abbrev pub all_tags : List Tag
-all_tags = Account ∷ Do ∷ Work ∷ Admin ∷ Surrender ∷ Format ∷ Day ∷ Period ∷ Lags ∷ End ∷ []
+all_tags = Account ∷ User ∷ Trusted ∷ Retired ∷ Emissions ∷ Figure ∷ Do ∷ Work ∷ Admin ∷ Surrender ∷ Format ∷ Day ∷ Period ∷ Lags ∷ End ∷ []
 
 -- the word of a tag
 abbrev pub tag_word : Tag → List ℕ
@@ -22,6 +22,11 @@ tag_word Surrender = codes "surrender"
 tag_word Admin = codes "admin"
 tag_word Work = codes "work"
 tag_word Account = codes "account"
+tag_word User = codes "user"
+tag_word Trusted = codes "trusted"
+tag_word Retired = codes "retired"
+tag_word Emissions = codes "emissions"
+tag_word Figure = codes "figure"
 tag_word Do = codes "do"
 tag_word End = codes "end"
 
@@ -36,6 +41,11 @@ rule Surrender = record { place = 50; from = 40; to = 50 }
 rule Admin = record { place = 60; from = 40; to = 60 }
 rule Work = record { place = 70; from = 40; to = 70 }
 rule Account = record { place = 80; from = 40; to = 89 }
+rule User = record { place = 82; from = 80; to = 82 }
+rule Trusted = record { place = 83; from = 80; to = 83 }
+rule Retired = record { place = 84; from = 80; to = 84 }
+rule Emissions = record { place = 85; from = 80; to = 85 }
+rule Figure = record { place = 86; from = 80; to = 86 }
 rule Do = record { place = 90; from = 40; to = 90 }
 rule End = record { place = 100; from = 40; to = 90 }
 

@@ -5,16 +5,18 @@ ghost use Rattle.std.specs.Prelude.{◌≡◌, ◌↔◌, ◌+◌, ◌<◌, ◌�
 ghost use Rattle.reg_base.specs.declared.limits.TheConstants.{FIRST_DAY, LAST_DAY};
 ghost use Rattle.reg_base.specs.declared.kinds.AccountKind.{AccountKind};
 ghost use Rattle.reg_base.specs.declared.kinds.AllowanceKind.{AllowanceKind};
+ghost use Rattle.reg_base.specs.declared.kinds.Right.{Right};
 ghost use Rattle.reg_base.specs.declared.kinds.Status.{Status};
 ghost use Rattle.reg_base.specs.Numbers.{IsDayNo};
 ghost use Rattle.reg_account.specs.Account.{CorrectionFits};
+ghost use Rattle.reg_account.specs.Years.{FigureFits};
 ghost use Rattle.reg_text.specs.declared.cause.Cause.{Cause};
 ghost use Rattle.reg_text.specs.declared.cause.Cause.TheVariants as cause;
 ghost use Rattle.reg_text.specs.Numbers.{number, number_of};
-ghost use Rattle.reg_text.specs.Signed.{signed, correction_of};
+ghost use Rattle.reg_text.specs.Signed.{signed, correction_of, figure_of};
 ghost use Rattle.reg_text.specs.Dates.{date, date_of};
 ghost use Rattle.reg_text.specs.Limits.{bounded_of};
-ghost use Rattle.reg_text.specs.Words.{kind_word, kind_of, account_kind_word, account_kind_of, status_word, status_of, yes_no_word, yes_no_of};
+ghost use Rattle.reg_text.specs.Words.{kind_word, kind_of, account_kind_word, account_kind_of, status_word, status_of, right_word, right_of, yes_no_word, yes_no_of};
 ghost use Rattle.reg_text.specs.Records.{Record};
 ghost use Rattle.reg_text.specs.Day.{DayValue};
 ghost use Rattle.reg_text.specs.Reading.{IsReading, IsFirstFaulty};
@@ -35,6 +37,12 @@ pub fn one_spelling_of_a_correction()
     ensures { (f : List ℕ) (z : ℤ) → (correction_of f ≡ Ok z) ↔ ((f ≡ signed z) × CorrectionFits z) }
 {}
 
+/// A field is read as a determined figure exactly if it is the one spelling of that number and the number is within
+/// the limits of a determined figure.
+pub fn one_spelling_of_a_figure()
+    ensures { (f : List ℕ) (z : ℤ) → (figure_of f ≡ Ok z) ↔ ((f ≡ signed z) × FigureFits z) }
+{}
+
 /// A field is read as a day exactly if it is the date of that day and the day is within the limits.
 pub fn one_spelling_of_a_day()
     ensures { (f : List ℕ) (n : ℕ) → (date_of f ≡ Ok n) ↔ ((f ≡ date n) × IsDayNo n) }
@@ -46,11 +54,12 @@ pub fn one_spelling_within_limits()
     ensures { (low high : ℕ) (f : List ℕ) (n : ℕ) → high < 2 ^ 64 → (bounded_of low high f ≡ Ok n) ↔ ((f ≡ number n) × (low ≤ n) × (n ≤ high)) }
 {}
 
-/// A field is read as a kind, an account kind, a status, or yes or no exactly if it is the word of that value.
+/// A field is read as a kind, an account kind, a status, a right, or yes or no exactly if it is the word of that value.
 pub fn one_word_of_each_value()
     ensures kinds { (f : List ℕ) (k : AllowanceKind) → (kind_of f ≡ Ok k) ↔ (f ≡ kind_word k) }
     ensures account_kinds { (f : List ℕ) (k : AccountKind) → (account_kind_of f ≡ Ok k) ↔ (f ≡ account_kind_word k) }
     ensures statuses { (f : List ℕ) (s : Status) → (status_of f ≡ Ok s) ↔ (f ≡ status_word s) }
+    ensures rights { (f : List ℕ) (r : Right) → (right_of f ≡ Ok r) ↔ (f ≡ right_word r) }
     ensures yes_or_no { (f : List ℕ) (b : Bool) → (yes_no_of f ≡ Ok b) ↔ (f ≡ yes_no_word b) }
 {}
 
@@ -83,5 +92,6 @@ pub fn names_the_first_cause()
 pub fn tells_other_texts_from_limits()
     ensures numbers { (low high : ℕ) → TellsFromLimit (bounded_of low high) cause.Number IsNumberText }
     ensures corrections { TellsFromLimit correction_of cause.Number IsSignedText }
+    ensures figures { TellsFromLimit figure_of cause.Number IsSignedText }
     ensures dates { TellsFromLimit date_of cause.Date IsDateText }
 {}

@@ -48,6 +48,9 @@ fn find_command(matches: &ArgMatches<'_>) -> Option<Command> {
     if matches.subcommand_matches("plan").is_some() {
         return Some(Command::Plan);
     }
+    if matches.subcommand_matches("figures").is_some() {
+        return Some(Command::Figures);
+    }
     if matches.subcommand_matches("totals").is_some() {
         return Some(Command::Totals);
     }
@@ -76,6 +79,7 @@ fn describe_program<'a>(alloc: Global) -> Result<Program<'a>, AllocError> {
         .subcommand(describe_settle(alloc)?)?
         .subcommand(describe_plan(alloc))?
         .subcommand(describe_statement(alloc)?)?
+        .subcommand(describe_figures(alloc))?
         .subcommand(describe_totals(alloc))
 }
 
@@ -106,6 +110,12 @@ fn describe_statement<'a>(alloc: Global) -> Result<Program<'a>, AllocError> {
     Program::new(alloc, "statement")
         .about("Settle the day; write what an account held, its log rows, and what it holds then")
         .arg(account)
+}
+
+fn describe_figures<'a>(alloc: Global) -> Program<'a> {
+    Program::new(alloc, "figures").about(
+        "Settle the day; write the compliance figures determined then, of all accounts and years",
+    )
 }
 
 fn describe_totals<'a>(alloc: Global) -> Program<'a> {

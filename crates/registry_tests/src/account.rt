@@ -1,17 +1,22 @@
 //! Accounts: their limits at both sides, and their changes.
 
-use crate::fixtures::{account_no, holder, parts_of};
-use reg_account::{Account, AccountFault, AccountParts, Holdings};
+use crate::fixtures::{
+    AccountRow, account_no, holder, read, row_of, row_of_parts, surrendered, year,
+};
+use reg_account::{
+    Account, AccountFault, AccountParts, Emission, Figure, FigureFault, Holdings, Lists,
+};
 use reg_base::{AccountKind, AllowanceKind, Status};
+use std::alloc::Global;
 use std::process::Abort;
 
 const MOST: u64 = 1_000_000_000_000_000;
 
 const MOST_CORRECTION: i64 = 1_000_000_000_000_000;
 
-// Account 1, an operator's, with this correction factor and these holdings.
-fn parts(rt: &impl Abort, correction: i64, general: u64, aviation: u64) -> AccountParts {
-    AccountParts {
+// What the row of account 1 says, an operator's, with this correction factor and these holdings.
+fn row(rt: &impl Abort, correction: i64, general: u64, aviation: u64) -> AccountRow {
+    AccountRow {
         number: account_no(rt, 1),
         kind: AccountKind::Operator,
         holder: holder(rt, 11),
@@ -23,6 +28,25 @@ fn parts(rt: &impl Abort, correction: i64, general: u64, aviation: u64) -> Accou
     }
 }
 
+// The parts of an account with this row, and with empty lists.
+fn parts_with(alloc: Global, row: AccountRow) -> AccountParts {
+    parts_of(row, Lists::empty(alloc))
+}
+
+fn parts_of(row: AccountRow, lists: Lists) -> AccountParts {
+    AccountParts {
+        number: row.number,
+        kind: row.kind,
+        holder: row.holder,
+        status: row.status,
+        outside: row.outside,
+        waiver: row.waiver,
+        correction: row.correction,
+        held: row.held,
+        lists,
+    }
+}
+
 #[test]
 fn an_account_is_within_its_limits(rt: HostRuntime) {
     for (correction, general, aviation) in [
@@ -30,13 +54,21 @@ fn an_account_is_within_its_limits(rt: HostRuntime) {
         (MOST_CORRECTION, MOST, MOST),
         (-MOST_CORRECTION, 0, 0),
     ] {
-        let parts = parts(&rt, correction, general, aviation);
-        let account = Account::of(parts).expect(&rt, "an account");
+        let row = row(&rt, correction, general, aviation);
+        let account = Account::of(parts_with(rt.alloc(), row)).expect(&rt, "an account");
         assert_eq!(rt;
-            parts_of(&account),
-            parts,
+            row_of(&account),
+            row,
             "{correction}, {general}, {aviation}"
         );
+    }
+}
+
+// Whether the parts with this row are no account for this reason, and come back as they were.
+fn is_refused(alloc: Global, row: &AccountRow, fault: AccountFault) -> bool {
+    match Account::of(parts_with(alloc, *row)) {
+        Ok(_) => false,
+        Err((back, found)) => row_of_parts(&back) == *row && found == fault,
     }
 }
 
@@ -49,17 +81,105 @@ fn parts_past_a_limit_are_given_back(rt: HostRuntime) {
         (0, MOST + 1, 0, AccountFault::Holding),
         (0, 0, u64::MAX, AccountFault::Holding),
     ] {
-        let parts = parts(&rt, correction, general, aviation);
-        match Account::of(parts) {
-            Ok(_) => assert!(rt;
-                false,
-                "{correction}, {general}, {aviation} make an account"
-            ),
-            Err((back, found)) => {
-                assert_eq!(rt; back, parts);
-                assert_eq!(rt; found, fault, "{correction}, {general}, {aviation}");
-            }
-        }
+        let row = row(&rt, correction, general, aviation);
+        assert!(rt;
+            is_refused(rt.alloc(), &row, fault),
+            "{correction}, {general}, {aviation}"
+        );
+    }
+}
+
+// What is wrong with lists of an account, if anything is.
+fn fault_of(rt: &impl Abort, lists: Lists) -> Option<AccountFault> {
+    let (_, fault) = Account::of(parts_of(row(rt, 0, 0, 0), lists)).err()?;
+    Some(fault)
+}
+
+// So many surrenders of this amount, by rising number.
+fn surrenders(rt: &impl Abort, alloc: Global, count: u64, amount: u64) -> Lists {
+    let mut lists = Lists::empty(alloc);
+    for number in 0..count {
+        let row = surrendered(rt, number + 1, amount);
+        lists.push_row(row).expect(rt, "memory");
+    }
+    lists
+}
+
+#[test]
+fn an_account_has_at_most_4096_surrenders_and_deletions(rt: HostRuntime) {
+    for (count, amount, fault) in [
+        (4096, 1, None),
+        (4097, 1, Some(AccountFault::Rows)),
+        (2, 0, Some(AccountFault::Rows)),
+        (1, MOST, None),
+        (2, MOST, Some(AccountFault::Retired)),
+    ] {
+        let lists = surrenders(&rt, rt.alloc(), count, amount);
+        assert_eq!(rt; fault_of(&rt, lists), fault, "{count}, {amount}");
+    }
+}
+
+// Emissions and a figure of this year, in tonnes.
+fn of_a_year(rt: &impl Abort, alloc: Global, emitted: u64, determined: i64) -> Lists {
+    let year = year(rt, 2021);
+    let mut lists = Lists::empty(alloc);
+    let emission = Emission {
+        year,
+        tonnes: emitted,
+    };
+    lists.push_emission(emission).expect(rt, "memory");
+    let figure = Figure {
+        year,
+        tonnes: determined,
+    };
+    lists.push_figure(figure).expect(rt, "memory");
+    lists
+}
+
+#[test]
+fn emissions_and_figures_have_limits(rt: HostRuntime) {
+    for (emitted, determined, fault) in [
+        (1_000_000_000_000, 4_000_000_000_000_000, None),
+        (0, -4_000_000_000_000_000, None),
+        (1_000_000_000_001, 0, Some(AccountFault::Emissions)),
+        (0, 4_000_000_000_000_001, Some(AccountFault::Figures)),
+        (0, -4_000_000_000_000_001, Some(AccountFault::Figures)),
+    ] {
+        let lists = of_a_year(&rt, rt.alloc(), emitted, determined);
+        assert_eq!(rt; fault_of(&rt, lists), fault, "{emitted}, {determined}");
+    }
+}
+
+// Account 1 with 100 surrendered allowances, and emissions of some years in and beside the period.
+const YEARS: &str = "\
+format,1
+day,2025-03-31,6
+period,2022,2027
+lags,0,1,1,2
+account,1,operator,11,open,no,no,-5,0,0
+retired,4,surrender,general,90,2025-03-28,no
+retired,5,surrender,aviation,10,2025-03-28,no
+emissions,2021,7
+emissions,2022,60
+emissions,2023,50
+emissions,2025,1
+end
+";
+
+#[test]
+fn the_first_year_without_emissions_is_named(rt: HostRuntime) {
+    let day = read(&rt, rt.alloc(), YEARS);
+    let account = day.book.get(account_no(&rt, 1)).expect(&rt, "the account");
+    for (number, figure) in [
+        (2021, Err(FigureFault::YearOutsidePeriod)),
+        (2022, Ok(35)),
+        (2023, Ok(-15)),
+        (2024, Err(FigureFault::Missing(year(&rt, 2024)))),
+        (2027, Err(FigureFault::Missing(year(&rt, 2024)))),
+        (2028, Err(FigureFault::YearOutsidePeriod)),
+    ] {
+        let answer = account.figure(&day.rules, year(&rt, number));
+        assert_eq!(rt; answer, figure, "{number}");
     }
 }
 
@@ -78,21 +198,27 @@ fn debit(rt: &impl Abort, account: &mut Account, kind: AllowanceKind, amount: u6
 
 #[test]
 fn changes_move_one_holding(rt: HostRuntime) {
-    let mut account = Account::of(parts(&rt, -5, 100, 50)).expect(&rt, "an account");
+    let mut account = Account::of(parts_with(rt.alloc(), row(&rt, -5, 100, 50))).expect(
+        &rt,
+        "an account",
+    );
     credit(&rt, &mut account, AllowanceKind::General, 7);
-    assert_eq!(rt; parts_of(&account), parts(&rt, -5, 107, 50));
+    assert_eq!(rt; row_of(&account), row(&rt, -5, 107, 50));
     credit(&rt, &mut account, AllowanceKind::Aviation, MOST - 50);
-    assert_eq!(rt; parts_of(&account), parts(&rt, -5, 107, MOST));
+    assert_eq!(rt; row_of(&account), row(&rt, -5, 107, MOST));
     debit(&rt, &mut account, AllowanceKind::General, 107);
-    assert_eq!(rt; parts_of(&account), parts(&rt, -5, 0, MOST));
+    assert_eq!(rt; row_of(&account), row(&rt, -5, 0, MOST));
     debit(&rt, &mut account, AllowanceKind::Aviation, 1);
-    assert_eq!(rt; parts_of(&account), parts(&rt, -5, 0, MOST - 1));
+    assert_eq!(rt; row_of(&account), row(&rt, -5, 0, MOST - 1));
 }
 
 #[test]
 fn a_copy_is_equal(rt: HostRuntime) {
-    let account = Account::of(parts(&rt, 0, 100, 0)).expect(&rt, "an account");
+    let account = Account::of(parts_with(rt.alloc(), row(&rt, 0, 100, 0))).expect(
+        &rt,
+        "an account",
+    );
     let copy = account.copy(rt.alloc()).expect(&rt, "memory");
-    assert_eq!(rt; parts_of(&copy), parts(&rt, 0, 100, 0));
-    assert_eq!(rt; parts_of(&account), parts(&rt, 0, 100, 0));
+    assert_eq!(rt; row_of(&copy), row(&rt, 0, 100, 0));
+    assert_eq!(rt; row_of(&account), row(&rt, 0, 100, 0));
 }

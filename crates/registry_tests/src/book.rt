@@ -1,7 +1,7 @@
 //! Books, settled days and their commit: that the calls succeed where memory is left, and worked days.
 
-use crate::fixtures::{account_no, holder, read};
-use reg_account::{Account, AccountParts, Holdings};
+use crate::fixtures::{account_no, holder, read, surrendered};
+use reg_account::{Account, AccountParts, Holdings, Lists};
 use reg_base::{AccountKind, AllowanceKind, Status};
 use reg_book::{BookDraft, BookFault, SettleFault, Settled, Stale, Totals, settle_plain};
 use reg_text::{DayInput, write_book, write_report};
@@ -11,7 +11,12 @@ use std::process::Abort;
 const MOST: u64 = 1_000_000_000_000_000;
 
 // A trading account with so many general allowances.
-fn account(rt: &impl Abort, number: u32, general: u64) -> Account {
+fn account(rt: &impl Abort, alloc: Global, number: u32, general: u64) -> Account {
+    account_with(rt, number, general, Lists::empty(alloc))
+}
+
+// The same with these lists.
+fn account_with(rt: &impl Abort, number: u32, general: u64, lists: Lists) -> Account {
     let parts = AccountParts {
         number: account_no(rt, number),
         kind: AccountKind::Trading,
@@ -24,6 +29,7 @@ fn account(rt: &impl Abort, number: u32, general: u64) -> Account {
             general,
             aviation: 0,
         },
+        lists,
     };
     Account::of(parts).expect(rt, "an account")
 }
@@ -37,7 +43,7 @@ fn insert(rt: &impl Abort, draft: &mut BookDraft, account: Account) {
 fn draft(rt: &impl Abort, alloc: Global, count: u32, general: u64) -> BookDraft {
     let mut draft = BookDraft::new(alloc, 7);
     for number in 0..count {
-        insert(rt, &mut draft, account(rt, number + 1, general));
+        insert(rt, &mut draft, account(rt, alloc, number + 1, general));
     }
     draft
 }
@@ -46,7 +52,7 @@ fn draft(rt: &impl Abort, alloc: Global, count: u32, general: u64) -> BookDraft 
 fn book_text(rt: &impl Abort, alloc: Global, came: [u32; 3]) -> Vec<u8> {
     let mut draft = BookDraft::new(alloc, 7);
     for number in came {
-        insert(rt, &mut draft, account(rt, number, 5));
+        insert(rt, &mut draft, account(rt, alloc, number, 5));
     }
     write_book(alloc, &draft.finish()).expect(rt, "memory")
 }
@@ -82,8 +88,8 @@ fn a_book_finds_its_accounts(rt: HostRuntime) {
 }
 
 // Why a draft refuses an account, which it gives back as it was.
-fn refuse(rt: &impl Abort, draft: &mut BookDraft, number: u32) -> BookFault {
-    let refused = draft.insert(account(rt, number, 5)).err();
+fn refuse(rt: &impl Abort, alloc: Global, draft: &mut BookDraft, number: u32) -> BookFault {
+    let refused = draft.insert(account(rt, alloc, number, 5)).err();
     let (back, fault) = refused.expect(rt, "an account that is refused");
     assert_eq!(rt; back.number().get(), number);
     assert_eq!(rt; back.held(AllowanceKind::General), 5);
@@ -93,16 +99,41 @@ fn refuse(rt: &impl Abort, draft: &mut BookDraft, number: u32) -> BookFault {
 #[test]
 fn an_account_comes_once(rt: HostRuntime) {
     let mut draft = draft(&rt, rt.alloc(), 2, 100);
-    assert_eq!(rt; refuse(&rt, &mut draft, 1), BookFault::Repeated);
+    assert_eq!(rt; refuse(&rt, rt.alloc(), &mut draft, 1), BookFault::Repeated);
     let book = draft.finish();
     assert_eq!(rt; book.accounts().len(), 2);
     assert_eq!(rt; book.totals(AllowanceKind::General).held, 200);
 }
 
+// Account 1 with a surrender under this record number.
+fn with_row(rt: &impl Abort, alloc: Global, number: u64) -> Account {
+    let mut lists = Lists::empty(alloc);
+    let row = surrendered(rt, number, 10);
+    lists.push_row(row).expect(rt, "memory");
+    account_with(rt, 1, 0, lists)
+}
+
+#[test]
+fn a_surrender_comes_before_the_next_record(rt: HostRuntime) {
+    let mut draft = BookDraft::new(rt.alloc(), 5);
+    let refused = draft.insert(with_row(&rt, rt.alloc(), 5)).err();
+    let (back, fault) = refused.expect(&rt, "an account that is refused");
+    assert_eq!(rt; fault, BookFault::RowAhead);
+    assert_eq!(rt; back.rows().len(), 1);
+    insert(&rt, &mut draft, with_row(&rt, rt.alloc(), 4));
+    assert_eq!(rt;
+        draft.finish().totals(AllowanceKind::General).surrendered,
+        10
+    );
+}
+
 #[test]
 fn a_book_has_a_hundred_thousand_accounts(rt: HostRuntime) {
     let mut draft = draft(&rt, rt.alloc(), 100_000, 0);
-    assert_eq!(rt; refuse(&rt, &mut draft, 100_001), BookFault::Full);
+    assert_eq!(rt;
+        refuse(&rt, rt.alloc(), &mut draft, 100_001),
+        BookFault::Full
+    );
     assert_eq!(rt; draft.finish().accounts().len(), 100_000);
 }
 
@@ -131,6 +162,9 @@ period,2021,2030
 lags,0,1,1,2
 work,2025-03-31
 account,1,operator,11,open,no,no,0,100,0
+user,101,propose
+user,102,approve
+trusted,2,2025-03-31
 account,2,trading,12,open,no,no,0,0,0
 account,3,aircraft,13,open,no,no,0,50,0
 do,2025-03-31,101,102,transfer,1,2,general,70
@@ -144,6 +178,9 @@ log,1,2025-03-31,2025-03-31,101,102,transfer,1,2,general,70,done,,1,30,0,2,70,0
 log,2,2025-03-31,2025-03-31,101,102,transfer,1,2,general,70,refused,18,NotEnough
 book,1
 account,1,operator,11,open,no,no,0,100,0
+user,101,propose
+user,102,approve
+trusted,2,2025-03-31
 account,2,trading,12,open,no,no,0,0,0
 account,3,aircraft,13,open,no,no,0,50,0
 totals,general,150,0,0
@@ -157,6 +194,9 @@ log,1,2025-03-31,2025-03-31,101,102,transfer,1,2,general,70,done,,1,30,0,2,70,0
 log,2,2025-03-31,2025-03-31,101,102,transfer,1,2,general,70,refused,18,NotEnough
 book,3
 account,1,operator,11,open,no,no,0,30,0
+user,101,propose
+user,102,approve
+trusted,2,2025-03-31
 account,2,trading,12,open,no,no,0,70,0
 account,3,aircraft,13,open,no,no,0,50,0
 totals,general,150,0,0
@@ -251,6 +291,9 @@ period,2021,2030
 lags,0,1,1,2
 work,2025-03-31
 account,1,operator,11,open,no,no,0,100,0
+user,101,propose
+user,102,approve
+trusted,2,2025-03-31
 account,2,trading,12,open,no,no,0,0,0
 do,2025-03-31,101,102,transfer,1,2,general,40
 end

@@ -1,7 +1,9 @@
 //! Values that the tests share. What can't be made ends the test.
 
-use reg_account::{Account, AccountParts, Holdings};
-use reg_base::{AccountNo, AllowanceKind, Day, HolderNo, UserNo, Year};
+use reg_account::{Account, AccountParts, Holdings, Retirement, RetirementRow};
+use reg_base::{
+    AccountKind, AccountNo, AllowanceKind, Day, HolderNo, RecordNo, Status, UserNo, Year,
+};
 use reg_text::{DayInput, read_day};
 use std::alloc::Global;
 use std::process::Abort;
@@ -31,9 +33,34 @@ pub(crate) fn year(rt: &impl Abort, number: u16) -> Year {
     Year::new(number).expect(rt, "a year within its limits")
 }
 
-/// All that an account answers, as its parts.
-pub(crate) fn parts_of(account: &Account) -> AccountParts {
-    AccountParts {
+/// A surrender of so many general allowances on 2025-03-28, under this record number.
+pub(crate) fn surrendered(rt: &impl Abort, number: u64, amount: u64) -> RetirementRow {
+    RetirementRow {
+        number: RecordNo::new(number).expect(rt, "a record number within its limits"),
+        retirement: Retirement::Surrendered,
+        kind: AllowanceKind::General,
+        amount,
+        day: day(rt, 20_175),
+        reversed: false,
+    }
+}
+
+/// What the row of an account says, as one value that can be compared.
+#[derive(Clone, Copy, Debug, PartialEq, Eq)]
+pub(crate) struct AccountRow {
+    pub number: AccountNo,
+    pub kind: AccountKind,
+    pub holder: HolderNo,
+    pub status: Status,
+    pub outside: bool,
+    pub waiver: bool,
+    pub correction: i64,
+    pub held: Holdings,
+}
+
+/// What an account answers.
+pub(crate) fn row_of(account: &Account) -> AccountRow {
+    AccountRow {
         number: account.number(),
         kind: account.kind(),
         holder: account.holder(),
@@ -45,6 +72,20 @@ pub(crate) fn parts_of(account: &Account) -> AccountParts {
             general: account.held(AllowanceKind::General),
             aviation: account.held(AllowanceKind::Aviation),
         },
+    }
+}
+
+/// What the parts of an account say.
+pub(crate) fn row_of_parts(parts: &AccountParts) -> AccountRow {
+    AccountRow {
+        number: parts.number,
+        kind: parts.kind,
+        holder: parts.holder,
+        status: parts.status,
+        outside: parts.outside,
+        waiver: parts.waiver,
+        correction: parts.correction,
+        held: parts.held,
     }
 }
 

@@ -12,6 +12,9 @@ period,2021,2030
 lags,0,1,1,2
 work,2025-03-31
 account,1,operator,11,open,no,no,0,100,0
+user,101,propose
+user,102,approve
+trusted,2,2025-03-31
 account,2,trading,12,open,no,no,0,0,0
 do,2025-03-31,101,102,transfer,1,2,general,40
 do,2025-03-31,101,102,transfer,1,2,general,70
@@ -24,6 +27,9 @@ log,1,2025-03-31,2025-03-31,101,102,transfer,1,2,general,40,done,,1,60,0,2,40,0
 log,2,2025-03-31,2025-03-31,101,102,transfer,1,2,general,70,refused,18,NotEnough
 book,3
 account,1,operator,11,open,no,no,0,60,0
+user,101,propose
+user,102,approve
+trusted,2,2025-03-31
 account,2,trading,12,open,no,no,0,40,0
 totals,general,100,0,0
 totals,aviation,0,0,0

@@ -12,6 +12,8 @@ mod fixtures;
 #[cfg(test)]
 mod front;
 #[cfg(test)]
+mod orders;
+#[cfg(test)]
 mod plan;
 #[cfg(test)]
 mod rules;

@@ -1,8 +1,10 @@
 //! One instruction: that deciding and carrying it out succeed where memory is left, and what the log keeps of it.
 
-ghost use Rattle.std.specs.Prelude.{◌≡◌, IsTrue};
+ghost use Rattle.std.specs.Prelude.{◌≡◌, All, IsTrue, nat_lt};
+ghost use Rattle.std.specs.List.{list_all};
 ghost use Rattle.reg_base.specs.Footprint.{footprint};
 ghost use Rattle.reg_rules.specs.State.{numbers};
+ghost use Rattle.reg_rules.specs.Effect.{IsBehind};
 
 use crate::fixtures::{account_no, read};
 use reg_account::Account;
@@ -20,6 +22,9 @@ period,2021,2030
 lags,0,1,1,2
 work,2025-03-31
 account,1,operator,11,open,no,no,0,100,0
+user,101,propose
+user,102,approve
+trusted,2,2025-03-31
 account,2,trading,12,open,no,no,0,0,7
 do,2025-03-31,101,102,transfer,1,2,general,40
 end
@@ -33,6 +38,9 @@ period,2021,2030
 lags,0,1,1,2
 work,2025-03-31
 account,1,operator,11,open,no,no,0,100,0
+user,101,propose
+user,102,approve
+trusted,2,2025-03-31
 account,2,trading,12,open,no,no,0,0,7
 do,2025-03-31,101,102,transfer,1,2,general,101
 end
@@ -46,6 +54,8 @@ period,2021,2030
 lags,0,1,1,2
 work,2025-03-31
 account,1,operator,11,open,no,no,0,100,0
+user,101,propose
+user,102,approve
 account,8,allocation,18,open,no,no,0,0,0
 do,2025-03-31,101,102,return,1,8,general,40
 end
@@ -53,11 +63,11 @@ end
 
 /// What is answered to an instruction, and what it leaves.
 #[derive(Drop)]
-pub(crate) struct Answer {
+struct Answer {
     /// What `decide` says.
     decided: Option<Refusal>,
     /// The row of the log.
-    pub(crate) row: LogRow,
+    row: LogRow,
     /// The general allowances of the touched accounts afterwards.
     held: Vec<u64>,
 }
@@ -65,8 +75,11 @@ pub(crate) struct Answer {
 fn numbers_of(rt: &impl Abort, alloc: Global, accounts: &[Account]) -> Vec<AccountNo>
     ensures { result.items ≡ numbers accounts.now }
 {
-    let numbers = accounts.iter().map(|account| account.number());
-    numbers.collect(alloc).expect(rt, "memory")
+    let mut numbers = Vec::new(alloc);
+    for account in accounts {
+        numbers.push(account.number()).expect(rt, "memory");
+    }
+    numbers
 }
 
 fn are_same(left: &[AccountNo], right: &[AccountNo]) -> bool
@@ -90,6 +103,32 @@ fn assert_touched(
     assert!(rt; are_same(&numbers, touched.as_slice()));
 }
 
+// Whether each surrender and each deletion of the account has a number below this one.
+fn is_behind(account: &Account, number: RecordNo) -> bool
+    ensures { result ≡ list_all (λ row. nat_lt row.number number) account.now.rows }
+{
+    account.rows().iter().all(|row| row.number < number)
+}
+
+fn have_rows_behind(accounts: &[Account], number: RecordNo) -> bool
+    ensures { result ≡ list_all (λ v. list_all (λ row. nat_lt row.number number) v.rows) accounts.now }
+{
+    accounts.iter().all(|account| is_behind(account, number))
+}
+
+fn are_behind(accounts: &[Account], number: RecordNo) -> bool
+    ensures { IsTrue result → All (IsBehind number) accounts.now }
+{
+    have_rows_behind(accounts, number)
+}
+
+// Ends the test where a surrender or a deletion of these accounts has this number or a higher one.
+fn assert_behind(rt: &impl Abort, accounts: &[Account], number: RecordNo)
+    ensures { All (IsBehind number) accounts.now }
+{
+    assert!(rt; are_behind(accounts, number));
+}
+
 fn copies(rt: &impl Abort, alloc: Global, accounts: &[Account]) -> Vec<Account> {
     let mut copies = Vec::new(alloc);
     for account in accounts {
@@ -107,7 +146,7 @@ fn held_by(rt: &impl Abort, alloc: Global, accounts: &[Account]) -> Vec<u64> {
 }
 
 /// What is answered to the first instruction of a day, which touches all its accounts in their order.
-pub(crate) fn carry_out(rt: &impl Abort, alloc: Global, text: &str) -> Answer {
+fn carry_out(rt: &impl Abort, alloc: Global, text: &str) -> Answer {
     let DayInput { rules, book, batch } = read(rt, alloc, text);
     let first = batch.instructions().first();
     let instruction = *first.expect(rt, "an instruction");
@@ -116,6 +155,7 @@ pub(crate) fn carry_out(rt: &impl Abort, alloc: Global, text: &str) -> Answer {
     let directory = book.directory();
     let mut accounts = copies(rt, alloc, book.accounts());
     assert_touched(rt, alloc, &accounts, &instruction, directory);
+    assert_behind(rt, &accounts, number);
     let decided = decide(&rules, day, number, &instruction, directory, &accounts);
     let reply = execute(
         alloc,

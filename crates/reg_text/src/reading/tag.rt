@@ -25,6 +25,16 @@ pub enum Tag {
     Work,
     /// An account.
     Account,
+    /// A representative of the account.
+    User,
+    /// An entry of the account's trusted account list.
+    Trusted,
+    /// A surrender or a deletion of the account.
+    Retired,
+    /// The emissions of the account in a year.
+    Emissions,
+    /// The determined figure of the account for a year.
+    Figure,
     /// An instruction.
     Do,
     /// The end of the text.
@@ -48,6 +58,11 @@ impl Word for Tag {
             Tag::Admin => b"admin",
             Tag::Work => b"work",
             Tag::Account => b"account",
+            Tag::User => b"user",
+            Tag::Trusted => b"trusted",
+            Tag::Retired => b"retired",
+            Tag::Emissions => b"emissions",
+            Tag::Figure => b"figure",
             Tag::Do => b"do",
             Tag::End => b"end",
         }
@@ -56,6 +71,11 @@ impl Word for Tag {
     fn all() -> &'static [Tag] {
         &[
             Tag::Account,
+            Tag::User,
+            Tag::Trusted,
+            Tag::Retired,
+            Tag::Emissions,
+            Tag::Figure,
             Tag::Do,
             Tag::Work,
             Tag::Admin,
@@ -103,6 +123,11 @@ impl Tag {
             Tag::Admin => Rule::new(60, 40, 60),
             Tag::Work => Rule::new(70, 40, 70),
             Tag::Account => Rule::new(80, 40, 89),
+            Tag::User => Rule::new(82, 80, 82),
+            Tag::Trusted => Rule::new(83, 80, 83),
+            Tag::Retired => Rule::new(84, 80, 84),
+            Tag::Emissions => Rule::new(85, 80, 85),
+            Tag::Figure => Rule::new(86, 80, 86),
             Tag::Do => Rule::new(90, 40, 90),
             Tag::End => Rule::new(100, 40, 90),
         }

@@ -1,26 +1,32 @@
 //! What each row after the heading adds to the draft.
 
-ghost use Rattle.std.specs.Prelude.{◌≡◌, ◌+◌, ◌<◌, ◌&&◌, nat_lt, nat_le, ◌∷◌, ◌++◌, [], length, map, OnOk, OnErr};
-ghost use Rattle.reg_base.specs.declared.limits.TheConstants.{MOST_ACCOUNTS, MOST_INSTRUCTIONS, MOST_RECORD};
+ghost use Rattle.std.specs.Prelude.{◌≡◌, ◌+◌, ◌<◌, ◌≤◌, ◌&&◌, nat_lt, nat_le, ◌∷◌, ◌++◌, [], length, map, false, if◌then◌else◌, OnOk, OnErr};
+ghost use Rattle.reg_base.specs.declared.limits.TheConstants.{MOST_ACCOUNTS, MOST_HELD, MOST_INSTRUCTIONS, MOST_RECORD, MOST_ROWS};
 ghost use Rattle.csv.specs.Records.{fields_of};
 ghost use Rattle.reg_base.specs.Rising.{IsRising};
-ghost use Rattle.reg_book.specs.Book.{with_account};
+ghost use Rattle.reg_account.specs.Rows.{retired_in};
+ghost use Rattle.reg_book.specs.Book.{has_row_ahead, with_account};
 ghost use Rattle.reg_text.specs.Drafts.{draft_of, closed};
 ghost use Rattle.reg_text.specs.DraftLimits.{FitsSoFar, IsDraft};
-ghost use Rattle.reg_text.specs.Faults.{Takes, with_row, next_draft};
+ghost use Rattle.reg_text.specs.Faults.{Takes, is_sum_left, with_row, next_draft};
 ghost use Rattle.reg_text.specs.declared.reading.tag.Tag.TheVariants as tag;
 
 use crate::cause::{Cause, RowError};
 use crate::reading::account_row::{make_account, read_account_row};
+use crate::reading::block_rows::{
+    read_emissions_row, read_figure_row, read_representative_row, read_retired_row,
+    read_trusted_row,
+};
 use crate::reading::draft::Draft;
 use crate::reading::instruction_row::read_instruction_row;
 use crate::reading::list_rows::{comes_after, read_admin_row, read_surrender_row, read_work_row};
 use crate::reading::row::{field_at, has_fields};
 use crate::reading::tag::{Tag, read_tag};
 use csv::ByteRecord;
-use reg_account::Account;
+use reg_account::{Account, Lists, RetirementRow};
 use reg_base::{
-    Instruction, MOST_ACCOUNTS, MOST_ADMINISTRATORS, MOST_INSTRUCTIONS, MOST_RECORD, NoMemory,
+    Instruction, MOST_ACCOUNTS, MOST_ADMINISTRATORS, MOST_HELD, MOST_INSTRUCTIONS, MOST_RECORD,
+    MOST_ROWS, MOST_TRUSTED, MOST_USERS, NoMemory,
 };
 use reg_book::{BookDraft, BookFault};
 
@@ -74,15 +80,18 @@ fn take_work(draft: &mut Draft, row: &ByteRecord) -> Result<(), RowError>
 fn insert_account(book: &mut BookDraft, account: Account) -> Result<(), NoMemory>
     requires rising { IsRising (map (λ a. a.number) (book.old.accounts ++ account ∷ [])) }
     requires room { length book.old.accounts < MOST_ACCOUNTS }
+    requires behind { has_row_ahead book.old.next account ≡ false }
     ensures ok { OnOk result (book.new ≡ with_account book.old account) }
     ensures err { OnErr result (book.new ≡ book.old) }
 {
     match book.insert(account) {
         Ok(()) => Ok(()),
         Err((_, BookFault::NoMemory)) => Err(NoMemory),
-        // There is room, and the account numbers rise, so that none of them is the new one.
+        // There is room, the account numbers rise, so that none of them is the new one, and all record numbers are
+        // below the next one.
         Err((_, BookFault::Full)) => unreachable!(),
         Err((_, BookFault::Repeated)) => unreachable!(),
+        Err((_, BookFault::RowAhead)) => unreachable!(),
     }
 }
 
@@ -93,7 +102,8 @@ pub(crate) fn close_account(draft: &mut Draft) -> Result<(), NoMemory>
     ensures count { OnOk result (draft.new.count ≡ draft.old.count) }
 {
     if let Some(head) = draft.head {
-        insert_account(&mut draft.book, make_account(head))?;
+        let account = make_account(head, draft.lists.take());
+        insert_account(&mut draft.book, account)?;
         draft.head = None;
     }
     Ok(())
@@ -117,6 +127,114 @@ fn take_account(draft: &mut Draft, row: &ByteRecord) -> Result<(), RowError>
     draft.head = Some(head);
     draft.count += 1;
     draft.last = Tag::Account;
+    Ok(())
+}
+
+#[tactic(auto, unfolding(crate::specs::Faults::with_row))]
+fn take_user(draft: &mut Draft, row: &ByteRecord) -> Result<(), RowError>
+    ensures { Takes (draft_of draft.new) result (with_row tag.User (draft_of draft.old) (fields_of row.now)) }
+{
+    let representative = read_representative_row(row)?;
+    if let Some(before) = draft.lists.users().last().copied() {
+        if representative.user <= before.user {
+            return Err(RowError::Fault(Cause::Order));
+        }
+    }
+    if draft.lists.users().len() >= MOST_USERS {
+        return Err(RowError::Fault(Cause::Limit));
+    }
+    draft.lists.push_user(representative)?;
+    draft.last = Tag::User;
+    Ok(())
+}
+
+#[tactic(auto, unfolding(crate::specs::Faults::with_row))]
+fn take_trusted(draft: &mut Draft, row: &ByteRecord) -> Result<(), RowError>
+    ensures { Takes (draft_of draft.new) result (with_row tag.Trusted (draft_of draft.old) (fields_of row.now)) }
+{
+    let entry = read_trusted_row(row)?;
+    if let Some(before) = draft.lists.trusted().last().copied() {
+        if entry.account <= before.account {
+            return Err(RowError::Fault(Cause::Order));
+        }
+    }
+    if draft.lists.trusted().len() >= MOST_TRUSTED {
+        return Err(RowError::Fault(Cause::Limit));
+    }
+    draft.lists.push_trusted(entry)?;
+    draft.last = Tag::Trusted;
+    Ok(())
+}
+
+// How many allowances of the row count: none if it was reversed.
+fn counted(row: RetirementRow) -> u64
+    ensures { result ≡ (if row.reversed then 0 else row.amount) }
+{
+    if row.reversed { 0 } else { row.amount }
+}
+
+// Whether what was surrendered (or deleted) of a kind is within the limit with this row.
+fn is_sum_left(lists: &Lists, row: RetirementRow) -> bool
+    requires { retired_in row.retirement row.kind lists.now.rows ≤ MOST_HELD }
+    ensures { result ≡ is_sum_left lists.now.rows row }
+{
+    lists.sum(row.retirement, row.kind) + u128::from(counted(row)) <= u128::from(MOST_HELD)
+}
+
+// Whether there is a place for one more row, its number is below the next one, and the sum is within the limit with it.
+fn has_row_room(lists: &Lists, next: u64, row: RetirementRow) -> bool
+    requires { retired_in row.retirement row.kind lists.now.rows ≤ MOST_HELD }
+    ensures { result ≡ (nat_lt (length lists.now.rows) MOST_ROWS && (nat_lt row.number next && is_sum_left lists.now.rows row)) }
+{
+    lists.rows().len() < MOST_ROWS && (row.number.get() < next && is_sum_left(lists, row))
+}
+
+#[tactic(auto, unfolding(crate::specs::Faults::with_row))]
+fn take_retired(draft: &mut Draft, row: &ByteRecord) -> Result<(), RowError>
+    requires { IsDraft (draft_of draft.old) }
+    ensures { Takes (draft_of draft.new) result (with_row tag.Retired (draft_of draft.old) (fields_of row.now)) }
+{
+    let retired = read_retired_row(row)?;
+    if let Some(before) = draft.lists.rows().last().copied() {
+        if retired.number <= before.number {
+            return Err(RowError::Fault(Cause::Order));
+        }
+    }
+    if !has_row_room(&draft.lists, draft.heading.next, retired) {
+        return Err(RowError::Fault(Cause::Limit));
+    }
+    draft.lists.push_row(retired)?;
+    draft.last = Tag::Retired;
+    Ok(())
+}
+
+#[tactic(auto, unfolding(crate::specs::Faults::with_row))]
+fn take_emissions(draft: &mut Draft, row: &ByteRecord) -> Result<(), RowError>
+    ensures { Takes (draft_of draft.new) result (with_row tag.Emissions (draft_of draft.old) (fields_of row.now)) }
+{
+    let emission = read_emissions_row(row)?;
+    if let Some(before) = draft.lists.emissions().last().copied() {
+        if emission.year <= before.year {
+            return Err(RowError::Fault(Cause::Order));
+        }
+    }
+    draft.lists.push_emission(emission)?;
+    draft.last = Tag::Emissions;
+    Ok(())
+}
+
+#[tactic(auto, unfolding(crate::specs::Faults::with_row))]
+fn take_figure(draft: &mut Draft, row: &ByteRecord) -> Result<(), RowError>
+    ensures { Takes (draft_of draft.new) result (with_row tag.Figure (draft_of draft.old) (fields_of row.now)) }
+{
+    let figure = read_figure_row(row)?;
+    if let Some(before) = draft.lists.figures().last().copied() {
+        if figure.year <= before.year {
+            return Err(RowError::Fault(Cause::Order));
+        }
+    }
+    draft.lists.push_figure(figure)?;
+    draft.last = Tag::Figure;
     Ok(())
 }
 
@@ -176,6 +294,11 @@ pub(crate) fn take_row(draft: &mut Draft, row: &ByteRecord) -> Result<(), RowErr
         Tag::Admin => take_admin(draft, row),
         Tag::Work => take_work(draft, row),
         Tag::Account => take_account(draft, row),
+        Tag::User => take_user(draft, row),
+        Tag::Trusted => take_trusted(draft, row),
+        Tag::Retired => take_retired(draft, row),
+        Tag::Emissions => take_emissions(draft, row),
+        Tag::Figure => take_figure(draft, row),
         Tag::Do => take_instruction(draft, row),
         Tag::End => take_end(draft, row),
     }

@@ -1,6 +1,6 @@
 //! Writing the statement of an account.
 
-ghost use Rattle.std.specs.Prelude.{◌≡◌, ◌<◌, length, [], ◌∷◌, ◌++◌, true, find, filter_map, option_map, ◌==◌, IfOk, OnOk, MatchResult};
+ghost use Rattle.std.specs.Prelude.{◌≡◌, ◌≤◌, [], ◌∷◌, ◌++◌, true, find, filter_map, option_map, ◌==◌, IfOk, OnOk, MatchResult, length};
 ghost use Rattle.std.specs.List.{last_or};
 ghost use Rattle.csv.specs.Writing.{default_writer, row_text};
 ghost use Rattle.reg_rules.specs.State.{account};
@@ -72,7 +72,7 @@ fn told_by(number: AccountNo, row: &LogRow) -> Option<HeldNow>
 // Adds the row with this tag of an account and what it holds.
 fn put_held(text: &mut Text, row: &mut RowText, tag: &[u8], held: &HeldNow) -> Result<(), NoMemory>
     requires plain { IsPlain tag.now }
-    requires short { length tag.now < MOST_FIELD }
+    requires short { length tag.now ≤ MOST_FIELD }
     ensures { OnOk result (text.new ≡ text.old ++ row_text default_writer (tag.now ∷ holding_fields held.now)) }
 {
     row.begin();

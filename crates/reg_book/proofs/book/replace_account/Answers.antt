@@ -1,5 +1,7 @@
-use Rattle.std.proofs.Common.{◌≤◌, length, arith, sym, subst, ◌∙◌}
+use Rattle.std.proofs.Common.{◌-◌, ◌≤◌, length, arith, sym, subst, ◌∙◌}
 use Rattle.std.proofs.lemmas.Bool.{eqb-true}
+use Rattle.std.proofs.lemmas.List.Elements.{All-set}
+use Rattle.reg_account.specs.Account.{IsAccount}
 use Rattle.reg_rules.specs.State.{State, numbers}
 use Rattle.reg_book.specs.Book.{AreHigher}
 use Rattle.reg_book.proofs.Overlays.{set_at, not_there, numbers_below, lower_than}
@@ -28,3 +30,7 @@ returns-else-count-gt0-clause-items c =
           let none = w.if-count-gt0.false in
           not_there xs c.args.account c.count_not_higher-count.result c.requires.rising within higher (λ some. absurd (omega (arith, none, some)))
     ]
+
+pub returns-then-eq-clause-within_limits : goal.returns-then-eq-clause-within_limits
+returns-then-eq-clause-within_limits c =
+    All-set IsAccount c.args.accounts.now.items (c.count_not_higher-count.result - 1) c.args.account c.is_within_limits.ensures c.requires.within_limits

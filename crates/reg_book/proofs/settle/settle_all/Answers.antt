@@ -1,7 +1,13 @@
-use Rattle.std.proofs.Common.{ap, ◌≡◌, ◌+◌, ◌<◌, ◌∷◌, [], ◌++◌, length, rules, arith, sym, subst, ◌∙◌}
+use Rattle.std.proofs.Common.{ap, List, ◌≡◌, ◌+◌, ◌<◌, ◌∷◌, [], ◌++◌, length, rules, arith, sym, subst, ◌∙◌}
+use Rattle.reg_base.specs.Numbers.{IsDayNo, IsRecordNo}
+use Rattle.reg_base.specs.Instructions.{IsInstruction}
+use Rattle.reg_base.specs.declared.instruction.Instruction.{Instruction}
 use Rattle.reg_base.specs.Footprint.{footprint}
-use Rattle.reg_rules.specs.State.{Setting, numbers}
-use Rattle.reg_rules.specs.Step.{row_of}
+use Rattle.std.specs.Prelude.{All}
+use Rattle.reg_rules.specs.declared.reply.Reply.{Reply}
+use Rattle.reg_rules.specs.State.{State, Setting, numbers}
+use Rattle.reg_rules.specs.Laws.{IsReady}
+use Rattle.reg_rules.specs.Step.{step, row_of}
 use Rattle.reg_book.specs.Places.{StandAt, AllRanked, lists_of}
 use Rattle.reg_book.proofs.Folds.{rows_more, state_more, numbers_more}
 use Rattle.reg_book.proofs.Ranks.{ranked-at}
@@ -31,8 +37,17 @@ loop-place-preserved c =
     let counted : c.unwrap-number.result ≡ c.loop-place.last + 1 = search rules in
     let grown : c.push.new.self.items ≡ c.loop-place.rows.items ++ c.log_row.result ∷ [] = c.in_ok-push.ensures.items in
     let noted : c.log_row.result ≡ row_of setting c.unwrap-number.result c.index-instructions-place.result c.in_ok-reply.reply = c.log_row.ensures ∙ ap (λ (k : Setting). row_of k c.unwrap-number.result c.index-instructions-place.result c.in_ok-reply.reply) c.setting.view_is in
+    let own : IsInstruction c.index-instructions-place.result =
+    subst IsInstruction (sym c.index-instructions-place.is)
+    ((subst (All IsInstruction) (sym c.instructions-instructions.ensures) c.base-last.ensures.room.each) c.loop-place.place c.index-instructions-place.result within) in
+    let on : IsDayNo setting.day = subst (λ (k : Setting). IsDayNo k.day) c.setting.view_is (subst IsDayNo c.get.ensures.value c.get.ensures.range) in
+    let numbered : IsRecordNo (c.loop-place.last + 1) = record { low = omega arith; high = omega (arith, c.loop-place.invariant.counted, c.base-last.ensures.value, c.base-last.ensures.room.numbered, within, ap (λ (is : List Instruction). length is) c.instructions-instructions.ensures) } in
+    let ready = c.step_laws.ensures.stays_ready setting c.loop-place.accounts (c.loop-place.last + 1) c.index-instructions-place.result c.requires.rules on numbered own c.loop-place.invariant.ready in
+    let stepped : c.take_turn.new.accounts ≡ (step setting c.loop-place.accounts (c.loop-place.last + 1) c.index-instructions-place.result).0 =
+    ap (λ (r : State × Reply). r.0) c.in_ok-reply.ensures ∙ ap (λ m. (step setting c.loop-place.accounts m c.index-instructions-place.result).0) counted in
     record {
       counted = omega (arith, c.loop-place.invariant.counted);
+      ready = subst (IsReady (c.loop-place.last + 1 + 1)) (sym stepped) ready;
       same_numbers = numbers_more c.step_laws.ensures setting c.loop-place.accounts c.take_turn.new.accounts c.unwrap-number.result c.index-instructions-place.result c.in_ok-reply.reply c.in_ok-reply.ensures ∙ c.loop-place.invariant.same_numbers;
       so_far = rows_more setting c.loop-place.accounts c.take_turn.new.accounts c.instructions-instructions.result.now c.loop-place.place c.loop-place.last c.unwrap-number.result
           c.index-instructions-place.result c.in_ok-reply.reply c.loop-place.rows.items c.push.new.self.items _ c.log_row.result within c.index-instructions-place.is counted c.in_ok-reply.ensures noted grown c.loop-place.invariant.so_far;

@@ -1,11 +1,12 @@
-use Rattle.std.proofs.Common.{◌≡◌, rules, length, sym, ap, ◌∙◌, subst}
+use Rattle.std.proofs.Common.{◌≡◌, ◌+◌, rules, length, sym, ap, ◌∙◌, subst}
 use Rattle.reg_rules.specs.State.{State, numbers}
+use Rattle.reg_rules.specs.Laws.{IsReady}
 use Rattle.reg_book.specs.Book.{directory_of}
-use Rattle.reg_book.specs.Day.{Day, day_of}
+use Rattle.reg_book.specs.Day.{Day, IsDay, day_of}
 use Rattle.reg_book.specs.Fold.{touched_of}
 use Rattle.reg_book.specs.Places.{AllRanked, lists_of}
 use Rattle.reg_book.specs.Settled.{IsSettled, IsOfBook}
-use Rattle.reg_book.proofs.Days.{day-made, settled-kept, settled-of_book, touched-distinct}
+use Rattle.reg_book.proofs.Days.{day-made, settled-kept, settled-of_book, touched-ready}
 use Rattle.reg_book.proofs.settle.settle_batch.Goals as goal
 use Rattle.reg_book.proofs.settle.settle_batch.Goals.{After-deref-2}
 
@@ -15,9 +16,18 @@ table c =
     ∙ ap (λ is. touched_of (directory_of c.accounts.result.now) is c.accounts.result.now) c.instructions.ensures
     ∙ ap (λ (s : State). touched_of (directory_of s) c.args.batch.now.instructions s) c.accounts.ensures.value
 
-pub settle_all-requires-clause-distinct : goal.settle_all-requires-clause-distinct
-settle_all-requires-clause-distinct c =
-    touched-distinct (directory_of c.args.book.now.accounts) c.args.batch.now.instructions c.args.book.now.accounts c.deref_mut.result.now c.accounts.ensures.kept.rising (table c)
+-- the day, as the calls tell it
+kept : (c : After-deref-2) → IsDay (day_of c.args.book.now c.args.rules.now c.args.batch.now)
+kept c = record {
+  book = c.accounts.ensures.kept;
+  rules = c.are_within_limits.ensures;
+  batch = c.base-base.ensures.room;
+  follows = c.requires;
+}
+
+pub settle_all-requires-clause-ready : goal.settle_all-requires-clause-ready
+settle_all-requires-clause-ready c =
+    subst (IsReady (c.args.batch.now.base + 1)) (sym (table c)) (touched-ready c.step_laws.ensures (day_of c.args.book.now c.args.rules.now c.args.batch.now) (kept c))
 
 pub settle_all-requires-clause-ranked : goal.settle_all-requires-clause-ranked
 settle_all-requires-clause-ranked c =
@@ -32,21 +42,22 @@ new-requires c =
     let day : Day = day_of c.args.book.now c.args.rules.now c.args.batch.now in
     let size : c.in_ok-accounts.field-0.accounts.len ≡ length c.in_ok-accounts.field-0.accounts.items = search rules in
     let made = day-made c.step_laws.ensures day c.day.result c.directory-directory.result.now c.instructions.result.now c.accounts.result.now
-    c.in_ok-accounts.field-0.accounts.items c.deref_mut.result.now c.settle_all.new.accounts c.in_ok-rows.rows.items c.base.result c.in_ok-accounts.field-0.accounts.len
+    c.in_ok-accounts.field-0.accounts.items c.deref_mut.result.now c.settle_all.new.accounts c.in_ok-rows.rows.items c.base-base.result c.in_ok-accounts.field-0.accounts.len
     c.accounts.ensures.kept c.day.ensures c.directory-directory.ensures c.instructions.ensures c.accounts.ensures.value c.in_ok-accounts.ensures.accounts c.deref_mut.ensures.value
-    c.in_ok-rows.ensures.rows c.in_ok-rows.ensures.accounts c.base.ensures.value size in
-    subst IsSettled (sym made) (settled-kept c.step_laws.ensures day c.accounts.ensures.kept c.base.ensures.room)
+    c.in_ok-rows.ensures.rows c.in_ok-rows.ensures.accounts c.base-base.ensures.value size in
+    subst IsSettled (sym made) (settled-kept c.step_laws.ensures day c.accounts.ensures.kept c.base-base.ensures.room)
 
 pub returns-clause-settled : goal.returns-clause-settled
 returns-clause-settled c =
     let size : c.in_ok-accounts.field-0.accounts.len ≡ length c.in_ok-accounts.field-0.accounts.items = search rules in
     c.new.ensures
     ∙ day-made c.step_laws.ensures (day_of c.args.book.now c.args.rules.now c.args.batch.now) c.day.result c.directory-directory.result.now c.instructions.result.now c.accounts.result.now
-    c.in_ok-accounts.field-0.accounts.items c.deref_mut.result.now c.settle_all.new.accounts c.in_ok-rows.rows.items c.base.result c.in_ok-accounts.field-0.accounts.len
+    c.in_ok-accounts.field-0.accounts.items c.deref_mut.result.now c.settle_all.new.accounts c.in_ok-rows.rows.items c.base-base.result c.in_ok-accounts.field-0.accounts.len
     c.accounts.ensures.kept c.day.ensures c.directory-directory.ensures c.instructions.ensures c.accounts.ensures.value c.in_ok-accounts.ensures.accounts c.deref_mut.ensures.value
-    c.in_ok-rows.ensures.rows c.in_ok-rows.ensures.accounts c.base.ensures.value size
+    c.in_ok-rows.ensures.rows c.in_ok-rows.ensures.accounts c.base-base.ensures.value size
 
 pub returns-clause-of_book : goal.returns-clause-of_book
 returns-clause-of_book c =
     subst (IsOfBook c.args.book.now) (sym (returns-clause-settled c))
-    (settled-of_book c.step_laws.ensures (day_of c.args.book.now c.args.rules.now c.args.batch.now) c.accounts.ensures.kept)
+    (settled-of_book c.step_laws.ensures (day_of c.args.book.now c.args.rules.now c.args.batch.now)
+    (record { book = c.accounts.ensures.kept; rules = c.are_within_limits.ensures; batch = c.base-base.ensures.room; follows = c.requires }))

@@ -2,7 +2,7 @@ use Rattle.std.proofs.Common.{◌+◌, arith, ap, sym, subst, length}
 use Rattle.reg_rules.specs.State.{numbers}
 use Rattle.reg_base.specs.Footprint.{footprint}
 use Rattle.reg_book.specs.Turns.{AreLeft}
-use Rattle.reg_book.proofs.Turns.{distinct-swap, numbers-swap, swapped-turn, left-more, size-numbers}
+use Rattle.reg_book.proofs.Turns.{distinct-swap, behind-swap, numbers-swap, swapped-turn, left-more, size-numbers}
 use Rattle.reg_book.proofs.turn.«+turn_from».Goals as goal
 
 pub turn_from-reply-requires : goal.turn_from-reply-requires
@@ -18,8 +18,11 @@ turn_from-reply-requires t c =
       omega (arith, cases.1, d, ap length c.rename.ensures),
       (
         distinct-swap s c.swap.new.self c.args.count place (omega (arith, first.behind, first.within, size-numbers s)) (omega (arith, first.within, size-numbers s)) c.requires.distinct c.swap.ensures.after,
-        subst (λ ps. AreLeft (c.args.count + 1) (numbers c.swap.new.self) ps wanted) (sym c.rename.ensures)
-            (left-more c.args.count (numbers s) (numbers c.swap.new.self) wanted place c.in-Some.later.now moved left),
+        (
+          behind-swap c.args.number s c.swap.new.self c.args.count place (omega (arith, first.behind, first.within, size-numbers s)) (omega (arith, first.within, size-numbers s)) c.requires.behind c.swap.ensures.after,
+          subst (λ ps. AreLeft (c.args.count + 1) (numbers c.swap.new.self) ps wanted) (sym c.rename.ensures)
+              (left-more c.args.count (numbers s) (numbers c.swap.new.self) wanted place c.in-Some.later.now moved left),
+        ),
       ),
     )
 

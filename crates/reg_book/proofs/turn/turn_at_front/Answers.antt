@@ -1,10 +1,23 @@
-use Rattle.std.proofs.Common.{◌≡◌, subst, take}
+use Rattle.std.proofs.Common.{◌≡◌, ◌∙◌, ap, sym, subst, take}
 use Rattle.std.specs.Result.{IfOk}
 use Rattle.reg_rules.specs.declared.reply.Reply.{Reply}
 use Rattle.reg_rules.specs.State.{State, Setting}
 use Rattle.reg_rules.specs.Step.{step}
+use Rattle.reg_rules.specs.Effect.{IsBehind}
+use Rattle.reg_base.specs.Footprint.{footprint}
+use Rattle.reg_account.specs.Account.{AccountValue}
+use Rattle.std.proofs.lemmas.List.{take-map}
+use Rattle.std.proofs.lemmas.List.Elements.{All-take}
 use Rattle.reg_book.proofs.Turns.{front-turn}
+use Rattle.std.proofs.lemmas.List.{take-map}
+use Rattle.reg_base.specs.Footprint.{footprint}
 use Rattle.reg_book.proofs.turn.turn_at_front.Goals as goal
+
+pub execute-requires-clause-own : goal.execute-requires-clause-own
+execute-requires-clause-own c = sym (take-map (λ v. v.number) c.args.count c.args.accounts.now) ∙ c.requires.first ∙ ap (λ (k : Setting). footprint k.directory c.args.instruction.now.act) (sym c.setting.view_is)
+
+pub execute-requires-clause-behind : goal.execute-requires-clause-behind
+execute-requires-clause-behind c = All-take (IsBehind c.args.number) c.args.count c.args.accounts.now c.requires.behind
 
 pub returns-clause-ok : goal.returns-clause-ok
 returns-clause-ok c =

@@ -1,8 +1,10 @@
-use Rattle.reg_rules.specs.ActRules.{fits_receiver}
-use Rattle.reg_rules.proofs.Mapped.{all-receivers, second-answer}
+use Rattle.std.proofs.Common.{◌∙◌, ap, sym}
+use Rattle.reg_rules.specs.ActRules.{fits_first}
+use Rattle.reg_rules.proofs.Mapped.{kinds-answer}
 use Rattle.reg_rules.proofs.checks.has_right_kinds.Goals as goal
 
-pub returns-then-first_fits : goal.returns-then-first_fits
-returns-then-first_fits c =
-    second-answer _ _ c.first_fits.result c.receivers_fit.result c.first_fits.ensures c.if-first_fits.true
-    (all-receivers (λ v. fits_receiver c.args.rule.kinds v.kind) c.args.accounts.now c.as_slice.result.now c.args.movement.now.shares c.receivers_fit.result c.receivers_fit.ensures c.as_slice.ensures.value)
+pub returns-then-fits_first : goal.returns-then-fits_first
+returns-then-fits_first c =
+    kinds-answer c.args.rule c.args.accounts.now c.args.movement.now c.in-Some.first.now c.kind-then-fits_first.result c.as_slice.result.now c.receivers_fit.result c.fits_first.result
+    c.as_slice.ensures.value (sym c.in-Some.ensures) c.kind-then-fits_first.ensures
+    (c.fits_first.ensures ∙ ap (fits_first c.args.rule.kinds) c.kind.ensures) c.if-fits_first.true c.receivers_fit.ensures

@@ -3,7 +3,7 @@ use Rattle.std.proofs.lemmas.List.Elements.{recursion_from_All}
 use Rattle.reg_base.specs.Footprint.{footprint}
 use Rattle.reg_rules.specs.State.{numbers, account}
 use Rattle.reg_rules.proofs.Constants.{constants-stay}
-use Rattle.reg_rules.proofs.Limits.{limits-stay}
+use Rattle.reg_rules.proofs.Limits.{stays-ready}
 use Rattle.reg_rules.proofs.Locality.{refusal-local, step-local, other-stays, numbers-stay, refused-stays}
 use Rattle.reg_rules.proofs.Numbers.{one-state}
 use Rattle.reg_rules.proofs.laws.step_laws.Goals as goal
@@ -16,6 +16,6 @@ returns c = record {
   numbers_stay = numbers-stay;
   constants_stay = constants-stay;
   refused_changes_nothing = refused-stays;
-  limits_stay = limits-stay;
+  stays_ready = stays-ready c.changes_keep_limits.ensures;
   same_state = λ s t d same agree. one-state s t d same (recursion_from_All (λ a. account s a ≡ account t a) (numbers s) agree);
 }

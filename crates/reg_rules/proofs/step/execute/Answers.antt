@@ -1,9 +1,9 @@
-use Rattle.std.proofs.Common.{eqb, ◌∷◌, map, sym, subst, ap, ◌∙◌}
-use Rattle.std.specs.List.{IsDistinct, AllByRecursion}
-use Rattle.reg_base.specs.declared.movement.Movement.{Movement}
+use Rattle.std.proofs.Common.{eqb, sym, subst, ◌∙◌}
+use Rattle.std.specs.List.{IsDistinct}
+use Rattle.std.proofs.lemmas.List.Elements.{recursion_from_All}
 use Rattle.reg_rules.specs.State.{Setting}
-use Rattle.reg_rules.specs.Effect.{CanMove}
-use Rattle.reg_rules.proofs.Applied.{footprint-passed, can-move-each, act-moves}
+use Rattle.reg_rules.specs.Effect.{IsBehind}
+use Rattle.reg_rules.proofs.Applied.{footprint-passed, can-change-each}
 use Rattle.reg_rules.proofs.Steps.{accepted-step}
 use Rattle.reg_rules.proofs.step.execute.Goals as goal
 
@@ -11,26 +11,24 @@ pub apply-requires-clause-own : goal.apply-requires-clause-own
 apply-requires-clause-own c =
     let a = c.args in
     let setting : Setting = record { rules = a.rules.now; day = a.day; directory = a.directory.now } in
-    c.requires
-    ∙ footprint-passed setting a.accounts.now a.instruction.now (sym c.decide.ensures ∙ c.in_default.is)
-    ∙ ap (λ (m : Movement). m.first ∷ map (λ share. share.to) m.shares) (sym c.movement.ensures)
+    c.requires.own ∙ footprint-passed setting a.accounts.now a.instruction.now (sym c.decide.ensures ∙ c.in_default.is)
 
 pub apply-requires-clause-distinct : goal.apply-requires-clause-distinct
 apply-requires-clause-distinct c =
-    subst (IsDistinct eqb) (sym c.requires) (c.each_footprint_is_sound.ensures c.args.directory.now c.args.instruction.now.act).once
+    subst (IsDistinct eqb) (sym c.requires.own) (c.each_footprint_is_sound.ensures c.args.directory.now c.args.instruction.now.act).once
 
 pub apply-requires-clause-can : goal.apply-requires-clause-can
 apply-requires-clause-can c =
     let a = c.args in
     let setting : Setting = record { rules = a.rules.now; day = a.day; directory = a.directory.now } in
-    subst (λ m. AllByRecursion (CanMove m) a.accounts.now) (sym c.movement.ensures)
-    (can-move-each setting a.accounts.now a.instruction.now (sym c.decide.ensures ∙ c.in_default.is)
-    (subst (IsDistinct eqb) (sym c.requires) (c.each_footprint_is_sound.ensures a.directory.now a.instruction.now.act).once))
+    can-change-each setting a.accounts.now a.number a.instruction.now (sym c.decide.ensures ∙ c.in_default.is)
+    (subst (IsDistinct eqb) (sym c.requires.own) (c.each_footprint_is_sound.ensures a.directory.now a.instruction.now.act).once)
+    (recursion_from_All (IsBehind a.number) a.accounts.now c.requires.behind)
 
 pub returns-clause-ok : goal.returns-clause-ok
 returns-clause-ok c =
     let a = c.args in
     let setting : Setting = record { rules = a.rules.now; day = a.day; directory = a.directory.now } in
-    accepted-step setting a.accounts.now a.number a.instruction.now c.apply.new.accounts c.closing_of.result
-    (c.each_footprint_is_sound.ensures a.directory.now a.instruction.now.act).once c.requires (sym c.decide.ensures ∙ c.in_default.is)
-    (c.apply.ensures ∙ act-moves setting a.number a.instruction.now c.movement.result c.movement.ensures a.accounts.now) c.closing_of.ensures
+    accepted-step setting a.accounts.now a.number a.instruction.now c.apply.new.accounts c.closing_of.result c.figure_now.result
+    (c.each_footprint_is_sound.ensures a.directory.now a.instruction.now.act).once c.requires.own (sym c.decide.ensures ∙ c.in_default.is)
+    c.in_ok-apply.ensures.ok c.closing_of.ensures c.figure_now.ensures

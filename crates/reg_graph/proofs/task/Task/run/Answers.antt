@@ -24,7 +24,7 @@ pack_after-parcels-requires-clause-right g c =
     c.args.self.parcels.items c.carry_out.new.own c.in-Ok-carry_out.row c.args.context.now.named c.args.self.complete
     (ap (run_at (day_of c.args.context.now.book.now c.args.context.now.rules.now c.args.context.now.batch.now) c.args.self.place) (sym (c.deref_mut.ensures.value ∙ c.unpack-own.ensures.own)) ∙ c.in-Ok-carry_out.ensures.ok) in
     let touched : (d : Day) → g.N.Naming.day ≡ Some d → numbers (values_of c.args.self.parcels.items) ≡ footprint_at d c.args.self.place =
-    λ d e. (c.fits.ensures c.if-not-fits.false).touched ∙ ap (λ (x : Day). footprint_at x c.args.self.place) (c.args.context.now.named d e) in
+    λ d e. (c.fits.ensures.is_for c.if-not-fits.false).touched ∙ ap (λ (x : Day). footprint_at x c.args.self.place) (c.args.context.now.named d e) in
     let size : c.unpack-own.result.0.len ≡ length c.unpack-own.result.0.items = search rules in
     let whole : take c.unpack-own.result.0.len (c.carry_out.new.own ++ drop (length c.carry_out.new.own) c.unpack-own.result.0.items) ≡ c.carry_out.new.own =
     written_whole c.unpack-own.result.0.items c.carry_out.new.own c.unpack-own.result.0.len size (c.carry_out.auto.own ∙ ap length c.deref_mut.ensures.value) in
@@ -46,7 +46,7 @@ new-requires-clause-left g c =
     c.args.self.parcels.items c.carry_out.new.own c.in-Ok-carry_out.row c.args.context.now.named c.args.self.complete
     (ap (run_at (day_of c.args.context.now.book.now c.args.context.now.rules.now c.args.context.now.batch.now) c.args.self.place) (sym (c.deref_mut.ensures.value ∙ c.unpack-own.ensures.own)) ∙ c.in-Ok-carry_out.ensures.ok) in
     let touched : (d : Day) → g.N.Naming.day ≡ Some d → numbers (values_of c.args.self.parcels.items) ≡ footprint_at d c.args.self.place =
-    λ d e. (c.fits.ensures c.if-not-fits.false).touched ∙ ap (λ (x : Day). footprint_at x c.args.self.place) (c.args.context.now.named d e) in
+    λ d e. (c.fits.ensures.is_for c.if-not-fits.false).touched ∙ ap (λ (x : Day). footprint_at x c.args.self.place) (c.args.context.now.named d e) in
     let size : c.unpack-own.result.0.len ≡ length c.unpack-own.result.0.items = search rules in
     let whole : take c.unpack-own.result.0.len (c.carry_out.new.own ++ drop (length c.carry_out.new.own) c.unpack-own.result.0.items) ≡ c.carry_out.new.own =
     written_whole c.unpack-own.result.0.items c.carry_out.new.own c.unpack-own.result.0.len size (c.carry_out.auto.own ∙ ap length c.deref_mut.ensures.value) in

@@ -1,6 +1,5 @@
 use Rattle.std.proofs.Common.{◌∙◌, Some, ap, sym}
-use Rattle.reg_text.specs.declared.reading.tag.Tag.{Tag}
-use Rattle.reg_text.specs.Day.{is_over, day_said}
+use Rattle.reg_text.proofs.Names.{Tag, is_over, day_said}
 use Rattle.reg_text.proofs.DraftSteps.{closed-fits}
 use Rattle.reg_text.proofs.Readings.{closed-says}
 use Rattle.reg_text.proofs.reading.day.finish.Goals as goal

@@ -1,10 +1,6 @@
 use Rattle.std.proofs.Common.{◌≡◌, List, ◌++◌, map, append-nil, subst, rules}
 use mathlib.Core.List.{map-id}
-use Rattle.reg_base.specs.Rising.{IsRising}
-use Rattle.reg_account.specs.Account.{AccountValue}
-use Rattle.reg_text.specs.Lasts.{as_list}
-use Rattle.reg_text.specs.Sections.{account_with}
-use Rattle.reg_text.proofs.Orders.{rising-same}
+use Rattle.reg_text.proofs.Names.{IsRising, AccountValue, as_list, account_with}
 use Rattle.reg_text.proofs.reading.day.make_day.Goals as goal
 
 pub make_rules-rules-requires-clause-admins_rise : goal.make_rules-rules-requires-clause-admins_rise
@@ -17,8 +13,8 @@ make_rules-rules-requires-clause-work c = subst IsRising (map-id c.args.draft.wo
 pub returns : goal.returns
 returns c =
     let draft = c.args.draft.book in
-    let all : draft.accounts ++ map account_with (as_list c.args.draft.head) ≡ draft.accounts = rw c.requires.closed (append-nil draft.accounts) in
+    let all : draft.accounts ++ map (account_with c.args.draft.lists) (as_list c.args.draft.head) ≡ draft.accounts = rw c.requires.closed (append-nil draft.accounts) in
     let rising = subst (λ (l : List AccountValue). IsRising (map (λ (a : AccountValue). a.number) l)) all c.requires.draft.rising in
-    let accounts = rising-same (λ (a : AccountValue). a.number) draft.accounts c.finish.result.accounts rising c.finish.ensures.rising c.finish.ensures.same in
+    let accounts = c.finish.ensures.as_inserted rising in
     let book : c.finish.result ≡ draft = λ i. record { accounts = accounts i; next = c.finish.ensures.next_stays i } in
     rw (book, all) (search rules)

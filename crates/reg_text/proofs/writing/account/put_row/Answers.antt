@@ -1,4 +1,4 @@
-use Rattle.std.proofs.Common.{◌∙◌, refl}
+use Rattle.std.proofs.Common.{◌∙◌}
 use Rattle.std.proofs.lemmas.Result.{on_ok_weaker}
 use Rattle.reg_text.proofs.RowFacts.{appended}
 use Rattle.reg_text.proofs.PlainRows.{account-text}

@@ -1,6 +1,5 @@
 use Rattle.reg_text.proofs.RowFacts.{commas-append}
-use Rattle.reg_text.specs.Spelling.{instruction_fields}
-use Rattle.reg_text.specs.Log.{answer_fields}
+use Rattle.reg_text.proofs.Names.{instruction_fields, answer_fields}
 use Rattle.reg_text.proofs.writing.log.make_head.Goals as goal
 
 pub returns : goal.returns

@@ -1,7 +1,6 @@
 use Rattle.std.proofs.Common.{◌≡◌, [], ◌++◌, take}
 use Rattle.std.specs.List.{flat_map}
-use Rattle.reg_text.specs.Plain.{with_commas}
-use Rattle.reg_text.specs.Log.{holding_fields}
+use Rattle.reg_text.proofs.Names.{with_commas, holding_fields}
 use Rattle.reg_text.proofs.writing.log.put_holdings.Given as goal
 
 -- the holdings so far have been added

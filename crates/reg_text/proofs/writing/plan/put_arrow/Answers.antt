@@ -1,10 +1,11 @@
-use Rattle.std.proofs.Common.{◌∙◌}
+use Rattle.std.proofs.Common.{refl, codes, ◌∙◌}
 use Rattle.std.proofs.lemmas.Result.{on_ok_weaker}
-use Rattle.reg_text.proofs.RowFacts.{appended}
-use Rattle.reg_text.proofs.TextSteps.{arrow-text}
+use Rattle.reg_text.proofs.RowFacts.{appended, row-plain}
+use Rattle.reg_text.proofs.PlainFacts.{plain-decimal}
 use Rattle.reg_text.proofs.writing.plan.put_arrow.Goals as goal
 
 pub returns : goal.returns
 returns c =
-    let row = rw (c.number-3.ensures.text, c.number-2.ensures.text, c.number.ensures.text, c.into-3.ensures, c.into-2.ensures, c.into.ensures, c.get.ensures.value, c.begin.ensures) at c.put.ensures in
-    on_ok_weaker _ (appended _ _ _ _ _ (c.as_slice.ensures ∙ row) (arrow-text c.args.arrow.now)) c.append.ensures
+    let a = c.args.arrow.now in
+    let row = rw (c.number-3.ensures.text, c.into-3.ensures, c.number-2.ensures.text, c.into-2.ensures, c.number.ensures.text, c.into.ensures, c.get.ensures.value, c.begin.ensures) at c.put.ensures in
+    on_ok_weaker _ (appended _ _ _ _ _ (c.as_slice.ensures ∙ row) (row-plain (codes "arrow") _ _ (refl, (plain-decimal a.from, (plain-decimal a.to, (plain-decimal a.account, tt)))))) c.append.ensures

@@ -1,0 +1,33 @@
+-- The lists of an account.
+use Rattle.std.specs.Prelude.{List, []}
+use Rattle.reg_account.specs.declared.users.Representative.{Representative}
+use Rattle.reg_account.specs.declared.trusted.TrustedEntry.{TrustedEntry}
+use Rattle.reg_account.specs.declared.rows.RetirementRow.{RetirementRow}
+use Rattle.reg_account.specs.declared.years.Emission.{Emission}
+use Rattle.reg_account.specs.declared.years.Figure.{Figure}
+
+-- the surrenders and deletions, the emissions and the determined figures as plain data
+pub record RecordsValue : Type 0 where
+  pub rows : List RetirementRow
+  pub emissions : List Emission
+  pub figures : List Figure
+
+-- none of them
+abbrev pub no_records : RecordsValue
+no_records = record { rows = []; emissions = []; figures = [] }
+
+-- all lists as plain data
+pub record ListsValue : Type 0 where
+  pub users : List Representative
+  pub trusted : List TrustedEntry
+  pub rows : List RetirementRow
+  pub emissions : List Emission
+  pub figures : List Figure
+
+-- no list has anything
+abbrev pub no_lists : ListsValue
+no_lists = record { users = []; trusted = []; rows = []; emissions = []; figures = [] }
+
+-- the lists with these records
+abbrev pub lists_of : List Representative → List TrustedEntry → RecordsValue → ListsValue
+lists_of users trusted r = record { users = users; trusted = trusted; rows = r.rows; emissions = r.emissions; figures = r.figures }

@@ -1,0 +1,92 @@
+-- Surrenders and deletions, as rows by rising record number.
+use Rattle.std.specs.Prelude.{ℕ, ◌<◌, ◌≤◌, Bool, true, false, not, ◌==◌, ◌&&◌, ◌||◌, nat_lt, List, map, find, length, Option, if◌then◌else◌}
+use Rattle.std.specs.List.{sum_by, list_any, AllByRecursion}
+use Rattle.reg_base.specs.declared.limits.TheConstants.{MOST_HELD, MOST_ROWS}
+use Rattle.reg_base.specs.declared.kinds.AllowanceKind.{AllowanceKind}
+use Rattle.reg_base.specs.declared.kinds.AllowanceKind.TheVariants.{General, Aviation}
+use Rattle.reg_base.specs.Numbers.{IsRecordNo, IsDayNo}
+use Rattle.reg_base.specs.Rising.{IsRising, is_rising_from}
+use Rattle.reg_account.specs.declared.rows.Retirement.{Retirement}
+use Rattle.reg_account.specs.declared.rows.Retirement.TheVariants.{Surrendered, Deleted}
+use Rattle.reg_account.specs.declared.rows.RetirementRow.{RetirementRow}
+
+abbrev pub is_same_kind : AllowanceKind → AllowanceKind → Bool
+is_same_kind General General = true
+is_same_kind General Aviation = false
+is_same_kind Aviation General = false
+is_same_kind Aviation Aviation = true
+
+abbrev pub is_same_retirement : Retirement → Retirement → Bool
+is_same_retirement Surrendered Surrendered = true
+is_same_retirement Surrendered Deleted = false
+is_same_retirement Deleted Surrendered = false
+is_same_retirement Deleted Deleted = true
+
+-- the row is a surrender (or a deletion) of this kind, and was not reversed
+abbrev pub counts : Retirement → AllowanceKind → RetirementRow → Bool
+counts way kind row = is_same_retirement row.retirement way && (is_same_kind row.kind kind && not row.reversed)
+
+-- what a row adds to the surrendered (or deleted) amount of a kind
+abbrev pub amount_in : Retirement → AllowanceKind → RetirementRow → ℕ
+amount_in way kind row = if counts way kind row then row.amount else 0
+
+-- the surrendered (or deleted) amount of a kind: the sum over the rows that were not reversed
+abbrev pub retired_in : Retirement → AllowanceKind → List RetirementRow → ℕ
+retired_in way kind rows = sum_by (amount_in way kind) rows
+
+-- the numbers of the rows, in their order
+abbrev pub row_numbers : List RetirementRow → List ℕ
+row_numbers rows = map (λ row. row.number) rows
+
+-- the row with this number
+abbrev pub row_in : List RetirementRow → ℕ → Option RetirementRow
+row_in rows number = find (λ row. row.number == number) rows
+
+-- a row, marked as reversed if it has this number
+abbrev pub marked : ℕ → RetirementRow → RetirementRow
+marked number row = if row.number == number then record row { reversed = true } else row
+
+-- the rows, with the one of this number marked as reversed
+abbrev pub with_mark : ℕ → List RetirementRow → List RetirementRow
+with_mark number rows = map (marked number) rows
+
+-- each number is below this one
+abbrev pub AreBelow : ℕ → List ℕ → Type 0
+AreBelow limit numbers = AllByRecursion (λ n. n < limit) numbers
+
+-- a row's amount is within its limits
+pub record RowFits (row : RetirementRow) : Type 0 where
+  pub some : 1 ≤ row.amount
+  pub most : row.amount ≤ MOST_HELD
+
+-- a row's record number and day are in their ranges, as each such number is
+pub record RowIsInRange (row : RetirementRow) : Type 0 where
+  pub number : IsRecordNo row.number
+  pub day : IsDayNo row.day
+
+-- rows as an account may have them
+pub record RowsFit (rows : List RetirementRow) : Type 0 where
+  pub few : length rows ≤ MOST_ROWS
+  pub rise : IsRising (row_numbers rows)
+  pub each : AllByRecursion RowFits rows
+  pub in_range : AllByRecursion RowIsInRange rows
+
+-- each surrendered and each deleted amount is within its limit
+pub record RetiredFits (rows : List RetirementRow) : Type 0 where
+  pub at : (way : Retirement) (kind : AllowanceKind) → retired_in way kind rows ≤ MOST_HELD
+
+-- a row's amount is 0 or too large
+abbrev pub is_row_unfit : RetirementRow → Bool
+is_row_unfit row = nat_lt row.amount 1 || nat_lt MOST_HELD row.amount
+
+-- there are too many rows, their numbers don't rise, or an amount is 0 or too large
+abbrev pub are_rows_unfit : List RetirementRow → Bool
+are_rows_unfit rows = nat_lt MOST_ROWS (length rows) || (not (is_rising_from 0 (row_numbers rows)) || list_any is_row_unfit rows)
+
+-- the surrendered (or deleted) amount of a kind is above its limit
+abbrev pub is_too_much : List RetirementRow → Retirement → Bool
+is_too_much rows way = nat_lt MOST_HELD (retired_in way General rows) || nat_lt MOST_HELD (retired_in way Aviation rows)
+
+-- a surrendered or a deleted amount is above its limit
+abbrev pub is_too_much_retired : List RetirementRow → Bool
+is_too_much_retired rows = is_too_much rows Surrendered || is_too_much rows Deleted

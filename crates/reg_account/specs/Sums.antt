@@ -1,0 +1,21 @@
+-- The sums that an account keeps beside its rows.
+use Rattle.std.specs.Prelude.{◌≡◌, ℕ, ◌*◌, ◌≤◌, List, length}
+use Rattle.reg_base.specs.declared.kinds.AllowanceKind.{AllowanceKind}
+use Rattle.reg_base.specs.declared.kinds.AllowanceKind.TheVariants.{General, Aviation}
+use Rattle.reg_account.specs.declared.rows.Retirement.{Retirement}
+use Rattle.reg_account.specs.declared.rows.Retirement.TheVariants.{Surrendered, Deleted}
+use Rattle.reg_account.specs.declared.rows.RetirementRow.{RetirementRow}
+use Rattle.reg_account.specs.declared.sums.Sums.{Sums}
+use Rattle.reg_account.specs.Rows.{retired_in}
+
+-- the sum that is kept for surrenders (or deletions) of a kind
+abbrev pub sum_at : Sums → Retirement → AllowanceKind → ℕ
+sum_at s Surrendered General = s.surrendered_general
+sum_at s Surrendered Aviation = s.surrendered_aviation
+sum_at s Deleted General = s.deleted_general
+sum_at s Deleted Aviation = s.deleted_aviation
+
+-- what is kept are the sums over the rows; each amount is below 2^64, so they fit in 128 bits
+pub record SumsAgree (s : Sums) (rows : List RetirementRow) : Type 0 where
+  pub at : (way : Retirement) (kind : AllowanceKind) → sum_at s way kind ≡ retired_in way kind rows
+  pub small : (way : Retirement) (kind : AllowanceKind) → sum_at s way kind ≤ length rows * 18446744073709551615

@@ -1,0 +1,81 @@
+//! Surrenders and deletions, as rows by rising record number.
+
+ghost use Rattle.std.specs.Prelude.{◌≡◌, ◌<◌, Some, None, IfOk, MatchOption, length, slice_index};
+ghost use Rattle.reg_base.specs.Rising.{IsRising};
+ghost use Rattle.reg_account.specs.Rows.{row_numbers, row_in, with_mark};
+ghost use Rattle.reg_account.specs.Places.{StandsAt};
+
+use reg_base::{AllowanceKind, Day, NoMemory, RecordNo};
+use std::alloc::Global;
+
+/// What became of allowances that left an account for good.
+#[derive(Clone, Copy, Debug, PartialEq, Eq)]
+pub enum Retirement {
+    /// They were surrendered for the emissions of the period.
+    Surrendered,
+    /// They were deleted.
+    Deleted,
+}
+
+/// A surrender or a deletion. The fields stand by their size, so that a row takes 24 bytes.
+#[derive(Clone, Copy, Debug, PartialEq, Eq)]
+pub struct RetirementRow {
+    /// The record number of the instruction.
+    pub number: RecordNo,
+    /// How many allowances, 1 to 10^15.
+    pub amount: u64,
+    /// The settlement day on which the instruction was carried out.
+    pub day: Day,
+    /// Whether the allowances were surrendered or deleted.
+    pub retirement: Retirement,
+    /// Their kind.
+    pub kind: AllowanceKind,
+    /// Whether it was reversed.
+    pub reversed: bool,
+}
+
+/// The place of the row with this number, counted from 0.
+pub(crate) fn place_of(rows: &[RetirementRow], number: RecordNo) -> Option<usize>
+    requires { IsRising (row_numbers rows.now) }
+    ensures { MatchOption result (row_in rows.now number ≡ None) (λ place. StandsAt rows.now place number) }
+{
+    match rows.binary_search_by_key(&number, |row| row.number) {
+        Ok(place) => Some(place),
+        Err(_) => None,
+    }
+}
+
+/// The row with this number.
+pub(crate) fn find_row(rows: &[RetirementRow], number: RecordNo) -> Option<RetirementRow>
+    requires { IsRising (row_numbers rows.now) }
+    ensures { result ≡ row_in rows.now number }
+{
+    match rows.binary_search_by_key(&number, |row| row.number) {
+        Ok(place) => Some(rows[place]),
+        Err(_) => None,
+    }
+}
+
+/// Marks the row at this place as reversed, and answers it as it was.
+pub(crate) fn mark_reversed(rows: &mut [RetirementRow], place: usize) -> RetirementRow
+    requires rising { IsRising (row_numbers rows.old) }
+    requires within { place < length rows.old }
+    ensures row { row_in rows.old (slice_index (row_numbers rows.old) place) ≡ Some result }
+    ensures marked { rows.new ≡ with_mark (slice_index (row_numbers rows.old) place) rows.old }
+{
+    let row = rows[place];
+    rows[place].reversed = true;
+    row
+}
+
+/// These rows, with room for an eighth more: a day that adds some to a long list does not copy it once more.
+pub(crate) fn copy_rows(
+    alloc: Global,
+    rows: &[RetirementRow],
+) -> Result<Vec<RetirementRow>, NoMemory>
+    ensures { IfOk result (λ copy. copy.items ≡ rows.now) }
+{
+    let mut copy = Vec::with_capacity(alloc, rows.len() + rows.len() / 8)?;
+    copy.extend_from_slice(rows)?;
+    Ok(copy)
+}

@@ -1,0 +1,108 @@
+-- Lists that rise by a number are one if they have the same elements.
+use Rattle.std.proofs.Common.{◌≡◌, ℕ, suc, ◌<◌, ◌≤◌, inl, inr, eqb, false, List, [], ◌∷◌, length, get_or, map, refl, sym, ap, ◌∙◌, arith}
+use Rattle.std.specs.Prelude.{AllPairs, IsPermutation}
+use Rattle.std.specs.List.{IsDistinct, AllByRecursion}
+use Rattle.std.specs.List.Sorted.{IsNonDecreasingBy}
+use Rattle.std.proofs.lemmas.Bool.{eqb-false, ne_eqb}
+use Rattle.std.proofs.lemmas.List.Kept.{AllPairs-from_increasing}
+use Rattle.std.proofs.lemmas.List.Sorted.{Contains-permutation, IsPermutation-sym}
+use Rattle.reg_base.specs.Rising.{IsRising}
+use Rattle.reg_graph.proofs.Members.{In, in_from, contains_from}
+
+-- each later element has a higher number
+abbrev pub Up : {X : Type 0} → (X → ℕ) → List X → Type 0
+Up key [] = Unit {0}
+Up {X} key (x ∷ xs) = ((y : X) → In y xs → key x < key y) × Up key xs
+
+-- lists that rise and have the same elements are one
+pub same_rising : {X : Type 0} (key : X → ℕ) (xs ys : List X) → Up key xs → Up key ys → ((x : X) → In x xs → In x ys) → ((x : X) → In x ys → In x xs) → xs ≡ ys
+same_rising key [] [] up_x up_y there back = refl
+same_rising key [] (y ∷ ys) up_x up_y there back = absurd (back y (inl refl))
+same_rising key (x ∷ xs) [] up_x up_y there back = absurd (there x (inl refl))
+same_rising {X} key (x ∷ xs) (y ∷ ys) up_x up_y there back =
+    ap (λ z. z ∷ xs) head ∙ ap (λ zs. y ∷ zs) (same_rising key xs ys up_x.1 up_y.1 there_more back_more)
+  where
+    head : x ≡ y
+    head = elim (there x (inl refl)) [
+      | inl e ↦ sym e
+      | inr m ↦ elim (back y (inl refl)) [
+        | inl e ↦ e
+        | inr n ↦ absurd (omega (arith, up_y.0 x m, up_x.0 y n))
+      ]
+    ]
+
+    there_more : (z : X) → In z xs → In z ys
+    there_more z m = elim (there z (inr m)) [
+      | inl e ↦ absurd (omega (arith, up_x.0 z m, ap key head, ap key e))
+      | inr n ↦ n
+    ]
+
+    back_more : (z : X) → In z ys → In z xs
+    back_more z m = elim (back z (inr m)) [
+      | inl e ↦ absurd (omega (arith, up_y.0 z m, ap key head, ap key e))
+      | inr n ↦ n
+    ]
+
+pub all_in : {X : Type 0} (P : X → Type 0) (xs : List X) (x : X) → AllByRecursion P xs → In x xs → P x
+all_in P [] x all m = absurd m
+all_in P (y ∷ ys) x all (inl e) = rw (← e) all.0
+all_in P (y ∷ ys) x all (inr m) = all_in P ys x all.1 m
+
+pub all_from_in : {X : Type 0} (P : X → Type 0) (xs : List X) → ((x : X) → In x xs → P x) → AllByRecursion P xs
+all_from_in P [] h = tt
+all_from_in P (x ∷ xs) h = (h x (inl refl), all_from_in P xs (λ y m. h y (inr m)))
+
+pub in_map : {X Y : Type 0} (f : X → Y) (xs : List X) (x : X) → In x xs → In (f x) (map f xs)
+in_map f [] x m = absurd m
+in_map f (y ∷ ys) x (inl e) = inl (ap f e)
+in_map f (y ∷ ys) x (inr m) = inr (in_map f ys x m)
+
+pub of_map : {X Y : Type 0} (f : X → Y) (xs : List X) (y : Y) → In y (map f xs) → (x : X) × In x xs × (f x ≡ y)
+of_map f [] y m = absurd m
+of_map f (x ∷ xs) y (inl e) = (x, inl refl, e)
+of_map f (x ∷ xs) y (inr m) = let r = of_map f xs y m in (r.0, inr r.1, r.2)
+
+-- what rises has no number twice
+pub up_distinct : {X : Type 0} (key : X → ℕ) (xs : List X) → Up key xs → IsDistinct eqb (map key xs)
+unfolding IsDistinct
+up_distinct key [] up = tt
+up_distinct key (x ∷ xs) up = (
+  all_from_in (λ n. eqb (key x) n ≡ false) (map key xs) (λ n m. let r = of_map key xs n m in ne_eqb (key x) n (λ e. omega (arith, e, r.2, up.0 r.0 r.1))),
+  up_distinct key xs up.1,
+)
+
+-- what is sorted and has no number twice rises
+pub up_sorted : {X : Type 0} (key : X → ℕ) (xs : List X) → IsNonDecreasingBy key xs → IsDistinct eqb (map key xs) → Up key xs
+unfolding IsDistinct
+up_sorted key [] sorted distinct = tt
+up_sorted {X} key (x ∷ xs) sorted distinct = (
+  (λ y m. higher y m),
+  up_sorted key xs (λ i j d le lt. sorted (suc i) (suc j) d (omega (arith, le)) (omega (arith, lt))) distinct.1,
+) where
+  higher : (y : X) → In y xs → key x < key y
+  higher y m =
+      let c = contains_from xs y m in
+      let le : key x ≤ key (get_or xs c.0 y) = sorted 0 (suc c.0) y (omega arith) (omega (arith, c.1)) in
+      let ne : key x ≡ key y → ⊥ = eqb-false (key x) (key y) (all_in (λ n. eqb (key x) n ≡ false) (map key xs) (key y) distinct.0 (in_map key xs y m)) in
+      omega (arith, le, ap key c.2, ne)
+
+place_of : {X : Type 0} (key : X → ℕ) (xs : List X) (x : X) → In x xs → (k : ℕ) × (k < length (map key xs)) × (get_or (map key xs) k 0 ≡ key x)
+place_of key [] x m = absurd m
+place_of key (y ∷ ys) x (inl e) = (0, omega arith, ap key e)
+place_of key (y ∷ ys) x (inr m) = let r = place_of key ys x m in (suc r.0, omega (arith, r.1), r.2)
+
+up_pairs : {X : Type 0} (key : X → ℕ) (xs : List X) → AllPairs (λ x y. x < y) (map key xs) → Up key xs
+up_pairs key [] pairs = tt
+up_pairs key (x ∷ xs) pairs = (
+  (λ y m. let r = place_of key xs y m in let lt : key x < get_or (map key xs) r.0 0 = pairs 0 (suc r.0) 0 (omega arith) (omega (arith, r.1)) in omega (arith, lt, r.2)),
+  up_pairs key xs (λ i j d lt within. pairs (suc i) (suc j) d (omega (arith, lt)) (omega (arith, within))),
+)
+
+pub up_rising : {X : Type 0} (key : X → ℕ) (xs : List X) → IsRising (map key xs) → Up key xs
+up_rising key xs rising = up_pairs key xs (AllPairs-from_increasing (map key xs) rising)
+
+pub in_permuted : {X : Type 0} (xs ys : List X) (x : X) → IsPermutation xs ys → In x xs → In x ys
+in_permuted xs ys x same m = in_from ys x (Contains-permutation xs ys x same (contains_from xs x m))
+
+pub in_before : {X : Type 0} (xs ys : List X) (x : X) → IsPermutation xs ys → In x ys → In x xs
+in_before xs ys x same m = in_permuted ys xs x (IsPermutation-sym xs ys same) m

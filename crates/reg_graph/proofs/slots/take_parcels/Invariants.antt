@@ -1,0 +1,15 @@
+use Rattle.std.proofs.Common.{◌≡◌, ℕ, ◌++◌, nat_eq, map, drop, length, Some, None, cond}
+use Rattle.std.specs.List.{IsDistinct}
+use Rattle.reg_base.specs.Footprint.{is_among}
+use Rattle.reg_graph.specs.Parcels.{names_of}
+use Rattle.reg_graph.specs.Slots.{standing_in}
+use Rattle.reg_graph.proofs.slots.take_parcels.Given as goal
+
+-- what was taken, and what is left to take, are the whole
+abbrev pub invariant-loop-account : goal.invariant-loop-account
+invariant-loop-account g l = record {
+  size : length l.slots ≡ length l.openings;
+  others : IsDistinct nat_eq (drop l.account-index l.accounts);
+  names : map Some (names_of l.parcels.items) ++ map (standing_in l.openings l.slots) (drop l.account-index l.accounts) ≡ map (standing_in l.openings l.initial.slots) l.accounts;
+  left : (b : ℕ) → cond (is_among (drop l.account-index l.accounts) b) None (standing_in l.openings l.slots b) ≡ cond (is_among l.accounts b) None (standing_in l.openings l.initial.slots b);
+}

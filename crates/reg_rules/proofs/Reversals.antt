@@ -1,0 +1,35 @@
+-- What a reversal makes of the compliance figure.
+use Rattle.std.proofs.Common.{◌≡◌, ℕ, Bool, ◌&&◌, ℤ, pos, ◌-ℤ◌, Option, Some, None, Result, Ok, Err, refl, sym, ap, ◌∙◌, arith}
+use Rattle.std.proofs.lemmas.Int.{ints}
+use Rattle.std.specs.Option.{option_map_or}
+use Rattle.reg_base.specs.Rules.{RulesValue}
+use Rattle.reg_account.specs.declared.rows.RetirementRow.{RetirementRow}
+use Rattle.reg_account.specs.declared.figure.FigureFault.{FigureFault}
+use Rattle.reg_account.specs.Rows.{row_in}
+use Rattle.reg_account.specs.Account.{AccountValue, IsAccount, unretired, unretired_row}
+use Rattle.reg_account.specs.Figure.{figure_of}
+use Rattle.reg_account.specs.Laws.{FigureLaws, lowered_by}
+use Rattle.reg_rules.specs.Checks.{lost_by, turns_negative, is_compliant, is_negative}
+
+minus-zero : (figure : ℤ) → figure -ℤ pos 0 ≡ figure
+minus-zero figure = omega (arith, ints)
+
+lowered-by-none : (r : Result ℤ FigureFault) → lowered_by 0 r ≡ r
+lowered-by-none (Ok figure) = ap Ok (minus-zero figure)
+lowered-by-none (Err fault) = refl
+
+module _ (laws : FigureLaws) (rules : RulesValue) (v : AccountValue) (number year : ℕ) (is : IsAccount v) where
+  -- the figure falls by what is lost by the reversal
+  after-reversal : figure_of rules (unretired v number) year ≡ lowered_by (lost_by rules year (row_in v.rows number)) (figure_of rules v year)
+  after-reversal = go (row_in v.rows number) refl where
+    go : (o : Option RetirementRow) → row_in v.rows number ≡ o → figure_of rules (option_map_or (unretired_row number v) o v) year ≡ lowered_by (lost_by rules year o) (figure_of rules v year)
+    go None found = sym (lowered-by-none (figure_of rules v year))
+    go (Some row) found = ap (λ o. figure_of rules (option_map_or (unretired_row number v) o v) year) (sym found) ∙ laws.unretire rules v number row year is found
+
+  pub turns-answer : (figure : Result ℤ FigureFault) (lost : ℕ) (r : Bool) → figure ≡ figure_of rules v year → lost ≡ lost_by rules year (row_in v.rows number)
+      → r ≡ (is_compliant figure && is_negative (lowered_by lost figure)) → r ≡ turns_negative rules number v year
+  turns-answer figure lost r found falls answer =
+      answer
+      ∙ ap (λ n. is_compliant figure && is_negative (lowered_by n figure)) falls
+      ∙ ap (λ f. is_compliant f && is_negative (lowered_by (lost_by rules year (row_in v.rows number)) f)) found
+      ∙ ap (λ f. is_compliant (figure_of rules v year) && is_negative f) (sym after-reversal)

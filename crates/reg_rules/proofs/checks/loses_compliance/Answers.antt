@@ -1,0 +1,14 @@
+use Rattle.std.proofs.Common.{List, ◌∙◌, ap, sym, false}
+use Rattle.std.specs.Prelude.{find, reverse}
+use Rattle.std.specs.Option.{option_map_or}
+use Rattle.reg_account.specs.declared.years.Figure.{Figure}
+use Rattle.reg_account.specs.Figure.{is_in_period}
+use Rattle.reg_rules.specs.Checks.{turns_negative}
+use Rattle.reg_rules.proofs.checks.loses_compliance.Goals as goal
+
+pub returns-in-Some : goal.returns-in-Some
+returns-in-Some c =
+    let a = c.args in
+    c.turns_negative.ensures
+    ∙ ap (λ o. option_map_or (λ (latest : Figure). turns_negative a.rules.now a.number a.account.now latest.year) o false)
+    (sym c.in-Some.is ∙ c.latest_determined.ensures ∙ ap (λ (figures : List Figure). find (λ f. is_in_period a.rules.now f.year) (reverse figures)) c.all_figures.ensures.value)

@@ -1,0 +1,39 @@
+-- How many allowances there are, and what a step makes of that number.
+use Rattle.std.specs.Prelude.{◌≡◌, ℕ, ◌+◌, None}
+use Rattle.std.specs.Option.{option_map_or}
+use Rattle.std.specs.List.{sum_by}
+use Rattle.reg_base.specs.declared.kinds.AllowanceKind.{AllowanceKind}
+use Rattle.reg_base.specs.declared.act.Act.{Act}
+use Rattle.reg_base.specs.declared.act.Act.TheVariants.{Delete, Reverse, Create}
+use Rattle.reg_base.specs.declared.instruction.Instruction.{Instruction}
+use Rattle.reg_account.specs.declared.rows.Retirement.TheVariants.{Deleted}
+use Rattle.reg_account.specs.Rows.{amount_in}
+use Rattle.reg_account.specs.Laws.{counted, of_kind}
+use Rattle.reg_rules.specs.State.{State, Setting, row}
+use Rattle.reg_rules.specs.Checks.{refusal}
+use Rattle.reg_rules.specs.Laws.{after_step, IsReady}
+
+-- how many allowances of a kind there are: those that accounts hold, and those that they have surrendered
+abbrev pub number_of : AllowanceKind → State → ℕ
+number_of kind s = sum_by (counted kind) s
+
+-- how many allowances of the kind the act creates
+abbrev pub created_by : AllowanceKind → Act → ℕ
+created_by kind (Create to own amount) = of_kind kind own amount
+created_by kind act = 0
+
+-- how many allowances of the kind the act deletes
+abbrev pub deleted_by : AllowanceKind → Act → ℕ
+deleted_by kind (Delete from own amount) = of_kind kind own amount
+deleted_by kind act = 0
+
+-- how many deleted allowances of the kind the act brings back: the amount of the deletion that it reverses
+abbrev pub undeleted_by : AllowanceKind → State → Act → ℕ
+undeleted_by kind s (Reverse a number) = option_map_or (amount_in Deleted kind) (row s a number) 0
+undeleted_by kind s act = 0
+
+-- law: an accepted instruction changes the number of allowances by what it creates, deletes and brings back, and by nothing else
+abbrev pub StepConserves : Type 0
+StepConserves = (c : Setting) (s : State) (number : ℕ) (i : Instruction) (kind : AllowanceKind)
+    → IsReady number s → refusal c s i ≡ None
+    → number_of kind (after_step c s number i) + deleted_by kind i.act ≡ number_of kind s + created_by kind i.act + undeleted_by kind s i.act

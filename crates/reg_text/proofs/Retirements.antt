@@ -1,0 +1,103 @@
+-- Surrenders and deletions, one more at the end: the sums over them, and their numbers below the next one.
+use Rattle.std.proofs.Common.{◌≡◌, ◌⊎◌, inl, inr, ℕ, ◌+◌, ◌<◌, Bool, true, false, cond, ◌&&◌, nat_le, List, [], ◌∷◌, ◌++◌, map, Option, Some, None, refl, ap, ◌∙◌, arith}
+use Rattle.std.specs.Prelude.{not, IfSome}
+use Rattle.std.specs.List.{AllByRecursion, list_any}
+use Rattle.std.proofs.lemmas.Bool.{leb-true, le-leb, lt-leb, ltb-true, lt-ltb}
+use Rattle.std.proofs.lemmas.List.{append-nil}
+use Rattle.std.proofs.lemmas.List.Sums.{sum_by-append, sum_by-cons}
+use Rattle.reg_text.proofs.Names.{AllowanceKind, General, Aviation, Retirement, Surrendered, Deleted, RetirementRow, RetiredFits, AreBelow, AccountValue, AccountHead, ListsValue, IsBehind, AreRecorded, amount_in, retired_in, row_numbers, as_list, account_with, is_recorded, is_sum_left}
+use Rattle.reg_account.specs.Rows.{is_same_kind, is_same_retirement}
+use Rattle.reg_text.proofs.ListFacts.{all-push}
+
+-- ---- the sums
+
+sum-more : (way : Retirement) (kind : AllowanceKind) (rows : List RetirementRow) (x : RetirementRow) (others : List RetirementRow)
+    → retired_in way kind (rows ++ x ∷ others) ≡ retired_in way kind rows + (amount_in way kind x + retired_in way kind others)
+sum-more way kind rows x others =
+    let e = sum_by-append (amount_in way kind) rows (x ∷ others) in
+    let h : retired_in way kind (x ∷ others) ≡ amount_in way kind x + retired_in way kind others = sum_by-cons (amount_in way kind) x others in
+    omega (arith, e, h)
+
+sum-push : (way : Retirement) (kind : AllowanceKind) (rows : List RetirementRow) (x : RetirementRow) → retired_in way kind (rows ++ x ∷ []) ≡ retired_in way kind rows + amount_in way kind x
+sum-push way kind rows x =
+    let e = sum-more way kind rows x [] in
+    let none : retired_in way kind [] ≡ 0 = refl in
+    omega (arith, e, none)
+
+-- a row adds to no sum but its own
+other-amount : (way : Retirement) (kind : AllowanceKind) (x : RetirementRow) → (amount_in way kind x ≡ 0) ⊎ ((way ≡ x.retirement) × (kind ≡ x.kind))
+other-amount way kind x = by way x.retirement kind x.kind where
+  by : (w r : Retirement) (k l : AllowanceKind) → (cond (is_same_retirement r w && (is_same_kind l k && not x.reversed)) x.amount 0 ≡ 0) ⊎ ((w ≡ r) × (k ≡ l))
+  by Surrendered Deleted k l = inl refl
+  by Deleted Surrendered k l = inl refl
+  by Surrendered Surrendered General Aviation = inl refl
+  by Surrendered Surrendered Aviation General = inl refl
+  by Surrendered Surrendered General General = inr (refl, refl)
+  by Surrendered Surrendered Aviation Aviation = inr (refl, refl)
+  by Deleted Deleted General Aviation = inl refl
+  by Deleted Deleted Aviation General = inl refl
+  by Deleted Deleted General General = inr (refl, refl)
+  by Deleted Deleted Aviation Aviation = inr (refl, refl)
+
+pub fits-push : (rows : List RetirementRow) (x : RetirementRow) → RetiredFits rows → is_sum_left rows x ≡ true → RetiredFits (rows ++ x ∷ [])
+fits-push rows x h left = record {
+  at = λ way kind. elim (other-amount way kind x) [
+    | inl none ↦ let s = sum-push way kind rows x in let a = h.at way kind in omega (arith, s, a, none)
+    | inr own ↦ rw (own.0, own.1) (leb-true _ _ left)
+  ];
+}
+
+-- a row of rows whose sums are within their limit
+pub sum-left : (rows : List RetirementRow) (x : RetirementRow) (others : List RetirementRow) → RetiredFits (rows ++ x ∷ others) → is_sum_left rows x ≡ true
+sum-left rows x others h =
+    let one = sum-push x.retirement x.kind rows x in
+    let all = sum-more x.retirement x.kind rows x others in
+    let most = h.at x.retirement x.kind in
+    le-leb _ _ (omega (arith, one, all, most))
+
+-- what a row adds to its own sum
+own-amount : (way : Retirement) (kind : AllowanceKind) (gone : Bool) (n : ℕ) → cond (is_same_retirement way way && (is_same_kind kind kind && not gone)) n 0 ≡ cond gone 0 n
+own-amount Surrendered General true n = refl
+own-amount Surrendered General false n = refl
+own-amount Surrendered Aviation true n = refl
+own-amount Surrendered Aviation false n = refl
+own-amount Deleted General true n = refl
+own-amount Deleted General false n = refl
+own-amount Deleted Aviation true n = refl
+own-amount Deleted Aviation false n = refl
+
+pub own-sum : (rows : List RetirementRow) (x : RetirementRow) → retired_in x.retirement x.kind (rows ++ x ∷ []) ≡ retired_in x.retirement x.kind rows + cond x.reversed 0 x.amount
+own-sum rows x = sum-push x.retirement x.kind rows x ∙ ap (λ n. retired_in x.retirement x.kind rows + n) (own-amount x.retirement x.kind x.reversed x.amount)
+
+-- ---- the numbers
+
+below-push : (next : ℕ) (rows : List RetirementRow) (x : RetirementRow) → AreBelow next (row_numbers rows) → x.number < next → AreBelow next (row_numbers (rows ++ x ∷ []))
+below-push next [] x h lt = (lt, tt)
+below-push next (y ∷ rows) x h lt = (h.0, below-push next rows x h.1 lt)
+
+pub recorded-push : (o : Option ℕ) (accounts : List AccountValue) (rows : List RetirementRow) (x : RetirementRow) → IfSome o (AreRecorded accounts rows) → is_recorded o x ≡ true → IfSome o (AreRecorded accounts (rows ++ x ∷ []))
+recorded-push None accounts rows x h e = tt
+recorded-push (Some next) accounts rows x h e = record { closed = h.closed; opened = below-push next rows x h.opened (ltb-true _ _ e) }
+
+all-behind : (next : ℕ) (accounts : List AccountValue) (l : ListsValue) (head : Option AccountHead) → AllByRecursion (IsBehind next) accounts → AreBelow next (row_numbers l.rows) → AllByRecursion (IsBehind next) (accounts ++ map (account_with l) (as_list head))
+all-behind next accounts l None h below = rw append-nil h
+all-behind next accounts l (Some a) h below = all-push (IsBehind next) accounts (account_with l a) h below
+
+-- with all blocks over
+pub recorded-closed : (o : Option ℕ) (accounts : List AccountValue) (l : ListsValue) (head : Option AccountHead) → IfSome o (AreRecorded accounts l.rows) → IfSome o (AreRecorded (accounts ++ map (account_with l) (as_list head)) [])
+recorded-closed None accounts l head h = tt
+recorded-closed (Some next) accounts l head h = record { closed = all-behind next accounts l head h.closed h.opened; opened = tt }
+
+-- before all blocks
+pub none-recorded : (o : Option ℕ) (accounts : List AccountValue) (rows : List RetirementRow) → accounts ≡ [] → rows ≡ [] → IfSome o (AreRecorded accounts rows)
+none-recorded None accounts rows e f = tt
+none-recorded (Some next) accounts rows e f = rw (e, f) (record { closed = tt; opened = tt })
+
+-- one of rows below the next number
+pub below-at : (next : ℕ) (rows : List RetirementRow) (x : RetirementRow) (others : List RetirementRow) → AreBelow next (row_numbers (rows ++ x ∷ others)) → is_recorded (Some next) x ≡ true
+below-at next [] x others h = lt-ltb _ _ h.0
+below-at next (y ∷ rows) x others h = below-at next rows x others h.1
+
+pub not-ahead : (next : ℕ) (rows : List RetirementRow) → AreBelow next (row_numbers rows) → list_any (λ (row : RetirementRow). nat_le next row.number) rows ≡ false
+not-ahead next [] h = refl
+not-ahead next (x ∷ rows) h = rw (lt-leb _ _ h.0) (not-ahead next rows h.1)

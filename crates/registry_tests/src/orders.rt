@@ -1,0 +1,253 @@
+//! Orders of a day's instructions: that running them succeeds where memory is left, and worked orders.
+
+ghost use Rattle.std.specs.Prelude.{◌≡◌, ◌≤◌, true, length, IsTrue, IfSome};
+ghost use Rattle.reg_base.specs.Touches.{touches, is_touched};
+ghost use Rattle.reg_book.specs.Book.{directory_of};
+ghost use Rattle.reg_book.specs.Day.{day_of, settled_day};
+ghost use Rattle.reg_graph.specs.Names.{IsNamed};
+
+use crate::fixtures::{account_no, read};
+use reg_base::{AccountNo, Batch, Directory, Instruction, Rules};
+use reg_book::{Book, Settled, settle_plain};
+use reg_graph::{Context, Naming, Outcome, Parcel, RunFault, Task, Unnamed, run_order};
+use reg_plan::OrderFault;
+use reg_text::DayInput;
+use std::alloc::Global;
+use std::marker::Brand;
+use std::process::Abort;
+
+// A day up to its instructions.
+const ACCOUNTS: &str = "\
+format,1
+day,2025-03-31,1
+period,2021,2030
+lags,0,1,1,2
+surrender,operator,general
+surrender,aircraft,aviation
+work,2025-03-31
+account,1,operator,11,open,no,no,0,100,0
+user,101,propose
+user,102,approve
+trusted,2,2025-03-31
+account,2,trading,12,open,no,no,0,0,0
+account,3,aircraft,13,open,no,no,0,0,50
+user,301,propose
+user,302,approve
+";
+
+// Two transfers of which the second finds too little.
+const TWICE: &str = "\
+do,2025-03-31,101,102,transfer,1,2,general,70
+do,2025-03-31,101,102,transfer,1,2,general,70
+";
+
+// Two surrenders that share no account.
+const APART: &str = "\
+do,2025-03-31,101,102,surrender,1,general,50
+do,2025-03-31,301,302,surrender,3,aviation,50
+";
+
+// A day with these instructions.
+fn day(rt: &impl Abort, alloc: Global, instructions: &str) -> DayInput {
+    let text = format!(in alloc; "{}{}end\n", ACCOUNTS, instructions).expect(rt, "memory");
+    read(rt, alloc, text.as_str())
+}
+
+// What a settled day leaves: its log, and each account that it touched.
+fn told(rt: &impl Abort, alloc: Global, settled: &Settled) -> String {
+    format!(in alloc; "{:?}", settled).expect(rt, "memory")
+}
+
+// What these instructions one after another leave.
+fn settled(rt: &impl Abort, alloc: Global, instructions: &str) -> String {
+    let DayInput { rules, book, batch } = day(rt, alloc, instructions);
+    let settled = settle_plain(alloc, &book, &rules, &batch).expect(rt, "memory");
+    told(rt, alloc, &settled)
+}
+
+// What they leave in this order.
+fn ran(rt: &impl Abort, alloc: Global, instructions: &str, order: &[u32]) -> String {
+    let DayInput { rules, book, batch } = day(rt, alloc, instructions);
+    let context = Context::<Unnamed>::of(alloc, &book, &rules, &batch).expect(rt, "memory");
+    let settled = run_order(alloc, &context, order).expect(rt, "a legal order");
+    told(rt, alloc, &settled)
+}
+
+// What is wrong with an order of the two transfers.
+fn fault_of(rt: &impl Abort, alloc: Global, order: &[u32]) -> Option<RunFault> {
+    let DayInput { rules, book, batch } = day(rt, alloc, TWICE);
+    let context = Context::<Unnamed>::of(alloc, &book, &rules, &batch).expect(rt, "memory");
+    run_order(alloc, &context, order).err()
+}
+
+// The settled day of a batch that is run in an order, under the name of this very day.
+fn run_named(
+    alloc: Global,
+    book: &Book,
+    rules: &Rules,
+    batch: &Batch,
+    order: &[u32],
+) -> Option<Settled>
+    ensures { IfSome result (λ s. s ≡ settled_day (day_of book.now rules.now batch.now)) }
+{
+    run_under::<Brand>(alloc, book, rules, batch, order)
+}
+
+// The same under any name.
+fn run_under<N: Naming>(
+    alloc: Global,
+    book: &Book,
+    rules: &Rules,
+    batch: &Batch,
+    order: &[u32],
+) -> Option<Settled>
+    requires { IsNamed N.day book.now rules.now batch.now }
+    ensures { IfSome result (λ s. IfSome N.day (λ d. s ≡ settled_day d)) }
+{
+    let Ok(context) = Context::<N>::of(alloc, book, rules, batch) else {
+        return None;
+    };
+    run_order(alloc, &context, order).ok()
+}
+
+fn touches(instruction: &Instruction, directory: &Directory, number: AccountNo) -> bool
+    ensures { result ≡ touches directory.now instruction.now number }
+{
+    let touched = instruction.touches(directory);
+    touched.as_slice().iter().any(|account| *account == number)
+}
+
+fn is_touched(batch: &Batch, directory: &Directory, number: AccountNo) -> bool
+    ensures { result ≡ is_touched directory.now batch.now.instructions number }
+{
+    let mut instructions = batch.instructions().iter();
+    instructions.any(|instruction| touches(instruction, directory, number))
+}
+
+// The opening value of an account.
+fn opening<N: Naming>(
+    rt: &impl Abort,
+    alloc: Global,
+    context: &Context<N>,
+    number: u32,
+) -> Parcel<N> {
+    let number = account_no(rt, number);
+    assert!(rt; is_touched(context.batch(), context.book().directory(), number));
+    context.opening(alloc, number).expect(rt, "memory")
+}
+
+// A task of these parcels, if they make one.
+fn task<N: Naming>(
+    rt: &impl Abort,
+    context: &Context<N>,
+    place: u32,
+    parcels: Vec<Parcel<N>>,
+) -> Result<Task<N>, Vec<Parcel<N>>> {
+    assert!(rt; 1 <= place && place <= context.batch().len());
+    Task::assemble(context, place, parcels)
+}
+
+// How many parcels come back of the opening values of both accounts, given for a place of the two transfers.
+fn given_back(rt: &impl Abort, alloc: Global, place: u32) -> usize {
+    let DayInput { rules, book, batch } = day(rt, alloc, TWICE);
+    let context = Context::<Unnamed>::of(alloc, &book, &rules, &batch).expect(rt, "memory");
+    let mut parcels = Vec::new(alloc);
+    parcels
+        .push(opening(rt, alloc, &context, 2))
+        .expect(rt, "memory");
+    parcels
+        .push(opening(rt, alloc, &context, 1))
+        .expect(rt, "memory");
+    match task(rt, &context, place, parcels) {
+        Ok(_) => 0,
+        Err(back) => back.len(),
+    }
+}
+
+// Runs the instruction at a place, which touches this account alone, on its opening value.
+fn run_alone(
+    rt: &impl Abort,
+    alloc: Global,
+    context: &Context<Unnamed>,
+    place: u32,
+    number: u32,
+) -> Outcome<Unnamed> {
+    let mut parcels = Vec::new(alloc);
+    parcels
+        .push(opening(rt, alloc, context, number))
+        .expect(rt, "memory");
+    let Ok(task) = task(rt, context, place, parcels) else {
+        panic!(rt; "the parcel that it needs");
+    };
+    let Ok(outcome) = task.run(alloc, context) else {
+        panic!(rt; "memory");
+    };
+    outcome
+}
+
+// What is gathered of both surrenders, the second one first.
+fn gathered(rt: &impl Abort, alloc: Global) -> String {
+    let DayInput { rules, book, batch } = day(rt, alloc, APART);
+    let context = Context::<Unnamed>::of(alloc, &book, &rules, &batch).expect(rt, "memory");
+    let mut rows = Vec::new(alloc);
+    let mut parcels = Vec::new(alloc);
+    for (place, number) in [(2, 3), (1, 1)] {
+        let (_, row, left) = run_alone(rt, alloc, &context, place, number).into_parts();
+        rows.push(row).expect(rt, "memory");
+        for parcel in left {
+            parcels.push(parcel).expect(rt, "memory");
+        }
+    }
+    let settled = context.gather(alloc, rows, parcels).expect(rt, "memory");
+    told(rt, alloc, &settled)
+}
+
+#[test]
+fn every_legal_order_gives_the_settled_day(rt: HostRuntime) {
+    let apart = settled(&rt, rt.alloc(), APART);
+    assert_eq!(rt; ran(&rt, rt.alloc(), APART, &[1, 2]), apart);
+    assert_eq!(rt; ran(&rt, rt.alloc(), APART, &[2, 1]), apart);
+    assert_eq!(rt;
+        ran(&rt, rt.alloc(), TWICE, &[1, 2]),
+        settled(&rt, rt.alloc(), TWICE)
+    );
+}
+
+#[test]
+fn another_list_has_its_first_fault(rt: HostRuntime) {
+    let faults = [
+        fault_of(&rt, rt.alloc(), &[2, 1]),
+        fault_of(&rt, rt.alloc(), &[1, 1]),
+        fault_of(&rt, rt.alloc(), &[1]),
+        fault_of(&rt, rt.alloc(), &[1, 3]),
+    ];
+    let wanted = [
+        Some(RunFault::Order(OrderFault::Arrow { from: 1, to: 2 })),
+        Some(RunFault::Order(OrderFault::Repeated { at: 2 })),
+        Some(RunFault::Order(OrderFault::Length)),
+        Some(RunFault::Order(OrderFault::Number { at: 2 })),
+    ];
+    assert_eq!(rt; faults, wanted);
+}
+
+#[test]
+fn a_day_runs_under_its_own_name(rt: HostRuntime) {
+    let DayInput { rules, book, batch } = day(&rt, rt.alloc(), APART);
+    let ran = run_named(rt.alloc(), &book, &rules, &batch, &[2, 1]);
+    let ran = ran.expect(&rt, "a legal order");
+    assert_eq!(rt;
+        told(&rt, rt.alloc(), &ran),
+        settled(&rt, rt.alloc(), APART)
+    );
+}
+
+#[test]
+fn opening_values_make_a_task_of_the_first_place_alone(rt: HostRuntime) {
+    assert_eq!(rt; given_back(&rt, rt.alloc(), 1), 0);
+    assert_eq!(rt; given_back(&rt, rt.alloc(), 2), 2);
+}
+
+#[test]
+fn outcomes_are_gathered_in_any_order(rt: HostRuntime) {
+    assert_eq!(rt; gathered(&rt, rt.alloc()), settled(&rt, rt.alloc(), APART));
+}
