@@ -142,10 +142,7 @@ impl Account {
         requires { held_by self.old kind + amount ≤ MOST_HELD }
         ensures { self.new ≡ credited self.old kind amount }
     {
-        match kind {
-            AllowanceKind::General => self.parts.held.general += amount,
-            AllowanceKind::Aviation => self.parts.held.aviation += amount,
-        }
+        raise(&mut self.parts.held, kind, amount);
     }
 
     /// Takes `amount` allowances of this kind away. The account must hold them. Nothing else changes. Takes no
@@ -154,10 +151,7 @@ impl Account {
         requires { amount ≤ held_by self.old kind }
         ensures { self.new ≡ debited self.old kind amount }
     {
-        match kind {
-            AllowanceKind::General => self.parts.held.general -= amount,
-            AllowanceKind::Aviation => self.parts.held.aviation -= amount,
-        }
+        lower(&mut self.parts.held, kind, amount);
     }
 
     /// Sets the status. Nothing else changes. Takes no memory.

@@ -195,52 +195,46 @@ impl Act {
         ensures records { All IsRecordNo (record_numbers self.now) }
         ensures years { All IsYearNo (years self.now) }
     {
+        self.know_amounts();
         match *self {
-            Act::Transfer {
-                from,
-                to,
-                amount,
-                ..
-            }
-            | Act::ReturnExcess {
-                from,
-                to,
-                amount,
-                ..
-            }
-            | Act::CentralMove {
-                from,
-                to,
-                amount,
-                ..
-            } => know_move(from, to, amount),
-            Act::Surrender { from, amount, .. } | Act::Delete { from, amount, .. } => {
-                know_amount(from, amount)
-            }
-            Act::Create { to, amount, .. } => know_amount(to, amount),
+            Act::Transfer { from, to, .. }
+            | Act::ReturnExcess { from, to, .. }
+            | Act::CentralMove { from, to, .. } => know_accounts(from, to),
+            Act::Surrender { from, .. } | Act::Delete { from, .. } => know_account(from),
+            Act::Create { to, .. } => know_account(to),
             Act::Reverse { account, number } => {
                 account.get();
                 number.get();
             }
             Act::Trust { account, other } | Act::Untrust { account, other } => {
-                account.get();
-                other.get();
+                know_accounts(account, other)
             }
-            Act::SetStatus { account, .. } => {
-                account.get();
-            }
-            Act::EnterEmissions {
-                account,
-                year,
-                tonnes,
-            } => {
-                know_amount(account, tonnes);
-                year.get();
-            }
-            Act::Assess { account, year } => {
+            Act::SetStatus { account, .. } => know_account(account),
+            Act::EnterEmissions { account, year, .. } | Act::Assess { account, year } => {
                 account.get();
                 year.get();
             }
+        }
+    }
+
+    // Reads each amount in the act, and its emissions: any numbers of 64 bits.
+    fn know_amounts(&self)
+        ensures amounts { All (λ n. n < 2 ^ 64) (amounts self.now) }
+        ensures emissions { All (λ n. n < 2 ^ 64) (tonnes self.now) }
+    {
+        match *self {
+            Act::Transfer { amount, .. }
+            | Act::Surrender { amount, .. }
+            | Act::Delete { amount, .. }
+            | Act::ReturnExcess { amount, .. }
+            | Act::Create { amount, .. }
+            | Act::CentralMove { amount, .. } => know_amount(amount),
+            Act::EnterEmissions { tonnes, .. } => know_amount(tonnes),
+            Act::Reverse { .. }
+            | Act::Trust { .. }
+            | Act::Untrust { .. }
+            | Act::SetStatus { .. }
+            | Act::Assess { .. } => (),
         }
     }
 }
@@ -276,19 +270,22 @@ fn staying(account: AccountNo) -> Movement
     leaving(account, AllowanceKind::General, 0)
 }
 
-fn know_move(from: AccountNo, to: AccountNo, amount: u64)
-    ensures from { IsAccountNo from }
-    ensures to { IsAccountNo to }
-    ensures amount { amount < 2 ^ 64 }
+fn know_accounts(one: AccountNo, other: AccountNo)
+    ensures one { IsAccountNo one }
+    ensures other { IsAccountNo other }
 {
-    know_amount(from, amount);
-    to.get();
+    know_account(one);
+    know_account(other);
 }
 
-fn know_amount(account: AccountNo, amount: u64)
-    ensures account { IsAccountNo account }
-    ensures amount { amount < 2 ^ 64 }
+fn know_account(account: AccountNo)
+    ensures { IsAccountNo account }
+{
+    account.get();
+}
+
+fn know_amount(amount: u64)
+    ensures { amount < 2 ^ 64 }
 {
     let _any = amount;
-    account.get();
 }

@@ -1,5 +1,6 @@
 -- Settling the touched accounts alone is settling the day.
 use Rattle.std.proofs.Common.{◌≡◌, ℕ, ◌+◌, Bool, true, false, cond, eqb, List, [], ◌∷◌, ◌++◌, filter, length, take, drop, Option, Some, None, refl, sym, ap, subst, ◌∙◌, arith}
+use Rattle.std.specs.Cmp.{nat_cmp_total}
 use Rattle.std.specs.Prelude.{option_map}
 use Rattle.std.specs.FinMap as fin
 use Rattle.std.specs.List.{IsDistinct, AllByRecursion}
@@ -99,6 +100,16 @@ module _ (laws : StepLaws) where
       sym (listing_by (account (step c s n i).0 a))
       ∙ ap (option_map (λ (k : Constants). (k.kind, k.holder))) (laws.constants_stay c s n i a)
       ∙ listing_by (account s a)
+
+  -- so the directory stays as it is
+  pub directory-step : (c : Setting) (s : State) (n : ℕ) (i : Instruction) → directory_of (step c s n i).0 ≡ directory_of s
+  directory-step c s n i =
+      fin.same_map nat_cmp_total fin.nat_cmp-IsAntisymmetric _ _ (λ a.
+      get-directory_of (step c s n i).0 a ∙ listing-step c s n i a ∙ sym (get-directory_of s a))
+
+  pub directory-fold : (c : Setting) (s : State) (n : ℕ) (is : List Instruction) → directory_of (state_after c s n is) ≡ directory_of s
+  directory-fold c s n [] = refl
+  directory-fold c s n (i ∷ is) = directory-fold c (step c s n i).0 (n + 1) is ∙ directory-step c s n i
 
   pub listing-fold : (c : Setting) (s : State) (n : ℕ) (is : List Instruction) (a : ℕ) → option_map listing (account (state_after c s n is) a) ≡ option_map listing (account s a)
   listing-fold c s n [] a = refl

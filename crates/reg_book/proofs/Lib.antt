@@ -1,4 +1,5 @@
 pub mod Accounts
+pub mod Closings
 pub mod Commits
 pub mod Days
 pub mod Directories

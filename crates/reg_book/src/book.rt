@@ -60,6 +60,21 @@ impl Book {
         }
     }
 
+    /// Its accounts, their directory and the next record number.
+    pub(crate) fn into_parts(self) -> (Vec<Account>, Directory, u64)
+        ensures accounts { result.0.items ≡ self.accounts }
+        ensures directory { result.1 ≡ directory_of self.accounts }
+        ensures next { result.2 ≡ self.next }
+        ensures kept { IsBook self }
+    {
+        let Book {
+            accounts,
+            directory,
+            next,
+        } = self;
+        (accounts, directory, next)
+    }
+
     /// The account with this number, or `None` if there is none.
     pub fn get(&self, number: AccountNo) -> Option<&Account>
         ensures { option_copied result ≡ account self.now.accounts number }
@@ -94,11 +109,7 @@ impl Book {
     pub fn totals(&self, kind: AllowanceKind) -> Totals
         ensures { result ≡ record { held = total_held self.now kind; surrendered = total_retired self.now Surrendered kind; deleted = total_retired self.now Deleted kind } }
     {
-        Totals {
-            held: sum_held(&self.accounts, kind),
-            surrendered: sum_surrendered(&self.accounts, kind),
-            deleted: sum_deleted(&self.accounts, kind),
-        }
+        add_up(&self.accounts, kind)
     }
 
     /// Replaces the settled accounts in the book, raises the next record number by the number of log rows, and
@@ -188,35 +199,22 @@ pub(crate) fn get_account(accounts: &[Account], number: AccountNo) -> Option<&Ac
     }
 }
 
-fn sum_held(accounts: &[Account], kind: AllowanceKind) -> u128
+// What all these accounts hold, have surrendered and have deleted of this kind, in one walk.
+fn add_up(accounts: &[Account], kind: AllowanceKind) -> Totals
     requires { length accounts.now ≤ MOST_ACCOUNTS }
-    ensures { result ≡ sum_by (λ v. held_by v kind) accounts.now }
+    ensures { result ≡ record { held = sum_by (λ v. held_by v kind) accounts.now; surrendered = sum_by (λ v. retired_by v Surrendered kind) accounts.now; deleted = sum_by (λ v. retired_by v Deleted kind) accounts.now } }
 {
-    let mut sum = 0;
+    let mut held = 0;
+    let mut surrendered = 0;
+    let mut deleted = 0;
     for account in accounts {
-        sum += u128::from(account.held(kind));
+        held += u128::from(account.held(kind));
+        surrendered += u128::from(account.surrendered(kind));
+        deleted += u128::from(account.deleted(kind));
     }
-    sum
-}
-
-fn sum_surrendered(accounts: &[Account], kind: AllowanceKind) -> u128
-    requires { length accounts.now ≤ MOST_ACCOUNTS }
-    ensures { result ≡ sum_by (λ v. retired_by v Surrendered kind) accounts.now }
-{
-    let mut sum = 0;
-    for account in accounts {
-        sum += u128::from(account.surrendered(kind));
+    Totals {
+        held,
+        surrendered,
+        deleted,
     }
-    sum
-}
-
-fn sum_deleted(accounts: &[Account], kind: AllowanceKind) -> u128
-    requires { length accounts.now ≤ MOST_ACCOUNTS }
-    ensures { result ≡ sum_by (λ v. retired_by v Deleted kind) accounts.now }
-{
-    let mut sum = 0;
-    for account in accounts {
-        sum += u128::from(account.deleted(kind));
-    }
-    sum
 }

@@ -2,6 +2,7 @@
 #![tactic(auto)]
 
 mod book;
+mod closing;
 mod draft;
 mod laws;
 mod places;
@@ -11,6 +12,7 @@ mod touched;
 mod turn;
 
 pub use book::{Book, Totals};
+pub use closing::{Closed, settle_in_place};
 pub use draft::{BookDraft, BookFault, has_row_ahead};
 pub use laws::{
     each_is_a_step, fold_conserves, settled_is_closing, settled_is_of_book, stays_ready,

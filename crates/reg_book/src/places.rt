@@ -118,6 +118,17 @@ pub(crate) fn ranks_of(alloc: Global, marks: &[bool]) -> Result<Vec<u32>, NoMemo
     Ok(ranks)
 }
 
+/// These places, as indexes of a list.
+pub(crate) fn indexes(places: &Places) -> ArrayVec<usize, MOST_TOUCHED>
+    ensures { result.items ≡ places.now.items }
+{
+    let mut own = ArrayVec::new();
+    for place in places.as_slice() {
+        own.push(*place as usize);
+    }
+    own
+}
+
 /// The ranks at these places.
 pub(crate) fn ranks_at(places: &Places, ranks: &[u32]) -> ArrayVec<usize, MOST_TOUCHED>
     requires { AllByRecursion (λ place. place < length ranks.now) places.now.items }

@@ -1,6 +1,5 @@
 -- The engine's fault for each fault of its parts.
 use Rattle.std.specs.Prelude.{ℕ, ◌<◌, List, length, Option, IfSome, ⊤}
-use Rattle.reg_front.specs.declared.device.TheConstants.{MOST_INPUT}
 use Rattle.reg_text.specs.declared.cause.DayFault.{DayFault}
 use Rattle.reg_text.specs.declared.cause.DayFault.TheVariants as day
 use Rattle.reg_front.specs.declared.device.ReadFault.{ReadFault}
@@ -14,10 +13,14 @@ fault_of_read read.Failed = front.Read
 fault_of_read read.TooLong = front.Read
 fault_of_read read.NoMemory = front.NoMemory
 
+-- the most bytes of an input: 2^30
+abbrev pub most_input : ℕ
+most_input = 1073741824
+
 -- an input is too long only if it has more bytes than the limit
 abbrev pub IsReadFault : Option (List ℕ) → ReadFault → Type 0
 IsReadFault input read.Failed = ⊤
-IsReadFault input read.TooLong = IfSome input (λ bytes. MOST_INPUT < length bytes)
+IsReadFault input read.TooLong = IfSome input (λ bytes. most_input < length bytes)
 IsReadFault input read.NoMemory = ⊤
 
 -- the fault of `run` for each fault of the text

@@ -3,7 +3,7 @@
 ghost use Rattle.std.specs.Prelude.{◌≡◌, ◌≤◌, IfErr, IfOk, IfSome, OnOk, OnErr, vec_len};
 ghost use Rattle.std.specs.Io.KnownBytes.{Appends, IsAtEnd};
 ghost use Rattle.reg_front.specs.Devices.{AppendsFrontOf, ConsumesFront};
-ghost use Rattle.reg_front.specs.Faults.{IsReadFault};
+ghost use Rattle.reg_front.specs.Faults.{IsReadFault, most_input};
 
 use std::alloc::Global;
 use std::io::{Read, Write};
@@ -41,7 +41,7 @@ pub(crate) struct WriteFailed;
 pub(crate) fn read_all<R: Read>(alloc: Global, reader: &mut R) -> Result<Vec<u8>, ReadFault>
     ensures whole { IfOk result (λ text. IfSome (R.remaining reader.old) (λ bytes. text.items ≡ bytes)) }
     ensures end { OnOk result (IsAtEnd (R.remaining reader.new)) }
-    ensures limit { IfOk result (λ text. vec_len text ≤ MOST_INPUT) }
+    ensures limit { IfOk result (λ text. vec_len text ≤ most_input) }
     ensures err { OnErr result (ConsumesFront (R.remaining reader.old) (R.remaining reader.new)) }
     ensures fault { IfErr result (IsReadFault (R.remaining reader.old)) }
 {

@@ -10,7 +10,7 @@ ghost use Rattle.reg_front.specs.Runs.{IsFault, WritesText, Leaves, IsReadingFau
 use crate::command::Command;
 use crate::device::{read_all, write_all};
 use crate::fault::FrontFault;
-use crate::texts::make_text;
+use crate::texts::{Used, make_text};
 use reg_text::{DayInput, read_day};
 use std::alloc::Global;
 use std::io::{Read, Write};
@@ -38,12 +38,32 @@ pub fn run<R: Read, W: Write>(
     ensures fault { IfErr result (λ fault. IfSome (R.remaining reader.old) (λ input. IsFault command input fault)) }
     ensures left { IfErr result (λ fault. Leaves command (R.remaining reader.old) fault (W.contents writer.old) (W.contents writer.new)) }
 {
+    run_and_keep(alloc, reader, writer, command)?;
+    Ok(())
+}
+
+/// The same as [`run`], but the memory that the command has used is not freed: the caller gets it. A program that ends
+/// now need not free the lists of each account one after another.
+///
+/// # Errors
+/// As [`run`].
+pub fn run_and_keep<R: Read, W: Write>(
+    alloc: Global,
+    reader: &mut R,
+    writer: &mut W,
+    command: Command,
+) -> Result<Used, FrontFault>
+    ensures ok { OnOk result (WritesText command (R.remaining reader.old) (W.contents writer.old) (W.contents writer.new)) }
+    ensures end { OnOk result (IsAtEnd (R.remaining reader.new)) }
+    ensures fault { IfErr result (λ fault. IfSome (R.remaining reader.old) (λ input. IsFault command input fault)) }
+    ensures left { IfErr result (λ fault. Leaves command (R.remaining reader.old) fault (W.contents writer.old) (W.contents writer.new)) }
+{
     let (day, input) = read_input(alloc, reader)?;
-    let text = make_text(alloc, day, input, &command)?;
-    if write_all(writer, text.as_slice()).is_err() {
+    let used = make_text(alloc, day, input, &command)?;
+    if write_all(writer, used.text.as_slice()).is_err() {
         return Err(FrontFault::WriteFailed);
     }
-    Ok(())
+    Ok(used)
 }
 
 // The day that the whole input describes, and the bytes of the input, whose memory is used again for the output.

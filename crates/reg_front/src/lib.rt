@@ -9,5 +9,6 @@ mod fault;
 mod texts;
 
 pub use command::Command;
-pub use engine::run;
+pub use engine::{run, run_and_keep};
 pub use fault::FrontFault;
+pub use texts::Used;

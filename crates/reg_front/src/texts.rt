@@ -2,7 +2,6 @@
 
 ghost use Rattle.std.specs.Prelude.{◌≡◌, ◌+◌, true, None, Some, IfOk, MatchResult, if◌then◌else◌};
 ghost use Rattle.reg_book.specs.Day.{settled_day, log_of};
-ghost use Rattle.reg_book.specs.Settled.{IsOfBook};
 ghost use Rattle.reg_text.specs.Inputs.{day_of_input};
 ghost use Rattle.reg_text.specs.Report.{text_of};
 ghost use Rattle.reg_text.specs.Determined.{figures_rows};
@@ -13,9 +12,8 @@ ghost use Rattle.reg_front.specs.Runs.{are_workers, report_of, book_after, comma
 use crate::command::Command;
 use crate::fault::FrontFault;
 use reg_base::{AccountNo, NoMemory};
-use reg_book::{Book, SettleFault, Settled, settle_plain};
+use reg_book::{Book, Closed, SettleFault, Settled, settle_in_place, settle_plain};
 use reg_plan::Plan;
-use reg_rules::LogRow;
 use reg_text::{
     DayInput, StatementFault, figures_over, plan_text, statement, totals_text, write_report_over,
 };
@@ -23,6 +21,14 @@ use std::alloc::Global;
 
 // The most workers of a settlement.
 const MOST_WORKERS: u32 = 8;
+
+/// What a command has used: its text, and the closed day that the text was made from, if the command closed the day.
+/// Nothing can be done with it but to free it, or not to.
+#[derive(Debug, Drop)]
+pub struct Used {
+    pub(crate) text: Vec<u8>,
+    closed: Option<Closed>,
+}
 
 /// The text of a command for a day. `bytes` are no longer needed: a report and a text of figures take their memory.
 ///
@@ -34,16 +40,16 @@ pub(crate) fn make_text(
     day: DayInput,
     bytes: Vec<u8>,
     command: &Command,
-) -> Result<Vec<u8>, FrontFault>
+) -> Result<Used, FrontFault>
     requires { day.batch.base + 1 ≡ day.book.next }
     ensures { MatchResult result
-        (λ text. (command_fault command.now day.book ≡ None) × IsTextFor command.now (day_of_input day) text.items)
+        (λ used. (command_fault command.now day.book ≡ None) × IsTextFor command.now (day_of_input day) used.text.items)
         (IsCommandFault command.now day.book) }
 {
     match find_fault(command, &day.book) {
         Some(fault) => Err(fault),
         None => match make_accepted(alloc, day, bytes, command) {
-            Ok(text) => Ok(text),
+            Ok(used) => Ok(used),
             Err(NoMemory) => Err(FrontFault::NoMemory),
         },
     }
@@ -81,10 +87,10 @@ fn make_accepted(
     day: DayInput,
     bytes: Vec<u8>,
     command: &Command,
-) -> Result<Vec<u8>, NoMemory>
+) -> Result<Used, NoMemory>
     requires follows { day.batch.base + 1 ≡ day.book.next }
     requires accepted { command_fault command.now day.book ≡ None }
-    ensures { IfOk result (λ text. IsTextFor command.now (day_of_input day) text.items) }
+    ensures { IfOk result (λ used. IsTextFor command.now (day_of_input day) used.text.items) }
 {
     match *command {
         Command::Settle { .. } => make_report(alloc, day, bytes),
@@ -96,59 +102,71 @@ fn make_accepted(
 }
 
 // The report of the settled day, in the place of bytes that are no longer needed.
-fn make_report(alloc: Global, day: DayInput, bytes: Vec<u8>) -> Result<Vec<u8>, NoMemory>
+fn make_report(alloc: Global, day: DayInput, bytes: Vec<u8>) -> Result<Used, NoMemory>
     requires { day.batch.base + 1 ≡ day.book.next }
-    ensures { IfOk result (λ text. text.items ≡ report_of (day_of_input day)) }
+    ensures { IfOk result (λ used. used.text.items ≡ report_of (day_of_input day)) }
 {
-    let (book, log) = close_day(alloc, day)?;
-    write_report_over(bytes, &book, log.as_slice())
+    let closed = close_day(alloc, day)?;
+    let text = write_report_over(bytes, &closed.book, closed.rows.as_slice())?;
+    Ok(Used {
+        text,
+        closed: Some(closed),
+    })
 }
 
 // The plan of the day's instructions.
-fn make_plan(alloc: Global, day: &DayInput) -> Result<Vec<u8>, NoMemory>
-    ensures { IfOk result (λ text. IsPlanOf (day_of_input day.now) text.items) }
+fn make_plan(alloc: Global, day: &DayInput) -> Result<Used, NoMemory>
+    ensures { IfOk result (λ used. IsPlanOf (day_of_input day.now) used.text.items) }
 {
     let plan = Plan::of(alloc, &day.batch, day.book.directory())?;
-    plan_text(alloc, &plan)
+    let text = plan_text(alloc, &plan)?;
+    Ok(Used { text, closed: None })
 }
 
 // The statement of an account of the book.
-fn make_statement(alloc: Global, day: &DayInput, account: AccountNo) -> Result<Vec<u8>, NoMemory>
+fn make_statement(alloc: Global, day: &DayInput, account: AccountNo) -> Result<Used, NoMemory>
     requires follows { day.now.batch.base + 1 ≡ day.now.book.next }
     requires known { has_account day.now.book account ≡ true }
-    ensures { IfOk result (λ text. text.items ≡ text_of (statement_of day.now.book (log_of (day_of_input day.now)) account)) }
+    ensures { IfOk result (λ used. used.text.items ≡ text_of (statement_of day.now.book (log_of (day_of_input day.now)) account)) }
 {
     let settled = settle(alloc, day)?;
     match statement(alloc, &day.book, settled.rows(), account) {
-        Ok(text) => Ok(text),
+        Ok(text) => Ok(Used { text, closed: None }),
         Err(StatementFault::NoMemory) => Err(NoMemory),
         Err(StatementFault::UnknownAccount) => unreachable!(),
     }
 }
 
 // The determined figures of all accounts after the day, in the place of bytes that are no longer needed.
-fn make_figures(alloc: Global, day: DayInput, bytes: Vec<u8>) -> Result<Vec<u8>, NoMemory>
+fn make_figures(alloc: Global, day: DayInput, bytes: Vec<u8>) -> Result<Used, NoMemory>
     requires { day.batch.base + 1 ≡ day.book.next }
-    ensures { IfOk result (λ text. text.items ≡ text_of (figures_rows (book_after (day_of_input day)))) }
+    ensures { IfOk result (λ used. used.text.items ≡ text_of (figures_rows (book_after (day_of_input day)))) }
 {
-    let (book, _log) = close_day(alloc, day)?;
-    figures_over(bytes, &book)
+    let closed = close_day(alloc, day)?;
+    let text = figures_over(bytes, &closed.book)?;
+    Ok(Used {
+        text,
+        closed: Some(closed),
+    })
 }
 
 // The totals after the day.
-fn make_totals(alloc: Global, day: DayInput) -> Result<Vec<u8>, NoMemory>
+fn make_totals(alloc: Global, day: DayInput) -> Result<Used, NoMemory>
     requires { day.batch.base + 1 ≡ day.book.next }
-    ensures { IfOk result (λ text. text.items ≡ text_of (totals_rows (book_after (day_of_input day)))) }
+    ensures { IfOk result (λ used. used.text.items ≡ text_of (totals_rows (book_after (day_of_input day)))) }
 {
-    let (book, _log) = close_day(alloc, day)?;
-    totals_text(alloc, &book)
+    let closed = close_day(alloc, day)?;
+    let text = totals_text(alloc, &closed.book)?;
+    Ok(Used {
+        text,
+        closed: Some(closed),
+    })
 }
 
 // Settles the day. Its book stays as it is.
 fn settle(alloc: Global, day: &DayInput) -> Result<Settled, NoMemory>
     requires { day.now.batch.base + 1 ≡ day.now.book.next }
-    ensures settled { IfOk result (λ s. s ≡ settled_day (day_of_input day.now)) }
-    ensures of_book { IfOk result (λ s. IsOfBook day.now.book s) }
+    ensures { IfOk result (λ s. s ≡ settled_day (day_of_input day.now)) }
 {
     match settle_plain(alloc, &day.book, &day.rules, &day.batch) {
         Ok(settled) => Ok(settled),
@@ -157,16 +175,11 @@ fn settle(alloc: Global, day: &DayInput) -> Result<Settled, NoMemory>
     }
 }
 
-// Settles the day and commits it to its book. Answers the book after the day, and the log.
-fn close_day(alloc: Global, day: DayInput) -> Result<(Book, Vec<LogRow>), NoMemory>
+// Settles the day on its own book. Answers the book after the day, and the log.
+fn close_day(alloc: Global, day: DayInput) -> Result<Closed, NoMemory>
     requires { day.batch.base + 1 ≡ day.book.next }
-    ensures book { IfOk result (λ closed. closed.0 ≡ book_after (day_of_input day)) }
-    ensures log { IfOk result (λ closed. closed.1.items ≡ log_of (day_of_input day)) }
+    ensures book { IfOk result (λ closed. closed.book ≡ book_after (day_of_input day)) }
+    ensures log { IfOk result (λ closed. closed.rows.items ≡ log_of (day_of_input day)) }
 {
-    let settled = settle(alloc, &day)?;
-    let mut book = day.book;
-    match book.commit(settled) {
-        Ok(log) => Ok((book, log)),
-        Err(_) => unreachable!(),
-    }
+    settle_in_place(alloc, day.book, &day.rules, &day.batch)
 }

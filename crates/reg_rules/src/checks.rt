@@ -4,7 +4,7 @@ ghost use Rattle.std.specs.Prelude.{◌≡◌, ◌≤◌, ◌∷◌, ◌++◌, �
 ghost use Rattle.std.specs.Option.{option_copied, option_map_or, option_to_list};
 ghost use Rattle.std.specs.List.{list_any, list_all};
 ghost use Rattle.reg_base.specs.declared.limits.TheConstants.{MOST_HELD, MOST_ROWS};
-ghost use Rattle.reg_base.specs.Acts.{movement_of};
+ghost use Rattle.reg_base.specs.Acts.{movement_of, also_known};
 ghost use Rattle.reg_base.specs.Footprint.{footprint};
 ghost use Rattle.reg_base.specs.Refusals.{checks};
 ghost use Rattle.reg_account.specs.Figure.{is_in_period};
@@ -134,54 +134,41 @@ fn refuses(
     requires row { row ≡ row_to_reverse instruction.now.act (seen accounts.now instruction.now.act) }
     ensures { result ≡ fails setting.now (seen accounts.now instruction.now.act) instruction.now check }
 {
+    use Refusal::*;
     match check {
         // The footprint is empty exactly if an account that must be known is not.
-        Refusal::UnknownAccount => accounts.is_empty(),
-        Refusal::SameAccount => has_repeat(
-            movement.first,
-            movement.shares.as_slice(),
-            &instruction.act.also_known(),
-        ),
-        Refusal::WrongAccountKind => {
-            !has_right_kinds(rule_of(&instruction.act), movement, accounts)
-        }
-        Refusal::SourceStatus => !source_allows(rule_of(&instruction.act), movement, accounts),
-        Refusal::DestinationStatus => {
-            !destination_allows(rule_of(&instruction.act), movement, accounts)
-        }
-        Refusal::NotProposer => { is_not_proposer(setting.rules, instruction, movement, accounts) }
-        Refusal::ApprovalMissing => {
-            lacks_approval(setting, instruction, movement, trusted, accounts)
-        }
-        Refusal::SameRepresentative => is_same_representative(instruction),
-        Refusal::NotApprover => { is_not_approver(setting.rules, instruction, movement, accounts) }
-        Refusal::NotTrusted => {
-            is_not_trusted(setting, &instruction.act, movement, trusted, accounts)
-        }
-        Refusal::OutsideCalendar => {
-            due.is_none() || has_no_effective_day(setting, &instruction.act)
-        }
-        Refusal::NotDue => is_after(due, setting.day),
-        Refusal::KindNotAllowed => is_kind_not_allowed(setting.rules, &instruction.act, accounts),
-        Refusal::ZeroAmount => instruction.act.names_zero(),
-        Refusal::UnknownTransaction => is_reversal(&instruction.act) && row.is_none(),
-        Refusal::AlreadyReversed => is_reversed(row),
-        Refusal::WindowClosed => is_window_closed(setting, row),
-        Refusal::NotEnough => is_short(movement, accounts),
-        Refusal::HoldingTooLarge => {
+        UnknownAccount => accounts.is_empty(),
+        SameAccount => names_one_twice(&instruction.act, movement),
+        WrongAccountKind => !has_right_kinds(rule_of(&instruction.act), movement, accounts),
+        SourceStatus => !source_allows(rule_of(&instruction.act), movement, accounts),
+        DestinationStatus => !destination_allows(rule_of(&instruction.act), movement, accounts),
+        NotProposer => is_not_proposer(setting.rules, instruction, movement, accounts),
+        ApprovalMissing => lacks_approval(setting, instruction, movement, trusted, accounts),
+        SameRepresentative => is_same_representative(instruction),
+        NotApprover => is_not_approver(setting.rules, instruction, movement, accounts),
+        NotTrusted => is_not_trusted(setting, &instruction.act, movement, trusted, accounts),
+        OutsideCalendar => due.is_none() || has_no_effective_day(setting, &instruction.act),
+        NotDue => is_after(due, setting.day),
+        KindNotAllowed => is_kind_not_allowed(setting.rules, &instruction.act, accounts),
+        ZeroAmount => instruction.act.names_zero(),
+        UnknownTransaction => is_reversal(&instruction.act) && row.is_none(),
+        AlreadyReversed => is_reversed(row),
+        WindowClosed => is_window_closed(setting, row),
+        NotEnough => is_short(movement, accounts),
+        HoldingTooLarge => {
             overfills_first(&instruction.act, row, accounts) || overfills_some(movement, accounts)
         }
-        Refusal::RetiredTooLarge => is_retired_too_large(&instruction.act, accounts),
-        Refusal::RowsFull => are_rows_full(&instruction.act, accounts),
-        Refusal::WouldBecomeNonCompliant => {
+        RetiredTooLarge => is_retired_too_large(&instruction.act, accounts),
+        RowsFull => are_rows_full(&instruction.act, accounts),
+        WouldBecomeNonCompliant => {
             would_become_non_compliant(setting.rules, &instruction.act, row, accounts)
         }
-        Refusal::AlreadyTrusted => is_already_trusted(&instruction.act, accounts),
-        Refusal::NotOnList => is_not_on_list(&instruction.act, accounts),
-        Refusal::ListFull => is_list_full(&instruction.act, accounts),
-        Refusal::YearOutsidePeriod => names_year_outside(setting.rules, &instruction.act),
-        Refusal::AmountTooLarge => enters_too_much(&instruction.act),
-        Refusal::EmissionsMissing => lacks_emissions(setting.rules, &instruction.act, accounts),
+        AlreadyTrusted => is_already_trusted(&instruction.act, accounts),
+        NotOnList => is_not_on_list(&instruction.act, accounts),
+        ListFull => is_list_full(&instruction.act, accounts),
+        YearOutsidePeriod => names_year_outside(setting.rules, &instruction.act),
+        AmountTooLarge => enters_too_much(&instruction.act),
+        EmissionsMissing => lacks_emissions(setting.rules, &instruction.act, accounts),
     }
 }
 
@@ -198,6 +185,17 @@ fn held_at(accounts: &[Account], number: AccountNo, kind: AllowanceKind) -> u64
     ensures limit { result ≤ MOST_HELD }
 {
     find_account(accounts, number).map_or(0, |account| account.held(kind))
+}
+
+// Whether the act names an account twice.
+fn names_one_twice(act: &Act, movement: &Movement) -> bool
+    ensures { result ≡ has_repeat ((movement.now.first ∷ map (λ share. share.to) movement.now.shares) ++ option_to_list (also_known act.now)) }
+{
+    has_repeat(
+        movement.first,
+        movement.shares.as_slice(),
+        &act.also_known(),
+    )
 }
 
 // Whether one of these accounts occurs twice: this one, those that receive, and the other one, if there is one.

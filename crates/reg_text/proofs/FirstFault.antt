@@ -1,30 +1,50 @@
 -- The row that a fault names is the first with which no day text begins, and its cause is the first of the table's.
-use Rattle.std.proofs.Common.{◌≡◌, ◌⊎◌, inl, inr, ℕ, suc, ◌+◌, ◌-◌, ◌<◌, ◌≤◌, true, ◌&&◌, nat_le, List, [], ◌∷◌, ◌++◌, length, take, get_or, Option, Some, None, Result, Ok, Err, refl, sym, ap, subst, ◌∙◌, arith, append_assoc}
-use Rattle.std.proofs.lemmas.Bool.{and_parts, leb-true}
+use Rattle.std.proofs.Common.{◌≡◌, ◌⊎◌, inl, inr, ℕ, suc, ◌+◌, ◌-◌, ◌<◌, ◌≤◌, Bool, false, not, true, List, [], ◌∷◌, ◌++◌, length, take, get_or, Option, Some, None, Result, Ok, Err, refl, sym, ap, subst, ◌∙◌, arith, append_assoc}
 use Rattle.std.proofs.lemmas.List.{append-nil}
-use Rattle.reg_text.proofs.Names.{IsBetween, MOST_LAG, FIRST_DAY, FIRST_YEAR, Cause, Tag, Record, Said, row, DraftValue, nothing_read, DayValue, is_over, day_said, IsDraft, IsReading, Begins, IsFirstFaulty, fault_of, with, in_order, has_room, next_draft, drafted, at_row, at_end, after_rows, day_of_rows, IsCauseOf}
+use Rattle.reg_text.proofs.Names.{MOST_LAG, FIRST_DAY, FIRST_YEAR, Cause, Tag, Record, Said, row, DraftValue, nothing_read, DayValue, is_over, day_said, IsDraft, IsReading, Begins, IsFirstFaulty, fault_of, with, in_order, has_room, next_draft, drafted, at_row, at_end, after_rows, day_of_rows, IsCauseOf}
 use Rattle.reg_text.specs.declared.cause.Cause.TheVariants as cause
 use Rattle.reg_text.specs.declared.reading.tag.Tag.TheVariants as tag
 use Rattle.reg_text.specs.Grammar.{row_text}
 use Rattle.reg_text.proofs.TagLaws.{MayFollow}
+use Rattle.reg_text.proofs.GrammarLaws.{ranged}
 use Rattle.reg_text.proofs.DraftSteps.{rows_so_far, grows, grows-with, nothing-fits}
 use Rattle.reg_text.proofs.Readings.{closes, reading-to}
-use Rattle.reg_text.proofs.TableLaws.{first-fault}
+use Rattle.std.specs.Prelude.{is_ok}
+use Rattle.reg_text.proofs.CauseLaws.{next, refused, once, only-named, only-bind, only-test}
+use Rattle.reg_text.proofs.GrammarLaws.{each-row}
+use Rattle.reg_text.proofs.Names.{field, named, all_tags, tag_word, may_follow, tag_after, when, first_cause, placed, with_row, said_tests, tagged_tests, tests_of}
+
+-- ---- the cause against a row is the first of the table's that applies
+
+placed-fault : {A : Type 0} (ordered room : Bool) (x : A) → fault_of (placed ordered room x) ≡ first_cause (when (not ordered) cause.Order ∷ when (not room) cause.Limit ∷ [])
+placed-fault true true x = refl
+placed-fault true false x = refl
+placed-fault false room x = refl
+
+row-fault : (t : Tag) (d : DraftValue) (r : Record) → fault_of (with_row t d r) ≡ first_cause (tagged_tests (Ok t) d r)
+unfolding with_row
+row-fault t d r = next ((row t).read r) _ ((row t).tests r) (said_tests t d ((row t).read r)) ((each-row t).fault r) (λ x e.
+    placed-fault (in_order t d x) (has_room t d x) (with t d x) ∙ ap (λ (y : Result (Said t) Cause). first_cause (said_tests t d y)) (sym e))
+
+tag-once : (last : Option Tag) (f : List ℕ) → fault_of (tag_after last f) ≡ first_cause (when (not (is_ok (tag_after last f))) cause.Tag ∷ [])
+tag-once last f = once cause.Tag (tag_after last f) (only-bind cause.Tag (named cause.Tag tag_word all_tags f) _ (only-named cause.Tag tag_word all_tags f) (λ t. only-test (may_follow last t) cause.Tag t))
+
+-- the first cause of the table that applies to a row
+pub first-fault : (d : DraftValue) (r : Record) → fault_of (next_draft d r) ≡ first_cause (tests_of d r)
+first-fault d r = refused (is_over d.last) cause.End _ _ (λ h.
+    next (tag_after d.last (field r 0)) (λ t. with_row t d r) (when (not (is_ok (tag_after d.last (field r 0)))) cause.Tag ∷ []) (tagged_tests (tag_after d.last (field r 0)) d r) (tag-once d.last (field r 0)) (λ t e.
+    row-fault t d r ∙ ap (λ (x : Result Tag Cause). first_cause (tagged_tests x d r)) (sym e)))
 
 -- ---- the rows of a draft begin a day text
-
-begin-with : (rows : List Record) (r : Record) (all : List Record) → all ≡ rows ++ r ∷ [] → Begins all → Begins rows
-begin-with rows r all e begins = (r ∷ begins.0, begins.1, subst (λ (text : List Record). IsReading text begins.1) (ap (λ (x : List Record). x ++ begins.0) e ∙ append_assoc rows (r ∷ []) begins.0) begins.2)
 
 -- one row more
 with-one : (t : Tag) (d : DraftValue) (x : Said t) → IsDraft d → MayFollow d.last t → (row t).Fits x → in_order t d x ≡ true → has_room t d x ≡ true
     → (IsDraft (with t d x) → Begins (rows_so_far (with t d x))) → Begins (rows_so_far d)
 with-one t d x h may fits order room more =
     let g = grows-with t d x h may fits order room in
-    begin-with (rows_so_far d) (row_text t x) (rows_so_far (with t d x)) g.rows (more g.draft)
-
-ranged : (low high n : ℕ) → (nat_le low n && nat_le n high) ≡ true → IsBetween low high n
-ranged low high n e = let both = and_parts (nat_le low n) (nat_le n high) e in record { low = leb-true _ _ both.0; high = leb-true _ _ both.1 }
+    let begins = more g.draft in
+    let same = ap (λ (rows : List Record). rows ++ begins.0) g.rows ∙ append_assoc (rows_so_far d) (row_text t x ∷ []) begins.0 in
+    (row_text t x ∷ begins.0, begins.1, subst (λ (text : List Record). IsReading text begins.1) same begins.2)
 
 over-begins : (d : DraftValue) → IsDraft d → is_over d.last ≡ true → Begins (rows_so_far d)
 over-begins d h over = let c = closes d h.fits over in ([], c.day, subst (λ (text : List Record). IsReading text c.day) (sym (append-nil (rows_so_far d))) c.reading)
@@ -72,20 +92,14 @@ record Stops (number : ℕ) (d : DraftValue) (rows : List Record) (row : ℕ) (c
   stays : count < length rows → (more : List Record) → after_rows number d (take (count + 1) rows ++ more) ≡ Err (row, c)
   too_short : count ≡ length rows → c ≡ cause.End
 
-abbrev fault_at : ℕ → Cause → Result DayValue (ℕ × Cause)
-fault_at row c = Err (row, c)
-
-same_fault : (row row' : ℕ) (c c' : Cause) → fault_at row c ≡ fault_at row' c' → (row ≡ row') × (c ≡ c')
-same_fault row row' c c' e = let pair : ◌≡◌ {A = ℕ × Cause} (row, c) (row', c') = cc in (ap (λ (p : ℕ × Cause). p.0) pair, ap (λ (p : ℕ × Cause). p.1) pair)
-
 faulty_row : (number : ℕ) (read : Result DraftValue Cause) (more : DraftValue → Result DayValue (ℕ × Cause)) (row : ℕ) (c : Cause) → at_row number read more ≡ Err (row, c)
     → ((read ≡ Err c) × (row ≡ number)) ⊎ ((d : DraftValue) × (read ≡ Ok d) × (more d ≡ Err (row, c)))
 faulty_row number (Ok d) more row c e = inr (d, refl, e)
-faulty_row number (Err b) more row c e = let same = same_fault number row b c e in inl (ap (λ (x : Cause). Err x) same.1, sym same.0)
+faulty_row number (Err b) more row c e = let pair : ◌≡◌ {A = ℕ × Cause} (number, b) (row, c) = cc in inl (ap (λ (p : ℕ × Cause). Err p.1) pair, sym (ap (λ (p : ℕ × Cause). p.0) pair))
 
 fault_at_end : (number : ℕ) (o : Option DayValue) (row : ℕ) (c : Cause) → at_end number o ≡ Err (row, c) → (row ≡ number) × (c ≡ cause.End)
 fault_at_end number (Some v) row c e = absurd cc
-fault_at_end number None row c e = let same = same_fault number row cause.End c e in (sym same.0, sym same.1)
+fault_at_end number None row c e = let pair : ◌≡◌ {A = ℕ × Cause} (row, c) (number, cause.End) = cc in (ap (λ (p : ℕ × Cause). p.0) pair, ap (λ (p : ℕ × Cause). p.1) pair)
 
 stops : (rows : List Record) (number : ℕ) (d : DraftValue) (row : ℕ) (c : Cause) → IsDraft d → after_rows number d rows ≡ Err (row, c) → Stops number d rows row c
 stops [] number d row c h e =
@@ -112,11 +126,8 @@ stops (r ∷ rows) number d row c h e = elim (faulty_row number (next_draft d r)
 
 -- ---- the law
 
-not_both : (read : Result DayValue (ℕ × Cause)) (v : DayValue) (row : ℕ) (c : Cause) → read ≡ Ok v → read ≡ Err (row, c) → ⊥
-not_both read v row c value fault = cc
-
 no_value : (rows : List Record) (v : DayValue) (row : ℕ) (c : Cause) → day_of_rows rows ≡ Err (row, c) → IsReading rows v → ⊥
-no_value rows v row c e reading = not_both (day_of_rows rows) v row c (reading-to rows v reading) e
+no_value rows v row c e reading = let value = reading-to rows v reading in cc
 
 pub first-faulty : (rows : List Record) (row : ℕ) (c : Cause) → day_of_rows rows ≡ Err (row, c) → IsFirstFaulty rows row × (row ≡ length rows + 1 → c ≡ cause.End)
 first-faulty rows row c e =

@@ -3,8 +3,6 @@ pub use Rattle.reg_base.specs.declared.kinds.AllowanceKind.{AllowanceKind}
 pub use Rattle.reg_base.specs.declared.kinds.AllowanceKind.TheVariants.{Aviation, General}
 pub use Rattle.reg_account.specs.Account.{AccountValue, CorrectionFits, IsAccount}
 pub use Rattle.reg_account.specs.Lists.{ListsValue, no_lists}
-pub use Rattle.reg_account.specs.declared.users.Representative.{Representative}
-pub use Rattle.reg_account.specs.declared.trusted.TrustedEntry.{TrustedEntry}
 pub use Rattle.reg_account.specs.Users.{UserIsInRange}
 pub use Rattle.reg_account.specs.Trusted.{EntryIsInRange}
 pub use Rattle.reg_account.specs.Rows.{AreBelow, RetiredFits, amount_in, retired_in, row_numbers}
@@ -12,34 +10,33 @@ pub use Rattle.reg_account.specs.Years.{FigureFits}
 pub use Rattle.reg_account.specs.declared.rows.RetirementRow.{RetirementRow}
 pub use Rattle.reg_account.specs.declared.rows.Retirement.{Retirement}
 pub use Rattle.reg_account.specs.declared.rows.Retirement.TheVariants.{Deleted, Surrendered}
-pub use Rattle.reg_account.specs.declared.years.Emission.{Emission}
 pub use Rattle.reg_account.specs.declared.years.Figure.{Figure}
 pub use Rattle.reg_rules.specs.Effect.{IsBehind}
 pub use Rattle.reg_rules.specs.declared.reply.LogRow.{LogRow}
 pub use Rattle.reg_book.specs.Book.{BookValue, first_fault, has_row_ahead, total_held, total_retired}
 pub use Rattle.reg_text.specs.Records.{Record, field}
-pub use Rattle.reg_text.specs.Sections.{AreFew, IsOrdered, IsSection, Item, Section, account_block, account_with, all_rows, each_row, follows, head_of, is_room, item_rows, key, key_of, lists_of, most, section_rows}
-pub use Rattle.reg_text.specs.Spelling.{account_row, book_rows, closing, day_sections, day_text, emissions_row, end_row, figure_row, heading, instruction_fields, lags_in, retired_row, trusted_row, user_row}
+pub use Rattle.reg_text.specs.Sections.{AreFew, IsOrdered, IsSection, Item, Section, account_block, account_with, all_rows, each_row, follows, head_of, is_room, item_rows, key, lists_of, most, section_rows}
+pub use Rattle.reg_text.specs.Spelling.{account_row, book_rows, closing, day_sections, day_text, end_row, heading, instruction_fields, lags_in}
 pub use Rattle.reg_text.specs.Log.{answer_fields, closing_fields, figure_field, holding_fields, log_row, refusal_name}
 pub use Rattle.reg_text.specs.Report.{log_rows, report_rows, text_of, totals_row, written_book}
-pub use Rattle.csv.specs.Writing.{default_writer, needs_byte, quote_mark, row_body}
+pub use Rattle.csv.specs.Writing.{default_writer}
 unfoldable pub use Rattle.csv.specs.Writing.{fields_text, is_blank}
 pub use Rattle.reg_text.specs.Numbers.{digits_from, has_no_leading_zero, number, value_after}
 unfoldable pub use Rattle.reg_text.specs.Numbers.{number_of}
-pub use Rattle.reg_text.specs.Dates.{date_text, is_civil, is_dashed, month_and_place, pair_at, part_and_place, year_and_place}
+pub use Rattle.reg_text.specs.Dates.{date_text, day_in, is_civil, is_date_text, is_digit, is_pair_at, month_and_place, month_in, part_and_place, year_and_place, year_in}
 unfoldable pub use Rattle.reg_text.specs.Dates.{date, date_of, day_named, in_days}
-pub use Rattle.reg_text.specs.Words.{account_kind_of, account_kind_word, account_kinds, kind_of, kind_word, kinds, named, retirement_of, retirement_word, retirements, right_of, right_word, rights, status_of, status_word, statuses, yes_and_no, yes_no_of, yes_no_word}
+pub use Rattle.reg_text.specs.Words.{account_kind_word, account_kinds, kind_word, kinds, named, retirement_word, retirements, right_word, rights, status_word, statuses, yes_and_no, yes_no_word}
 unfoldable pub use Rattle.reg_text.specs.Words.{word_of}
-pub use Rattle.reg_text.specs.Grammar.{Said, a_holding, a_lag, a_next, a_record, a_year, account_fields, an_amount, emissions_fields, figure_fields, lags_fields, retired_fields, some_tonnes, may_surrender, pair_fields, period_fields, row, row_read, trusted_fields, user_fields, version, yes_or_no}
+pub use Rattle.reg_text.specs.Grammar.{Said, row, row_read, version}
 pub use Rattle.reg_text.specs.Plain.{IsPlain, with_commas}
 pub use Rattle.reg_text.specs.Written.{EachBookIsWritten, EachReportIsWritten, EachTextSplits, HasField}
-pub use Rattle.reg_base.specs.declared.limits.TheConstants.{FIRST_DAY, FIRST_YEAR, LAST_DAY, LAST_YEAR, MOST_ACCOUNTS, MOST_CORRECTION, MOST_EMISSIONS, MOST_FIGURE, MOST_HELD, MOST_INSTRUCTIONS, MOST_LAG, MOST_NUMBER, MOST_RECORD, MOST_ROWS}
+pub use Rattle.reg_base.specs.declared.limits.TheConstants.{FIRST_DAY, FIRST_YEAR, LAST_DAY, MOST_ACCOUNTS, MOST_INSTRUCTIONS, MOST_LAG, MOST_NUMBER, MOST_RECORD, MOST_ROWS}
 pub use Rattle.reg_base.specs.Numbers.{IsAccountNo, IsBetween, IsDayNo, IsRecordNo, IsUserNo, IsYearNo}
 pub use Rattle.reg_base.specs.Instructions.{IsInstruction}
 pub use Rattle.reg_base.specs.Rising.{IsRising}
 pub use Rattle.reg_text.specs.declared.reading.account_row.AccountHead.{AccountHead}
 pub use Rattle.reg_text.specs.declared.reading.tag.Tag.{Tag}
-pub use Rattle.reg_text.specs.Tags.{all_tags, is_once, may_follow, place, rule, tag_after, tag_word}
+pub use Rattle.reg_text.specs.Tags.{all_tags, may_follow, place, rule, tag_after, tag_word}
 pub use Rattle.reg_text.specs.Lasts.{as_list, is_above, last_of}
 pub use Rattle.reg_text.specs.Drafts.{DraftValue, account_count, accounts_in, closed, draft_of, ended, listed, nothing_read, sections, sections_to}
 pub use Rattle.reg_text.specs.Day.{DayValue, day_said, day_with, is_over}
@@ -54,16 +51,16 @@ pub use Rattle.csv.specs.Reading.{ExplainsRead, ReadRecord, default_config, is_b
 unfoldable pub use Rattle.csv.specs.Reading.{Reached, records_from, strip_bom}
 pub use Rattle.reg_text.specs.Rows.{IsOfMemory, IsOpen, known_rest, records_in, rest_of, rows_left, rows_of}
 pub use Rattle.reg_text.specs.declared.reading.instruction_row.ActName.{ActName}
-pub use Rattle.reg_text.specs.declared.reading.instruction_row.ActName.TheVariants.{Assess, Central, Create, Delete, Emissions, Return, Reverse, SetStatus, Surrender, Transfer, Trust, Untrust}
+pub use Rattle.reg_text.specs.declared.reading.instruction_row.ActName.TheVariants.{Transfer}
 pub use Rattle.reg_text.specs.Codecs.{AreFields, Codec, Fields, IsCodec, IsRow, Row, a_date, a_figure, a_no, a_word, an_approver, any_number, factor, forms, holds_of, last, made, named_row, none, provided, row_of, tests_then, within_limits, ◌▸◌}
-pub use Rattle.reg_text.specs.Acts.{act_fields, act_name, act_name_of, act_names, act_word, amount_fields, an_act_name, form, instruction_fields_of, move_fields, said}
-pub use Rattle.reg_text.specs.FieldTests.{approver_tests, correction_tests, date_tests, fault_of, figure_tests, first_cause, number_tests, when}
+pub use Rattle.reg_text.specs.Acts.{act_fields, act_name, act_names, act_word, an_act_name, form, instruction_fields_of, said}
+pub use Rattle.reg_text.specs.FieldTests.{approver_tests, correction_tests, fault_of, figure_tests, first_cause, number_tests, when}
 pub use Rattle.reg_text.specs.Table.{IsCauseOf, said_tests, tagged_tests, tests_of}
 pub use Rattle.reg_base.specs.declared.act.Act.{Act}
 pub use Rattle.reg_text.specs.Signed.{minus, signed}
 unfoldable pub use Rattle.reg_text.specs.Signed.{correction_of, figure_of, signed_of}
-pub use Rattle.reg_text.specs.Limits.{approver_text, user_no_of, within}
+pub use Rattle.reg_text.specs.Limits.{approver_text, user_no_of}
 unfoldable pub use Rattle.reg_text.specs.Limits.{approver_of, bounded_of}
-pub use Rattle.csv.specs.Machine.{Read, ends_at_end, field_after, fields_after, in_field, is_end, start_field, start_record, step}
+pub use Rattle.csv.specs.Machine.{Read, ends_at_end, field_after, fields_after, is_end, step}
 unfoldable pub use Rattle.csv.specs.Machine.{next_record}
 pub use Rattle.csv.specs.Records.{fields_of}

@@ -1,12 +1,12 @@
 -- The laws of reading: the rows read as a day exactly where they are its spelling.
-use Rattle.std.proofs.Common.{◌≡◌, ℕ, ◌+◌, ◌≤◌, Bool, true, false, cond, List, [], ◌∷◌, ◌++◌, length, Option, Some, None, Result, Ok, Err, refl, sym, ap, subst, ◌∙◌, arith, append_assoc}
+use Rattle.std.proofs.Common.{◌≡◌, ℕ, ◌+◌, Bool, true, false, cond, List, [], ◌∷◌, ◌++◌, Option, Some, None, Result, Ok, Err, refl, sym, ap, subst, ◌∙◌, arith, append_assoc}
 use Rattle.std.proofs.lemmas.Bool.{leb-true}
 use Rattle.std.proofs.lemmas.List.{append-nil}
 use mathlib.Core.List.{map-id}
-use Rattle.std.specs.Prelude.{IfSome, All}
+use Rattle.std.specs.Prelude.{All}
 use Rattle.std.proofs.lemmas.List.Elements.{All-from_recursion}
 use Rattle.std.specs.List.{AllByRecursion}
-use Rattle.reg_text.proofs.Names.{MOST_RECORD, IsRising, Cause, Tag, Record, place, Said, row, DraftValue, accounts_in, closed, ended, nothing_read, DayValue, day_with, is_over, day_said, day_text, IsUserNo, IsDayNo, IsInstruction, AccountValue, IsAccount, IsBehind, AreRecorded, IsPair, CanBeSaid, IsReading, FitsSoFar, IsDraft, next_in, next_draft, at_row, at_end, after_rows}
+use Rattle.reg_text.proofs.Names.{IsRising, Cause, Tag, Record, place, Said, row, DraftValue, accounts_in, closed, nothing_read, DayValue, day_with, is_over, day_said, day_text, IsUserNo, IsDayNo, IsInstruction, AccountValue, IsAccount, IsBehind, IsPair, CanBeSaid, IsReading, FitsSoFar, IsDraft, next_draft, at_row, at_end, after_rows}
 use Rattle.reg_text.proofs.Names.{day_of_rows}
 use Rattle.reg_text.specs.declared.reading.tag.Tag.TheVariants as tag
 use Rattle.reg_text.proofs.ListFacts.{all-weaker}
@@ -19,10 +19,6 @@ use Rattle.reg_text.proofs.Taken.{text-taken}
 over-last : (last : Option Tag) → is_over last ≡ true → last ≡ Some tag.End
 over-last (Some tag.End) e = refl
 over-last last e = absurd cc
-
--- the one value of a row that stands once
-the_one : {X : Type 0} (P : X → Type 0) (xs : List X) (x : X) → xs ≡ x ∷ [] → AllByRecursion P xs → P x
-the_one P xs x e h = let one = subst (AllByRecursion P) e h in one.0
 
 -- the rows of the heading of a closed draft, each of which has come once
 record IsHeaded (d : DraftValue) : Type 0 where
@@ -44,12 +40,6 @@ headed d h over =
     let l = h.stand.1.1.1.0.come (omega (arith, at)) refl in
     record { version = f.0; day = a.0; period = p.0; lags = l.0; one_version = f.1; one_day = a.1; one_period = p.1; one_lags = l.1 }
 
-numbered-day : (o : Option ℕ) (next count : ℕ) → o ≡ Some next → IfSome o (λ n. n + count ≤ MOST_RECORD + 1) → next + count ≤ MOST_RECORD + 1
-numbered-day o next count e h = rw e at h
-
-recorded-day : (o : Option ℕ) (next : ℕ) (accounts : List AccountValue) → o ≡ Some next → IfSome o (AreRecorded accounts []) → AreRecorded accounts [] next
-recorded-day o next accounts e h = rw e at h
-
 -- what is said of each value of a section is said of each in a day
 each-one : {X : Type 0} (P Q : X → Type 0) → ((x : X) → P x → Q x) → (xs : List X) → AllByRecursion P xs → All Q xs
 each-one P Q follow xs h = All-from_recursion Q xs (all-weaker P Q follow xs h)
@@ -57,18 +47,18 @@ each-one P Q follow xs h = All-from_recursion Q xs (all-weaker P Q follow xs h)
 -- it says a day within the limits
 says-a-day : (d : DraftValue) (h : FitsSoFar d) (k : IsHeaded d) → CanBeSaid (day_with k.day k.period k.lags (accounts_in d) d)
 says-a-day d h k =
-    let day = the_one (row tag.Day).Fits d.days k.day k.one_day h.within.1.0.fits in
-    let period = the_one (row tag.Period).Fits d.periods k.period k.one_period h.within.1.1.0.fits in
-    let lags = lags-fit k.lags (the_one (row tag.Lags).Fits d.lags k.lags k.one_lags h.within.1.1.1.0.fits) in
+    let day = (rw k.one_day at h.within.1.0.fits).0 in
+    let period = (rw k.one_period at h.within.1.1.0.fits).0 in
+    let lags = lags-fit k.lags ((rw k.one_lags at h.within.1.1.1.0.fits).0) in
     let surrender = h.within.1.1.1.1.0 in
     let admins = h.within.1.1.1.1.1.0 in
     let work = h.within.1.1.1.1.1.1.0 in
     let over = closed-fits d h in
     let due = h.within.1.1.1.1.1.1.1.1.1.1.1.1.1.1.0 in
     let blocks = over.within.1.1.1.1.1.1.1.0.fits in
-    let numbered = numbered-day (next_in d.days) k.day.1 (length d.instructions) (ap next_in k.one_day) h.numbered in
+    let numbered = rw k.one_day at h.numbered in
     let from = day.1.low in
-    let recorded = recorded-day (next_in d.days) k.day.1 (accounts_in d) (ap next_in k.one_day) over.recorded in
+    let recorded = rw k.one_day at over.recorded in
     record {
       day = record {
         book = record { rising = h.rising; few = omega (arith, over.few); within_limits = All-from_recursion IsAccount (accounts_in d) blocks; next = record { from_one = day.1.low; to_the_end = day.1.high }; behind = All-from_recursion (IsBehind k.day.1) (accounts_in d) recorded.closed };
@@ -97,34 +87,28 @@ pub record Closes (d : DraftValue) : Type 0 where
   pub said : day_said d ≡ Some day
   pub reading : IsReading (rows_so_far d) day
 
-said-day : (d : DraftValue) (version : ℕ) (day period : ℕ × ℕ) (lags : Said tag.Lags) → is_over d.last ≡ true → d.versions ≡ version ∷ [] → d.days ≡ day ∷ [] → d.periods ≡ period ∷ [] → d.lags ≡ lags ∷ []
-    → day_said d ≡ Some (day_with day period lags (accounts_in d) d)
-said-day d version day period lags over v a p l = rw (over, v, a, p, l) refl
+-- what a draft says whose heading is this, and what it stands for
+said-by : (d : DraftValue) (version : ℕ) (day period : ℕ × ℕ) (lags : Said tag.Lags) → d.last ≡ Some tag.End → d.versions ≡ version ∷ [] → d.days ≡ day ∷ [] → d.periods ≡ period ∷ [] → d.lags ≡ lags ∷ []
+    → (day_said d ≡ Some (day_with day period lags (accounts_in d) d)) × (rows_so_far (closed d) ≡ day_text version (day_with day period lags (accounts_in d) d))
+said-by d version day period lags over v a p l = (rw (over, v, a, p, l) refl, rw (over, v, a, p, l) refl)
 
 -- the draft with all blocks over says the same
 pub closed-says : (d : DraftValue) → FitsSoFar d → is_over d.last ≡ true → day_said (closed d) ≡ day_said d
 closed-says d h over =
     let k = headed d h over in
-    said-day (closed d) k.version k.day k.period k.lags over k.one_version k.one_day k.one_period k.one_lags ∙ ap (λ (l : List AccountValue). Some (day_with k.day k.period k.lags l d)) (append-nil (accounts_in d))
-    ∙ sym (said-day d k.version k.day k.period k.lags over k.one_version k.one_day k.one_period k.one_lags)
-
-said-rows : (d : DraftValue) (version : ℕ) (day period : ℕ × ℕ) (lags : Said tag.Lags) → ended d.last ≡ tt ∷ [] → d.versions ≡ version ∷ [] → d.days ≡ day ∷ [] → d.periods ≡ period ∷ [] → d.lags ≡ lags ∷ []
-    → rows_so_far (closed d) ≡ day_text version (day_with day period lags (accounts_in d) d)
-said-rows d version day period lags closed v a p l = rw (closed, v, a, p, l) refl
+    let last = over-last d.last over in
+    let all = ap (λ (l : List AccountValue). Some (day_with k.day k.period k.lags l d)) (append-nil (accounts_in d)) in
+    (said-by (closed d) k.version k.day k.period k.lags last k.one_version k.one_day k.one_period k.one_lags).0 ∙ all
+    ∙ sym (said-by d k.version k.day k.period k.lags last k.one_version k.one_day k.one_period k.one_lags).0
 
 pub closes : (d : DraftValue) → FitsSoFar d → is_over d.last ≡ true → Closes d
 closes d h over =
     let k = headed d h over in
-    let closed = ap ended (over-last d.last over) in
+    let said = said-by d k.version k.day k.period k.lags (over-last d.last over) k.one_version k.one_day k.one_period k.one_lags in
     record {
       day = day_with k.day k.period k.lags (accounts_in d) d;
-      said = said-day d k.version k.day k.period k.lags over k.one_version k.one_day k.one_period k.one_lags;
-      reading = record {
-        version = k.version;
-        is_known = the_one (row tag.Format).Fits d.versions k.version k.one_version h.within.0.fits;
-        spelled = sym (closed-rows d h) ∙ said-rows d k.version k.day k.period k.lags closed k.one_version k.one_day k.one_period k.one_lags;
-        fits = says-a-day d h k;
-      };
+      said = said.0;
+      reading = record { version = k.version; is_known = (rw k.one_version at h.within.0.fits).0; spelled = sym (closed-rows d h) ∙ said.1; fits = says-a-day d h k };
     }
 
 -- ---- from rows to the day
@@ -137,9 +121,6 @@ said_at_end : (number : ℕ) (o : Option DayValue) (v : DayValue) → at_end num
 said_at_end number (Some w) v e = cc
 said_at_end number None v e = absurd cc
 
-some_is : (v w : DayValue) → ◌≡◌ {A = Option DayValue} (Some v) (Some w) → v ≡ w
-some_is v w e = cc
-
 said_over : (last : Bool) (o : Option DayValue) (v : DayValue) → cond last o None ≡ Some v → last ≡ true
 said_over true o v e = refl
 said_over false o v e = absurd cc
@@ -148,7 +129,7 @@ pub said-of : (rows : List Record) (number : ℕ) (d : DraftValue) (v : DayValue
 said-of [] number d v h e =
     let said = said_at_end number (day_said d) v e in
     let c = closes d h.fits (said_over (is_over d.last) _ v said) in
-    subst (λ (rows : List Record). IsReading rows v) (sym (append-nil (rows_so_far d))) (subst (IsReading (rows_so_far d)) (some_is c.day v (sym c.said ∙ said)) c.reading)
+    subst (λ (rows : List Record). IsReading rows v) (sym (append-nil (rows_so_far d))) (subst (IsReading (rows_so_far d)) (cc (c.said, said)) c.reading)
 said-of (r ∷ rows) number d v h e =
     let t = taken_row number (next_draft d r) (λ x. after_rows (number + 1) x rows) v e in
     let g = grows d t.0 r h t.1 in
@@ -161,9 +142,3 @@ reading-from rows v e = said-of rows 1 nothing_read v nothing-fits e
 -- and what they spell is what they say
 pub reading-to : (rows : List Record) (v : DayValue) → IsReading rows v → day_of_rows rows ≡ Ok v
 reading-to rows v h = ap day_of_rows h.spelled ∙ text-taken h.version v h.is_known h.fits 1
-
-abbrev value : DayValue → Result DayValue (ℕ × Cause)
-value v = Ok v
-
-pub same_value : (v w : DayValue) → value v ≡ value w → v ≡ w
-same_value v w e = cc

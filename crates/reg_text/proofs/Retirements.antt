@@ -1,5 +1,5 @@
 -- Surrenders and deletions, one more at the end: the sums over them, and their numbers below the next one.
-use Rattle.std.proofs.Common.{◌≡◌, ◌⊎◌, inl, inr, ℕ, ◌+◌, ◌<◌, Bool, true, false, cond, ◌&&◌, nat_le, List, [], ◌∷◌, ◌++◌, map, Option, Some, None, refl, ap, ◌∙◌, arith}
+use Rattle.std.proofs.Common.{◌≡◌, ◌⊎◌, inl, inr, ℕ, ◌+◌, ◌<◌, true, false, cond, ◌&&◌, nat_le, List, [], ◌∷◌, ◌++◌, map, Option, Some, None, refl, arith}
 use Rattle.std.specs.Prelude.{not, IfSome}
 use Rattle.std.specs.List.{AllByRecursion, list_any}
 use Rattle.std.proofs.lemmas.Bool.{leb-true, le-leb, lt-leb, ltb-true, lt-ltb}
@@ -13,16 +13,7 @@ use Rattle.reg_text.proofs.ListFacts.{all-push}
 
 sum-more : (way : Retirement) (kind : AllowanceKind) (rows : List RetirementRow) (x : RetirementRow) (others : List RetirementRow)
     → retired_in way kind (rows ++ x ∷ others) ≡ retired_in way kind rows + (amount_in way kind x + retired_in way kind others)
-sum-more way kind rows x others =
-    let e = sum_by-append (amount_in way kind) rows (x ∷ others) in
-    let h : retired_in way kind (x ∷ others) ≡ amount_in way kind x + retired_in way kind others = sum_by-cons (amount_in way kind) x others in
-    omega (arith, e, h)
-
-sum-push : (way : Retirement) (kind : AllowanceKind) (rows : List RetirementRow) (x : RetirementRow) → retired_in way kind (rows ++ x ∷ []) ≡ retired_in way kind rows + amount_in way kind x
-sum-push way kind rows x =
-    let e = sum-more way kind rows x [] in
-    let none : retired_in way kind [] ≡ 0 = refl in
-    omega (arith, e, none)
+sum-more way kind rows x others = omega (arith, sum_by-append (amount_in way kind) rows (x ∷ others), sum_by-cons (amount_in way kind) x others)
 
 -- a row adds to no sum but its own
 other-amount : (way : Retirement) (kind : AllowanceKind) (x : RetirementRow) → (amount_in way kind x ≡ 0) ⊎ ((way ≡ x.retirement) × (kind ≡ x.kind))
@@ -30,19 +21,16 @@ other-amount way kind x = by way x.retirement kind x.kind where
   by : (w r : Retirement) (k l : AllowanceKind) → (cond (is_same_retirement r w && (is_same_kind l k && not x.reversed)) x.amount 0 ≡ 0) ⊎ ((w ≡ r) × (k ≡ l))
   by Surrendered Deleted k l = inl refl
   by Deleted Surrendered k l = inl refl
-  by Surrendered Surrendered General Aviation = inl refl
-  by Surrendered Surrendered Aviation General = inl refl
-  by Surrendered Surrendered General General = inr (refl, refl)
-  by Surrendered Surrendered Aviation Aviation = inr (refl, refl)
-  by Deleted Deleted General Aviation = inl refl
-  by Deleted Deleted Aviation General = inl refl
-  by Deleted Deleted General General = inr (refl, refl)
-  by Deleted Deleted Aviation Aviation = inr (refl, refl)
+  by Surrendered w General Aviation = inl refl
+  by Surrendered w Aviation General = inl refl
+  by Deleted w General Aviation = inl refl
+  by Deleted w Aviation General = inl refl
+  by w r k l = inr (refl, refl)
 
 pub fits-push : (rows : List RetirementRow) (x : RetirementRow) → RetiredFits rows → is_sum_left rows x ≡ true → RetiredFits (rows ++ x ∷ [])
 fits-push rows x h left = record {
   at = λ way kind. elim (other-amount way kind x) [
-    | inl none ↦ let s = sum-push way kind rows x in let a = h.at way kind in omega (arith, s, a, none)
+    | inl none ↦ let s = sum-more way kind rows x [] in let a = h.at way kind in omega (arith, s, a, none)
     | inr own ↦ rw (own.0, own.1) (leb-true _ _ left)
   ];
 }
@@ -50,24 +38,10 @@ fits-push rows x h left = record {
 -- a row of rows whose sums are within their limit
 pub sum-left : (rows : List RetirementRow) (x : RetirementRow) (others : List RetirementRow) → RetiredFits (rows ++ x ∷ others) → is_sum_left rows x ≡ true
 sum-left rows x others h =
-    let one = sum-push x.retirement x.kind rows x in
+    let one = sum-more x.retirement x.kind rows x [] in
     let all = sum-more x.retirement x.kind rows x others in
     let most = h.at x.retirement x.kind in
     le-leb _ _ (omega (arith, one, all, most))
-
--- what a row adds to its own sum
-own-amount : (way : Retirement) (kind : AllowanceKind) (gone : Bool) (n : ℕ) → cond (is_same_retirement way way && (is_same_kind kind kind && not gone)) n 0 ≡ cond gone 0 n
-own-amount Surrendered General true n = refl
-own-amount Surrendered General false n = refl
-own-amount Surrendered Aviation true n = refl
-own-amount Surrendered Aviation false n = refl
-own-amount Deleted General true n = refl
-own-amount Deleted General false n = refl
-own-amount Deleted Aviation true n = refl
-own-amount Deleted Aviation false n = refl
-
-pub own-sum : (rows : List RetirementRow) (x : RetirementRow) → retired_in x.retirement x.kind (rows ++ x ∷ []) ≡ retired_in x.retirement x.kind rows + cond x.reversed 0 x.amount
-own-sum rows x = sum-push x.retirement x.kind rows x ∙ ap (λ n. retired_in x.retirement x.kind rows + n) (own-amount x.retirement x.kind x.reversed x.amount)
 
 -- ---- the numbers
 

@@ -4,7 +4,7 @@ use Rattle.std.proofs.lemmas.Bool.{ltb-true, lt-ltb}
 use Rattle.std.proofs.lemmas.List.{append-nil, map-append}
 use Rattle.std.specs.List.{AllByRecursion, flat_map}
 use Rattle.std.proofs.lemmas.Grind.{flat_map-append}
-use Rattle.reg_text.proofs.Names.{IsRising, Tag, Record, rule, is_once, last_of, is_above, Said, row, Section, item_rows, section_rows, all_rows, key, follows, IsOrdered, most, is_room, AreFew, IsSection, stands_at, comes_once, StandsAt}
+use Rattle.reg_text.proofs.Names.{IsRising, Tag, Record, rule, last_of, is_above, Said, row, Section, item_rows, section_rows, all_rows, key, follows, IsOrdered, most, is_room, AreFew, IsSection, stands_at, comes_once, StandsAt}
 use Rattle.reg_text.specs.Grammar.{row_text}
 use Rattle.reg_text.proofs.ListFacts.{all-push, all-append, all-first, all-rest, all-both}
 use Rattle.reg_text.proofs.RisingFacts.{rising-push, rising-above, last-key}
@@ -52,10 +52,6 @@ pub room-at : {X : Type 0} (o : Option ℕ) (xs : List X) (x : X) (others : List
 room-at None xs x others h = refl
 room-at (Some limit) xs x others h = lt-ltb _ _ (omega (arith, length-append xs (x ∷ others), h))
 
-pub all-at : {A : Type 0} (P : A → Type 0) (xs : List A) (x : A) (others : List A) → AllByRecursion P (xs ++ x ∷ others) → P x
-all-at P [] x others all = all.0
-all-at P (y ∷ xs) x others all = all-at P xs x others all.1
-
 -- a section with one row more
 pub section-push : (t : Tag) (xs : List (Said t)) (x : Said t) → IsSection (Some t, xs) → (row t).Fits x → follows (key t) (last_of xs) x ≡ true → is_room (most t) (length xs) ≡ true → IsSection (Some t, xs ++ x ∷ [])
 section-push t xs x h fits order room = record {
@@ -72,12 +68,6 @@ pub record IsLater (t : Tag) (s : Section) : Type 0 where
 pub record IsEarlier (t : Tag) (s : Section) : Type 0 where
   pub before : comes_once s.0 ≡ true → stands_at s.0 ≤ (rule t).from
 
-once-from : (t : Tag) → is_once t ≡ true → (rule t).to < (rule t).place
-once-from t e = ltb-true _ _ e
-
-nothing-more : {X : Type 0} (xs : List X) (x : X) → xs ≡ [] → xs ++ x ∷ [] ≡ x ∷ []
-nothing-more {X = X} xs x e = ap (λ (l : List X). l ++ x ∷ []) e
-
 -- after a row more, each section stands as it should
 pub stand-push : (at : ℕ) (t : Tag) (before : List Section) (xs : List (Said t)) (x : Said t) (behind : List Section)
     → (rule t).from ≤ at → at ≤ (rule t).to → at ≤ (rule t).place → AllByRecursion (IsEarlier t) before → AllByRecursion (IsLater t) behind
@@ -87,7 +77,7 @@ stand-push at t before xs x behind low high up earlier later h =
     all-append (StandsAt (rule t).place) before (grown t xs x behind)
     (all-both (IsEarlier t) (StandsAt at) (StandsAt (rule t).place) (λ s e k. record { begun = λ lt. k.begun (omega arith); come = λ le once. k.come (omega (arith, e.before once)) once })
     before earlier (all-first (StandsAt at) before (shorter t xs behind) h)) (
-      record { begun = λ lt. absurd (omega arith); come = λ le once. (x, nothing-more xs x (tail.0.begun (omega (arith, once-from t once)))) },
+      record { begun = λ lt. absurd (omega arith); come = λ le once. (x, rw (tail.0.begun (omega (arith, ltb-true _ _ once))) refl) },
       all-both (IsLater t) (StandsAt at) (StandsAt (rule t).place) (λ s e k. record { begun = λ lt. k.begun (omega (arith, e.above)); come = λ le once. absurd (omega (arith, e.above)) }) behind later tail.1,
     )
 

@@ -5,7 +5,7 @@ use Rattle.reg_text.specs.declared.cause.Cause.TheVariants as cause
 use Rattle.reg_text.proofs.Names.{Tag, IsBetween, named, all_tags, tag_word, rule, place, may_follow, tag_after, is_over}
 use Rattle.reg_text.specs.declared.reading.tag.Tag.TheVariants as tag
 use Rattle.reg_text.proofs.Binds.{bind_ok, test_ok}
-use Rattle.reg_text.proofs.WordLaws.{named-spelled}
+use Rattle.reg_text.proofs.WordLaws.{named-spelled, own-tag}
 
 -- a tag that may stand after another
 abbrev pub MayFollow : Option Tag → Tag → Type 0
@@ -17,36 +17,22 @@ tag-spelled last f t e =
     let n = bind_ok (named cause.Tag tag_word all_tags f) _ t e in
     let s = named-spelled cause.Tag tag_word all_tags f n.0 n.1 in
     let p = test_ok (may_follow last n.0) cause.Tag n.0 t n.2 in
-    subst (λ (u : Tag). (f ≡ tag_word u) × MayFollow last u) p.1 (s.0, p.0)
-
--- the word of each tag is its own
-word-again : (t : Tag) → named cause.Tag tag_word all_tags (tag_word t) ≡ Ok t
-word-again tag.Format = refl
-word-again t = refl
+    subst (λ (u : Tag). (f ≡ tag_word u) × MayFollow last u) p.1 (s, p.0)
 
 -- and the word of a tag that may stand here reads as it
 pub tag-again : (last : Option Tag) (t : Tag) → MayFollow last t → tag_after last (tag_word t) ≡ Ok t
-tag-again last t h = rw (word-again t, h) refl
+tag-again last t h = rw ((own-tag t).0 cause.Tag, h) refl
 
 -- a tag may stand after a row at these places, and at no others
 pub place-of : (last : Option Tag) (t : Tag) → MayFollow last t → IsBetween (rule t).from (rule t).to (place last)
 place-of last t h = let both = and_parts (nat_le (rule t).from (place last)) (nat_le (place last) (rule t).to) h in record { low = leb-true _ _ both.0; high = leb-true _ _ both.1 }
 
-pub may-at : (last : Option Tag) (t : Tag) → (rule t).from ≤ place last → place last ≤ (rule t).to → MayFollow last t
-may-at last t h k = rw (le-leb (rule t).from (place last) h, le-leb (place last) (rule t).to k) refl
-
 -- behind one section the next
 pub later : (last : Option Tag) (t u : Tag) → (rule u).from ≤ (rule t).from → (rule t).to ≤ (rule u).to → MayFollow last t → MayFollow last u
-later last t u low high may = let p = place-of last t may in may-at last u (omega (arith, p.low)) (omega (arith, p.high))
+later last t u low high may = let p = place-of last t may in rw (le-leb (rule u).from (place last) (omega (arith, p.low)), le-leb (place last) (rule u).to (omega (arith, p.high))) refl
 
 -- nothing may stand after the closing row
-end-follows-nothing : (t : Tag) → may_follow (Some tag.End) t ≡ false
-end-follows-nothing tag.Format = refl
-end-follows-nothing t = refl
-
-not_both : (t : Tag) → MayFollow (Some tag.End) t → may_follow (Some tag.End) t ≡ false → ⊥
-not_both t h k = absurd cc
-
 pub goes_on : (last : Option Tag) (t : Tag) → MayFollow last t → is_over last ≡ false
-goes_on (Some tag.End) t h = absurd (not_both t h (end-follows-nothing t))
+goes_on (Some tag.End) tag.Format h = absurd cc
+goes_on (Some tag.End) t h = absurd cc
 goes_on last t h = refl

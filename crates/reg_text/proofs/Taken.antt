@@ -9,12 +9,12 @@ use Rattle.reg_text.proofs.Names.{MOST_ACCOUNTS, MOST_RECORD, IsUserNo, IsDayNo,
 use Rattle.reg_text.proofs.Names.{lags_in, day_text, IsPair, CanBeSaid, with, in_order, has_room, with_row, next_in, next_draft, after_rows}
 use Rattle.reg_text.specs.declared.reading.tag.Tag.TheVariants as tag
 use Rattle.reg_text.specs.Grammar.{row_text}
-use Rattle.reg_text.proofs.ListFacts.{all-weaker}
+use Rattle.reg_text.proofs.ListFacts.{all-weaker, all-rest}
 use Rattle.reg_text.proofs.GrammarLaws.{each-row}
 use Rattle.reg_text.proofs.RowLaws.{fit-lags, fit-account, fit-lists, fit-instruction}
 use Rattle.reg_text.proofs.Retirements.{below-at, sum-left}
 use Rattle.reg_text.proofs.RisingFacts.{rising-above, last_of-append}
-use Rattle.reg_text.proofs.SectionLaws.{ordered-at, room-at, all-at}
+use Rattle.reg_text.proofs.SectionLaws.{ordered-at, room-at}
 use Rattle.reg_text.proofs.DraftSteps.{count-accounts}
 use Rattle.reg_text.proofs.TagLaws.{MayFollow, tag-again, goes_on, later}
 
@@ -45,7 +45,7 @@ section-step : (t : Tag) (state : Option Tag → List (Said t) → DraftValue) �
     → has_room t (state last xs) x ≡ true → next_draft (state last xs) (row_text t x) ≡ Ok (state (Some t) (xs ++ x ∷ []))
 section-step t state g last xs x others may whole room =
     let order : in_order t (state last xs) x ≡ true = ap (λ (l : List (Said t)). follows (key t) (last_of l) x) (g.list last xs) ∙ ordered-at (key t) xs x others whole.listed.ordered in
-    taken t (state last xs) x (subst (λ (l : Option Tag). MayFollow l t) (sym (g.last last xs)) may) (all-at (row t).Fits xs x others whole.fits) order room ∙ ap (λ (d : DraftValue). Ok d) (g.more last xs x)
+    taken t (state last xs) x (subst (λ (l : Option Tag). MayFollow l t) (sym (g.last last xs)) may) (all-rest (row t).Fits xs (x ∷ others) whole.fits).0 order room ∙ ap (λ (d : DraftValue). Ok d) (g.more last xs x)
 
 pub section-taken : (t : Tag) (state : Option Tag → List (Said t) → DraftValue) → Grown t state → MayFollow (Some t) t
     → (Whole : List (Said t) → Type 0) → ((l : List (Said t)) → Whole l → IsSection (Some t, l))
@@ -101,10 +101,6 @@ next-account accounts (Some h) l a others rises =
     let all = rising-above (map account_number (accounts ++ account_with l h ∷ [])) a.number (map account_number others) (rw map-append at rises) in
     rw (map-append account_number accounts (account_with l h ∷ []), last_of-append (map account_number accounts) h.number) at all
 
--- the rows of an account's lists, of the other accounts, and what comes behind
-block-rest : (users trusted rows emissions figures others rest : List Record) → ((users ++ (trusted ++ (rows ++ (emissions ++ figures)))) ++ others) ++ rest ≡ users ++ (trusted ++ (rows ++ (emissions ++ (figures ++ (others ++ rest)))))
-block-rest users trusted rows emissions figures others rest = simp append_assoc refl
-
 pub blocks-taken : (d : DraftValue) (next : ℕ) (others : List AccountValue) (last : Option Tag) (accounts : List AccountValue) (head : Option AccountHead) (l : ListsValue) (rest : List Record) (v : DayValue) → next_in d.days ≡ Some next → MayFollow last tag.Account
     → AllByRecursion IsAccount others → AllByRecursion (IsBehind next) others
     → IsRising (map account_number ((accounts ++ map (account_with l) (as_list head)) ++ others)) → length ((accounts ++ map (account_with l) (as_list head)) ++ others) ≤ MOST_ACCOUNTS
@@ -118,7 +114,7 @@ blocks-taken d next (a ∷ others) last accounts head l rest v is may fit behind
     let room : account_count now < MOST_ACCOUNTS = omega (arith, few, length-append all (a ∷ others), count-accounts accounts head l) in
     let behind_it : List Record = flat_map account_block others ++ rest in
     let lists : List Record = each_row tag.User a.users ++ (each_row tag.Trusted a.trusted ++ (each_row tag.Retired a.rows ++ (each_row tag.Emissions a.emissions ++ (each_row tag.Figure a.figures ++ behind_it)))) in
-    let split : flat_map account_block (a ∷ others) ++ rest ≡ row_text tag.Account (head_of a) ∷ lists = ap (λ (rs : List Record). row_text tag.Account (head_of a) ∷ rs) (block-rest (each_row tag.User a.users) (each_row tag.Trusted a.trusted) (each_row tag.Retired a.rows) (each_row tag.Emissions a.emissions) (each_row tag.Figure a.figures) (flat_map account_block others) rest) in
+    let split : flat_map account_block (a ∷ others) ++ rest ≡ row_text tag.Account (head_of a) ∷ lists = simp append_assoc in
     subst (λ (rs : List Record). Reach now rs v) (sym split)
     (reach-row now (with tag.Account now (head_of a)) (row_text tag.Account (head_of a)) lists v (taken tag.Account now (head_of a) may (fit-account a fit.0) (next-account accounts head l a others rises) (lt-ltb _ _ room))
     (lists-taken (record d { accounts = all; head = Some (head_of a) }) next a behind_it v is fit.0 behind.0 (λ last1 may1.
@@ -174,9 +170,6 @@ head-taken version v rest known h more =
 abbrev AreNumbered : DayValue → List (Said tag.Do) → Type 0
 AreNumbered v l = IsSection (Some tag.Do, l) × (v.book.next + length l ≤ MOST_RECORD + 1)
 
-has-number : (v : DayValue) (xs : List (Said tag.Do)) (x : Said tag.Do) (others : List (Said tag.Do)) → v.book.next + length (xs ++ x ∷ others) ≤ MOST_RECORD + 1 → v.book.next + length xs ≤ MOST_RECORD
-has-number v xs x others h = omega (arith, length-append xs (x ∷ others), h)
-
 whole : (version : ℕ) (v : DayValue) (accounts : List AccountValue) (head : Option AccountHead) (l : ListsValue) → v.book.next - 1 ≡ v.batch.base → accounts ++ map (account_with l) (as_list head) ≡ v.book.accounts
     → Reach (record (headed version v) { last = Some tag.End; surrender = v.rules.surrender; admins = v.rules.admins; work = v.rules.calendar; accounts = accounts; head = head; lists = l; instructions = v.batch.instructions }) [] v
 whole version v accounts head l base all number = rw all (ap (λ (n : ℕ). Ok (record v { batch = record v.batch { base = n } })) base)
@@ -203,6 +196,6 @@ text-taken version v known h =
     blocks-taken d3 v.book.next v.book.accounts last3 [] None no_lists rows4 v refl (later last3 tag.Work tag.Account (omega arith) (omega arith) may3) (accounts v h) (recursion_from_All (IsBehind v.book.next) v.book.accounts h.day.book.behind) h.day.book.rising h.day.book.few (λ last4 accounts head lists may4 all.
     let d4 = record d3 { accounts = accounts; head = head; lists = lists } in
     let d5 = record d4 { instructions = v.batch.instructions } in
-    section-taken tag.Do (λ last l. record d4 { last = last; instructions = l }) (record { last = λ last xs. refl; list = λ last xs. refl; more = λ last xs x. refl }) refl (AreNumbered v) (λ l whole. whole.0) (λ last xs x others whole. rw (room-at (most tag.Do) xs x others whole.0.listed.few, le-leb _ _ (has-number v xs x others whole.1)) refl)
+    section-taken tag.Do (λ last l. record d4 { last = last; instructions = l }) (record { last = λ last xs. refl; list = λ last xs. refl; more = λ last xs x. refl }) refl (AreNumbered v) (λ l whole. whole.0) (λ last xs x others whole. rw (room-at (most tag.Do) xs x others whole.0.listed.few, le-leb (v.book.next + length xs) MOST_RECORD (omega (arith, length-append xs (x ∷ others), whole.1))) refl)
     v.batch.instructions last4 [] rows5 v (later last4 tag.Account tag.Do (omega arith) (omega arith) may4) (do-section v h, omega (arith, h.day.follows, h.day.batch.numbered)) (λ last5 may5.
     reach-row (record d5 { last = last5 }) (record d5 { last = Some tag.End }) (row_text tag.End tt) [] v (taken tag.End (record d5 { last = last5 }) tt (later last5 tag.Do tag.End (omega arith) (omega arith) may5) tt refl refl) (whole version v accounts head lists base all)))))))

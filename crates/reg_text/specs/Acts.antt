@@ -110,7 +110,7 @@ abbrev pub act_fields : Fields Act
 act_fields = forms act_name (λ n. (form n).Parts) an_act_name (λ n. (form n).fields) (λ n. (form n).make) (λ a. (said a).1)
 
 -- the fields that spell an act
-abbrev pub act_text : Act → Record
+unfoldable pub act_text : Act → Record
 act_text a = (form (act_name a)).fields.spell (said a).1
 
 -- ---- the row of an instruction

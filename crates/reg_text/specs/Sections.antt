@@ -1,5 +1,5 @@
 -- Sections: the rows of one tag one after another, or whole blocks of accounts; their order, and how many there may be.
-use Rattle.std.specs.Prelude.{ℕ, Bool, true, ◌≤◌, nat_lt, List, [], ◌∷◌, ◌++◌, map, length, Option, Some, None}
+use Rattle.std.specs.Prelude.{ℕ, Bool, true, ◌≤◌, nat_lt, List, [], ◌∷◌, ◌++◌, map, length, Option, option_map, Some, None}
 use Rattle.std.specs.List.{AllByRecursion, flat_map}
 use Rattle.reg_base.specs.declared.limits.TheConstants.{MOST_ADMINISTRATORS, MOST_INSTRUCTIONS, MOST_USERS, MOST_TRUSTED, MOST_ROWS}
 use Rattle.reg_base.specs.declared.kinds.AccountKind.{AccountKind}
@@ -83,14 +83,10 @@ key tag.Emissions = Some (λ e. e.year)
 key tag.Figure = Some (λ f. f.year)
 key t = None
 
-abbrev pub key_of : {X : Type 0} → (X → ℕ) → Option X → Option ℕ
-key_of by None = None
-key_of by (Some x) = Some (by x)
-
 -- it comes after the one before it, if there is one
 abbrev pub follows : {X : Type 0} → Option (X → ℕ) → Option X → X → Bool
 follows None before x = true
-follows (Some by) before x = is_above (key_of by before) (by x)
+follows (Some by) before x = is_above (option_map by before) (by x)
 
 -- each comes after the one before it
 abbrev pub IsOrdered : {X : Type 0} → Option (X → ℕ) → List X → Type 0
@@ -99,7 +95,7 @@ IsOrdered (Some by) xs = IsRising (map by xs)
 
 -- ---- the length of a section
 
--- how many rows a section may have, if that is limited
+-- how many rows a section may have, if that is limited; how many accounts there may be is asked of the draft (`has_room`)
 abbrev pub most : Tag → Option ℕ
 most tag.Admin = Some MOST_ADMINISTRATORS
 most tag.User = Some MOST_USERS

@@ -6,6 +6,7 @@ ghost use Rattle.reg_base.specs.declared.limits.TheConstants.{FIRST_DAY, LAST_DA
 ghost use Rattle.reg_base.specs.declared.kinds.AccountKind.{AccountKind};
 ghost use Rattle.reg_base.specs.declared.kinds.AllowanceKind.{AllowanceKind};
 ghost use Rattle.reg_base.specs.declared.kinds.Right.{Right};
+ghost use Rattle.reg_account.specs.declared.rows.Retirement.{Retirement};
 ghost use Rattle.reg_base.specs.declared.kinds.Status.{Status};
 ghost use Rattle.reg_base.specs.Numbers.{IsDayNo};
 ghost use Rattle.reg_account.specs.Account.{CorrectionFits};
@@ -16,7 +17,7 @@ ghost use Rattle.reg_text.specs.Numbers.{number, number_of};
 ghost use Rattle.reg_text.specs.Signed.{signed, correction_of, figure_of};
 ghost use Rattle.reg_text.specs.Dates.{date, date_of};
 ghost use Rattle.reg_text.specs.Limits.{bounded_of};
-ghost use Rattle.reg_text.specs.Words.{kind_word, kind_of, account_kind_word, account_kind_of, status_word, status_of, right_word, right_of, yes_no_word, yes_no_of};
+ghost use Rattle.reg_text.specs.Words.{kind_word, kind_of, account_kind_word, account_kind_of, status_word, status_of, right_word, right_of, retirement_word, retirement_of, yes_no_word, yes_no_of};
 ghost use Rattle.reg_text.specs.Records.{Record};
 ghost use Rattle.reg_text.specs.Day.{DayValue};
 ghost use Rattle.reg_text.specs.Reading.{IsReading, IsFirstFaulty};
@@ -54,12 +55,14 @@ pub fn one_spelling_within_limits()
     ensures { (low high : ℕ) (f : List ℕ) (n : ℕ) → high < 2 ^ 64 → (bounded_of low high f ≡ Ok n) ↔ ((f ≡ number n) × (low ≤ n) × (n ≤ high)) }
 {}
 
-/// A field is read as a kind, an account kind, a status, a right, or yes or no exactly if it is the word of that value.
+/// A field is read as a kind, an account kind, a status, a right, what became of allowances, or yes or no exactly if it
+/// is the word of that value.
 pub fn one_word_of_each_value()
     ensures kinds { (f : List ℕ) (k : AllowanceKind) → (kind_of f ≡ Ok k) ↔ (f ≡ kind_word k) }
     ensures account_kinds { (f : List ℕ) (k : AccountKind) → (account_kind_of f ≡ Ok k) ↔ (f ≡ account_kind_word k) }
     ensures statuses { (f : List ℕ) (s : Status) → (status_of f ≡ Ok s) ↔ (f ≡ status_word s) }
     ensures rights { (f : List ℕ) (r : Right) → (right_of f ≡ Ok r) ↔ (f ≡ right_word r) }
+    ensures retirements { (f : List ℕ) (w : Retirement) → (retirement_of f ≡ Ok w) ↔ (f ≡ retirement_word w) }
     ensures yes_or_no { (f : List ℕ) (b : Bool) → (yes_no_of f ≡ Ok b) ↔ (f ≡ yes_no_word b) }
 {}
 

@@ -6,7 +6,7 @@ use crate::fixtures::{
 use reg_account::{
     Account, AccountFault, AccountParts, Emission, Figure, FigureFault, Holdings, Lists,
 };
-use reg_base::{AccountKind, AllowanceKind, Status};
+use reg_base::{AccountKind, Status};
 use std::alloc::Global;
 use std::process::Abort;
 
@@ -44,23 +44,6 @@ fn parts_of(row: AccountRow, lists: Lists) -> AccountParts {
         correction: row.correction,
         held: row.held,
         lists,
-    }
-}
-
-#[test]
-fn an_account_is_within_its_limits(rt: HostRuntime) {
-    for (correction, general, aviation) in [
-        (0, 100, 0),
-        (MOST_CORRECTION, MOST, MOST),
-        (-MOST_CORRECTION, 0, 0),
-    ] {
-        let row = row(&rt, correction, general, aviation);
-        let account = Account::of(parts_with(rt.alloc(), row)).expect(&rt, "an account");
-        assert_eq!(rt;
-            row_of(&account),
-            row,
-            "{correction}, {general}, {aviation}"
-        );
     }
 }
 
@@ -166,11 +149,16 @@ emissions,2025,1
 end
 ";
 
+// The figure of the account for a year.
+fn figure(rt: &impl Abort, alloc: Global, number: u16) -> Result<i64, FigureFault> {
+    let day = read(rt, alloc, YEARS);
+    let account = day.book.get(account_no(rt, 1)).expect(rt, "the account");
+    account.figure(&day.rules, year(rt, number))
+}
+
 #[test]
 fn the_first_year_without_emissions_is_named(rt: HostRuntime) {
-    let day = read(&rt, rt.alloc(), YEARS);
-    let account = day.book.get(account_no(&rt, 1)).expect(&rt, "the account");
-    for (number, figure) in [
+    for (number, wanted) in [
         (2021, Err(FigureFault::YearOutsidePeriod)),
         (2022, Ok(35)),
         (2023, Ok(-15)),
@@ -178,47 +166,19 @@ fn the_first_year_without_emissions_is_named(rt: HostRuntime) {
         (2027, Err(FigureFault::Missing(year(&rt, 2024)))),
         (2028, Err(FigureFault::YearOutsidePeriod)),
     ] {
-        let answer = account.figure(&day.rules, year(&rt, number));
-        assert_eq!(rt; answer, figure, "{number}");
+        assert_eq!(rt; figure(&rt, rt.alloc(), number), wanted, "{number}");
     }
 }
 
-// Adds to a holding that has room for it.
-fn credit(rt: &impl Abort, account: &mut Account, kind: AllowanceKind, amount: u64) {
-    assert!(rt; amount <= MOST);
-    assert!(rt; account.held(kind) <= MOST - amount);
-    account.credit(kind, amount);
-}
-
-// Takes from a holding that has that many.
-fn debit(rt: &impl Abort, account: &mut Account, kind: AllowanceKind, amount: u64) {
-    assert!(rt; amount <= account.held(kind));
-    account.debit(kind, amount);
-}
-
-#[test]
-fn changes_move_one_holding(rt: HostRuntime) {
-    let mut account = Account::of(parts_with(rt.alloc(), row(&rt, -5, 100, 50))).expect(
-        &rt,
-        "an account",
-    );
-    credit(&rt, &mut account, AllowanceKind::General, 7);
-    assert_eq!(rt; row_of(&account), row(&rt, -5, 107, 50));
-    credit(&rt, &mut account, AllowanceKind::Aviation, MOST - 50);
-    assert_eq!(rt; row_of(&account), row(&rt, -5, 107, MOST));
-    debit(&rt, &mut account, AllowanceKind::General, 107);
-    assert_eq!(rt; row_of(&account), row(&rt, -5, 0, MOST));
-    debit(&rt, &mut account, AllowanceKind::Aviation, 1);
-    assert_eq!(rt; row_of(&account), row(&rt, -5, 0, MOST - 1));
+// Whether an account with this row is as it was after it was copied, and its copy is equal.
+fn is_copied(rt: &impl Abort, alloc: Global, row: &AccountRow) -> bool {
+    let account = Account::of(parts_with(alloc, *row)).expect(rt, "an account");
+    let copy = account.copy(alloc).expect(rt, "memory");
+    row_of(&copy) == *row && row_of(&account) == *row
 }
 
 #[test]
 fn a_copy_is_equal(rt: HostRuntime) {
-    let account = Account::of(parts_with(rt.alloc(), row(&rt, 0, 100, 0))).expect(
-        &rt,
-        "an account",
-    );
-    let copy = account.copy(rt.alloc()).expect(&rt, "memory");
-    assert_eq!(rt; row_of(&copy), row(&rt, 0, 100, 0));
-    assert_eq!(rt; row_of(&account), row(&rt, 0, 100, 0));
+    let row = row(&rt, 0, 100, 0);
+    assert!(rt; is_copied(&rt, rt.alloc(), &row));
 }

@@ -3,12 +3,10 @@
 use crate::fixtures::{account_no, holder, read, surrendered};
 use reg_account::{Account, AccountParts, Holdings, Lists};
 use reg_base::{AccountKind, AllowanceKind, Status};
-use reg_book::{BookDraft, BookFault, SettleFault, Settled, Stale, Totals, settle_plain};
-use reg_text::{DayInput, write_book, write_report};
+use reg_book::{BookDraft, BookFault, SettleFault, Settled, Stale, settle_plain};
+use reg_text::{DayInput, write_book};
 use std::alloc::Global;
 use std::process::Abort;
-
-const MOST: u64 = 1_000_000_000_000_000;
 
 // A trading account with so many general allowances.
 fn account(rt: &impl Abort, alloc: Global, number: u32, general: u64) -> Account {
@@ -137,23 +135,6 @@ fn a_book_has_a_hundred_thousand_accounts(rt: HostRuntime) {
     assert_eq!(rt; draft.finish().accounts().len(), 100_000);
 }
 
-#[test]
-fn totals_pass_sixty_four_bits(rt: HostRuntime) {
-    let book = draft(&rt, rt.alloc(), 20_000, MOST).finish();
-    let general = Totals {
-        held: 20_000_000_000_000_000_000,
-        surrendered: 0,
-        deleted: 0,
-    };
-    let aviation = Totals {
-        held: 0,
-        surrendered: 0,
-        deleted: 0,
-    };
-    assert_eq!(rt; book.totals(AllowanceKind::General), general);
-    assert_eq!(rt; book.totals(AllowanceKind::Aviation), aviation);
-}
-
 // A day on which account 1 moves 70 of its 100 to account 2, and then can't do it again.
 const DAY: &str = "\
 format,1
@@ -172,149 +153,61 @@ do,2025-03-31,101,102,transfer,1,2,general,70
 end
 ";
 
-// Its log, and the book before it.
-const SETTLED: &str = "\
-log,1,2025-03-31,2025-03-31,101,102,transfer,1,2,general,70,done,,1,30,0,2,70,0
-log,2,2025-03-31,2025-03-31,101,102,transfer,1,2,general,70,refused,18,NotEnough
-book,1
-account,1,operator,11,open,no,no,0,100,0
-user,101,propose
-user,102,approve
-trusted,2,2025-03-31
-account,2,trading,12,open,no,no,0,0,0
-account,3,aircraft,13,open,no,no,0,50,0
-totals,general,150,0,0
-totals,aviation,0,0,0
-end
-";
-
-// Its report.
-const COMMITTED: &str = "\
-log,1,2025-03-31,2025-03-31,101,102,transfer,1,2,general,70,done,,1,30,0,2,70,0
-log,2,2025-03-31,2025-03-31,101,102,transfer,1,2,general,70,refused,18,NotEnough
-book,3
-account,1,operator,11,open,no,no,0,30,0
-user,101,propose
-user,102,approve
-trusted,2,2025-03-31
-account,2,trading,12,open,no,no,0,70,0
-account,3,aircraft,13,open,no,no,0,50,0
-totals,general,150,0,0
-totals,aviation,0,0,0
-end
-";
-
 // How many general allowances a settled day leaves on an account, where it touched it.
 fn left(rt: &impl Abort, settled: &Settled, number: u32) -> Option<u64> {
     let account = settled.account(account_no(rt, number))?;
     Some(account.held(AllowanceKind::General))
 }
 
-fn settle(rt: &impl Abort, alloc: Global, text: &str) -> Settled {
-    let DayInput { rules, book, batch } = read(rt, alloc, text);
-    settle_plain(alloc, &book, &rules, &batch).expect(rt, "memory")
+fn settle(rt: &impl Abort, alloc: Global, day: &DayInput) -> Settled {
+    settle_plain(alloc, &day.book, &day.rules, &day.batch).expect(rt, "memory")
 }
 
-// The log of a settled day, with the book as it was before it.
-fn settled_report(rt: &impl Abort, alloc: Global, text: &str) -> Vec<u8> {
-    let DayInput { rules, book, batch } = read(rt, alloc, text);
-    let settled = settle_plain(alloc, &book, &rules, &batch).expect(rt, "memory");
-    write_report(alloc, &book, settled.rows()).expect(rt, "memory")
-}
-
-#[test]
-fn settles_a_day(rt: HostRuntime) {
-    let text = settled_report(&rt, rt.alloc(), DAY);
-    assert_eq!(rt; text.as_slice(), SETTLED.as_bytes());
+// The last record number before the day, and what it leaves on accounts 1, 2 and 3.
+fn settled(rt: &impl Abort, alloc: Global) -> (u64, [Option<u64>; 3]) {
+    let day = read(rt, alloc, DAY);
+    let settled = settle(rt, alloc, &day);
+    let held = [
+        left(rt, &settled, 1),
+        left(rt, &settled, 2),
+        left(rt, &settled, 3),
+    ];
+    (settled.base(), held)
 }
 
 #[test]
 fn a_settled_day_has_the_accounts_that_it_touched(rt: HostRuntime) {
-    let settled = settle(&rt, rt.alloc(), DAY);
-    assert_eq!(rt; settled.base(), 0);
-    let held = [
-        left(&rt, &settled, 1),
-        left(&rt, &settled, 2),
-        left(&rt, &settled, 3),
-    ];
-    assert_eq!(rt; held, [Some(30), Some(70), None]);
+    let found = settled(&rt, rt.alloc());
+    assert_eq!(rt; found, (0, [Some(30), Some(70), None]));
 }
 
-// The report of a day that is settled and put into its book.
-fn report(rt: &impl Abort, alloc: Global, text: &str) -> Vec<u8> {
-    let DayInput {
-        rules,
-        mut book,
-        batch,
-    } = read(rt, alloc, text);
-    let settled = settle_plain(alloc, &book, &rules, &batch).expect(rt, "memory");
-    let log = book.commit(settled).expect(rt, "a day that follows");
-    write_report(alloc, &book, log.as_slice()).expect(rt, "memory")
-}
-
-#[test]
-fn a_committed_day_is_in_the_book(rt: HostRuntime) {
-    let text = report(&rt, rt.alloc(), DAY);
-    assert_eq!(rt; text.as_slice(), COMMITTED.as_bytes());
-}
-
-// A day without instructions.
-const EMPTY_DAY: &str = "\
-format,1
-day,2025-03-31,7
-period,2021,2030
-lags,0,1,1,2
-account,1,operator,11,open,no,no,0,100,0
-end
-";
-
-// Its report.
-const EMPTY_REPORT: &str = "\
-book,7
-account,1,operator,11,open,no,no,0,100,0
-totals,general,100,0,0
-totals,aviation,0,0,0
-end
-";
-
-#[test]
-fn an_empty_batch_changes_nothing(rt: HostRuntime) {
-    let text = report(&rt, rt.alloc(), EMPTY_DAY);
-    assert_eq!(rt; text.as_slice(), EMPTY_REPORT.as_bytes());
-}
-
-// A day of one transfer.
-const ONE_TRANSFER: &str = "\
-format,1
-day,2025-03-31,1
-period,2021,2030
-lags,0,1,1,2
-work,2025-03-31
-account,1,operator,11,open,no,no,0,100,0
-user,101,propose
-user,102,approve
-trusted,2,2025-03-31
-account,2,trading,12,open,no,no,0,0,0
-do,2025-03-31,101,102,transfer,1,2,general,40
-end
-";
-
-// Settles the day twice and puts both into its book: what the second commit gives back.
-fn commit_twice(rt: &impl Abort, alloc: Global, day: &mut DayInput) -> (Settled, Stale) {
+// Settles the day twice and puts both into its book. Answers why the second one does not follow, and of what is given
+// back how many log rows it has and what it leaves on account 1.
+fn commit_twice(rt: &impl Abort, alloc: Global) -> (Stale, usize, Option<u64>) {
+    let mut day = read(rt, alloc, DAY);
     let first = settle_plain(alloc, &day.book, &day.rules, &day.batch).expect(rt, "memory");
     let second = settle_plain(alloc, &day.book, &day.rules, &day.batch).expect(rt, "memory");
     let log = day.book.commit(first).expect(rt, "a day that follows");
-    assert_eq!(rt; log.as_slice().len(), 1);
+    assert_eq!(rt; log.as_slice().len(), 2);
     let refused = day.book.commit(second).err();
-    refused.expect(rt, "a day that does not follow")
+    let (back, stale) = refused.expect(rt, "a day that does not follow");
+    (stale, back.rows().len(), left(rt, &back, 1))
+}
+
+// Settles the day, puts it into its book, and settles it again. Answers the book's next record number, and why the day is
+// not settled again.
+fn settle_again(rt: &impl Abort, alloc: Global) -> (u64, Option<SettleFault>) {
+    let mut day = read(rt, alloc, DAY);
+    let first = settle_plain(alloc, &day.book, &day.rules, &day.batch).expect(rt, "memory");
+    day.book.commit(first).expect(rt, "a day that follows");
+    let late = settle_plain(alloc, &day.book, &day.rules, &day.batch);
+    (day.book.next_record(), late.err())
 }
 
 #[test]
 fn of_two_settled_days_one_is_stale(rt: HostRuntime) {
-    let mut day = read(&rt, rt.alloc(), ONE_TRANSFER);
-    let (back, stale) = commit_twice(&rt, rt.alloc(), &mut day);
-    assert_eq!(rt; (stale, day.book.next_record()), (Stale { next: 2 }, 2));
-    assert_eq!(rt; (back.rows().len(), left(&rt, &back, 1)), (1, Some(60)));
-    let late = settle_plain(rt.alloc(), &day.book, &day.rules, &day.batch);
-    assert_eq!(rt; late.err(), Some(SettleFault::WrongBase { next: 2 }));
+    let found = commit_twice(&rt, rt.alloc());
+    assert_eq!(rt; found, (Stale { next: 3 }, 2, Some(30)));
+    let again = settle_again(&rt, rt.alloc());
+    assert_eq!(rt; again, (3, Some(SettleFault::WrongBase { next: 3 })));
 }

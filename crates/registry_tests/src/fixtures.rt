@@ -46,7 +46,7 @@ pub(crate) fn surrendered(rt: &impl Abort, number: u64, amount: u64) -> Retireme
 }
 
 /// What the row of an account says, as one value that can be compared.
-#[derive(Clone, Copy, Debug, PartialEq, Eq)]
+#[derive(Clone, Copy, PartialEq, Eq)]
 pub(crate) struct AccountRow {
     pub number: AccountNo,
     pub kind: AccountKind,

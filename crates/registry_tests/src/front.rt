@@ -1,10 +1,11 @@
-//! The engine over memory: what it answers and writes for each number of workers.
+//! The engine on devices that move one byte a call and fail at a call, which no run of the program can show for each call.
 
 use reg_front::{Command, FrontFault, run};
-use reg_text::Cause;
 use std::alloc::Global;
+use std::io;
+use std::io::{ErrorKind, Read, Write};
 
-// Two transfers, of which the second finds too little left.
+// A first day: one transfer, which is done.
 const DAY: &str = "\
 format,1
 day,2025-03-31,1
@@ -17,15 +18,13 @@ user,102,approve
 trusted,2,2025-03-31
 account,2,trading,12,open,no,no,0,0,0
 do,2025-03-31,101,102,transfer,1,2,general,40
-do,2025-03-31,101,102,transfer,1,2,general,70
 end
 ";
 
 // What that day gives.
 const REPORT: &str = "\
 log,1,2025-03-31,2025-03-31,101,102,transfer,1,2,general,40,done,,1,60,0,2,40,0
-log,2,2025-03-31,2025-03-31,101,102,transfer,1,2,general,70,refused,18,NotEnough
-book,3
+book,2
 account,1,operator,11,open,no,no,0,60,0
 user,101,propose
 user,102,approve
@@ -36,42 +35,91 @@ totals,aviation,0,0,0
 end
 ";
 
-// What settling the text with so many workers answers, and what it writes.
-fn settle(alloc: Global, text: &str, workers: u32) -> (Result<(), FrontFault>, Vec<u8>) {
-    let mut reader = text.as_bytes();
-    let mut written = Vec::new(alloc);
-    let answer = run(
-        alloc,
-        &mut reader,
-        &mut written,
-        Command::Settle { workers },
-    );
-    (answer, written)
+// Moves one byte a call, and fails at a call that it counts down to; at 0 it never fails.
+#[derive(Drop)]
+struct Device<'a> {
+    rest: &'a [u8],
+    written: Vec<u8>,
+    calls_until_failure: usize,
+}
+
+impl Device<'_> {
+    // Counts a call, which may be the one that fails.
+    fn count_call(&mut self) -> io::Result<()> {
+        if self.calls_until_failure == 0 {
+            return Ok(());
+        }
+        self.calls_until_failure -= 1;
+        if self.calls_until_failure == 0 {
+            return Err(io::Error::from(ErrorKind::Other));
+        }
+        Ok(())
+    }
+}
+
+impl Read for Device<'_> {
+    fn read(&mut self, buf: &mut [u8]) -> io::Result<usize> {
+        self.count_call()?;
+        let most = buf.len().min(1);
+        self.rest.read(&mut buf[..most])
+    }
+}
+
+impl Write for Device<'_> {
+    fn write(&mut self, buf: &[u8]) -> io::Result<usize> {
+        self.count_call()?;
+        self.written.write(&buf[..buf.len().min(1)])
+    }
+
+    fn flush(&mut self) -> io::Result<()> {
+        self.count_call()
+    }
+}
+
+// A device that gives these bytes and fails at this call.
+fn make_device(alloc: Global, rest: &[u8], call: usize) -> Device<'_> {
+    Device {
+        rest,
+        written: Vec::new(alloc),
+        calls_until_failure: call,
+    }
+}
+
+// What settling the day answers, and what it writes. The reader and the writer fail at these calls.
+fn settle(alloc: Global, workers: u32, calls: [usize; 2]) -> (Result<(), FrontFault>, Vec<u8>) {
+    let [read_call, write_call] = calls;
+    let mut reader = make_device(alloc, DAY.as_bytes(), read_call);
+    let mut writer = make_device(alloc, b"", write_call);
+    let command = Command::Settle { workers };
+    let answer = run(alloc, &mut reader, &mut writer, command);
+    (answer, writer.written)
 }
 
 #[test]
-fn the_report_is_the_same_for_each_number_of_workers(rt: HostRuntime) {
+fn moves_a_text_byte_by_byte_for_each_number_of_workers(rt: HostRuntime) {
     for workers in 1..9 {
-        let (answer, written) = settle(rt.alloc(), DAY, workers);
+        let (answer, written) = settle(rt.alloc(), workers, [0, 0]);
         assert_eq!(rt; answer, Ok(()), "{workers} workers");
         assert_eq!(rt; written.as_slice(), REPORT.as_bytes(), "{workers} workers");
     }
 }
 
+// One call more than there are bytes finds the end.
 #[test]
-fn a_faulty_day_comes_before_the_number_of_workers(rt: HostRuntime) {
-    let empty = FrontFault::Row {
-        row: 1,
-        cause: Cause::End,
-    };
-    for (text, workers, fault) in [
-        (DAY, 0, FrontFault::Workers),
-        (DAY, 9, FrontFault::Workers),
-        ("", 4, empty),
-        ("", 9, empty),
-    ] {
-        let (answer, written) = settle(rt.alloc(), text, workers);
-        assert_eq!(rt; answer, Err(fault), "{workers} workers");
-        assert!(rt; written.is_empty(), "{workers} workers");
+fn reports_each_failed_read(rt: HostRuntime) {
+    for call in 1..DAY.len() + 2 {
+        let (answer, written) = settle(rt.alloc(), 4, [call, 0]);
+        assert_eq!(rt; answer, Err(FrontFault::Read), "at call {call}");
+        assert!(rt; written.is_empty(), "at call {call}");
+    }
+}
+
+// One call more than there are bytes flushes the writer.
+#[test]
+fn reports_each_failed_write(rt: HostRuntime) {
+    for call in 1..REPORT.len() + 2 {
+        let (answer, written) = settle(rt.alloc(), 4, [0, call]);
+        assert_eq!(rt; answer, Err(FrontFault::WriteFailed), "at call {call}");
+        assert_eq!(rt; written.as_slice(), &REPORT.as_bytes()[..call - 1]);
     }
 }

@@ -18,6 +18,4 @@ mod plan;
 #[cfg(test)]
 mod rules;
 #[cfg(test)]
-mod text;
-#[cfg(test)]
 mod texts;

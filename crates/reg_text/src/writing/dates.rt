@@ -17,8 +17,8 @@ fn digit(n: u8) -> u8
     b'0' + n
 }
 
-// The spelling of the date with this year, month and day of the month.
-fn spell_civil(year: u16, month: u8, day: u8) -> [u8; 10]
+/// The spelling of the date with this year, month and day of the month.
+pub(crate) fn spell_civil(year: u16, month: u8, day: u8) -> [u8; 10]
     requires year_in { year < 10_000 }
     requires month_in { month < 100 }
     requires day_in { day < 100 }

@@ -6,9 +6,9 @@ ghost use Rattle.csv.specs.Writing.{default_writer, row_text};
 ghost use Rattle.reg_text.specs.Report.{text_of};
 ghost use Rattle.reg_text.specs.Determined.{determined_row, determined_rows, figures_rows};
 
-use crate::writing::lists::put_figure_fields;
 use crate::writing::report::put_end;
 use crate::writing::row::RowText;
+use crate::writing::rows::Tagged;
 use crate::writing::text::Text;
 use reg_account::{Account, Figure};
 use reg_base::{AccountNo, NoMemory};
@@ -25,13 +25,14 @@ fn put_determined(
     ensures { OnOk result (text.new ≡ text.old ++ row_text default_writer (determined_row account figure.now)) }
 {
     row.begin();
-    put_figure_fields(row, figure);
+    figure.put_fields(row);
     row.number(account.get().into());
     row.put(b"determined");
     text.append(row.as_slice())
 }
 
 // Adds the rows of determined figures of an account, in order.
+#[tactic(auto, using(crate::proofs::TextFacts::row_loop))]
 fn put_years(
     text: &mut Text,
     row: &mut RowText,
@@ -47,6 +48,7 @@ fn put_years(
 }
 
 // Adds the rows of the determined figures of accounts, in order.
+#[tactic(auto, using(crate::proofs::TextFacts::row_loop))]
 fn put_accounts(text: &mut Text, row: &mut RowText, accounts: &[Account]) -> Result<(), NoMemory>
     ensures { OnOk result (text.new ≡ text.old ++ text_of (flat_map determined_rows accounts.now)) }
 {
@@ -59,7 +61,7 @@ fn put_accounts(text: &mut Text, row: &mut RowText, accounts: &[Account]) -> Res
 /// The compliance figures of a book: for each account, by rising number, a row for each year with a determined figure,
 /// by rising year, and the row `end`. An account without a determined figure has no row.
 ///
-/// A figure is a number of allowances, and negative if allowances are missing. It stands here as it was last
+/// A figure is in tonnes of carbon dioxide equivalent, and negative if allowances are missing. It stands here as it was last
 /// determined, whatever the account's kind and status are now.
 ///
 /// # Errors

@@ -7,6 +7,7 @@ ghost use Rattle.reg_text.specs.PlanText.{task_row, arrow_row, place_rows, place
 
 use crate::writing::report::put_end;
 use crate::writing::row::RowText;
+use crate::writing::rows::{Rows, put_each, put_numbers};
 use crate::writing::text::Text;
 use reg_base::NoMemory;
 use reg_plan::{Arrow, Plan};
@@ -16,33 +17,38 @@ use std::alloc::Global;
 fn put_task(text: &mut Text, row: &mut RowText, place: u32, level: u32) -> Result<(), NoMemory>
     ensures { OnOk result (text.new ≡ text.old ++ row_text default_writer (task_row place level)) }
 {
-    row.begin();
-    row.number(level.into());
-    row.number(place.into());
-    row.put(b"task");
-    text.append(row.as_slice())
+    put_numbers(text, row, b"task", &[place.into(), level.into()])
 }
 
 // Adds the row of an arrow.
 fn put_arrow(text: &mut Text, row: &mut RowText, arrow: &Arrow) -> Result<(), NoMemory>
     ensures { OnOk result (text.new ≡ text.old ++ row_text default_writer (arrow_row arrow.now)) }
 {
-    row.begin();
-    row.number(arrow.account.get().into());
-    row.number(arrow.to.into());
-    row.number(arrow.from.into());
-    row.put(b"arrow");
-    text.append(row.as_slice())
+    let numbers = [
+        arrow.from.into(),
+        arrow.to.into(),
+        arrow.account.get().into(),
+    ];
+    put_numbers(text, row, b"arrow", &numbers)
+}
+
+impl Rows for Arrow {
+    ghost use Rattle.std.specs.Prelude.{[], ◌∷◌};
+    ghost use Rattle.reg_text.specs.PlanText.{arrow_row};
+
+    ghost rows = { λ value. arrow_row value ∷ [] };
+
+    fn put(&self, text: &mut Text, row: &mut RowText) -> Result<(), NoMemory> {
+        put_arrow(text, row, self)
+    }
 }
 
 // Adds the rows of arrows, in order.
+#[tactic(auto, using(std::proofs::lemmas::List::Concat::flat_map_single))]
 fn put_arrows(text: &mut Text, row: &mut RowText, arrows: &[Arrow]) -> Result<(), NoMemory>
     ensures { OnOk result (text.new ≡ text.old ++ text_of (map arrow_row arrows.now)) }
 {
-    for arrow in arrows {
-        put_arrow(text, row, arrow)?;
-    }
-    Ok(())
+    put_each(text, row, arrows)
 }
 
 // Adds a place of the plan and the arrows that lead to it.
@@ -56,6 +62,7 @@ fn put_place(text: &mut Text, row: &mut RowText, plan: &Plan, place: u32) -> Res
 }
 
 // Adds all places of the plan, in order.
+#[tactic(auto, using(crate::proofs::TextFacts::place_loop))]
 fn put_places(text: &mut Text, row: &mut RowText, plan: &Plan) -> Result<(), NoMemory>
     ensures { OnOk result (text.new ≡ text.old ++ text_of (places_rows plan.now (length plan.now.levels))) }
 {

@@ -2,10 +2,11 @@
 //! appended to the whole text in one piece. No field written here needs quotes, so these are the same bytes that the
 //! writer of `csv` would give. That writer would copy each field once more and look at each byte.
 
-ghost use Rattle.std.specs.Prelude.{◌≡◌, ◌+◌, ◌*◌, ◌≤◌, ◌<◌, ◌∷◌, [], ◌++◌, length, pos, unsigned_abs, OnOk};
+ghost use Rattle.std.specs.Prelude.{◌≡◌, ◌+◌, ◌*◌, ◌≤◌, ◌<◌, ◌∷◌, [], ◌++◌, map, length, pos, unsigned_abs, OnOk};
 ghost use Rattle.reg_text.specs.Numbers.{number};
 ghost use Rattle.reg_text.specs.Signed.{signed};
 ghost use Rattle.reg_text.specs.Dates.{date};
+ghost use Rattle.reg_text.specs.Plain.{with_commas};
 ghost use Rattle.reg_text.specs.declared.writing.row.TheConstants.{ROOM, MOST_FIELD};
 
 use crate::writing::dates::spell_date;
@@ -117,6 +118,18 @@ impl RowText {
     {
         self.digits(n);
         self.byte(b',');
+    }
+
+    /// Adds numbers.
+    pub(crate) fn numbers(&mut self, numbers: &[u64])
+        requires { length self.old + length numbers.now * MOST_FIELD ≤ ROOM }
+        ensures text { self.new ≡ with_commas (map number numbers.now) self.old }
+        ensures short { length self.new ≤ length self.old + length numbers.now * MOST_FIELD }
+    {
+        if let [first, rest @ ..] = numbers {
+            self.numbers(rest);
+            self.number(*first);
+        }
     }
 
     /// Adds a number of at most 128 bits.

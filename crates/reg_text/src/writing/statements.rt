@@ -14,6 +14,7 @@ ghost use Rattle.reg_text.specs.Statement.{concerns, rows_about, told_by, last_t
 use crate::writing::log::put_log_row;
 use crate::writing::report::put_end;
 use crate::writing::row::RowText;
+use crate::writing::rows::put_numbers;
 use crate::writing::text::Text;
 use reg_base::{AccountNo, AllowanceKind, Directory, NoMemory};
 use reg_book::Book;
@@ -75,12 +76,8 @@ fn put_held(text: &mut Text, row: &mut RowText, tag: &[u8], held: &HeldNow) -> R
     requires short { length tag.now ≤ MOST_FIELD }
     ensures { OnOk result (text.new ≡ text.old ++ row_text default_writer (tag.now ∷ holding_fields held.now)) }
 {
-    row.begin();
-    row.number(held.aviation);
-    row.number(held.general);
-    row.number(held.account.get().into());
-    row.put(tag);
-    text.append(row.as_slice())
+    let numbers = [held.account.get().into(), held.general, held.aviation];
+    put_numbers(text, row, tag, &numbers)
 }
 
 // Adds a log row if the account is in its footprint. Answers what the row tells of the account, or if it tells
@@ -104,6 +101,7 @@ fn put_row_about(
 }
 
 // Adds the log rows in whose footprint the account is. Answers what the last of them that tells of it says.
+#[tactic(auto, using(crate::proofs::TextFacts::row_loop))]
 fn put_rows_about(
     text: &mut Text,
     row: &mut RowText,

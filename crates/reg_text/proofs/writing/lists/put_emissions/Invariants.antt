@@ -1,8 +1,0 @@
-use Rattle.std.proofs.Common.{◌≡◌, ◌++◌, take}
-use Rattle.reg_text.specs.declared.reading.tag.Tag.TheVariants as tag
-use Rattle.reg_text.proofs.Names.{each_row, text_of}
-use Rattle.reg_text.proofs.writing.lists.put_emissions.Given as goal
-
--- the rows so far have been added
-abbrev pub invariant-loop-emission : goal.invariant-loop-emission
-invariant-loop-emission l = l.text ≡ l.initial.text ++ text_of (each_row tag.Emissions (take l.emission-index l.emissions))
