@@ -68,6 +68,15 @@ impl Account {
         Ok(Account { parts })
     }
 
+    /// The account with these parts, none of which may have a fault. Takes no memory and looks at no list: for callers that
+    /// have tested each part, as a reader does that has tested each row.
+    pub fn of_fitting(parts: AccountParts) -> Self
+        requires { IsAccount (account_of parts) }
+        ensures { result ≡ account_of parts }
+    {
+        Account { parts }
+    }
+
     /// Every account is within its limits. This method does nothing. A function whose proof needs this fact calls it.
     pub fn is_within_limits(&self)
         ensures { IsAccount self.now }

@@ -70,6 +70,7 @@ impl Kept {
         get_sum(&self.sums, way, kind)
     }
 
+    #[inline(always)]
     pub(crate) fn push_row(&mut self, row: RetirementRow) -> Result<(), NoMemory>
         ensures ok { OnOk result (self.new ≡ record self.old { rows = self.old.rows ++ row ∷ [] }) }
         ensures err { OnErr result (self.new ≡ self.old) }

@@ -149,6 +149,7 @@ impl Lists {
     ///
     /// # Errors
     /// `NoMemory` if memory ran out. The lists are unchanged.
+    #[inline(always)]
     pub fn push_row(&mut self, row: RetirementRow) -> Result<(), NoMemory>
         ensures ok { OnOk result (self.new ≡ record self.old { rows = self.old.rows ++ row ∷ [] }) }
         ensures err { OnErr result (self.new ≡ self.old) }

@@ -72,6 +72,7 @@ impl Records {
     ///
     /// # Errors
     /// `NoMemory` if memory ran out. The records are unchanged.
+    #[inline(always)]
     pub(crate) fn push_row(&mut self, row: RetirementRow) -> Result<(), NoMemory>
         ensures ok { OnOk result (self.new ≡ record self.old { rows = self.old.rows ++ row ∷ [] }) }
         ensures err { OnErr result (self.new ≡ self.old) }

@@ -92,7 +92,9 @@ fn rename(places: &mut [usize], from: usize, to: usize)
     }
 }
 
-// Executes the instruction. The first `count` accounts are those that it touches, in its order.
+// Executes the instruction. The first `count` accounts are those that it touches, in its order. As a call of its own, it
+// takes the room for its locals once, and not for each account.
+#[inline(never)]
 fn turn_at_front(
     alloc: Global,
     setting: &Setting,

@@ -209,6 +209,16 @@ fails c e i YearOutsidePeriod = names_year_outside c.rules i.act
 fails c e i AmountTooLarge = enters_too_much i.act
 fails c e i EmissionsMissing = lacks_emissions c.rules i.act e
 
+-- the check needs only the accounts and their representatives; the checks of this sort come first
+abbrev pub is_of_parties : Refusal → Bool
+is_of_parties UnknownAccount = true
+is_of_parties SameAccount = true
+is_of_parties WrongAccountKind = true
+is_of_parties SourceStatus = true
+is_of_parties DestinationStatus = true
+is_of_parties NotProposer = true
+is_of_parties check = false
+
 -- the first check that fails, or none
 abbrev pub refusal : Setting → State → Instruction → Option Refusal
 refusal c s i = find (fails c (seen s i.act) i) checks

@@ -1,6 +1,6 @@
 //! The checks of an instruction, in the order of the table of checks.
 
-ghost use Rattle.std.specs.Prelude.{◌≡◌, ◌≤◌, ◌∷◌, ◌++◌, ◌==◌, ◌&&◌, false, nat_le, nat_lt, map, find, length, reverse};
+ghost use Rattle.std.specs.Prelude.{◌≡◌, ◌≤◌, ◌∷◌, ◌++◌, ◌==◌, ◌&&◌, false, nat_le, nat_lt, map, find, length, reverse, take, drop};
 ghost use Rattle.std.specs.Option.{option_copied, option_map_or, option_to_list};
 ghost use Rattle.std.specs.List.{list_any, list_all};
 ghost use Rattle.reg_base.specs.declared.limits.TheConstants.{MOST_HELD, MOST_ROWS};
@@ -12,8 +12,9 @@ ghost use Rattle.reg_account.specs.Rows.{row_in};
 ghost use Rattle.reg_account.specs.Laws.{lowered_by};
 ghost use Rattle.reg_rules.specs.ActRules.{fits_receiver, fits_first_receiver, is_not_closed, rule_of};
 ghost use Rattle.reg_rules.specs.State.{numbers, account, held, seen, seen_by, passes};
+ghost use Rattle.reg_rules.specs.declared.checks.TheConstants.{OF_PARTIES};
 ghost use Rattle.reg_rules.specs.Trust.{trusts_receivers, due_day};
-ghost use Rattle.reg_rules.specs.Checks.{has_repeat, has_right_kinds, source_allows, destination_allows, is_kind_not_allowed, is_reversal, row_to_reverse, is_past_window, is_short, overfills, overfills_first, overfills_some, is_retired_too_large, are_rows_full, counted_amount, lost_by, is_compliant, is_negative, turns_negative, loses_compliance, would_become_non_compliant, names_year_outside, enters_too_much, is_missing, lacks_emissions, fails, refusal};
+ghost use Rattle.reg_rules.specs.Checks.{has_repeat, has_right_kinds, source_allows, destination_allows, is_kind_not_allowed, is_reversal, row_to_reverse, is_past_window, is_short, overfills, overfills_first, overfills_some, is_retired_too_large, are_rows_full, counted_amount, lost_by, is_compliant, is_negative, turns_negative, loses_compliance, would_become_non_compliant, names_year_outside, enters_too_much, is_missing, lacks_emissions, fails, is_of_parties, refusal};
 
 use crate::entitlement::{is_not_approver, is_not_proposer, is_same_representative};
 use crate::rule::{
@@ -31,6 +32,9 @@ use reg_base::{
     AccountKind, AccountNo, Act, AllowanceKind, Day, Directory, Instruction, MOST_EMISSIONS,
     MOST_HELD, MOST_ROWS, Movement, RecordNo, Refusal, Rules, Share, Year,
 };
+
+// How many checks need only the accounts and their representatives. These come first.
+const OF_PARTIES: usize = 6;
 
 /// The checks, in their order.
 const CHECKS: [Refusal; 28] = [
@@ -99,12 +103,50 @@ fn first_failing(
     requires movement { movement.now ≡ movement_of instruction.now.act }
     ensures { result ≡ find (fails setting.now (seen accounts.now instruction.now.act) instruction.now) checks }
 {
+    let early = first_of_parties(setting, instruction, movement, accounts);
+    if early.is_some() {
+        return early;
+    }
+    first_of_others(setting, instruction, movement, accounts)
+}
+
+// The first check that fails among those that need only the accounts and their representatives.
+fn first_of_parties(
+    setting: &Setting,
+    instruction: &Instruction,
+    movement: &Movement,
+    accounts: &[Account],
+) -> Option<Refusal>
+    requires own { numbers accounts.now ≡ footprint setting.now.directory instruction.now.act }
+    requires movement { movement.now ≡ movement_of instruction.now.act }
+    ensures { result ≡ find (λ check. is_of_parties check && fails setting.now (seen accounts.now instruction.now.act) instruction.now check) (take OF_PARTIES checks) }
+{
+    CHECKS[..OF_PARTIES].iter().copied().find(|check| refuses_parties(
+        *check,
+        setting,
+        instruction,
+        movement,
+        accounts,
+    ))
+}
+
+// The first check that fails among the others.
+fn first_of_others(
+    setting: &Setting,
+    instruction: &Instruction,
+    movement: &Movement,
+    accounts: &[Account],
+) -> Option<Refusal>
+    requires own { numbers accounts.now ≡ footprint setting.now.directory instruction.now.act }
+    requires movement { movement.now ≡ movement_of instruction.now.act }
+    ensures { result ≡ find (fails setting.now (seen accounts.now instruction.now.act) instruction.now) (drop OF_PARTIES checks) }
+{
     // Several checks read whether the destination is trusted, the due day, or the row that is to be reversed. Each is
     // searched for once.
     let trusted = trusts_receivers(setting.day, movement, accounts);
     let due = due_day(setting, instruction, trusted);
     let row = row_to_reverse(&instruction.act, accounts);
-    CHECKS.iter().copied().find(|check| refuses(
+    CHECKS[OF_PARTIES..].iter().copied().find(|check| refuses(
         *check,
         setting,
         instruction,
@@ -114,6 +156,31 @@ fn first_failing(
         row,
         accounts,
     ))
+}
+
+// Whether this check fails, if it needs only the accounts and their representatives.
+fn refuses_parties(
+    check: Refusal,
+    setting: &Setting,
+    instruction: &Instruction,
+    movement: &Movement,
+    accounts: &[Account],
+) -> bool
+    requires own { numbers accounts.now ≡ footprint setting.now.directory instruction.now.act }
+    requires movement { movement.now ≡ movement_of instruction.now.act }
+    ensures { result ≡ (is_of_parties check && fails setting.now (seen accounts.now instruction.now.act) instruction.now check) }
+{
+    use Refusal::*;
+    match check {
+        // The footprint is empty exactly if an account that must be known is not.
+        UnknownAccount => accounts.is_empty(),
+        SameAccount => names_one_twice(&instruction.act, movement),
+        WrongAccountKind => !has_right_kinds(rule_of(&instruction.act), movement, accounts),
+        SourceStatus => !source_allows(rule_of(&instruction.act), movement, accounts),
+        DestinationStatus => !destination_allows(rule_of(&instruction.act), movement, accounts),
+        NotProposer => is_not_proposer(setting.rules, instruction, movement, accounts),
+        _ => false,
+    }
 }
 
 // Whether this check fails.
@@ -136,13 +203,12 @@ fn refuses(
 {
     use Refusal::*;
     match check {
-        // The footprint is empty exactly if an account that must be known is not.
-        UnknownAccount => accounts.is_empty(),
-        SameAccount => names_one_twice(&instruction.act, movement),
-        WrongAccountKind => !has_right_kinds(rule_of(&instruction.act), movement, accounts),
-        SourceStatus => !source_allows(rule_of(&instruction.act), movement, accounts),
-        DestinationStatus => !destination_allows(rule_of(&instruction.act), movement, accounts),
-        NotProposer => is_not_proposer(setting.rules, instruction, movement, accounts),
+        UnknownAccount
+        | SameAccount
+        | WrongAccountKind
+        | SourceStatus
+        | DestinationStatus
+        | NotProposer => refuses_parties(check, setting, instruction, movement, accounts),
         ApprovalMissing => lacks_approval(setting, instruction, movement, trusted, accounts),
         SameRepresentative => is_same_representative(instruction),
         NotApprover => is_not_approver(setting.rules, instruction, movement, accounts),

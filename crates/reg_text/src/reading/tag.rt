@@ -146,23 +146,46 @@ fn place_of(last: Option<Tag>) -> u8
     }
 }
 
-// The tag that a field names. Rows with one tag often come one after another, so the last row's tag is tried first.
-fn read_name(last: Option<Tag>, field: &[u8]) -> Result<Tag, Cause>
+// The tag that a field with this first letter most likely names. Its word has to be compared.
+fn likely_tag(field: &[u8]) -> Tag {
+    match field.first().copied() {
+        Some(b'a') => Tag::Account,
+        Some(b'u') => Tag::User,
+        Some(b't') => Tag::Trusted,
+        Some(b'r') => Tag::Retired,
+        Some(b'e') => Tag::Emissions,
+        Some(b'f') => Tag::Figure,
+        Some(b'w') => Tag::Work,
+        _ => Tag::Do,
+    }
+}
+
+// The tag that a field names. Few words begin with one letter, so most fields are compared with one word.
+#[inline(always)]
+fn read_name(field: &[u8]) -> Result<Tag, Cause>
     ensures { result ≡ named cause.Tag tag_word all_tags field.now }
 {
-    if let Some(tag) = last {
-        if is_word(field, tag.word()) {
-            return Ok(tag);
-        }
+    let tag = likely_tag(field);
+    if is_word(field, tag.word()) {
+        return Ok(tag);
     }
+    read_other_name(field)
+}
+
+// The tag that a field names, compared with each word. As a call of its own, it leaves the usual way short.
+#[inline(never)]
+fn read_other_name(field: &[u8]) -> Result<Tag, Cause>
+    ensures { result ≡ named cause.Tag tag_word all_tags field.now }
+{
     read_named(field, Cause::Tag)
 }
 
 /// The tag that a field names, if it is allowed after the last row.
+#[inline(always)]
 pub(crate) fn read_tag(last: Option<Tag>, field: &[u8]) -> Result<Tag, Cause>
     ensures { result ≡ tag_after last field.now }
 {
-    let tag = read_name(last, field)?;
+    let tag = read_name(field)?;
     let rule = tag.rule();
     let at = place_of(last);
     if rule.from <= at && at <= rule.to {
