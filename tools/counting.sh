@@ -73,16 +73,25 @@ sum_of_times() {
     END { print sum }'
 }
 
-# Prints what each crate cost, and warns if the sum is above so many minutes.
+# Prints what each crate cost, and warns if the sum is above so many minutes. How fast the machine is
+# shows in the proof of reg_base, which takes $2 processor minutes on the machine of the bound: the
+# sum is turned into minutes of that machine.
 show_costs() {
-  local bound=$1 seconds
+  local bound=$1 base=$2 seconds proof
   times >"$work/times"
   seconds=$(sum_of_times <"$work/times")
+  proof=$(LC_ALL=C awk '$1 == "reg_base" && $2 == "proof" { print $3 }' "$work/used" 2>"$work/no-proof") || proof=
   echo
   tools/processor-time table "$work/used" "$seconds" || echo "check: the table of crates could not be made"
-  LC_ALL=C awk -v seconds="$seconds" -v bound="$bound" 'BEGIN {
+  LC_ALL=C awk -v seconds="$seconds" -v bound="$bound" -v base="$base" -v proof="${proof:-0}" 'BEGIN {
     printf "in all %.1f processor minutes (user and system)\n", seconds / 60
-    if (seconds > 60 * bound) {
+    minutes = seconds / 60
+    if (proof > 0) {
+      minutes = minutes * 60 * base / proof
+      printf "the proof of reg_base took %.1f minutes, and takes %s on the machine of the bound: there\n", proof / 60, base
+      printf "the whole takes about %.1f\n", minutes
+    }
+    if (minutes > bound) {
       printf "WARNING: that is above the bound of %s processor minutes. Make the check cheaper, or raise\n", bound
       print "most_processor_minutes in ./check in the commit that needs it."
     }
