@@ -81,6 +81,7 @@ impl Kept {
         Ok(())
     }
 
+    #[inline(always)]
     pub(crate) fn push_emission(&mut self, emission: Emission) -> Result<(), NoMemory>
         ensures ok { OnOk result (self.new ≡ record self.old { emissions = self.old.emissions ++ emission ∷ [] }) }
         ensures err { OnErr result (self.new ≡ self.old) }
@@ -89,6 +90,7 @@ impl Kept {
         Ok(())
     }
 
+    #[inline(always)]
     pub(crate) fn push_figure(&mut self, figure: Figure) -> Result<(), NoMemory>
         ensures ok { OnOk result (self.new ≡ record self.old { figures = self.old.figures ++ figure ∷ [] }) }
         ensures err { OnErr result (self.new ≡ self.old) }

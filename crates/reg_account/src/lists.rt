@@ -111,6 +111,7 @@ impl Lists {
     ///
     /// # Errors
     /// `NoMemory` if memory ran out. The lists are unchanged.
+    #[inline(always)]
     pub fn push_user(&mut self, user: Representative) -> Result<(), NoMemory>
         ensures ok { OnOk result (self.new ≡ record self.old { users = self.old.users ++ user ∷ [] }) }
         ensures err { OnErr result (self.new ≡ self.old) }
@@ -130,6 +131,7 @@ impl Lists {
     ///
     /// # Errors
     /// `NoMemory` if memory ran out. The lists are unchanged.
+    #[inline(always)]
     pub fn push_trusted(&mut self, entry: TrustedEntry) -> Result<(), NoMemory>
         ensures ok { OnOk result (self.new ≡ record self.old { trusted = self.old.trusted ++ entry ∷ [] }) }
         ensures err { OnErr result (self.new ≡ self.old) }
@@ -169,6 +171,7 @@ impl Lists {
     ///
     /// # Errors
     /// `NoMemory` if memory ran out. The lists are unchanged.
+    #[inline(always)]
     pub fn push_emission(&mut self, emission: Emission) -> Result<(), NoMemory>
         ensures ok { OnOk result (self.new ≡ record self.old { emissions = self.old.emissions ++ emission ∷ [] }) }
         ensures err { OnErr result (self.new ≡ self.old) }
@@ -188,6 +191,7 @@ impl Lists {
     ///
     /// # Errors
     /// `NoMemory` if memory ran out. The lists are unchanged.
+    #[inline(always)]
     pub fn push_figure(&mut self, figure: Figure) -> Result<(), NoMemory>
         ensures ok { OnOk result (self.new ≡ record self.old { figures = self.old.figures ++ figure ∷ [] }) }
         ensures err { OnErr result (self.new ≡ self.old) }

@@ -92,6 +92,7 @@ impl Records {
     ///
     /// # Errors
     /// `NoMemory` if memory ran out. The records are unchanged.
+    #[inline(always)]
     pub(crate) fn push_emission(&mut self, emission: Emission) -> Result<(), NoMemory>
         ensures ok { OnOk result (self.new ≡ record self.old { emissions = self.old.emissions ++ emission ∷ [] }) }
         ensures err { OnErr result (self.new ≡ self.old) }
@@ -111,6 +112,7 @@ impl Records {
     ///
     /// # Errors
     /// `NoMemory` if memory ran out. The records are unchanged.
+    #[inline(always)]
     pub(crate) fn push_figure(&mut self, figure: Figure) -> Result<(), NoMemory>
         ensures ok { OnOk result (self.new ≡ record self.old { figures = self.old.figures ++ figure ∷ [] }) }
         ensures err { OnErr result (self.new ≡ self.old) }

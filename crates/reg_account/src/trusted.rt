@@ -28,8 +28,8 @@ impl Default for TrustedEntry {
     }
 }
 
-/// A trusted account list. Most have an entry or two, so two take no allocation of their own.
-pub(crate) type Entries = SmallVec<TrustedEntry, 2>;
+/// A trusted account list. Most have at most four entries, so four take no allocation of their own.
+pub(crate) type Entries = SmallVec<TrustedEntry, 4>;
 
 /// The day on which the entry of this account takes effect, if the list has the account.
 pub(crate) fn find_effective(entries: &[TrustedEntry], account: AccountNo) -> Option<Day>

@@ -82,6 +82,7 @@ pub fn decide(
     requires { numbers accounts.now ≡ footprint directory.now instruction.now.act }
     ensures { result ≡ refusal (record { rules = rules.now; day = day; directory = directory.now }) accounts.now instruction.now }
 {
+    // No check asks for the record number yet.
     let _unused_yet = number;
     let setting = Setting {
         rules,
