@@ -15,3 +15,17 @@ pub mod Standing
 pub mod Placing
 pub mod OrderSteps
 pub mod Fitting
+pub mod WorldSteps
+pub mod WorldSums
+pub mod WorldCounts
+pub mod WorldStart
+pub mod Schedules
+pub mod WorldFits
+pub mod WorldReach
+pub mod WorldSent
+pub mod WorldBegin
+pub mod WorldEnds
+pub mod WorldPossible
+pub mod WorldBound
+pub mod WorldValues
+pub mod WorldClosing

@@ -4,3 +4,5 @@ pub mod Names
 pub mod Parcels
 pub mod Gathering
 pub mod Slots
+pub mod World
+pub mod Schedules

@@ -2,6 +2,7 @@
 //! function.
 
 ghost use Rattle.reg_graph.specs.Laws.{EveryOrder, UndefinedAtFirstFault};
+ghost use Rattle.reg_graph.specs.Schedules.{EverySchedule, NothingLost};
 
 use reg_base::laws::{each_footprint_is_sound, last_toucher_is_last};
 use reg_book::{each_is_a_step, settled_is_closing, untouched_stay, value_is_last_touchers};
@@ -32,6 +33,31 @@ pub fn undefined_at_first_fault()
     each_is_a_step();
     untouched_stay();
     value_is_last_touchers();
+    last_toucher_is_last();
+    tails_are_last_touchers();
+}
+
+/// After every schedule of workers' steps each value is the one of its name, and each row is the one of its instruction.
+/// If all instructions are done, the rows and the closing values are those of the settled day.
+pub fn every_schedule()
+    ensures { EverySchedule }
+{
+    each_footprint_is_sound();
+    step_laws();
+    each_is_a_step();
+    value_is_last_touchers();
+    last_toucher_is_last();
+    tails_are_last_touchers();
+}
+
+/// After every schedule each instruction is in exactly one place: in its dock, in a list, in a hand, or done. If no list
+/// and no hand has anything, all are done; otherwise some event is possible. No schedule has more events than three for
+/// each instruction and one for each arrow.
+pub fn nothing_lost()
+    ensures { NothingLost }
+{
+    each_footprint_is_sound();
+    step_laws();
     last_toucher_is_last();
     tails_are_last_touchers();
 }

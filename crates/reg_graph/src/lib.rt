@@ -3,6 +3,7 @@
 #![tactic(auto)]
 
 mod context;
+mod event;
 mod gather;
 pub mod laws;
 mod naming;
@@ -15,6 +16,7 @@ mod slots;
 mod task;
 
 pub use context::Context;
+pub use event::{Event, EventFault};
 pub use naming::{Naming, Unnamed};
 pub use order::{RunFault, run_order};
 pub use outcome::{Outcome, Ran};

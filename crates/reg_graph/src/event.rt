@@ -1,0 +1,54 @@
+//! The steps of workers, of which the laws of schedules speak.
+
+/// A step of a worker. Workers are counted from 0.
+#[derive(Clone, Copy, Debug, PartialEq, Eq)]
+pub enum Event {
+    /// The worker takes the first task of its own list in hand.
+    Pop {
+        /// The worker.
+        worker: u32,
+    },
+    /// The worker takes the first task of another worker's list in hand.
+    Steal {
+        /// The worker.
+        worker: u32,
+        /// The worker from whose list the task is taken.
+        from: u32,
+    },
+    /// The worker runs the task in its hand. What no later instruction needs is closing; the other parcels stay in
+    /// hand.
+    Run {
+        /// The worker.
+        worker: u32,
+    },
+    /// The worker puts the first parcel in its hand into its dock. If the dock is complete then, its task comes to the
+    /// hand.
+    Deliver {
+        /// The worker.
+        worker: u32,
+    },
+    /// The worker puts the task that became complete at the end of its list.
+    Push {
+        /// The worker.
+        worker: u32,
+    },
+}
+
+/// Why an event is not possible.
+#[derive(Clone, Copy, Debug, PartialEq, Eq)]
+pub enum EventFault {
+    /// There is no such worker.
+    NoSuchWorker,
+    /// A worker does not steal from itself.
+    OwnDeque,
+    /// The worker has something in hand.
+    HandsFull,
+    /// The list has no task.
+    EmptyDeque,
+    /// The worker has no task to run in hand.
+    NothingToRun,
+    /// The worker has no parcel in hand, or a task that became complete waits there to be pushed.
+    NothingToDeliver,
+    /// No task that became complete is in hand.
+    NothingToPush,
+}
