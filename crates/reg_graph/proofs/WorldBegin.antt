@@ -65,9 +65,6 @@ module _ (day : Day) (plan : PlanValue) where
 
   -- ---- the opening values
 
-  zero_tail : ℕ → ℕ → Bool
-  zero_tail place a = eqb (tail_of plan place a) 0
-
   abbrev pub opened : ℕ → List ℕ → List ParcelValue
   opened place accounts = known_of (map (opening_of day) (filter (λ a. eqb (tail_of plan place a) 0) accounts))
 

@@ -53,9 +53,6 @@ left_to_do plan w = total dock_left w.docks + (total (total (λ (t : TaskValue).
 -- ---- arrows and accounts
 
 -- no more of some different accounts have an arrow than there are arrows
-touched-by : List Arrow → ℕ → Bool
-touched-by arrows a = list_any (λ (w : Arrow). eqb w.account a) arrows
-
 length-filter-or : (p q : ℕ → Bool) (xs : List ℕ) → length (filter (λ x. p x || q x) xs) ≤ length (filter p xs) + length (filter q xs)
 length-filter-or p q [] = omega arith
 length-filter-or p q (x ∷ xs) = by (p x) (q x) (length-filter-or p q xs)
