@@ -64,6 +64,13 @@ end_measuring() {
   wait "$watch" 2>/dev/null || true
 }
 
+# The seconds for which the host of a virtual machine has kept processors from it that it wanted to use, summed over
+# them, since it started; 0 where the kernel does not tell.
+kept_by_host() {
+  LC_ALL=C awk -v tick="$(getconf CLK_TCK)" '$1 == "cpu" { kept = int($9 / tick) } END { print kept + 0 }' \
+    /proc/stat 2>"$work/no-stat" || echo 0
+}
+
 # The processor seconds, user and system, that the two lines of the shell's `times` tell: of the
 # shell itself, and of all that it has waited for.
 sum_of_times() {

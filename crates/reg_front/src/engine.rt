@@ -14,6 +14,7 @@ use crate::texts::{Used, make_text};
 use reg_text::{DayInput, read_day};
 use std::alloc::Global;
 use std::io::{Read, Write};
+use std::mem;
 
 /// Reads the whole input, carries out the command on the day that it describes, and writes the command's text. The
 /// whole text is made before its first byte is written.
@@ -42,12 +43,28 @@ pub fn run<R: Read, W: Write>(
     Ok(())
 }
 
-/// The same as [`run`], but the memory that the command has used is not freed: the caller gets it. A program that ends
-/// now need not free the lists of each account one after another.
+/// The same as [`run`], but the memory that the command has used is not freed. A program that ends now need not free the
+/// lists of each account one after another: the system takes all its memory back at once.
 ///
 /// # Errors
 /// As [`run`].
-pub fn run_and_keep<R: Read, W: Write>(
+pub fn run_without_freeing<R: Read, W: Write>(
+    alloc: Global,
+    reader: &mut R,
+    writer: &mut W,
+    command: Command,
+) -> Result<(), FrontFault>
+    ensures ok { OnOk result (WritesText command (R.remaining reader.old) (W.contents writer.old) (W.contents writer.new)) }
+    ensures end { OnOk result (IsAtEnd (R.remaining reader.new)) }
+    ensures fault { IfErr result (λ fault. IfSome (R.remaining reader.old) (λ input. IsFault command input fault)) }
+    ensures left { IfErr result (λ fault. Leaves command (R.remaining reader.old) fault (W.contents writer.old) (W.contents writer.new)) }
+{
+    mem::forget(run_and_keep(alloc, reader, writer, command)?);
+    Ok(())
+}
+
+// Runs the command, and answers what it has used.
+fn run_and_keep<R: Read, W: Write>(
     alloc: Global,
     reader: &mut R,
     writer: &mut W,

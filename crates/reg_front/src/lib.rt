@@ -9,6 +9,5 @@ mod fault;
 mod texts;
 
 pub use command::Command;
-pub use engine::{run, run_and_keep};
+pub use engine::{run, run_without_freeing};
 pub use fault::FrontFault;
-pub use texts::Used;

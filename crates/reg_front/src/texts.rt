@@ -23,9 +23,9 @@ use std::alloc::Global;
 const MOST_WORKERS: u32 = 8;
 
 /// What a command has used: its text, and the closed day that the text was made from, if the command closed the day.
-/// Nothing can be done with it but to free it, or not to.
-#[derive(Debug, Drop)]
-pub struct Used {
+/// Nothing is done with it but to free it, or not to.
+#[derive(Drop)]
+pub(crate) struct Used {
     pub(crate) text: Vec<u8>,
     closed: Option<Closed>,
 }

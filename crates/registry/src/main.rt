@@ -9,13 +9,13 @@ mod words;
 
 use crate::words::read_words;
 use clap::error::ErrorKind;
-use reg_front::{Command, FrontFault, run_and_keep};
+use reg_front::{Command, FrontFault, run_without_freeing};
 use std::alloc::{AllocError, Global};
 use std::convert::AsStr;
 use std::io::{IsTerminal, Read, Write};
 use std::process::ExitCode;
 use std::rt::Env;
-use std::{env, io, mem};
+use std::{env, io};
 
 // What somebody sees who has started the program at a terminal without a text.
 const HINT: &str = "reading a day text from the terminal; Ctrl-D ends it";
@@ -78,13 +78,8 @@ fn carry_out<R: Read, W: Write, F: Write>(
     writer: &mut W,
     faults: &mut F,
 ) -> u8 {
-    match run_and_keep(alloc, reader, writer, command) {
-        Ok(used) => {
-            // The program ends now, and the system takes all its memory back at once. To free the lists of each
-            // account one after another would take a twentieth of its time.
-            mem::forget(used);
-            0
-        }
+    match run_without_freeing(alloc, reader, writer, command) {
+        Ok(()) => 0,
         Err(fault) => tell(fault, faults),
     }
 }

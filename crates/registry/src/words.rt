@@ -30,11 +30,19 @@ Exit statuses:
 /// if memory ran out.
 pub(crate) fn read_words<'a, S: AsStr>(alloc: Global, words: &'a [S]) -> Result<Command, Error> {
     let mut program = describe_program(alloc)?;
-    let matches = program.try_get_matches_from_mut(words)?;
-    match find_command(&matches) {
+    match find_words(&mut program, words)? {
         Some(command) => Ok(command),
         None => Err(program.error(ErrorKind::MissingSubcommand, "a command is needed")?),
     }
+}
+
+// The command among the words, if the program takes them.
+fn find_words<'a, S: AsStr>(
+    program: &mut Program<'a>,
+    words: &'a [S],
+) -> Result<Option<Command>, Error> {
+    let matches = program.try_get_matches_from_mut(words)?;
+    Ok(find_command(&matches))
 }
 
 // The command that was found among the words, with its values.
@@ -69,18 +77,23 @@ fn statement_found(found: &ArgMatches<'_>) -> Option<Command> {
 
 // The program and its commands, as its help shows them.
 fn describe_program<'a>(alloc: Global) -> Result<Program<'a>, AllocError> {
-    Program::new(alloc, "registry")
-        .bin_name("registry")?
-        .about(WHAT_IT_DOES)
-        .after_help(EXAMPLE_AND_STATUSES)
-        .no_binary_name(true)
-        .subcommand_required(true)
-        .arg_required_else_help(true)
+    describe_registry(alloc)?
         .subcommand(describe_settle(alloc)?)?
         .subcommand(describe_plan(alloc))?
         .subcommand(describe_statement(alloc)?)?
         .subcommand(describe_figures(alloc))?
         .subcommand(describe_totals(alloc))
+}
+
+fn describe_registry<'a>(alloc: Global) -> Result<Program<'a>, AllocError> {
+    let program = Program::new(alloc, "registry")
+        .bin_name("registry")?
+        .about(WHAT_IT_DOES)
+        .after_help(EXAMPLE_AND_STATUSES)
+        .no_binary_name(true)
+        .subcommand_required(true)
+        .arg_required_else_help(true);
+    Ok(program)
 }
 
 fn describe_settle<'a>(alloc: Global) -> Result<Program<'a>, AllocError> {

@@ -10,6 +10,7 @@ use crate::fixtures::{account_no, read};
 use reg_base::{AccountNo, Batch, Directory, Instruction, Rules};
 use reg_book::{Book, Settled, settle_plain};
 use reg_graph::{Context, Naming, Outcome, Parcel, Task, Unnamed, run_order};
+use reg_rules::LogRow;
 use reg_text::DayInput;
 use std::alloc::Global;
 use std::marker::Brand;
@@ -131,17 +132,25 @@ fn task<N: Naming>(
     Task::assemble(context, place, parcels)
 }
 
+// The opening values of accounts 2 and 1, in this order.
+fn both_openings(
+    rt: &impl Abort,
+    alloc: Global,
+    context: &Context<Unnamed>,
+) -> Vec<Parcel<Unnamed>> {
+    let mut parcels = Vec::new(alloc);
+    for number in [2, 1] {
+        let parcel = opening(rt, alloc, context, number);
+        parcels.push(parcel).expect(rt, "memory");
+    }
+    parcels
+}
+
 // How many parcels come back of the opening values of both accounts, given for a place of the two transfers.
 fn given_back(rt: &impl Abort, alloc: Global, place: u32) -> usize {
     let DayInput { rules, book, batch } = day(rt, alloc, TWICE);
     let context = Context::<Unnamed>::of(alloc, &book, &rules, &batch).expect(rt, "memory");
-    let mut parcels = Vec::new(alloc);
-    parcels
-        .push(opening(rt, alloc, &context, 2))
-        .expect(rt, "memory");
-    parcels
-        .push(opening(rt, alloc, &context, 1))
-        .expect(rt, "memory");
+    let parcels = both_openings(rt, alloc, &context);
     match task(rt, &context, place, parcels) {
         Ok(_) => 0,
         Err(back) => back.len(),
@@ -169,19 +178,29 @@ fn run_alone(
     outcome
 }
 
-// What is gathered of both surrenders, the second one first.
-fn gathered(rt: &impl Abort, alloc: Global) -> String {
-    let DayInput { rules, book, batch } = day(rt, alloc, APART);
-    let context = Context::<Unnamed>::of(alloc, &book, &rules, &batch).expect(rt, "memory");
+// The rows and the parcels of both surrenders, the second one first.
+fn run_both(
+    rt: &impl Abort,
+    alloc: Global,
+    context: &Context<Unnamed>,
+) -> (Vec<LogRow>, Vec<Parcel<Unnamed>>) {
     let mut rows = Vec::new(alloc);
     let mut parcels = Vec::new(alloc);
     for (place, number) in [(2, 3), (1, 1)] {
-        let (_, row, left) = run_alone(rt, alloc, &context, place, number).into_parts();
+        let (_, row, left) = run_alone(rt, alloc, context, place, number).into_parts();
         rows.push(row).expect(rt, "memory");
         for parcel in left {
             parcels.push(parcel).expect(rt, "memory");
         }
     }
+    (rows, parcels)
+}
+
+// What is gathered of both surrenders.
+fn gathered(rt: &impl Abort, alloc: Global) -> String {
+    let DayInput { rules, book, batch } = day(rt, alloc, APART);
+    let context = Context::<Unnamed>::of(alloc, &book, &rules, &batch).expect(rt, "memory");
+    let (rows, parcels) = run_both(rt, alloc, &context);
     let settled = context.gather(alloc, rows, parcels).expect(rt, "memory");
     told(rt, alloc, &settled)
 }

@@ -8,8 +8,8 @@ ghost use Rattle.reg_rules.specs.Effect.{IsBehind};
 
 use crate::fixtures::read;
 use reg_account::Account;
-use reg_base::{AccountNo, AllowanceKind, Directory, Instruction, RecordNo, Refusal};
-use reg_rules::{Reply, decide, execute, log_row};
+use reg_base::{AccountNo, AllowanceKind, Batch, Directory, Instruction, RecordNo, Refusal, Rules};
+use reg_rules::{LogRow, Reply, decide, execute, log_row};
 use reg_text::DayInput;
 use std::alloc::Global;
 use std::process::Abort;
@@ -141,32 +141,37 @@ fn closing_of(rt: &impl Abort, alloc: Global, reply: &Reply) -> Vec<(u32, u64, u
     }
 }
 
-// What is answered to the first instruction of a day, which touches all its accounts in their order: what `decide` says,
-// what refuses and what the accounts hold by the row of the log, and the general allowances that they hold afterwards.
-fn carry_out(rt: &impl Abort, alloc: Global, text: &str) -> String {
-    let DayInput { rules, book, batch } = read(rt, alloc, text);
+// What `decide` says of the first instruction of a batch, and its row of the log after it was executed on these accounts,
+// which are those that it touches, in their order.
+fn execute_first(
+    rt: &impl Abort,
+    alloc: Global,
+    rules: &Rules,
+    directory: &Directory,
+    batch: &Batch,
+    accounts: &mut [Account],
+) -> (Option<Refusal>, LogRow) {
     let first = batch.instructions().first();
     let instruction = *first.expect(rt, "an instruction");
     let number = RecordNo::new(1).expect(rt, "a record number");
     let day = batch.day();
-    let directory = book.directory();
-    let mut accounts = copies(rt, alloc, book.accounts());
-    assert_touched(rt, alloc, &accounts, &instruction, directory);
-    assert_behind(rt, &accounts, number);
-    let decided = decide(&rules, day, number, &instruction, directory, &accounts);
-    let reply = execute(
-        alloc,
-        &rules,
-        day,
-        number,
-        &instruction,
-        directory,
-        &mut accounts,
-    );
+    assert_touched(rt, alloc, accounts, &instruction, directory);
+    assert_behind(rt, accounts, number);
+    let decided = decide(rules, day, number, &instruction, directory, accounts);
+    let reply = execute(alloc, rules, day, number, &instruction, directory, accounts);
     let row = log_row(number, day, instruction, reply.expect(rt, "memory"));
+    (decided, row)
+}
+
+// What is answered to the first instruction of a day, which touches all its accounts in their order: what `decide` says,
+// what refuses and what the accounts hold by the row of the log, and the general allowances that they hold afterwards.
+fn carry_out(rt: &impl Abort, alloc: Global, text: &str) -> String {
+    let DayInput { rules, book, batch } = read(rt, alloc, text);
+    let mut accounts = copies(rt, alloc, book.accounts());
+    let (decided, row) = execute_first(rt, alloc, &rules, book.directory(), &batch, &mut accounts);
+    let held = held_by(rt, alloc, &accounts);
     let refused = refusal_of(&row.reply);
     let closing = closing_of(rt, alloc, &row.reply);
-    let held = held_by(rt, alloc, &accounts);
     format!(in alloc; "{decided:?} {refused:?} {closing:?} {held:?}").expect(rt, "memory")
 }
 
