@@ -8,8 +8,8 @@ built=$top/crates/registry/out/registry
 program=$top/out/registry
 build_log=$top/out/build.log
 
-# About how long the first build takes on four idle cores, fast ones and slow ones.
-minutes_to_build='8 to 20'
+# About how long the first build takes on four cores, fast ones and slow ones.
+minutes_to_build='8 to 24'
 
 # Says why the program has to be built. Says nothing if it is there, and newer than all that it is
 # made of: folders count too, so that a removed file is noticed.
