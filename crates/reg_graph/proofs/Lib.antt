@@ -29,3 +29,10 @@ pub mod WorldPossible
 pub mod WorldBound
 pub mod WorldValues
 pub mod WorldClosing
+pub mod WorldRoom
+pub mod Assembled
+pub mod PartFacts
+pub mod WorldEvents
+pub mod WorldPlaces
+pub mod Dealing
+pub mod ConservedEnds

@@ -73,7 +73,7 @@ ones : (f : ℕ × ℕ → ℕ) (wanted : List (ℕ × ℕ)) → AllByRecursion 
 ones f [] all = refl
 ones f (n ∷ more) all = omega (arith, all.0, ones f more all.1)
 
-at-each : (P : ℕ × ℕ → Type 0) (arrows : List Arrow) (accounts : List ℕ) → AllByRecursion (λ a. P (a, tail_in arrows a)) accounts → AllByRecursion P (names_needed arrows accounts)
+pub at-each : (P : ℕ × ℕ → Type 0) (arrows : List Arrow) (accounts : List ℕ) → AllByRecursion (λ a. P (a, tail_in arrows a)) accounts → AllByRecursion P (names_needed arrows accounts)
 at-each P arrows [] all = tt
 at-each P arrows (a ∷ more) all = (all.0, at-each P arrows more all.1)
 
@@ -108,7 +108,7 @@ module _ (laws : StepLaws) (sound : EachFootprintIsSound) (tails : TailsAreLastT
   pub whole-after : (workers : ℕ) → 1 ≤ workers → (events : List Event) (x : WorldValue) → world_after day plan workers events ≡ Some x → Whole workers x
   whole-after workers some events x e = by-steps day plan (Whole workers) (whole-step workers) events (at_start day plan workers) x (whole-start workers some) e
 
-  came-many : (place : ℕ) (came : List ParcelValue) → AllByRecursion (Awaits tails last day plan made place) came → total (λ n. times n came) (awaited day plan place) ≡ length came
+  pub came-many : (place : ℕ) (came : List ParcelValue) → AllByRecursion (Awaits tails last day plan made place) came → total (λ n. times n came) (awaited day plan place) ≡ length came
   came-many place [] all = none-of (awaited day plan place)
   came-many place (p ∷ ps) all =
       let once = count-once p.value.number (footprint_at day place) (footprint_distinct sound day place) (footprint_touches day place p.value.number ∙ all.0.0) in

@@ -77,7 +77,7 @@ at-most-total f (y ∷ ys) zero x e = let same : y ≡ x = cc in omega (arith, a
 at-most-total f (y ∷ ys) (suc k) x e = omega (arith, at-most-total f ys k x e)
 
 -- a place can be run
-runs-at : (day : Day) (place : ℕ) (own : State) → 1 ≤ place → place ≤ length day.batch.instructions → (made : State × LogRow) × (run_at day place own ≡ Some made)
+pub runs-at : (day : Day) (place : ℕ) (own : State) → 1 ≤ place → place ≤ length day.batch.instructions → (made : State × LogRow) × (run_at day place own ≡ Some made)
 runs-at day zero own low high = absurd (omega (arith, low))
 runs-at day (suc k) own low high =
     let i = get-within day.batch.instructions k (omega (arith, high)) in
@@ -85,7 +85,7 @@ runs-at day (suc k) own low high =
     (((step (setting day) own (day.batch.base + suc k) i.0).0, row_of (setting day) (day.batch.base + suc k) i.0 (step (setting day) own (day.batch.base + suc k) i.0).1), rw found refl)
 
 -- an arrow that leads on has a head
-head-of : (plan : PlanValue) (place a : ℕ) → leads_on plan place a ≡ true → (head : ℕ) × (head_of plan place a ≡ Some head)
+pub head-of : (plan : PlanValue) (place a : ℕ) → leads_on plan place a ≡ true → (head : ℕ) × (head_of plan place a ≡ Some head)
 head-of plan place a on = by (search_of (λ (w : Arrow). eqb w.account a) (outward plan.arrows place))
   where
     by : Missing (λ (w : Arrow). eqb w.account a) (outward plan.arrows place) ⊎ ((w : Arrow) × Found (λ (w : Arrow). eqb w.account a) (outward plan.arrows place) w) → (head : ℕ) × (head_of plan place a ≡ Some head)

@@ -5,4 +5,6 @@ pub mod Parcels
 pub mod Gathering
 pub mod Slots
 pub mod World
+pub mod WorldParts
 pub mod Schedules
+pub mod Conserved

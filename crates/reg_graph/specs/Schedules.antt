@@ -6,6 +6,7 @@ use Rattle.reg_book.specs.Day.{Day, value_at, row_at, log_of}
 use Rattle.reg_graph.specs.Laws.{IsPlanOf}
 use Rattle.reg_graph.specs.Gathering.{AreLastValues}
 use Rattle.reg_graph.specs.declared.event.Event.{Event}
+use Rattle.reg_graph.specs.declared.event.TheConstants.{MOST_WORKERS}
 use Rattle.reg_graph.specs.World.{ParcelValue, HandValue, Holds, Carries, WorldValue, at_place, empty, after_event, world_after, is_task, is_in_hand, is_in_dock, is_done, is_over}
 
 -- the parcels of a dock, a list, a hand
@@ -78,3 +79,11 @@ pub record IsNothingLost (day : Day) (plan : PlanValue) (events : List Event) (w
 abbrev pub NothingLost : Type 0
 NothingLost = (day : Day) (plan : PlanValue) (workers : ℕ) (events : List Event) (world : WorldValue)
     → IsPlanOf day plan → 1 ≤ workers → world_after day plan workers events ≡ Some world → IsNothingLost day plan events world
+
+-- some schedule of one to eight workers leads to this world
+pub record IsReached (day : Day) (plan : PlanValue) (world : WorldValue) : Type 0 where
+  pub workers : ℕ
+  pub some : 1 ≤ workers
+  pub few : workers ≤ MOST_WORKERS
+  pub events : List Event
+  pub after : world_after day plan workers events ≡ Some world

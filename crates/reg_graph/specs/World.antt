@@ -1,5 +1,5 @@
 -- The workers' world: where the values and the instructions are, and what each step of a worker does.
-use Rattle.std.specs.Prelude.{ℕ, zero, suc, ◌==◌, Bool, false, not, List, [], ◌∷◌, ◌++◌, length, map, replicate, slice_get, slice_set, find, filter, Option, Some, None, is_some, Result, Ok, Err, if◌then◌else◌}
+use Rattle.std.specs.Prelude.{◌≡◌, ℕ, zero, suc, ◌==◌, Bool, true, false, not, List, [], ◌∷◌, ◌++◌, length, map, replicate, slice_get, slice_set, find, filter, Option, Some, None, is_some, Result, Ok, Err, if◌then◌else◌}
 use Rattle.std.specs.Option.{option_map, option_map_or}
 use Rattle.std.specs.List.{list_all, list_any}
 use Rattle.reg_account.specs.Account.{AccountValue}
@@ -11,6 +11,8 @@ use Rattle.reg_graph.specs.Pool.{footprint_at, run_at, tail_of, leads_on}
 use Rattle.reg_graph.specs.Names.{names_needed, is_name}
 use Rattle.reg_graph.specs.declared.event.Event.{Event}
 use Rattle.reg_graph.specs.declared.event.Event.TheVariants.{Pop, Steal, Run, Deliver, Push}
+use Rattle.reg_graph.specs.declared.event.Whereabouts.{Whereabouts}
+use Rattle.reg_graph.specs.declared.event.Whereabouts.TheVariants as at
 use Rattle.reg_graph.specs.declared.event.EventFault.{EventFault}
 use Rattle.reg_graph.specs.declared.event.EventFault.TheVariants as fault
 
@@ -91,19 +93,22 @@ arrived world place = option_map_or (λ d. d) (at_place world.docks place) None
 abbrev pub opening_of : Day → ℕ → Option ParcelValue
 opening_of day a = option_map (λ v. record { value = v; after = 0 }) (account day.book.accounts a)
 
-abbrev pub known_of : List (Option ParcelValue) → List ParcelValue
+abbrev pub known_of : {X : Type 0} → List (Option X) → List X
 known_of [] = []
 known_of (None ∷ more) = known_of more
-known_of (Some p ∷ more) = p ∷ known_of more
+known_of (Some x ∷ more) = x ∷ known_of more
 
 abbrev pub opened_at : Day → PlanValue → ℕ → List ParcelValue
 opened_at day plan place = known_of (map (opening_of day) (filter (λ a. tail_of plan place a == 0) (footprint_at day place)))
 
+-- the dock of a place: nothing is there if its task is complete from the first
+abbrev pub dock_at : Day → PlanValue → ℕ → Option (List ParcelValue)
+dock_at day plan place = if is_some (complete day plan place (opened_at day plan place)) then None else Some (opened_at day plan place)
+
 -- the docks of so many places from this one on, and the tasks that are complete from the first
 abbrev pub docks_from : Day → PlanValue → ℕ → ℕ → List (Option (List ParcelValue))
 docks_from day plan place zero = []
-docks_from day plan place (suc more) =
-    (if is_some (complete day plan place (opened_at day plan place)) then None else Some (opened_at day plan place)) ∷ docks_from day plan (suc place) more
+docks_from day plan place (suc more) = dock_at day plan place ∷ docks_from day plan (suc place) more
 
 abbrev pub before_some : {A : Type 0} → Option A → List A → List A
 before_some None more = more
@@ -243,6 +248,13 @@ is_in_list_of world place worker = option_map_or (list_any (is_task place)) (sli
 
 abbrev pub is_in_hand_of : WorldValue → ℕ → ℕ → Bool
 is_in_hand_of world place worker = option_map_or (is_in_hand place) (slice_get world.hands worker) false
+
+-- a place is there
+abbrev pub IsAt : WorldValue → ℕ → Whereabouts → Type 0
+IsAt world place at.Dock = is_in_dock world place ≡ true
+IsAt world place (at.List worker) = is_in_list_of world place worker ≡ true
+IsAt world place (at.Hand worker) = is_in_hand_of world place worker ≡ true
+IsAt world place at.Done = is_done world place ≡ true
 
 -- all places are done
 abbrev pub is_over : WorldValue → Bool

@@ -3,7 +3,7 @@
 ghost use Rattle.std.specs.Prelude.{◌≡◌, ◌+◌, ◌≤◌, length, Some, MatchResult, IfOk, IsTrue};
 ghost use Rattle.reg_base.specs.Touches.{is_touched};
 ghost use Rattle.reg_rules.specs.State.{account};
-ghost use Rattle.reg_plan.specs.Plans.{IsPlan, inward};
+ghost use Rattle.reg_plan.specs.Plans.{IsPlan, inward, outward};
 ghost use Rattle.reg_book.specs.Book.{directory_of};
 ghost use Rattle.reg_book.specs.Day.{IsDay, day_of};
 ghost use Rattle.reg_book.specs.Settling.{IsSettleFault};
@@ -131,6 +131,15 @@ impl<'a, N: Naming> Context<'a, N> {
         ensures { result.now ≡ inward self.now.plan.arrows place }
     {
         self.plan.inward(place)
+    }
+
+    /// The arrows that lead from a place, counted from 1.
+    pub(crate) fn arrows_from(&self, place: u32) -> &[Arrow]
+        requires from_one { 1 ≤ place }
+        requires within { place ≤ length self.now.batch.now.instructions }
+        ensures { result.now ≡ outward self.now.plan.arrows place }
+    {
+        self.plan.outward(place)
     }
 
     /// The opening value of an account that some instruction touches.

@@ -1,5 +1,8 @@
 //! The steps of workers, of which the laws of schedules speak.
 
+/// The most workers of a world. The fewest are 1.
+pub const MOST_WORKERS: u32 = 8;
+
 /// A step of a worker. Workers are counted from 0.
 #[derive(Clone, Copy, Debug, PartialEq, Eq)]
 pub enum Event {
@@ -51,4 +54,25 @@ pub enum EventFault {
     NothingToDeliver,
     /// No task that became complete is in hand.
     NothingToPush,
+    /// Memory ran out while a task was run.
+    NoMemory,
+}
+
+/// Where an instruction is.
+#[derive(Clone, Copy, Debug, PartialEq, Eq)]
+pub enum Whereabouts {
+    /// In its dock: not all parcels that it awaits have come.
+    Dock,
+    /// Its task is in a worker's list.
+    List {
+        /// The worker.
+        worker: u32,
+    },
+    /// Its task is in a worker's hand, to be run or to be pushed.
+    Hand {
+        /// The worker.
+        worker: u32,
+    },
+    /// It is done.
+    Done,
 }

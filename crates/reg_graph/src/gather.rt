@@ -8,9 +8,9 @@ ghost use Rattle.reg_base.specs.Rising.{is_rising_from};
 ghost use Rattle.reg_rules.specs.State.{numbers};
 ghost use Rattle.reg_base.specs.declared.limits.TheConstants.{MOST_RECORD};
 ghost use Rattle.reg_book.specs.Settled.{IsOfBook};
-ghost use Rattle.reg_book.specs.Day.{settled_day};
+ghost use Rattle.reg_book.specs.Day.{day_of, log_of, settled_day};
 ghost use Rattle.reg_graph.specs.Parcels.{names_of, values_of};
-ghost use Rattle.reg_graph.specs.Gathering.{AreRows, AreClosing, AreClosingValues, IsCommittable, IsWhole, are_counted};
+ghost use Rattle.reg_graph.specs.Gathering.{AreRows, AreClosing, AreLastValues, AreClosingValues, IsCommittable, IsWhole, are_counted};
 
 use crate::context::Context;
 use crate::naming::Naming;
@@ -150,6 +150,25 @@ fn settle<N: Naming>(
         return None;
     }
     Some(Settled::of(context.batch().base(), rows, accounts))
+}
+
+/// The settled day of the context, from its log and the touched accounts after the last instruction, in any order. Takes
+/// no memory.
+pub(crate) fn settle_day<N: Naming>(
+    context: &Context<N>,
+    log: Vec<LogRow>,
+    mut accounts: Vec<Account>,
+) -> Settled
+    requires log { log.items ≡ log_of (day_of context.now.book.now context.now.rules.now context.now.batch.now) }
+    requires accounts { AreLastValues (day_of context.now.book.now context.now.rules.now context.now.batch.now) accounts.items }
+    ensures settled { result ≡ settled_day (day_of context.now.book.now context.now.rules.now context.now.batch.now) }
+    ensures of_book { IsOfBook context.now.book.now result }
+{
+    context.is_day();
+    settled_is_closing();
+    settled_is_of_book();
+    sort_accounts(&mut accounts);
+    Settled::of(context.batch().base(), log, accounts)
 }
 
 impl<N: Naming> Context<'_, N> {

@@ -3,9 +3,12 @@
 
 ghost use Rattle.reg_graph.specs.Laws.{EveryOrder, UndefinedAtFirstFault};
 ghost use Rattle.reg_graph.specs.Schedules.{EverySchedule, NothingLost};
+ghost use Rattle.reg_graph.specs.Conserved.{Conserved};
 
 use reg_base::laws::{each_footprint_is_sound, last_toucher_is_last};
-use reg_book::{each_is_a_step, settled_is_closing, untouched_stay, value_is_last_touchers};
+use reg_book::{
+    each_is_a_step, fold_conserves, settled_is_closing, untouched_stay, value_is_last_touchers,
+};
 use reg_plan::laws::{no_fault_is_a_legal_order, tails_are_last_touchers};
 use reg_rules::step_laws;
 
@@ -60,4 +63,16 @@ pub fn nothing_lost()
     step_laws();
     last_toucher_is_last();
     tails_are_last_touchers();
+}
+
+/// After every legal order, and after every schedule in which all instructions are done, the number of allowances of a
+/// kind that all accounts hold or have surrendered has changed only by accepted creations, deletions and reversals of
+/// deletions.
+pub fn conserved()
+    ensures { Conserved }
+{
+    every_order();
+    every_schedule();
+    settled_is_closing();
+    fold_conserves();
 }

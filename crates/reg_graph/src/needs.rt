@@ -22,7 +22,8 @@ pub(crate) fn tail_in(arrows: &[Arrow], account: AccountNo) -> u32
     }
 }
 
-fn arrow_at(arrows: &[Arrow], account: AccountNo) -> Option<Arrow>
+// The first of these arrows at the account, if there is one.
+pub(crate) fn arrow_at(arrows: &[Arrow], account: AccountNo) -> Option<Arrow>
     ensures { result ≡ find (λ arrow. arrow.account == account) arrows.now }
 {
     arrows

@@ -26,12 +26,15 @@ pub struct Task<N: Naming> {
 }
 
 impl<N: Naming> Task<N> {
-    ghost use Rattle.std.specs.Prelude.{◌≤◌, true, Some, length, is_ok, IfOk, IfErr, IsPermutation};
+    ghost use Rattle.std.specs.Prelude.{◌≤◌, true, Some, None, length, is_ok, IfOk, IfErr, MatchResult, IsPermutation};
     ghost use Rattle.reg_plan.specs.Plans.{inward};
     ghost use Rattle.reg_book.specs.Day.{Day, day_of};
     ghost use Rattle.reg_graph.specs.Pool.{footprint_at, run_at};
     ghost use Rattle.reg_graph.specs.Parcels.{values_of, afters_of};
     ghost use Rattle.reg_graph.specs.Names.{names_needed, has_names, IsFor};
+    ghost use Rattle.reg_base.specs.declared.limits.TheConstants.{MOST_TOUCHED};
+    ghost use Rattle.reg_graph.specs.World.{complete, left_by};
+    ghost use Rattle.reg_graph.specs.WorldParts.{parcels_of, task_of};
 
     /// The task of a place, exactly if the parcels are, in any order, one for each account that its instruction
     /// touches, each named by the tail of the arrow that leads there, or by 0 if there is none. The place is counted
@@ -50,6 +53,9 @@ impl<N: Naming> Task<N> {
         ensures place { IfOk result (λ t. t.place ≡ place) }
         ensures parcels { IfOk result (λ t. IsPermutation parcels.items t.parcels.items) }
         ensures back { IfErr result (λ ps. ps ≡ parcels) }
+        ensures complete { MatchResult result
+            (λ t. complete (day_of context.now.book.now context.now.rules.now context.now.batch.now) context.now.plan place (parcels_of parcels.items) ≡ Some (task_of t))
+            (λ ps. complete (day_of context.now.book.now context.now.rules.now context.now.batch.now) context.now.plan place (parcels_of parcels.items) ≡ None) }
     {
         let touched = context.touched_at(place);
         let arrows = context.arrows_to(place);
@@ -96,6 +102,8 @@ impl<N: Naming> Task<N> {
     pub fn run(self, alloc: Global, context: &Context<N>) -> Result<Outcome<N>, Task<N>>
         ensures place { IfOk result (λ o. o.place ≡ self.place) }
         ensures made { IfOk result (λ o. run_at (day_of context.now.book.now context.now.rules.now context.now.batch.now) self.place (values_of self.parcels.items) ≡ Some (values_of o.parcels.items, o.row)) }
+        ensures left { IfOk result (λ o. parcels_of o.parcels.items ≡ left_by self.place (values_of o.parcels.items)) }
+        ensures few { IfOk result (λ o. length o.parcels.items ≤ MOST_TOUCHED) }
         ensures back { IfErr result (λ t. (t.place ≡ self.place) × (values_of t.parcels.items ≡ values_of self.parcels.items) × (afters_of t.parcels.items ≡ afters_of self.parcels.items)) }
     {
         each_footprint_is_sound();

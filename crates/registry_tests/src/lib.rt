@@ -19,3 +19,5 @@ mod plan;
 mod rules;
 #[cfg(test)]
 mod texts;
+#[cfg(test)]
+mod worlds;

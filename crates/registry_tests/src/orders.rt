@@ -30,6 +30,9 @@ user,101,propose
 user,102,approve
 trusted,2,2025-03-31
 account,2,trading,12,open,no,no,0,0,0
+user,201,propose
+user,202,approve
+trusted,1,2025-03-31
 account,3,aircraft,13,open,no,no,0,0,50
 user,301,propose
 user,302,approve
@@ -41,25 +44,25 @@ do,2025-03-31,101,102,transfer,1,2,general,70
 do,2025-03-31,101,102,transfer,1,2,general,70
 ";
 
-// Two surrenders that share no account.
-const APART: &str = "\
+/// Two surrenders that share no account.
+pub(crate) const APART: &str = "\
 do,2025-03-31,101,102,surrender,1,general,50
 do,2025-03-31,301,302,surrender,3,aviation,50
 ";
 
-// A day with these instructions.
-fn day(rt: &impl Abort, alloc: Global, instructions: &str) -> DayInput {
+/// A day with these instructions.
+pub(crate) fn day(rt: &impl Abort, alloc: Global, instructions: &str) -> DayInput {
     let text = format!(in alloc; "{}{}end\n", ACCOUNTS, instructions).expect(rt, "memory");
     read(rt, alloc, text.as_str())
 }
 
-// What a settled day leaves: its log, and each account that it touched.
-fn told(rt: &impl Abort, alloc: Global, settled: &Settled) -> String {
+/// What a settled day leaves: its log, and each account that it touched.
+pub(crate) fn told(rt: &impl Abort, alloc: Global, settled: &Settled) -> String {
     format!(in alloc; "{:?}", settled).expect(rt, "memory")
 }
 
-// What these instructions one after another leave.
-fn settled(rt: &impl Abort, alloc: Global, instructions: &str) -> String {
+/// What these instructions one after another leave.
+pub(crate) fn settled(rt: &impl Abort, alloc: Global, instructions: &str) -> String {
     let DayInput { rules, book, batch } = day(rt, alloc, instructions);
     let settled = settle_plain(alloc, &book, &rules, &batch).expect(rt, "memory");
     told(rt, alloc, &settled)

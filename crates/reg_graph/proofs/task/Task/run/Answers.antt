@@ -5,6 +5,9 @@ use Rattle.reg_rules.specs.State.{State, numbers}
 use Rattle.reg_graph.specs.Pool.{footprint_at, run_at}
 use Rattle.reg_graph.specs.Names.{AreValues, AreNeeded, IsValue}
 use Rattle.reg_graph.specs.Parcels.{values_of, names_of}
+use Rattle.reg_graph.specs.World.{left_by}
+use Rattle.reg_graph.specs.WorldParts.{parcels_of}
+use Rattle.reg_graph.proofs.PartFacts.{left-of}
 use Rattle.reg_graph.proofs.Names.{written_whole}
 use Rattle.reg_graph.proofs.Running.{parcels_right, same_names, names_after, ran_named, each_right, IsRight}
 use Rattle.reg_graph.proofs.task.Task.run.Goals as goal
@@ -63,3 +66,8 @@ invariant_of-result g c =
     let names : names_of c.pack-parcels.result.items ≡ names_of c.args.self.parcels.items =
     same_names c.pack-parcels.result.items c.args.self.parcels.items (c.pack-parcels.ensures.values ∙ values) (c.pack-parcels.ensures.afters ∙ c.as_slice.ensures.value ∙ c.unpack-own.ensures.afters) in
     record { complete = λ d e. subst (AreNeeded d c.args.self.place) (sym names) (c.args.self.complete d e) }
+
+pub returns-clause-left : goal.returns-clause-left
+returns-clause-left g c =
+    let after = c.pack_after-parcels.ensures.afters ∙ ap (map (λ v. c.args.self.place)) (sym c.pack_after-parcels.ensures.values) in
+    subst (λ ps. parcels_of ps.items ≡ left_by c.args.self.place (values_of ps.items)) (sym c.new.ensures.parcels) (left-of c.pack_after-parcels.result.items c.args.self.place after)

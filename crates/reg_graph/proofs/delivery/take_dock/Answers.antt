@@ -1,0 +1,23 @@
+use Rattle.std.proofs.Common.{◌-◌, ◌≤◌, ◌<◌, length, None, sym, ap, ◌∙◌, rules}
+use Rattle.std.specs.Prelude.{slice_set}
+use Rattle.std.specs.Option.{option_map, option_map_or}
+use Rattle.std.proofs.lemmas.List.{map-set}
+use Rattle.reg_graph.specs.WorldParts.{parcels_of, docks_of}
+use Rattle.reg_graph.proofs.PartFacts.{view-at, placed, at-placed}
+use Rattle.reg_graph.proofs.delivery.take_dock.Goals as goal
+
+pub returns-clause-came : goal.returns-clause-came
+returns-clause-came g c =
+    let docks = c.args.docks.now.items in
+    let low : 1 ≤ c.args.place = search rules in
+    let here : c.args.place - 1 < length docks = search rules in
+    ap (option_map (λ came. parcels_of came.items)) c.take.ensures.value
+    ∙ sym (ap (λ o. option_map_or (λ d. d) o None) (at-placed (docks_of docks) c.args.place low ∙ view-at (option_map (λ came. parcels_of came.items)) docks (c.args.place - 1) c.index_mut.result.now here c.index_mut.ensures.value))
+
+pub returns-clause-left : goal.returns-clause-left
+returns-clause-left g c =
+    let docks = c.args.docks.now.items in
+    let low : 1 ≤ c.args.place = search rules in
+    map-set (option_map (λ came. parcels_of came.items)) docks (c.args.place - 1) c.take.new.self
+    ∙ ap (λ d. slice_set (docks_of docks) (c.args.place - 1) (option_map (λ came. parcels_of came.items) d)) c.take.ensures.after
+    ∙ sym (placed (docks_of docks) c.args.place None low)

@@ -1,0 +1,57 @@
+-- What the parts of a world hold, as plain data.
+use Rattle.std.specs.Prelude.{◌≡◌, ◌≢◌, ℕ, List, [], ◌∷◌, map, Option, None, Result, Err, IsOk}
+use Rattle.std.specs.Option.{option_map}
+use Rattle.std.specs.declared.vec.Vec.{Vec}
+use Rattle.std.specs.declared.collections.vec_deque.VecDeque.{VecDeque}
+use Rattle.std.proofs.Common.{Global}
+use Rattle.reg_graph.specs.declared.naming.Naming.{Ghosts}
+use Rattle.reg_graph.specs.declared.parcel.Parcel.{Parcel}
+use Rattle.reg_graph.specs.declared.task.Task.{Task}
+use Rattle.reg_graph.specs.declared.hand.Hand.{Hand}
+use Rattle.reg_graph.specs.declared.hand.Hand.TheVariants as parts
+use Rattle.reg_graph.specs.declared.parts.Parts.{Parts}
+use Rattle.reg_graph.specs.declared.event.EventFault.{EventFault}
+use Rattle.reg_graph.specs.declared.event.EventFault.TheVariants as fault
+use Rattle.reg_plan.specs.Plans.{PlanValue}
+use Rattle.reg_graph.specs.World.{head_of, ParcelValue, TaskValue, HandValue, Holds, Carries, WorldValue}
+
+-- this is why an event was not carried out: it is not possible, or it is, and memory ran out
+abbrev pub IsWhy : Result WorldValue EventFault → EventFault → Type 0
+IsWhy after why = (why ≡ fault.NoMemory → IsOk after) × (why ≢ fault.NoMemory → after ≡ Err why)
+
+-- the place to which an arrow leads on from the first of these parcels
+abbrev pub first_head : PlanValue → List ParcelValue → Option ℕ
+first_head plan [] = None
+first_head plan (p ∷ ps) = head_of plan p.after p.value.number
+
+module _ {N : Type 0} {b : Ghosts N} where
+  -- the parcels
+  abbrev pub parcels_of : List (Parcel N b) → List ParcelValue
+  parcels_of parcels = map (λ p. record { value = p.value; after = p.after }) parcels
+
+  -- the task
+  abbrev pub task_of : Task N b → TaskValue
+  task_of t = record { place = t.place; parcels = parcels_of t.parcels.items }
+
+  -- the hand
+  abbrev pub hand_of : Hand N b → HandValue
+  hand_of (parts.Holds t) = Holds (task_of t)
+  hand_of (parts.Carries ready parcels) = Carries (option_map task_of ready) (parcels_of parcels.items)
+
+  -- the docks
+  abbrev pub docks_of : List (Option (Vec (Parcel N b) Global)) → List (Option (List ParcelValue))
+  docks_of docks = map (option_map (λ came. parcels_of came.items)) docks
+
+  -- the lists of tasks
+  abbrev pub lists_of : List (VecDeque (Task N b) Global) → List (List TaskValue)
+  lists_of lists = map (λ tasks. map task_of tasks.items) lists
+
+  -- the world
+  abbrev pub world_of : Parts N b → WorldValue
+  world_of p = record {
+    docks = docks_of p.docks.items;
+    lists = lists_of p.lists.items;
+    hands = map hand_of p.hands.items;
+    rows = p.rows.items;
+    closing = p.closing.items;
+  }

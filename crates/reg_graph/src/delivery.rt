@@ -1,0 +1,170 @@
+//! The event that puts a parcel into its dock.
+
+ghost use Rattle.std.specs.Prelude.{◌≡◌, ◌++◌, ◌≤◌, ◌<◌, ℕ, All, List, Some, None, Ok, Err, [], ◌∷◌, length, slice_get, slice_set, MatchResult, OnOk, OnErr, IfErr, IfSome, vec_len, vec_capacity};
+ghost use Rattle.std.specs.Option.{option_map, option_map_or};
+ghost use Rattle.reg_base.specs.declared.limits.TheConstants.{MOST_TOUCHED};
+ghost use Rattle.reg_book.specs.Day.{day_of};
+ghost use Rattle.reg_graph.specs.declared.event.EventFault.TheVariants.{NothingToDeliver};
+ghost use Rattle.reg_graph.specs.World.{ParcelValue, Carries, at_place, with_place, complete, head_of, arrived, with_hand, delivered_by};
+ghost use Rattle.reg_graph.specs.WorldParts.{parcels_of, task_of, docks_of, world_of, first_head};
+
+use crate::context::Context;
+use crate::event::EventFault;
+use crate::hand::Hand;
+use crate::naming::Naming;
+use crate::needs::arrow_at;
+use crate::parcel::Parcel;
+use crate::parts::Parts;
+use crate::task::Task;
+use std::alloc::Global;
+use std::mem;
+
+// The place to which the arrow at the parcel's account leads on, if there is one.
+fn head_of<N: Naming>(context: &Context<N>, parcel: &Parcel<N>) -> Option<u32>
+    requires from_one { 1 ≤ parcel.now.after }
+    requires within { parcel.now.after ≤ length context.now.batch.now.instructions }
+    ensures { result ≡ head_of context.now.plan parcel.now.after parcel.now.value.number }
+{
+    arrow_at(context.arrows_from(parcel.after()), parcel.account()).map(|arrow| arrow.to)
+}
+
+// The place to which an arrow leads on from the first of these parcels, if there is one.
+fn first_head<N: Naming>(context: &Context<N>, parcels: &[Parcel<N>]) -> Option<u32>
+    requires sent { (p : ParcelValue) (ps : List ParcelValue) → parcels_of parcels.now ≡ p ∷ ps → (1 ≤ p.after) × (p.after ≤ length context.now.batch.now.instructions) }
+    ensures { result ≡ first_head context.now.plan (parcels_of parcels.now) }
+{
+    match parcels.split_first() {
+        Some((first, _)) => head_of(context, first),
+        None => None,
+    }
+}
+
+// Takes out what came to the dock of a place, if it is open.
+fn take_dock<N: Naming>(
+    docks: &mut Vec<Option<Vec<Parcel<N>>>>,
+    place: u32,
+) -> Option<Vec<Parcel<N>>>
+    requires rooms { All (λ dock. IfSome dock (λ came. MOST_TOUCHED ≤ vec_capacity came)) docks.old.items }
+    ensures came { option_map (λ came. parcels_of came.items) result ≡ option_map_or (λ d. d) (at_place (docks_of docks.old.items) place) None }
+    ensures room { IfSome result (λ came. MOST_TOUCHED ≤ vec_capacity came) }
+    ensures left { docks_of docks.new.items ≡ with_place (docks_of docks.old.items) place None }
+    ensures rooms { All (λ dock. IfSome dock (λ came. MOST_TOUCHED ≤ vec_capacity came)) docks.new.items }
+{
+    if place == 0 {
+        return None;
+    }
+    let at = place as usize - 1;
+    if at >= docks.len() {
+        return None;
+    }
+    docks[at].take()
+}
+
+// Puts back what came to the dock of a place.
+fn put_dock<N: Naming>(docks: &mut Vec<Option<Vec<Parcel<N>>>>, place: u32, came: Vec<Parcel<N>>)
+    requires rooms { All (λ dock. IfSome dock (λ came. MOST_TOUCHED ≤ vec_capacity came)) docks.old.items }
+    requires room { MOST_TOUCHED ≤ vec_capacity came }
+    requires from_one { 1 ≤ place }
+    requires within { place ≤ length docks.old.items }
+    ensures there { docks_of docks.new.items ≡ with_place (docks_of docks.old.items) place (Some (parcels_of came.items)) }
+    ensures rooms { All (λ dock. IfSome dock (λ came. MOST_TOUCHED ≤ vec_capacity came)) docks.new.items }
+{
+    docks[place as usize - 1] = Some(came);
+}
+
+// A parcel comes to a dock that has room for it. Answers the task of the place if it is complete now, and otherwise all
+// that came.
+fn receive<N: Naming>(
+    context: &Context<N>,
+    place: u32,
+    mut came: Vec<Parcel<N>>,
+    parcel: Parcel<N>,
+) -> Result<Task<N>, Vec<Parcel<N>>>
+    requires from_one { 1 ≤ place }
+    requires within { place ≤ length context.now.batch.now.instructions }
+    requires room { vec_len came < vec_capacity came }
+    ensures { MatchResult result
+        (λ t. complete (day_of context.now.book.now context.now.rules.now context.now.batch.now) context.now.plan place (parcels_of (came.items ++ parcel ∷ [])) ≡ Some (task_of t))
+        (λ ps. (ps.items ≡ came.items ++ parcel ∷ []) × (vec_capacity ps ≡ vec_capacity came) × (complete (day_of context.now.book.now context.now.rules.now context.now.batch.now) context.now.plan place (parcels_of (came.items ++ parcel ∷ [])) ≡ None)) }
+{
+    came.push_reserved(parcel);
+    Task::assemble(context, place, came)
+}
+
+impl<N: Naming> Parts<N> {
+    // Delivers the first of these parcels for a worker with an empty hand.
+    //
+    // If that is not possible, they are in the hand then.
+    fn deliver_held(
+        &mut self,
+        context: &Context<N>,
+        worker: usize,
+        mut parcels: Vec<Parcel<N>>,
+    ) -> Result<(), EventFault>
+        requires there { worker < length self.old.hands.items }
+        requires places { length self.old.docks.items ≡ length context.now.batch.now.instructions }
+        requires sent { (p : ParcelValue) (ps : List ParcelValue) → parcels_of parcels.items ≡ p ∷ ps → (1 ≤ p.after) × (p.after ≤ length context.now.batch.now.instructions) }
+        requires room { (place : ℕ) (came : List ParcelValue) → first_head context.now.plan (parcels_of parcels.items) ≡ Some place → arrived (world_of self.old) place ≡ Some came → length came < MOST_TOUCHED }
+        ensures ok { OnOk result (delivered_by (day_of context.now.book.now context.now.rules.now context.now.batch.now) context.now.plan worker (world_of self.old) (Carries None (parcels_of parcels.items)) ≡ Ok (world_of self.new)) }
+        ensures err { IfErr result (λ why. delivered_by (day_of context.now.book.now context.now.rules.now context.now.batch.now) context.now.plan worker (world_of self.old) (Carries None (parcels_of parcels.items)) ≡ Err why) }
+        ensures back { OnErr result (world_of self.new ≡ record (world_of self.old) { hands = slice_set (world_of self.old).hands worker (Carries None (parcels_of parcels.items)) }) }
+    {
+        let Some(place) = first_head(context, &parcels) else {
+            self.hands[worker] = Hand::Carries(None, parcels);
+            return Err(EventFault::NothingToDeliver);
+        };
+        let Some(came) = take_dock(&mut self.docks, place) else {
+            self.hands[worker] = Hand::Carries(None, parcels);
+            return Err(EventFault::NothingToDeliver);
+        };
+        let parcel = parcels.remove(0);
+        match receive(context, place, came, parcel) {
+            Ok(task) => {
+                self.hands[worker] = Hand::Carries(Some(task), parcels);
+                Ok(())
+            }
+            Err(came) => {
+                put_dock(&mut self.docks, place, came);
+                self.hands[worker] = Hand::Carries(None, parcels);
+                Ok(())
+            }
+        }
+    }
+
+    /// Delivers the first parcel in a worker's hand.
+    ///
+    /// # Errors
+    /// Why that is not possible.
+    pub(crate) fn deliver_parcel(
+        &mut self,
+        alloc: Global,
+        context: &Context<N>,
+        worker: u32,
+    ) -> Result<(), EventFault>
+        requires places { length self.old.docks.items ≡ length context.now.batch.now.instructions }
+        requires sent { (p : ParcelValue) (ps : List ParcelValue) → slice_get (world_of self.old).hands worker ≡ Some (Carries None (p ∷ ps)) → (1 ≤ p.after) × (p.after ≤ length context.now.batch.now.instructions) }
+        requires room { (p : ParcelValue) (ps : List ParcelValue) (place : ℕ) (came : List ParcelValue) → slice_get (world_of self.old).hands worker ≡ Some (Carries None (p ∷ ps)) → head_of context.now.plan p.after p.value.number ≡ Some place → arrived (world_of self.old) place ≡ Some came → length came < MOST_TOUCHED }
+        ensures { MatchResult result
+            (λ _. with_hand (world_of self.old) worker (delivered_by (day_of context.now.book.now context.now.rules.now context.now.batch.now) context.now.plan worker (world_of self.old)) ≡ Ok (world_of self.new))
+            (λ why. (world_of self.new ≡ world_of self.old) × (with_hand (world_of self.old) worker (delivered_by (day_of context.now.book.now context.now.rules.now context.now.batch.now) context.now.plan worker (world_of self.old)) ≡ Err why)) }
+    {
+        let worker = worker as usize;
+        if worker >= self.hands.len() {
+            return Err(EventFault::NoSuchWorker);
+        }
+        let empty = Hand::Carries(None, Vec::new(alloc));
+        match mem::replace(&mut self.hands[worker], empty) {
+            Hand::Carries(ready, parcels) => match ready {
+                None => self.deliver_held(context, worker, parcels),
+                Some(task) => {
+                    self.hands[worker] = Hand::Carries(Some(task), parcels);
+                    Err(EventFault::NothingToDeliver)
+                }
+            },
+            Hand::Holds(task) => {
+                self.hands[worker] = Hand::Holds(task);
+                Err(EventFault::NothingToDeliver)
+            }
+        }
+    }
+}

@@ -1,0 +1,134 @@
+//! The event that runs the task in a worker's hand.
+
+ghost use Rattle.std.specs.Prelude.{◌≡◌, ◌+◌, ◌++◌, ◌≤◌, ◌<◌, Some, Ok, not, [], length, map, filter, slice_get, slice_set, MatchResult, OnOk, OnErr, IfErr, vec_len, vec_capacity};
+ghost use Rattle.reg_base.specs.declared.limits.TheConstants.{MOST_TOUCHED};
+ghost use Rattle.reg_book.specs.Day.{day_of};
+ghost use Rattle.reg_graph.specs.Pool.{leads_on};
+ghost use Rattle.reg_graph.specs.World.{TaskValue, Holds, with_hand, run_by};
+ghost use Rattle.reg_graph.specs.WorldParts.{parcels_of, task_of, world_of, IsWhy};
+ghost use Rattle.reg_graph.specs.declared.event.EventFault.TheVariants.{NoMemory};
+
+use crate::context::Context;
+use crate::event::EventFault;
+use crate::hand::Hand;
+use crate::naming::Naming;
+use crate::parcel::Parcel;
+use crate::parts::Parts;
+use crate::task::Task;
+use reg_account::Account;
+use reg_base::{AccountNo, MOST_TOUCHED};
+use std::alloc::Global;
+use std::mem;
+
+// Whether an arrow leads on from a place at this account.
+fn leads_on<N: Naming>(context: &Context<N>, place: u32, account: AccountNo) -> bool
+    requires from_one { 1 ≤ place }
+    requires within { place ≤ length context.now.batch.now.instructions }
+    ensures { result ≡ leads_on context.now.plan place account }
+{
+    context
+        .arrows_from(place)
+        .iter()
+        .any(|arrow| arrow.account == account)
+}
+
+// The parcels from which an arrow leads on, in their order. The accounts of the others are added to the closing ones.
+fn close<N: Naming>(
+    context: &Context<N>,
+    place: u32,
+    parcels: Vec<Parcel<N>>,
+    mut kept: Vec<Parcel<N>>,
+    closing: &mut Vec<Account>,
+) -> Vec<Parcel<N>>
+    requires from_one { 1 ≤ place }
+    requires within { place ≤ length context.now.batch.now.instructions }
+    requires empty { kept.items ≡ [] }
+    requires fits { length parcels.items ≤ vec_capacity kept }
+    requires room { vec_len closing.old + length parcels.items ≤ vec_capacity closing.old }
+    ensures kept { parcels_of result.items ≡ filter (λ p. leads_on context.now.plan place p.value.number) (parcels_of parcels.items) }
+    ensures closing { closing.new.items ≡ closing.old.items ++ map (λ p. p.value) (filter (λ p. not (leads_on context.now.plan place p.value.number)) (parcels_of parcels.items)) }
+{
+    for parcel in parcels {
+        if leads_on(context, place, parcel.account()) {
+            kept.push_reserved(parcel);
+        } else {
+            let (value, _) = parcel.into_parts();
+            closing.push_reserved(value);
+        }
+    }
+    kept
+}
+
+impl<N: Naming> Parts<N> {
+    // Runs a task for a worker with an empty hand.
+    //
+    // If memory runs out, the task is in the hand then.
+    fn run_held(
+        &mut self,
+        alloc: Global,
+        context: &Context<N>,
+        worker: usize,
+        task: Task<N>,
+    ) -> Result<(), EventFault>
+        requires there { worker < length self.old.hands.items }
+        requires places { length self.old.rows.items ≡ length context.now.batch.now.instructions }
+        requires from_one { 1 ≤ task.place }
+        requires within { task.place ≤ length context.now.batch.now.instructions }
+        ensures ok { OnOk result (run_by (day_of context.now.book.now context.now.rules.now context.now.batch.now) context.now.plan worker (world_of self.old) (Holds (task_of task)) ≡ Ok (world_of self.new)) }
+        ensures err { IfErr result (λ why. why ≡ NoMemory) }
+        ensures back { OnErr result (world_of self.new ≡ record (world_of self.old) { hands = slice_set (world_of self.old).hands worker (Holds (task_of task)) }) }
+    {
+        let Ok(kept) = Vec::with_capacity(alloc, MOST_TOUCHED) else {
+            self.hands[worker] = Hand::Holds(task);
+            return Err(EventFault::NoMemory);
+        };
+        if self.closing.reserve(MOST_TOUCHED).is_err() {
+            self.hands[worker] = Hand::Holds(task);
+            return Err(EventFault::NoMemory);
+        }
+        match task.run(alloc, context) {
+            Ok(outcome) => {
+                let (ran, row, parcels) = outcome.into_parts();
+                let place = ran.place();
+                let kept = close(context, place, parcels, kept, &mut self.closing);
+                self.rows[place as usize - 1] = Some(row);
+                self.hands[worker] = Hand::Carries(None, kept);
+                Ok(())
+            }
+            Err(task) => {
+                self.hands[worker] = Hand::Holds(task);
+                Err(EventFault::NoMemory)
+            }
+        }
+    }
+
+    /// Runs the task in a worker's hand.
+    ///
+    /// # Errors
+    /// Why that is not possible. `NoMemory` if memory ran out: the task is still in the hand.
+    pub(crate) fn run_task(
+        &mut self,
+        alloc: Global,
+        context: &Context<N>,
+        worker: u32,
+    ) -> Result<(), EventFault>
+        requires places { length self.old.rows.items ≡ length context.now.batch.now.instructions }
+        requires within { (task : TaskValue) → slice_get (world_of self.old).hands worker ≡ Some (Holds task) → (1 ≤ task.place) × (task.place ≤ length context.now.batch.now.instructions) }
+        ensures { MatchResult result
+            (λ _. with_hand (world_of self.old) worker (run_by (day_of context.now.book.now context.now.rules.now context.now.batch.now) context.now.plan worker (world_of self.old)) ≡ Ok (world_of self.new))
+            (λ why. (world_of self.new ≡ world_of self.old) × IsWhy (with_hand (world_of self.old) worker (run_by (day_of context.now.book.now context.now.rules.now context.now.batch.now) context.now.plan worker (world_of self.old))) why) }
+    {
+        let worker = worker as usize;
+        if worker >= self.hands.len() {
+            return Err(EventFault::NoSuchWorker);
+        }
+        let empty = Hand::Carries(None, Vec::new(alloc));
+        match mem::replace(&mut self.hands[worker], empty) {
+            Hand::Holds(task) => self.run_held(alloc, context, worker, task),
+            Hand::Carries(ready, parcels) => {
+                self.hands[worker] = Hand::Carries(ready, parcels);
+                Err(EventFault::NothingToRun)
+            }
+        }
+    }
+}

@@ -1,0 +1,131 @@
+//! The parts of a world at the start.
+
+ghost use Rattle.std.specs.Prelude.{◌≡◌, ◌≤◌, [], None, All, IfOk, map, replicate};
+ghost use Rattle.std.specs.VecDeque.{deque_capacity};
+ghost use Rattle.reg_graph.specs.World.{empty};
+ghost use Rattle.reg_graph.specs.WorldParts.{task_of, hand_of};
+
+use crate::context::Context;
+use crate::docks::open_dock;
+use crate::hand::Hand;
+use crate::naming::Naming;
+use crate::parts::Parts;
+use crate::task::Task;
+use reg_base::NoMemory;
+use reg_rules::LogRow;
+use std::alloc::Global;
+use std::collections::VecDeque;
+
+// A list without tasks for each worker, with room for a task of each place.
+fn empty_lists<N: Naming>(
+    alloc: Global,
+    workers: u32,
+    places: usize,
+) -> Result<Vec<VecDeque<Task<N>>>, NoMemory>
+    ensures lists { IfOk result (λ lists. map (λ tasks. map task_of tasks.items) lists.items ≡ replicate workers []) }
+    ensures room { IfOk result (λ lists. All (λ tasks. places ≤ deque_capacity tasks) lists.items) }
+{
+    let mut lists = Vec::with_capacity(alloc, workers as usize)?;
+    for _ in 0..workers {
+        lists.push(VecDeque::with_capacity(alloc, places)?)?;
+    }
+    Ok(lists)
+}
+
+// An empty hand for each worker.
+fn empty_hands<N: Naming>(alloc: Global, workers: u32) -> Result<Vec<Hand<N>>, NoMemory>
+    ensures { IfOk result (λ hands. map hand_of hands.items ≡ replicate workers empty) }
+{
+    let mut hands = Vec::with_capacity(alloc, workers as usize)?;
+    for _ in 0..workers {
+        hands.push(Hand::Carries(None, Vec::new(alloc)))?;
+    }
+    Ok(hands)
+}
+
+// No row yet for each place.
+fn no_rows(alloc: Global, places: u32) -> Result<Vec<Option<LogRow>>, NoMemory>
+    ensures { IfOk result (λ rows. rows.items ≡ replicate places None) }
+{
+    let mut rows = Vec::with_capacity(alloc, places as usize)?;
+    for _ in 0..places {
+        rows.push(None)?;
+    }
+    Ok(rows)
+}
+
+impl<N: Naming> Parts<N> {
+    ghost use Rattle.std.specs.Prelude.{Bool, List, ◌++◌, ◌∷◌, ◌<◌, length};
+    ghost use Rattle.reg_book.specs.Day.{day_of};
+    ghost use Rattle.reg_graph.specs.World.{TaskValue, complete, opened_at, dock_at, dealt, before_some, at_start};
+    ghost use Rattle.reg_graph.specs.WorldParts.{docks_of, lists_of, world_of};
+
+    // No dock yet. Each list is without tasks, each hand is empty, and no place has a row.
+    fn without_docks(alloc: Global, places: u32, workers: u32) -> Result<Parts<N>, NoMemory>
+        ensures { IfOk result (λ parts. world_of parts ≡ record { docks = []; lists = replicate workers []; hands = replicate workers empty; rows = replicate places None; closing = [] }) }
+    {
+        let count = places as usize;
+        Ok(Parts {
+            docks: Vec::with_capacity(alloc, count)?,
+            lists: empty_lists(alloc, workers, count)?,
+            hands: empty_hands(alloc, workers)?,
+            rows: no_rows(alloc, places)?,
+            closing: Vec::new(alloc),
+            log: Vec::with_capacity(alloc, count)?,
+        })
+    }
+
+    // Adds the dock of the next place. If its task is complete from the first, it goes to the end of the worker's list.
+    // Answers the worker to whom the next task goes.
+    fn open_place(
+        &mut self,
+        alloc: Global,
+        context: &Context<N>,
+        place: u32,
+        worker: usize,
+    ) -> Result<usize, NoMemory>
+        requires from_one { 1 ≤ place }
+        requires within { place ≤ length context.now.batch.now.instructions }
+        requires there { worker < length self.old.lists.items }
+        ensures there { IfOk result (λ next. next < length self.new.lists.items) }
+        ensures docks { IfOk result (λ next. docks_of self.new.docks.items ≡ docks_of self.old.docks.items ++ dock_at (day_of context.now.book.now context.now.rules.now context.now.batch.now) context.now.plan place ∷ []) }
+        ensures lists { IfOk result (λ next. (more : List TaskValue) → dealt next more (lists_of self.new.lists.items) ≡ dealt worker (before_some (complete (day_of context.now.book.now context.now.rules.now context.now.batch.now) context.now.plan place (opened_at (day_of context.now.book.now context.now.rules.now context.now.batch.now) context.now.plan place)) more) (lists_of self.old.lists.items)) }
+        ensures others { IfOk result (λ next. world_of self.new ≡ record (world_of self.old) { docks = docks_of self.new.docks.items; lists = lists_of self.new.lists.items }) }
+    {
+        let came = open_dock(alloc, context, place)?;
+        match Task::assemble(context, place, came) {
+            Ok(task) => {
+                self.docks.push(None)?;
+                self.lists[worker].push_back(task)?;
+                let next = worker + 1;
+                Ok(if next == self.lists.len() { 0 } else { next })
+            }
+            Err(came) => {
+                self.docks.push(Some(came))?;
+                Ok(worker)
+            }
+        }
+    }
+
+    /// The parts at the start: the opening values lie in the docks of the first instructions, and the tasks that are
+    /// complete from the first are dealt to the workers, by rising place, in turn from worker 0.
+    ///
+    /// # Errors
+    /// `NoMemory` if memory ran out.
+    pub(crate) fn at_start(
+        alloc: Global,
+        context: &Context<N>,
+        workers: u32,
+    ) -> Result<Parts<N>, NoMemory>
+        requires some { 1 ≤ workers }
+        ensures { IfOk result (λ parts. world_of parts ≡ at_start (day_of context.now.book.now context.now.rules.now context.now.batch.now) context.now.plan workers) }
+    {
+        let places = context.batch().len();
+        let mut parts = Parts::without_docks(alloc, places, workers)?;
+        let mut worker = 0;
+        for before in 0..places {
+            worker = parts.open_place(alloc, context, before + 1, worker)?;
+        }
+        Ok(parts)
+    }
+}

@@ -1,0 +1,58 @@
+//! The workers' world.
+
+ghost use Rattle.std.specs.Prelude.{◌≡◌, ◌≤◌, IfOk};
+ghost use Rattle.reg_book.specs.Day.{day_of};
+ghost use Rattle.reg_graph.specs.World.{at_start};
+ghost use Rattle.reg_graph.specs.Schedules.{IsReached};
+ghost use Rattle.reg_graph.specs.WorldParts.{world_of};
+ghost use Rattle.reg_graph.specs.declared.event.TheConstants.{MOST_WORKERS};
+
+use crate::context::Context;
+use crate::event::MOST_WORKERS;
+use crate::naming::Naming;
+use crate::parts::Parts;
+use reg_base::NoMemory;
+use std::alloc::Global;
+
+/// Workers with their lists of tasks, the docks in which parcels wait for each other, and what was done. Some schedule
+/// of the workers' events leads to it from the start.
+#[derive(Drop)]
+pub struct World<'c, 'a, N: Naming> {
+    pub(crate) context: &'c Context<'a, N>,
+    pub(crate) alloc: Global,
+    pub(crate) parts: Parts<N>,
+    pub ghost reached: { ∥ IsReached (day_of context.now.book.now context.now.rules.now context.now.batch.now) context.now.plan (world_of parts) ∥₁ },
+}
+
+impl<'c, 'a, N: Naming> World<'c, 'a, N> {
+    /// The world before the first event. The opening values lie in the docks of the instructions that need them. The
+    /// tasks that are complete from the first are dealt to the workers' lists by rising place, in turn from worker 0.
+    /// No worker has anything in hand. There are 1 to 8 workers.
+    ///
+    /// # Errors
+    /// `NoMemory` if memory ran out.
+    pub fn new(
+        alloc: Global,
+        context: &'c Context<'a, N>,
+        workers: u32,
+    ) -> Result<World<'c, 'a, N>, NoMemory>
+        requires some { 1 ≤ workers }
+        requires few { workers ≤ MOST_WORKERS }
+        ensures start { IfOk result (λ w. world_of w.parts ≡ at_start (day_of context.now.book.now context.now.rules.now context.now.batch.now) context.now.plan workers) }
+        ensures context { IfOk result (λ w. w.context.now ≡ context.now) }
+    {
+        let parts = Parts::at_start(alloc, context, workers)?;
+        Ok(World {
+            context,
+            alloc,
+            parts,
+        })
+    }
+
+    /// The day that the workers settle.
+    pub fn context(&self) -> &'c Context<'a, N>
+        ensures { result.now ≡ self.now.context.now }
+    {
+        self.context
+    }
+}
