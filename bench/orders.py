@@ -1,5 +1,5 @@
 #!/usr/bin/env -S python3 -B
-"""Tries orders of a batch, and measures how long planning and running in an order take.
+"""Tries orders of a batch and schedules of workers, and measures how long planning and running take.
 
 usage: orders.py [--repeat N] [--samples N] [--seed N]
 
@@ -11,10 +11,12 @@ Tries
     from the accounts that the instructions touch, and each other one must be refused with its first fault;
   - a batch of twenty instructions with thirty arrows or more: legal orders drawn at random, which must all
     give that day, and other lists drawn at random (permutations, repeated numbers, numbers that are no
-    place, another length), which must be refused with their first fault.
+    place, another length), which must be refused with their first fault;
+  - schedules of one to eight workers, whose events are drawn, of batches of one to sixty instructions: each must
+    end, and give that day.
 Measures, for 16,384 transfers that are chained (each touches an account of the one before it), wide (no two
 share an account) and mixed (random pairs of 2,000 accounts), the seconds of processor time, least of all
-repeats, of reading the text, settling it, making its plan and running it in batch order.
+repeats, of reading the text, settling it, making its plan, running it in batch order and by a schedule of four workers.
 """
 
 import argparse
@@ -161,6 +163,21 @@ def try_samples(samples, chance):
           f"of {samples} other lists {samples - mixed} were refused with their first fault, and {mixed} were legal")
 
 
+def try_schedules(samples, chance):
+    """Drawn schedules of drawn batches."""
+    tried = 0
+    while tried < samples:
+        accounts, count = chance.randrange(2, 20), chance.randrange(1, 61)
+        transfers = draw_pairs(accounts, count, chance)
+        words = [f"{chance.randrange(1, 9)}:{chance.randrange(2 ** 32)}" for _ in range(20)]
+        lines, _ = program(text(accounts, transfers), "orders", *words)
+        for word, line in zip(words, lines, strict=True):
+            if line != "same":
+                sys.exit(f"orders.py: {transfers} by the schedule {word}: {line!r}")
+        tried += len(words)
+    print(f"schedules of one to eight workers: all of {tried} gave the settled day")
+
+
 def measure(repeat, chance):
     """Seconds of processor time."""
     most = days.MOST_INSTRUCTIONS
@@ -169,11 +186,12 @@ def measure(repeat, chance):
         "wide": (2 * most, [(2 * k + 1, 2 * k + 2) for k in range(most)]),
         "mixed": (2_000, draw_pairs(2_000, most, chance)),
     }
-    print(f"{'':9}{'read':>9}{'plain':>9}{'plan':>9}{'batch':>9}   (seconds; the last three without reading)")
+    print(f"{'':9}{'read':>9}{'plain':>9}{'plan':>9}{'batch':>9}{'workers':>9}   (seconds; the last four without reading)")
     for name, (accounts, transfers) in batches.items():
         data = text(accounts, transfers)
-        least = {word: min(program(data, word)[1] for _ in range(repeat)) for word in ("read", "plain", "plan", "batch")}
-        rest = "".join(f"{least[word] - least['read']:9.3f}" for word in ("plain", "plan", "batch"))
+        words = ("read", "plain", "plan", "batch", "workers")
+        least = {word: min(program(data, word)[1] for _ in range(repeat)) for word in words}
+        rest = "".join(f"{least[word] - least['read']:9.3f}" for word in words[1:])
         print(f"{name:9}{least['read']:9.3f}{rest}")
 
 
@@ -186,6 +204,7 @@ def main():
     chance = random.Random(words.seed)
     try_small(chance)
     try_samples(words.samples, chance)
+    try_schedules(words.samples, chance)
     measure(words.repeat, chance)
 
 

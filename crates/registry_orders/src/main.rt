@@ -1,17 +1,23 @@
-//! Runs the instructions of a day text in orders, to measure that and to try many orders. `bench/orders.py` starts it.
+//! Runs the instructions of a day text in orders and by schedules of workers, to measure that and to try many.
+//! `bench/orders.py` starts it.
 //!
 //! The first word says what is done with the day text of standard input: `read` reads it alone, `plain` settles it, `plan`
-//! makes its plan, `batch` runs its instructions in batch order. `orders` runs them in each order that a further word
-//! lists, such as `2,1,3`, and writes a line for each: `same` if the settled day is that of `plain`, or the fault.
+//! makes its plan, `batch` runs its instructions in batch order, `workers` by a schedule of four workers. `orders` runs them
+//! in each order that a further word lists, such as `2,1,3`, and writes a line for each: `same` if the settled day is that of
+//! `plain`, or the fault. A word such as `4:17` stands for a schedule of 4 workers whose events the number 17 chooses.
 #![tactic(auto)]
 
+mod schedules;
+
+use crate::schedules::{Ended, run_schedule};
 use reg_base::{Batch, Rules};
 use reg_book::{Book, Settled, settle_plain};
-use reg_graph::{Context, RunFault, Unnamed, run_order};
+use reg_graph::{Context, MOST_WORKERS, RunFault, Unnamed, run_order};
 use reg_plan::Plan;
 use reg_text::{DayInput, read_day};
 use std::alloc::{AllocError, Global};
 use std::env;
+use std::fmt::Display;
 use std::io::{Read, Write};
 use std::process::ExitCode;
 
@@ -66,41 +72,79 @@ fn run(
     run_order(alloc, &context, order)
 }
 
-// Runs the batch in the order of a word, and writes what comes of it.
+// How a settled day compares with the one that settling one instruction after another gives.
+fn compared(alloc: Global, settled: &Settled, plain: &str) -> Result<&'static str, Stop> {
+    let Ok(text) = format!(in alloc; "{:?}", settled) else {
+        return Err(Stop::Memory);
+    };
+    Ok(if text.as_str() == plain {
+        "same"
+    } else {
+        "other"
+    })
+}
+
+// Writes a line.
+fn tell<W: Write>(writer: &mut W, line: &impl Display) -> Result<(), Stop> {
+    if writeln!(writer, "{line}").is_err() {
+        return Err(Stop::Output);
+    }
+    Ok(())
+}
+
+// Runs the batch in an order, and writes what comes of it.
 fn try_order<W: Write>(
+    alloc: Global,
+    day: &DayInput,
+    plain: &str,
+    order: &[u32],
+    writer: &mut W,
+) -> Result<(), Stop> {
+    match run(alloc, &day.book, &day.rules, &day.batch, order) {
+        Ok(settled) => tell(writer, &compared(alloc, &settled, plain)?),
+        Err(fault) => tell(writer, &fault),
+    }
+}
+
+// Runs the batch by the schedule of two numbers, the workers and what chooses the events, and writes what comes of it.
+fn try_schedule<W: Write>(
+    alloc: Global,
+    day: &DayInput,
+    plain: &str,
+    chosen: &[u32],
+    writer: &mut W,
+) -> Result<(), Stop> {
+    let (Some(workers), Some(seed)) = (chosen.first(), chosen.get(1)) else {
+        return Err(Stop::Input);
+    };
+    if *workers == 0 || *workers > MOST_WORKERS {
+        return Err(Stop::Input);
+    }
+    match run_schedule(alloc, day, *workers, *seed) {
+        Ended::Settled(settled) => tell(writer, &compared(alloc, &settled, plain)?),
+        Ended::NotOver => tell(writer, &"not over"),
+        Ended::NotBegun => Err(Stop::Memory),
+    }
+}
+
+// Runs the batch in the order, or by the schedule, of a word, and writes what comes of it.
+fn try_word<W: Write>(
     alloc: Global,
     day: &DayInput,
     plain: &str,
     word: &str,
     writer: &mut W,
 ) -> Result<(), Stop> {
-    let Ok(order) = numbers(alloc, word) else {
+    let Ok(numbers) = numbers(alloc, word) else {
         return Err(Stop::Memory);
     };
-    let written = match run(alloc, &day.book, &day.rules, &day.batch, order.as_slice()) {
-        Ok(settled) => {
-            let Ok(text) = format!(in alloc; "{:?}", settled) else {
-                return Err(Stop::Memory);
-            };
-            writeln!(
-                writer,
-                "{}",
-                if text.as_str() == plain {
-                    "same"
-                } else {
-                    "other"
-                }
-            )
-        }
-        Err(fault) => writeln!(writer, "{fault}"),
-    };
-    if written.is_err() {
-        return Err(Stop::Output);
+    if word.contains(':') {
+        return try_schedule(alloc, day, plain, numbers.as_slice(), writer);
     }
-    Ok(())
+    try_order(alloc, day, plain, numbers.as_slice(), writer)
 }
 
-// Tries each order of these words.
+// Tries each order and each schedule of these words.
 fn try_orders<W: Write>(
     alloc: Global,
     day: &DayInput,
@@ -114,7 +158,7 @@ fn try_orders<W: Write>(
         return Err(Stop::Memory);
     };
     for word in words {
-        try_order(alloc, day, plain.as_str(), word.as_str(), writer)?;
+        try_word(alloc, day, plain.as_str(), word.as_str(), writer)?;
     }
     Ok(())
 }
@@ -145,6 +189,7 @@ fn carry_out<W: Write>(
         "plain" => settle_plain(alloc, &day.book, &day.rules, &day.batch).is_ok(),
         "plan" => Plan::of(alloc, &day.batch, day.book.directory()).is_ok(),
         "batch" => return run_batch(alloc, day),
+        "workers" => matches!(run_schedule(alloc, day, 4, 1), Ended::Settled(_)),
         "orders" => return try_orders(alloc, day, rest, writer),
         _ => return Err(Stop::Input),
     };

@@ -14,12 +14,7 @@ do,2025-03-31,201,202,transfer,2,1,general,100
 ";
 
 // What an event gives, and where the second instruction is then.
-fn line(
-    rt: &impl Abort,
-    alloc: Global,
-    world: &mut World<Unnamed>,
-    event: Event,
-) -> String {
+fn line(rt: &impl Abort, alloc: Global, world: &mut World<Unnamed>, event: Event) -> String {
     let answer = world.event(event);
     assert!(rt; 2 <= world.context().batch().len());
     let place = world.whereabouts(2);
@@ -85,7 +80,9 @@ fn an_event_that_is_not_possible_has_its_reason(rt: HostRuntime) {
         Pop { worker: 0 },
     ];
     let played = played(&rt, rt.alloc(), APART, &first, &others);
-    assert_eq!(rt; played.as_str(), "\
+    assert_eq!(rt;
+        played.as_str(),
+        "\
 Err(NothingToRun), List { worker: 1 }
 Err(NothingToDeliver), List { worker: 1 }
 Err(NothingToPush), List { worker: 1 }
@@ -97,7 +94,8 @@ Ok(()), Hand { worker: 1 }
 Ok(()), Done
 Ok(()), Done
 Err(EmptyDeque), Done
-");
+"
+    );
 }
 
 #[test]
@@ -112,7 +110,9 @@ fn a_task_that_is_complete_is_pushed_and_stolen(rt: HostRuntime) {
         Run { worker: 0 },
     ];
     let played = played(&rt, rt.alloc(), BACK, &first, &others);
-    assert_eq!(rt; played.as_str(), "\
+    assert_eq!(rt;
+        played.as_str(),
+        "\
 Ok(()), Dock
 Ok(()), Dock
 Ok(()), Dock
@@ -120,5 +120,6 @@ Ok(()), Hand { worker: 1 }
 Ok(()), List { worker: 1 }
 Ok(()), Hand { worker: 0 }
 Ok(()), Done
-");
+"
+    );
 }
