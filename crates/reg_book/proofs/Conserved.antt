@@ -1,5 +1,5 @@
 -- The number of allowances over a day.
-use Rattle.std.proofs.Common.{◌≡◌, ℕ, ◌+◌, List, [], ◌∷◌, Option, Some, None, refl, ap, sym, ◌∙◌, subst, arith}
+use Rattle.std.proofs.Common.{◌≡◌, ℕ, ◌+◌, List, [], ◌∷◌, Option, Some, None, refl, ap, sym, ◌∙◌, arith}
 use Rattle.std.specs.List.{AllByRecursion}
 use Rattle.std.proofs.lemmas.List.Elements.{recursion_from_All}
 use Rattle.reg_base.specs.declared.kinds.AllowanceKind.{AllowanceKind}
@@ -14,7 +14,7 @@ use Rattle.reg_rules.specs.Step.{step, step_by}
 use Rattle.reg_rules.specs.Laws.{StepLaws, IsReady}
 use Rattle.reg_rules.specs.Conservation.{number_of, created_by, deleted_by, undeleted_by, StepConserves}
 use Rattle.reg_book.specs.Fold.{state_after}
-use Rattle.reg_book.specs.Day.{Day, IsDay, setting, closing_state}
+use Rattle.reg_book.specs.Day.{setting}
 use Rattle.reg_book.specs.Conservation.{if_accepted, added, FoldConserves}
 use Rattle.reg_book.proofs.Days.{closing-all}
 use Rattle.reg_book.proofs.Values.{HaveNumbers, first-numbered, others-numbered, numbered-day, ready-book}

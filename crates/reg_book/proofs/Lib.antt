@@ -15,3 +15,4 @@ pub mod RisesFrom
 pub mod Turns
 pub mod Values
 pub mod Conserved
+pub mod ClosedStay

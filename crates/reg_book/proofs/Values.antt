@@ -1,7 +1,7 @@
 -- What each instruction makes of a day's accounts, and an account as its last toucher left it.
-use Rattle.std.proofs.Common.{◌≡◌, ℕ, zero, suc, ◌+◌, Bool, true, false, cond, eqb, ◌||◌, List, [], ◌∷◌, take, length, ◌≤◌, add-zero, Some, refl, sym, ap, subst, ◌∙◌, arith}
+use Rattle.std.proofs.Common.{◌≡◌, ℕ, zero, suc, ◌+◌, Bool, true, false, cond, ◌||◌, List, [], ◌∷◌, take, length, ◌≤◌, add-zero, Some, refl, sym, ap, subst, ◌∙◌, arith}
 use Rattle.std.specs.Prelude.{All, slice_get}
-use Rattle.std.specs.List.{IsDistinct, AllByRecursion}
+use Rattle.std.specs.List.{AllByRecursion}
 use Rattle.std.proofs.lemmas.Option.{same_Some}
 use Rattle.std.proofs.lemmas.List.{length-take-le}
 use Rattle.std.proofs.lemmas.List.Elements.{All-take, recursion_from_All}
@@ -12,7 +12,7 @@ use Rattle.reg_base.specs.Directory.{DirectoryValue}
 use Rattle.reg_base.specs.Footprint.{footprint, is_among}
 use Rattle.reg_base.specs.Rules.{AreRules}
 use Rattle.reg_base.specs.Instructions.{IsInstruction}
-use Rattle.reg_rules.specs.State.{State, Setting, account, numbers}
+use Rattle.reg_rules.specs.State.{State, Setting, account}
 use Rattle.reg_rules.specs.Step.{step, row_of}
 use Rattle.reg_rules.specs.Effect.{IsBehind}
 use Rattle.reg_rules.specs.Laws.{StepLaws, IsReady}

@@ -1,8 +1,9 @@
 -- What is true of a day's instructions one after another, for each account number.
 use Rattle.std.specs.Prelude.{◌≡◌, ℕ, suc, ◌+◌, ◌≤◌, false, length, slice_get, Some, None, if◌then◌else◌}
+use Rattle.reg_base.specs.declared.kinds.Status.TheVariants.{Closed}
 use Rattle.reg_base.specs.declared.instruction.Instruction.{Instruction}
 use Rattle.reg_base.specs.Touches.{is_touched, last_toucher}
-use Rattle.reg_rules.specs.State.{numbers, account}
+use Rattle.reg_rules.specs.State.{numbers, account, status}
 use Rattle.reg_rules.specs.Step.{step, row_of}
 use Rattle.reg_rules.specs.Laws.{IsReady}
 use Rattle.reg_book.specs.Book.{IsBook, directory_of}
@@ -30,6 +31,15 @@ UntouchedStay = (day : Day) (a : ℕ) → is_touched (directory_of day.book.acco
 abbrev pub ValueIsLastTouchers : Type 0
 ValueIsLastTouchers = (day : Day) (a j : ℕ)
     → value_at day a j ≡ value_at day a (last_toucher (directory_of day.book.accounts) day.batch.instructions a j)
+
+-- an account that is closed after the first i instructions is the same after each later one: nothing goes in or out, and
+-- it keeps what it holds, its lists and everything else
+abbrev pub ClosedStays : Type 0
+ClosedStays = (day : Day) (a i j : ℕ) → i ≤ j → status (state_at day i) a ≡ Some Closed → value_at day a j ≡ value_at day a i
+
+-- so it is closed for the rest of the day
+abbrev pub ClosedIsNeverLeft : Type 0
+ClosedIsNeverLeft = (day : Day) (a i j : ℕ) → i ≤ j → status (state_at day i) a ≡ Some Closed → status (state_at day j) a ≡ Some Closed
 
 -- after the first j instructions the accounts are ready for the record number of the next one: each is there once and
 -- within its limits, and its surrenders and deletions are recorded under lower numbers

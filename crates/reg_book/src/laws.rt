@@ -2,9 +2,9 @@
 //! function whose proof needs a law calls it.
 
 ghost use Rattle.reg_book.specs.Conservation.{FoldConserves};
-ghost use Rattle.reg_book.specs.Laws.{EachIsAStep, NumbersStay, UntouchedStay, ValueIsLastTouchers, StaysReady, SettledAreTouched, CommittedIsClosing, SettledIsInOrder, SettledIsOfBook};
+ghost use Rattle.reg_book.specs.Laws.{EachIsAStep, NumbersStay, UntouchedStay, ValueIsLastTouchers, ClosedStays, ClosedIsNeverLeft, StaysReady, SettledAreTouched, CommittedIsClosing, SettledIsInOrder, SettledIsOfBook};
 
-use reg_rules::{step_conserves, step_laws};
+use reg_rules::{step_conserves, step_keeps_closed, step_laws};
 
 /// Each instruction is carried out on what the ones before it left.
 pub fn each_is_a_step()
@@ -24,6 +24,15 @@ pub fn value_is_last_touchers()
     ensures { ValueIsLastTouchers }
 {
     step_laws();
+}
+
+/// An account that is closed stays closed for the rest of the day, and it keeps what it holds, its lists and everything
+/// else.
+pub fn fold_keeps_closed()
+    ensures value { ClosedStays }
+    ensures status { ClosedIsNeverLeft }
+{
+    step_keeps_closed();
 }
 
 /// Throughout a day the accounts stay within their limits, and surrenders and deletions have numbers below that of the

@@ -6,16 +6,13 @@ use Rattle.reg_front.specs.declared.device.ReadFault.{ReadFault}
 use Rattle.reg_front.specs.declared.device.ReadFault.TheVariants as read
 use Rattle.reg_front.specs.declared.fault.FrontFault.{FrontFault}
 use Rattle.reg_front.specs.declared.fault.FrontFault.TheVariants as front
+use Rattle.reg_front.specs.Devices.{most_input}
 
 -- the fault of `run` for each fault of the reader
 abbrev pub fault_of_read : ReadFault → FrontFault
 fault_of_read read.Failed = front.Read
 fault_of_read read.TooLong = front.Read
 fault_of_read read.NoMemory = front.NoMemory
-
--- the most bytes of an input: 2^30
-abbrev pub most_input : ℕ
-most_input = 1073741824
 
 -- an input is too long only if it has more bytes than the limit
 abbrev pub IsReadFault : Option (List ℕ) → ReadFault → Type 0

@@ -18,7 +18,7 @@ use Rattle.reg_front.specs.declared.command.Command.{Command}
 use Rattle.reg_front.specs.declared.command.Command.TheVariants.{Settle, Plan, Statement, Figures, Totals}
 use Rattle.reg_front.specs.declared.fault.FrontFault.{FrontFault}
 use Rattle.reg_front.specs.declared.fault.FrontFault.TheVariants.{Row, Read, Workers, NoAccount, NoMemory, WriteFailed}
-use Rattle.reg_front.specs.Devices.{AppendsFrontOf}
+use Rattle.reg_front.specs.Devices.{AppendsFrontOf, ConsumesFront, IsReadWhole}
 
 -- this number of workers is within its limits
 abbrev pub are_workers : ℕ → Bool
@@ -82,6 +82,33 @@ Leaves command input NoAccount old new = Keeps old new
 Leaves command input WriteFailed old new = IfSome input (λ bytes. (text : List ℕ) × IsText command bytes text × AppendsFrontOf text old new)
 Leaves command input Read old new = Keeps old new
 Leaves command input NoMemory old new = Keeps old new
+
+-- what was read of the input by the time of a fault: a prefix of it, if the reader failed or memory ran out; before all
+-- other faults the whole input
+abbrev pub Reads : FrontFault → Option (List ℕ) → Option (List ℕ) → Type 0
+Reads (Row row cause) input rest = IsReadWhole input rest
+Reads Workers input rest = IsReadWhole input rest
+Reads NoAccount input rest = IsReadWhole input rest
+Reads WriteFailed input rest = IsReadWhole input rest
+Reads Read input rest = ConsumesFront input rest
+Reads NoMemory input rest = ConsumesFront input rest
+
+-- the command has read the whole input and written its text
+pub record IsDone (command : Command) (input rest old new : Option (List ℕ)) : Type 0 where
+  pub read : IsReadWhole input rest
+  pub wrote : WritesText command input old new
+
+-- the command has answered this fault: why, what it has read, and what the writer holds
+pub record Fails (command : Command) (fault : FrontFault) (input rest old new : Option (List ℕ)) : Type 0 where
+  pub why : IfSome input (λ bytes. IsFault command bytes fault)
+  pub read : Reads fault input rest
+  pub left : Leaves command input fault old new
+
+-- the command is carried out, with a fault or without: the reader had `input` left and then `rest`, the writer held `old`
+-- and then `new`
+abbrev pub CarriesOut : Command → Option FrontFault → Option (List ℕ) → Option (List ℕ) → Option (List ℕ) → Option (List ℕ) → Type 0
+CarriesOut command None input rest old new = IsDone command input rest old new
+CarriesOut command (Some fault) input rest old new = Fails command fault input rest old new
 
 -- why no day was read from the input
 abbrev pub IsReadingFault : Option (List ℕ) → FrontFault → Type 0

@@ -1,9 +1,9 @@
 //! Reading a whole input and writing a whole text.
 
 ghost use Rattle.std.specs.Prelude.{◌≡◌, ◌≤◌, IfErr, IfOk, IfSome, OnOk, OnErr, vec_len};
-ghost use Rattle.std.specs.Io.KnownBytes.{Appends, IsAtEnd};
-ghost use Rattle.reg_front.specs.Devices.{AppendsFrontOf, ConsumesFront};
-ghost use Rattle.reg_front.specs.Faults.{IsReadFault, most_input};
+ghost use Rattle.std.specs.Io.KnownBytes.{Appends};
+ghost use Rattle.reg_front.specs.Devices.{AppendsFrontOf, ConsumesFront, IsReadWhole, most_input};
+ghost use Rattle.reg_front.specs.Faults.{IsReadFault};
 
 use std::alloc::Global;
 use std::io::{Read, Write};
@@ -39,8 +39,8 @@ pub(crate) struct WriteFailed;
 /// `Failed` if a call of `read` fails; there is no second try. `TooLong` if the input has more than [`MOST_INPUT`]
 /// bytes. `NoMemory` if memory ran out. In each case the bytes read so far are lost.
 pub(crate) fn read_all<R: Read>(alloc: Global, reader: &mut R) -> Result<Vec<u8>, ReadFault>
-    ensures whole { IfOk result (λ text. IfSome (R.remaining reader.old) (λ bytes. text.items ≡ bytes)) }
-    ensures end { OnOk result (IsAtEnd (R.remaining reader.new)) }
+    ensures text { IfOk result (λ text. IfSome (R.remaining reader.old) (λ bytes. text.items ≡ bytes)) }
+    ensures whole { OnOk result (IsReadWhole (R.remaining reader.old) (R.remaining reader.new)) }
     ensures limit { IfOk result (λ text. vec_len text ≤ most_input) }
     ensures err { OnErr result (ConsumesFront (R.remaining reader.old) (R.remaining reader.new)) }
     ensures fault { IfErr result (IsReadFault (R.remaining reader.old)) }

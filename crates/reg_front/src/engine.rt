@@ -1,11 +1,12 @@
 //! One command, from its input to its output.
 
 ghost use Rattle.std.specs.Prelude.{◌≡◌, ◌+◌, IfOk, IfErr, IfSome, OnOk};
-ghost use Rattle.std.specs.Io.KnownBytes.{IsAtEnd};
+ghost use Rattle.std.specs.Result.{result_err};
 ghost use Rattle.reg_text.specs.Rows.{rows_of};
 ghost use Rattle.reg_text.specs.Reading.{IsReading};
 ghost use Rattle.reg_text.specs.Inputs.{day_of_input};
-ghost use Rattle.reg_front.specs.Runs.{IsFault, WritesText, Leaves, IsReadingFault};
+ghost use Rattle.reg_front.specs.Devices.{IsReadWhole};
+ghost use Rattle.reg_front.specs.Runs.{CarriesOut, IsReadingFault, Reads};
 
 use crate::command::Command;
 use crate::device::{read_all, write_all};
@@ -34,10 +35,7 @@ pub fn run<R: Read, W: Write>(
     writer: &mut W,
     command: Command,
 ) -> Result<(), FrontFault>
-    ensures ok { OnOk result (WritesText command (R.remaining reader.old) (W.contents writer.old) (W.contents writer.new)) }
-    ensures end { OnOk result (IsAtEnd (R.remaining reader.new)) }
-    ensures fault { IfErr result (λ fault. IfSome (R.remaining reader.old) (λ input. IsFault command input fault)) }
-    ensures left { IfErr result (λ fault. Leaves command (R.remaining reader.old) fault (W.contents writer.old) (W.contents writer.new)) }
+    ensures { CarriesOut command (result_err result) (R.remaining reader.old) (R.remaining reader.new) (W.contents writer.old) (W.contents writer.new) }
 {
     run_and_keep(alloc, reader, writer, command)?;
     Ok(())
@@ -54,10 +52,7 @@ pub fn run_without_freeing<R: Read, W: Write>(
     writer: &mut W,
     command: Command,
 ) -> Result<(), FrontFault>
-    ensures ok { OnOk result (WritesText command (R.remaining reader.old) (W.contents writer.old) (W.contents writer.new)) }
-    ensures end { OnOk result (IsAtEnd (R.remaining reader.new)) }
-    ensures fault { IfErr result (λ fault. IfSome (R.remaining reader.old) (λ input. IsFault command input fault)) }
-    ensures left { IfErr result (λ fault. Leaves command (R.remaining reader.old) fault (W.contents writer.old) (W.contents writer.new)) }
+    ensures { CarriesOut command (result_err result) (R.remaining reader.old) (R.remaining reader.new) (W.contents writer.old) (W.contents writer.new) }
 {
     mem::forget(run_and_keep(alloc, reader, writer, command)?);
     Ok(())
@@ -70,10 +65,7 @@ fn run_and_keep<R: Read, W: Write>(
     writer: &mut W,
     command: Command,
 ) -> Result<Used, FrontFault>
-    ensures ok { OnOk result (WritesText command (R.remaining reader.old) (W.contents writer.old) (W.contents writer.new)) }
-    ensures end { OnOk result (IsAtEnd (R.remaining reader.new)) }
-    ensures fault { IfErr result (λ fault. IfSome (R.remaining reader.old) (λ input. IsFault command input fault)) }
-    ensures left { IfErr result (λ fault. Leaves command (R.remaining reader.old) fault (W.contents writer.old) (W.contents writer.new)) }
+    ensures { CarriesOut command (result_err result) (R.remaining reader.old) (R.remaining reader.new) (W.contents writer.old) (W.contents writer.new) }
 {
     let (day, input) = read_input(alloc, reader)?;
     let used = make_text(alloc, day, input, &command)?;
@@ -86,9 +78,10 @@ fn run_and_keep<R: Read, W: Write>(
 // The day that the whole input describes, and the bytes of the input, whose memory is used again for the output.
 fn read_input<R: Read>(alloc: Global, reader: &mut R) -> Result<(DayInput, Vec<u8>), FrontFault>
     ensures ok { IfOk result (λ read. IfSome (R.remaining reader.old) (λ input. IsReading (rows_of input) (day_of_input read.0))) }
-    ensures end { OnOk result (IsAtEnd (R.remaining reader.new)) }
+    ensures whole { OnOk result (IsReadWhole (R.remaining reader.old) (R.remaining reader.new)) }
     ensures follows { IfOk result (λ read. read.0.batch.base + 1 ≡ read.0.book.next) }
     ensures err { IfErr result (IsReadingFault (R.remaining reader.old)) }
+    ensures read { IfErr result (λ fault. Reads fault (R.remaining reader.old) (R.remaining reader.new)) }
 {
     let input = read_all(alloc, reader)?;
     let day = read_day(alloc, input.as_slice())?;

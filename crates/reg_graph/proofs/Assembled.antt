@@ -8,16 +8,16 @@ use Rattle.std.proofs.lemmas.List.Sorted.{All-permutation, IsPermutation-sym, Is
 use Rattle.std.proofs.lemmas.List.Elements.{All-from_recursion, recursion_from_All}
 use Rattle.reg_plan.specs.Plans.{PlanValue, inward}
 use Rattle.reg_book.specs.Day.{Day}
-use Rattle.reg_graph.specs.Pool.{footprint_at}
-use Rattle.reg_graph.specs.Names.{is_name, has_names}
+use Rattle.reg_schedules.specs.Pool.{footprint_at}
+use Rattle.reg_schedules.specs.Docks.{is_name, ParcelValue, TaskValue, of_name, before_all, of_names, awaited, complete}
+use Rattle.reg_graph.specs.Names.{has_names}
 use Rattle.reg_graph.specs.Parcels.{names_of}
 use Rattle.reg_graph.specs.WorldParts.{parcels_of}
 use Rattle.reg_graph.specs.declared.naming.Naming.{Ghosts}
 use Rattle.reg_graph.specs.declared.parcel.Parcel.{Parcel}
-use Rattle.reg_graph.specs.World.{ParcelValue, TaskValue, of_name, before_all, of_names, awaited, complete}
-use Rattle.reg_graph.proofs.Tails.{clash}
-use Rattle.reg_graph.proofs.WorldFits.{name_is, names_are, same_name}
-use Rattle.reg_graph.proofs.WorldSent.{firsts}
+use Rattle.reg_schedules.proofs.Tails.{clash}
+use Rattle.reg_schedules.proofs.WorldFits.{name_is, names_are, same_name}
+use Rattle.reg_schedules.proofs.WorldSent.{firsts}
 
 -- a parcel with this name is there, and it is the first one that is found
 found : (ps : List ParcelValue) (q : ParcelValue) → AllByRecursion (λ p. name_is p ≡ name_is q → p ≡ q) ps → list_any (λ n. is_name n (name_is q)) (names_are ps) ≡ true → of_name ps (name_is q) ≡ Some q

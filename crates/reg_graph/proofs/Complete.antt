@@ -8,10 +8,11 @@ use Rattle.reg_base.specs.Touches.{last_toucher, LastToucherIsLast}
 use Rattle.reg_plan.specs.Plans.{PlanValue, IsPlan, inward}
 use Rattle.reg_plan.specs.Laws.{TailsAreLastTouchers}
 use Rattle.reg_book.specs.Day.{Day}
-use Rattle.reg_graph.specs.Pool.{directory, footprint_at}
-use Rattle.reg_graph.specs.Names.{names_needed, before_place, AreNeeded}
-use Rattle.reg_graph.proofs.Known.{footprint_touches}
-use Rattle.reg_graph.proofs.Tails.{Touches, tail_is_last}
+use Rattle.reg_schedules.specs.Pool.{directory, footprint_at}
+use Rattle.reg_schedules.specs.Docks.{names_needed}
+use Rattle.reg_graph.specs.Names.{before_place, AreNeeded}
+use Rattle.reg_schedules.proofs.Known.{footprint_touches}
+use Rattle.reg_schedules.proofs.Tails.{Touches, tail_is_last}
 
 or_here : (b c : Bool) → b ≡ true → (b || c) ≡ true
 or_here true c e = refl

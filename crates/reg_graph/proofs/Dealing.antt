@@ -4,7 +4,8 @@ use Rattle.std.specs.Prelude.{slice_get, slice_set, replicate}
 use Rattle.std.proofs.lemmas.List.{append-nil, append_assoc}
 use Rattle.reg_plan.specs.Plans.{PlanValue}
 use Rattle.reg_book.specs.Day.{Day}
-use Rattle.reg_graph.specs.World.{ParcelValue, TaskValue, WorldValue, empty, complete, opened_at, dock_at, docks_from, ready_from, before_some, dealt, at_start}
+use Rattle.reg_schedules.specs.Docks.{ParcelValue, TaskValue, complete}
+use Rattle.reg_schedules.specs.World.{WorldValue, empty, opened_at, dock_at, docks_from, ready_from, before_some, dealt, at_start}
 
 -- one task goes to a list that is there
 pub deal-one : (worker next : ℕ) (task : TaskValue) (more : List TaskValue) (lists : List (List TaskValue)) (tasks : List TaskValue) → slice_get lists worker ≡ Some tasks → next ≡ cond (eqb (suc worker) (length lists)) 0 (suc worker)

@@ -11,7 +11,7 @@ use Rattle.reg_rules.specs.Effect.{IsBehind}
 use Rattle.reg_book.specs.Book.{has_row_ahead}
 use Rattle.reg_book.specs.Day.{Day, IsDay, state_at, value_at}
 use Rattle.reg_book.specs.Laws.{StaysReady, ValueIsLastTouchers}
-use Rattle.reg_graph.specs.Pool.{directory}
+use Rattle.reg_schedules.specs.Pool.{directory}
 use Rattle.reg_graph.specs.Names.{before_place}
 use Rattle.reg_graph.specs.declared.naming.Naming.{Ghosts}
 use Rattle.reg_graph.specs.declared.parcel.Parcel.{Parcel}

@@ -5,10 +5,8 @@ use Rattle.std.specs.List.{IsDistinct, AllByRecursion, list_any}
 use Rattle.std.specs.List.Sorted.{IsNonDecreasingBy}
 use Rattle.std.proofs.lemmas.Bool.{eq-eqb, eqb-true, ne_eqb, lt-leb}
 use Rattle.std.proofs.lemmas.Option.{same_Some}
-use Rattle.std.proofs.lemmas.List.Sorted.{IsPermutation-map, IsPermutation-trans}
+use Rattle.std.proofs.lemmas.List.Sorted.{IsPermutation-map}
 use Rattle.std.proofs.lemmas.Map.Keys.{IsDistinct-IsPermutation}
-use Rattle.std.proofs.Props.{props}
-use mathlib.Core.Logic.{∥∥₁_elim}
 use Rattle.reg_base.specs.declared.instruction.Instruction.{Instruction}
 use Rattle.reg_base.specs.Footprint.{is_among}
 use Rattle.reg_base.specs.Touches.{is_touched, last_toucher}
@@ -23,15 +21,16 @@ use Rattle.reg_book.specs.Book.{has_row_ahead}
 use Rattle.reg_book.specs.Fold.{rows_of}
 use Rattle.reg_book.specs.Day.{Day, IsDay, setting, value_at, log_of, settled_day}
 use Rattle.reg_book.specs.Laws.{ValueIsLastTouchers, SettledAreTouched, SettledIsInOrder, SettledIsOfBook}
-use Rattle.reg_graph.specs.Pool.{directory}
-use Rattle.reg_graph.specs.Gathering.{AreRows, AreLastValues, AreClosing, AreClosingValues, named_accounts, gathered, IsWhole}
+use Rattle.reg_schedules.specs.Pool.{directory}
+use Rattle.reg_graph.specs.Gathering.{AreClosing, AreClosingValues, named_accounts, gathered, IsGathered, IsWhole}
+use Rattle.reg_schedules.specs.Schedules.{AreLastValues}
 use Rattle.reg_graph.specs.declared.naming.Naming.{Ghosts}
 use Rattle.reg_graph.specs.declared.parcel.Parcel.{Parcel}
 use Rattle.reg_graph.specs.Parcels.{names_of, values_of}
-use Rattle.reg_graph.proofs.Members.{In}
+use Rattle.reg_schedules.proofs.Members.{In}
 use Rattle.reg_graph.proofs.Rising.{Up, same_rising, all_in, up_distinct, up_sorted, up_rising, in_permuted, in_before}
 
-eqb_sym : (x y : ℕ) → eqb x y ≡ eqb y x
+pub eqb_sym : (x y : ℕ) → eqb x y ≡ eqb y x
 eqb_sym x y = by (eqb x y) refl where
   by : (b : Bool) → eqb x y ≡ b → eqb x y ≡ eqb y x
   by true e = e ∙ sym (eq-eqb y x (sym (eqb-true x y e)))
@@ -143,7 +142,7 @@ module _ (settled : SettledAreTouched) (day : Day) where
 
 -- the parcels that are left at the end have the values that the last instruction left
 module _ {N : Type 0} {b : Ghosts N} where
-  same_accounts : (ps : List (Parcel N b)) → named_accounts (names_of ps) ≡ numbers (values_of ps)
+  pub same_accounts : (ps : List (Parcel N b)) → named_accounts (names_of ps) ≡ numbers (values_of ps)
   same_accounts [] = refl
   same_accounts (p ∷ ps) = ap (λ ns. p.value.number ∷ ns) (same_accounts ps)
 
@@ -177,21 +176,6 @@ if_named (Some d) P h = h d refl
 pub no_name : (name : Option Day) → ((d : Day) → name ≡ Some d → ⊥) → name ≡ None
 no_name None h = refl
 no_name (Some d) h = absurd (h d refl)
-
--- what was sorted, of a named day
-pub record IsGathered (name : Option Day) (rows : List LogRow) (accounts : State) : Type 0 where
-  pub rows_are : (d : Day) → name ≡ Some d → rows ≡ log_of d
-  pub accounts_are : (d : Day) → name ≡ Some d → accounts ≡ (settled_day d).accounts
-
-pub sorted_are : SettledAreTouched → SettledIsInOrder → (name : Option Day) (day : Day) → IsDay day → ((d : Day) → name ≡ Some d → day ≡ d)
-    → (rows sorted_rows : List LogRow) (accounts sorted_accounts : State) → AreRows name rows → AreClosingValues name accounts
-    → IsPermutation rows sorted_rows → IsNonDecreasingBy (λ (row : LogRow). row.number) sorted_rows
-    → IsPermutation accounts sorted_accounts → IsNonDecreasingBy (λ (v : AccountValue). v.number) sorted_accounts
-    → IsGathered name sorted_rows sorted_accounts
-sorted_are settled in_order name day is_day named rows sorted_rows accounts sorted_accounts of_rows of_accounts same_rows rise_rows same_accounts rise_accounts = record {
-  rows_are = λ d e. ∥∥₁_elim (of_rows d e) (Prim.hlevel props) (λ of_day. rows_are d sorted_rows (IsPermutation-trans (log_of d) rows sorted_rows of_day same_rows) rise_rows);
-  accounts_are = λ d e. accounts_are settled d in_order (subst IsDay (named d e) is_day) accounts sorted_accounts (of_accounts d e) same_accounts rise_accounts;
-}
 
 pub named_whole : SettledAreTouched → SettledIsInOrder → SettledIsOfBook → (name : Option Day) (day : Day) → IsDay day → ((d : Day) → name ≡ Some d → day ≡ d) → (rows : List LogRow) (accounts : State)
     → IsGathered name rows accounts → (d : Day) → name ≡ Some d → IsWhole day.book day.batch rows accounts

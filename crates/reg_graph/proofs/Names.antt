@@ -8,8 +8,10 @@ use Rattle.std.proofs.lemmas.List.Edits.{length-swap, swapped_from_swap}
 use Rattle.std.proofs.lemmas.List.Sorted.{IsPermutation-map, list_any-IsPermutation, length_permutation}
 use Rattle.std.proofs.lemmas.Map.Keys.{apart_from_distinct}
 use Rattle.reg_plan.specs.declared.arrow.Arrow.{Arrow}
-use Rattle.reg_graph.specs.Pool.{tail_in}
-use Rattle.reg_graph.specs.Names.{names_needed, is_name, has_names, FindsFrom}
+use Rattle.reg_schedules.specs.Pool.{tail_in}
+use Rattle.reg_schedules.specs.Docks.{names_needed, is_name}
+use Rattle.reg_schedules.proofs.Needed.{length_needed}
+use Rattle.reg_graph.specs.Names.{has_names, FindsFrom}
 use Rattle.reg_graph.specs.declared.naming.Naming.{Ghosts}
 use Rattle.reg_graph.specs.declared.parcel.Parcel.{Parcel}
 use Rattle.reg_graph.specs.Parcels.{names_of}
@@ -30,10 +32,6 @@ name_same x y e =
     let first : x.0 ≡ y.0 = eqb-true x.0 y.0 p in
     let second : x.1 ≡ y.1 = eqb-true x.1 y.1 q in
     λ i. (first i, second i)
-
-pub length_needed : (arrows : List Arrow) (accounts : List ℕ) → length (names_needed arrows accounts) ≡ length accounts
-length_needed arrows [] = refl
-length_needed arrows (a ∷ more) = ap suc (length_needed arrows more)
 
 pub needed_at : (arrows : List Arrow) (accounts : List ℕ) (k : ℕ) → k < length accounts
     → get_or (names_needed arrows accounts) k (0, 0) ≡ (get_or accounts k 0, tail_in arrows (get_or accounts k 0))

@@ -7,17 +7,18 @@ use Rattle.reg_rules.specs.State.{State}
 use Rattle.reg_plan.specs.Plans.{PlanValue}
 use Rattle.reg_rules.specs.declared.reply.LogRow.{LogRow}
 use Rattle.reg_book.specs.Day.{Day}
-use Rattle.reg_graph.specs.Pool.{leads_on, run_at}
-use Rattle.reg_graph.specs.declared.event.EventFault.TheVariants.{NothingToRun, NothingToDeliver}
-use Rattle.reg_graph.specs.declared.event.EventFault.TheVariants as fault
-use Rattle.reg_graph.proofs.WorldPossible.{runs-at}
+use Rattle.reg_schedules.specs.Pool.{leads_on, run_at}
+use Rattle.reg_schedules.specs.declared.event.EventFault.TheVariants.{NothingToRun, NothingToDeliver}
+use Rattle.reg_schedules.specs.declared.event.EventFault.TheVariants as fault
+use Rattle.reg_schedules.proofs.WorldPossible.{runs-at}
 use Rattle.reg_graph.specs.declared.naming.Naming.{Ghosts}
 use Rattle.reg_graph.specs.declared.parcel.Parcel.{Parcel}
 use Rattle.reg_graph.specs.Parcels.{values_of, afters_of}
-use Rattle.reg_graph.specs.declared.event.EventFault.{EventFault}
-use Rattle.reg_graph.specs.World.{at_start, known_of, after_event, after_result, after_events, head_of, complete, arrived, after_delivery, delivered_to, delivered_by, ParcelValue, TaskValue, HandValue, WorldValue, with_hand, at_place, with_place, with_list, pushed_to, left_by, goes_on, Holds, Carries, after_run, run_by}
-use Rattle.reg_graph.specs.declared.event.Event.{Event}
-use Rattle.reg_graph.specs.Schedules.{IsReached}
+use Rattle.reg_schedules.specs.declared.event.EventFault.{EventFault}
+use Rattle.reg_schedules.specs.World.{at_start, known_of, after_event, after_result, after_events, head_of, arrived, after_delivery, delivered_to, delivered_by, HandValue, WorldValue, with_hand, at_place, with_place, with_list, pushed_to, left_by, goes_on, Holds, Carries, after_run, run_by}
+use Rattle.reg_schedules.specs.Docks.{complete, ParcelValue, TaskValue}
+use Rattle.reg_schedules.specs.declared.event.Event.{Event}
+use Rattle.reg_schedules.specs.Schedules.{IsReached}
 use Rattle.reg_graph.specs.WorldParts.{parcels_of, first_head, IsWhy}
 
 -- what is read at a place of a list that is a view of another

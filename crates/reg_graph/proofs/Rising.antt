@@ -1,5 +1,5 @@
 -- Lists that rise by a number are one if they have the same elements.
-use Rattle.std.proofs.Common.{◌≡◌, ℕ, suc, ◌<◌, ◌≤◌, inl, inr, eqb, false, List, [], ◌∷◌, length, get_or, map, refl, sym, ap, ◌∙◌, arith}
+use Rattle.std.proofs.Common.{◌≡◌, ℕ, zero, suc, ◌<◌, ◌≤◌, inl, inr, eqb, false, List, [], ◌∷◌, length, get_or, map, refl, sym, ap, ◌∙◌, arith}
 use Rattle.std.specs.Prelude.{AllPairs, IsPermutation}
 use Rattle.std.specs.List.{IsDistinct, AllByRecursion}
 use Rattle.std.specs.List.Sorted.{IsNonDecreasingBy}
@@ -7,7 +7,7 @@ use Rattle.std.proofs.lemmas.Bool.{eqb-false, ne_eqb}
 use Rattle.std.proofs.lemmas.List.Kept.{AllPairs-from_increasing}
 use Rattle.std.proofs.lemmas.List.Sorted.{Contains-permutation, IsPermutation-sym}
 use Rattle.reg_base.specs.Rising.{IsRising}
-use Rattle.reg_graph.proofs.Members.{In, in_from, contains_from}
+use Rattle.reg_schedules.proofs.Members.{In, in_from, contains_from}
 
 -- each later element has a higher number
 abbrev pub Up : {X : Type 0} → (X → ℕ) → List X → Type 0
@@ -106,3 +106,27 @@ in_permuted xs ys x same m = in_from ys x (Contains-permutation xs ys x same (co
 
 pub in_before : {X : Type 0} (xs ys : List X) (x : X) → IsPermutation xs ys → In x ys → In x xs
 in_before xs ys x same m = in_permuted ys xs x (IsPermutation-sym xs ys same) m
+
+in_at : {X : Type 0} (xs : List X) (k : ℕ) (d : X) → k < length xs → In (get_or xs k d) xs
+in_at [] k d lt = absurd (omega (arith, lt))
+in_at (x ∷ xs) zero d lt = inl refl
+in_at (x ∷ xs) (suc k) d lt = inr (in_at xs k d (omega (arith, lt)))
+
+-- what rises does not fall
+pub ascending : {X : Type 0} (key : X → ℕ) (xs : List X) → Up key xs → (i j : ℕ) (d : X) → i ≤ j → j < length xs → key (get_or xs i d) ≤ key (get_or xs j d)
+ascending key [] up i j d le lt = absurd (omega (arith, lt))
+ascending key (x ∷ xs) up zero zero d le lt = omega arith
+ascending key (x ∷ xs) up zero (suc j) d le lt = let lower : key x < key (get_or xs j d) = up.0 (get_or xs j d) (in_at xs j d (omega (arith, lt))) in omega (arith, lower)
+ascending key (x ∷ xs) up (suc i) zero d le lt = absurd (omega (arith, le))
+ascending key (x ∷ xs) up (suc i) (suc j) d le lt = ascending key xs up.1 i j d (omega (arith, le)) (omega (arith, lt))
+
+-- the keys of what rises rise
+pub up_keys : {X : Type 0} (key : X → ℕ) (xs : List X) → Up key xs → Up (λ n. n) (map key xs)
+up_keys key [] up = tt
+up_keys key (x ∷ xs) up = ((λ n m. let r = of_map key xs n m in omega (arith, r.2, up.0 r.0 r.1)), up_keys key xs up.1)
+
+-- elements that are sorted, with no number twice, have the numbers of a list that rises if these are the same numbers
+pub keys_are : {X : Type 0} (key : X → ℕ) (xs : List X) (ns : List ℕ) → Up (λ n. n) ns → IsNonDecreasingBy key xs → IsDistinct eqb (map key xs)
+    → ((n : ℕ) → In n (map key xs) → In n ns) → ((n : ℕ) → In n ns → In n (map key xs)) → map key xs ≡ ns
+keys_are key xs ns rise sorted distinct there back =
+    same_rising (λ n. n) (map key xs) ns (up_keys key xs (up_sorted key xs sorted distinct)) rise there back

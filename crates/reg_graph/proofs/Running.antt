@@ -1,13 +1,12 @@
 -- What a task's own values give is what the day gives.
 use Rattle.std.proofs.Common.{◌≡◌, ℕ, zero, suc, ◌+◌, ◌-◌, ◌≤◌, inl, inr, Bool, true, false, cond, ◌||◌, eqb, leb, List, [], ◌∷◌, map, Option, Some, None, refl, sym, ap, subst, ◌∙◌, arith}
-use Rattle.std.specs.Prelude.{slice_get, is_some, not}
-use Rattle.std.specs.Option.{option_map, option_map_or}
-use Rattle.std.specs.List.{IsDistinct, AllByRecursion, list_all, list_any}
-use Rattle.std.proofs.lemmas.Bool.{eq-eqb, eqb-true, leb-false, or_parts, and_parts, not-true}
-use Rattle.std.proofs.lemmas.Option.{same_Some, slice_get_cases}
-use Rattle.std.proofs.lemmas.List.Elements.{All-from_recursion}
+use Rattle.std.specs.Prelude.{slice_get, not}
+use Rattle.std.specs.Option.{option_map}
+use Rattle.std.specs.List.{AllByRecursion, list_all, list_any}
+use Rattle.std.proofs.lemmas.Bool.{eqb-true, leb-false, or_parts, and_parts, not-true}
+use Rattle.std.proofs.lemmas.Option.{slice_get_cases}
 use Rattle.reg_base.specs.declared.instruction.Instruction.{Instruction}
-use Rattle.reg_base.specs.Footprint.{footprint, is_among, EachFootprintIsSound}
+use Rattle.reg_base.specs.Footprint.{is_among, EachFootprintIsSound}
 use Rattle.reg_base.specs.Touches.{last_toucher}
 use Rattle.reg_account.specs.Account.{AccountValue}
 use Rattle.reg_account.specs.Rows.{row_numbers, AreBelow}
@@ -19,15 +18,14 @@ use Rattle.reg_rules.specs.declared.reply.Reply.{Reply}
 use Rattle.reg_rules.specs.State.{State, account, numbers}
 use Rattle.reg_rules.specs.Step.{step, row_of}
 use Rattle.reg_rules.specs.Laws.{StepLaws}
-use Rattle.reg_book.specs.Day.{Day, setting, state_at, value_at, row_at}
-use Rattle.reg_book.specs.Laws.{EachIsAStep, IsStepOf, ValueIsLastTouchers}
-use Rattle.reg_graph.specs.Pool.{directory, footprint_at, run_at}
+use Rattle.reg_book.specs.Day.{Day, setting, state_at, value_at}
+use Rattle.reg_book.specs.Laws.{EachIsAStep, ValueIsLastTouchers}
+use Rattle.reg_schedules.specs.Pool.{directory, footprint_at, run_at}
 use Rattle.reg_graph.specs.Names.{before_place, AreNeeded, AreComplete, AreValues, IsValue}
 use Rattle.reg_graph.specs.declared.naming.Naming.{Ghosts}
 use Rattle.reg_graph.specs.declared.parcel.Parcel.{Parcel}
 use Rattle.reg_graph.specs.Parcels.{values_of, afters_of, names_of}
-use Rattle.reg_graph.proofs.Members.{all_among}
-use Rattle.reg_graph.proofs.Known.{found_among, footprint_distinct}
+use Rattle.reg_schedules.proofs.Ran.{AgreeAt, IsRight, ran_right, results_right}
 
 -- an account without a row ahead has rows of lower numbers alone
 pub none_ahead : (n : ℕ) (rows : List RetirementRow) → list_any (λ (row : RetirementRow). leb n row.number) rows ≡ false → AreBelow n (row_numbers rows)
@@ -54,10 +52,6 @@ ran_at day (suc k) number own results i reply row low at same one made =
     ap (option_map run) (sym (ap (slice_get day.batch.instructions) back) ∙ at)
     ∙ ap (λ (p : State × Reply). Some (p.0, row_of (setting day) (day.batch.base + suc k) i p.1)) stepped
     ∙ ap (λ (r : LogRow). Some (results, r)) rowed
-
--- the accounts agree with those of a state, and there are no others
-abbrev pub AgreeAt : State → List ℕ → State → Type 0
-AgreeAt t accounts own = (b : ℕ) → account own b ≡ cond (is_among accounts b) (account t b) None
 
 module _ {N : Type 0} {b : Ghosts N} (day : Day) (named : b.day ≡ Some day) (values : ValueIsLastTouchers) (place : ℕ) where
   -- parcels with the names that are needed have the values before the place
@@ -86,32 +80,6 @@ module _ {N : Type 0} {b : Ghosts N} (day : Day) (named : b.day ≡ Some day) (v
     by true same rest = ap (λ n. cond (eqb n c) (Some p.value) (account (values_of ps) c)) number ∙ ap (λ d. cond d (Some p.value) (account (values_of ps) c)) same
         ∙ sym here ∙ ap (account (state_at day (place - 1))) (eqb-true a c same)
     by false other rest = ap (λ n. cond (eqb n c) (Some p.value) (account (values_of ps) c)) number ∙ ap (λ d. cond d (Some p.value) (account (values_of ps) c)) other ∙ rest
-
--- what a run on such values gives
-pub record IsRight (day : Day) (place : ℕ) (own results : State) (row : LogRow) : Type 0 where
-  pub row_is : row_at day place ≡ Some row
-  pub values : (a : ℕ) → is_among (footprint_at day place) a ≡ true → account results a ≡ value_at day a place
-  pub same_numbers : numbers results ≡ numbers own
-
-pub ran_right : StepLaws → EachIsAStep → (day : Day) (n : ℕ) (i : Instruction) (own results : State) (row : LogRow) → slice_get day.batch.instructions n ≡ Some i
-    → AgreeAt (state_at day n) (footprint_at day (suc n)) own → run_at day (suc n) own ≡ Some (results, row) → IsRight day (suc n) own results row
-ran_right laws each day n i own results row at agree ran =
-    let now : IsStepOf day n i = each day n i at in
-    let made : (State × LogRow) = ((step (setting day) own (day.batch.base + suc n) i).0, row_of (setting day) (day.batch.base + suc n) i (step (setting day) own (day.batch.base + suc n) i).1) in
-    let is : (results, row) ≡ made = same_Some (results, row) made (sym ran
-    ∙ ap (λ o. option_map (λ (x : Instruction). ((step (setting day) own (day.batch.base + suc n) x).0, row_of (setting day) (day.batch.base + suc n) x (step (setting day) own (day.batch.base + suc n) x).1)) o) at) in
-    let results_are : results ≡ (step (setting day) own (day.batch.base + suc n) i).0 = ap (λ (m : State × LogRow). m.0) is in
-    let row_made : row ≡ row_of (setting day) (day.batch.base + suc n) i (step (setting day) own (day.batch.base + suc n) i).1 = ap (λ (m : State × LogRow). m.1) is in
-    let print : footprint_at day (suc n) ≡ footprint (directory day) i.act = ap (λ o. option_map_or (λ (x : Instruction). footprint (directory day) x.act) o []) at in
-    let same : (a : ℕ) → is_among (footprint_at day (suc n)) a ≡ true → account own a ≡ account (state_at day n) a = λ a e. agree a ∙ ap (λ b. cond b (account (state_at day n) a) None) e in
-    let local = laws.local (setting day) own (state_at day n) (day.batch.base + suc n) i
-    (All-from_recursion (λ a. account own a ≡ account (state_at day n) a) (footprint (directory day) i.act)
-    (all_among (λ a. account own a ≡ account (state_at day n) a) (footprint (directory day) i.act) (λ a e. same a (ap (λ ns. is_among ns a) print ∙ e)))) in
-    record {
-      row_is = now.row ∙ ap (λ r. Some (row_of (setting day) (day.batch.base + suc n) i r)) (sym local.0) ∙ ap Some (sym row_made);
-      values = λ a e. ap (λ s. account s a) results_are ∙ local.1 a (same a e) ∙ ap (λ s. account s a) (sym now.state);
-      same_numbers = ap numbers results_are ∙ laws.numbers_stay (setting day) own (day.batch.base + suc n) i;
-    }
 
 module _ {N : Type 0} {b : Ghosts N} where
   pub parcels_right : (ps : List (Parcel N b)) → AreValues b.day (values_of ps) (afters_of ps)
@@ -152,26 +120,9 @@ module _ {N : Type 0} {b : Ghosts N} where
         | inr past ↦ absurd (omega (arith, past.0, needed.high))
       ]
 
-found_behind : (v : AccountValue) (vs ws : State) → AllByRecursion (λ n. eqb v.number n ≡ false) (numbers ws) → AllByRecursion (λ w. account vs w.number ≡ Some w) ws → AllByRecursion (λ w. account (v ∷ vs) w.number ≡ Some w) ws
-found_behind v vs [] others found = tt
-found_behind v vs (w ∷ ws) others found = (ap (λ b. cond b (Some v) (account vs w.number)) others.0 ∙ found.0, found_behind v vs ws others.1 found.1)
-
-found_by_number : (s : State) → IsDistinct eqb (numbers s) → AllByRecursion (λ v. account s v.number ≡ Some v) s
-unfolding IsDistinct
-found_by_number [] distinct = tt
-found_by_number (v ∷ vs) distinct = (ap (λ b. cond b (Some v) (account vs v.number)) (eq-eqb v.number v.number refl), found_behind v vs vs distinct.0 (found_by_number vs distinct.1))
-
 pub each_right : (name : Option Day) (place : ℕ) (own results : State) (row : LogRow) → EachFootprintIsSound
     → ((d : Day) → name ≡ Some d → IsRight d place own results row) → ((d : Day) → name ≡ Some d → numbers own ≡ footprint_at d place) → AllByRecursion (λ v. IsValue name v place) results
-each_right name place own results row sound right touched =
-    go results (λ d e. found_by_number results (subst (IsDistinct eqb) (sym ((right d e).same_numbers ∙ touched d e)) (footprint_distinct sound d place)))
-  where
-    among : (v : AccountValue) → account results v.number ≡ Some v → is_among (numbers results) v.number ≡ true
-    among v e = sym (found_among results v.number) ∙ ap is_some e
-
-    go : (vs : State) → ((d : Day) → name ≡ Some d → AllByRecursion (λ v. account results v.number ≡ Some v) vs) → AllByRecursion (λ v. IsValue name v place) vs
-    go [] all = tt
-    go (v ∷ vs) all = (
-      (λ d e. sym ((right d e).values v.number (ap (λ ns. is_among ns v.number) (sym ((right d e).same_numbers ∙ touched d e)) ∙ among v (all d e).0)) ∙ (all d e).0),
-      go vs (λ d e. (all d e).1),
-    )
+each_right name place own results row sound right touched = go results (λ d e. results_right d place own results row sound (right d e) (touched d e)) where
+  go : (vs : State) → ((d : Day) → name ≡ Some d → AllByRecursion (λ v. value_at d v.number place ≡ Some v) vs) → AllByRecursion (λ v. IsValue name v place) vs
+  go [] all = tt
+  go (v ∷ vs) all = ((λ d e. (all d e).0), go vs (λ d e. (all d e).1))

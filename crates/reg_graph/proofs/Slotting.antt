@@ -1,5 +1,5 @@
 -- Slots: finding one, and what stands in the slots after one has changed.
-use Rattle.std.proofs.Common.{◌≡◌, ℕ, zero, suc, ◌<◌, ◌≤◌, inl, inr, Bool, true, false, cond, eqb, ◌||◌, List, [], ◌∷◌, ◌++◌, length, get_or, set, map, Option, Some, None, Err, ⊎_elim, append_assoc, refl, sym, ap, ◌∙◌, arith, tests}
+use Rattle.std.proofs.Common.{◌≡◌, ℕ, zero, suc, ◌<◌, ◌≤◌, inl, inr, Bool, true, false, cond, eqb, ◌&&◌, ◌||◌, List, [], ◌∷◌, ◌++◌, length, get_or, set, map, Option, Some, None, Err, ⊎_elim, append_assoc, refl, sym, ap, ◌∙◌, arith, tests}
 use Rattle.std.specs.Option.{option_map}
 use Rattle.std.specs.Prelude.{is_some, Contains}
 use Rattle.std.specs.List.{HoldsAt, IsDistinct, AllByRecursion, list_all}
@@ -8,7 +8,7 @@ use Rattle.std.specs.Cmp.{ranked}
 use Rattle.std.specs.Ordering.{nat_cmp, ordering_index}
 use Rattle.std.specs.declared.cmp.Ordering.TheVariants.{Less, Equal, Greater}
 use Rattle.std.proofs.lemmas.List.{map-append}
-use Rattle.std.proofs.lemmas.Bool.{eq-eqb, eqb-true, ne_eqb, cases_lt, and_left, and_right}
+use Rattle.std.proofs.lemmas.Bool.{eq-eqb, eqb-true, ne_eqb, cases_lt, and_parts}
 use Rattle.reg_base.specs.Footprint.{is_among}
 use Rattle.reg_base.specs.Rising.{IsRising}
 use Rattle.reg_base.specs.declared.instruction.Instruction.{Instruction}
@@ -16,12 +16,12 @@ use Rattle.reg_base.specs.Directory.{DirectoryValue}
 use Rattle.reg_base.specs.Touches.{is_touched}
 use Rattle.reg_plan.specs.declared.arrow.Opening.{Opening}
 use Rattle.reg_plan.specs.Plans.{PlanValue, IsPlan}
-use Rattle.reg_graph.proofs.Tails.{touched_from}
+use Rattle.reg_schedules.proofs.Tails.{touched_from}
 use Rattle.reg_graph.specs.Slots.{opened_accounts, name_of, standing_in}
 use Rattle.reg_graph.specs.declared.naming.Naming.{Ghosts}
 use Rattle.reg_graph.specs.declared.parcel.Parcel.{Parcel}
-use Rattle.reg_graph.proofs.Members.{In, contains_from}
-use Rattle.reg_graph.proofs.Rising.{Up, up_rising}
+use Rattle.reg_schedules.proofs.Members.{In, contains_from}
+use Rattle.reg_graph.proofs.Rising.{Up, up_rising, ascending}
 
 abbrev pub number_of : Opening → ℕ
 number_of opening = opening.account
@@ -30,18 +30,7 @@ number_of opening = opening.account
 higher : (x a b : ℕ) → a ≤ b → ordering_index (nat_cmp a x) ≤ ordering_index (nat_cmp b x)
 higher x a b le = grind (arith, tests)
 
-ascending : (os : List Opening) → Up number_of os → (i j : ℕ) (d : Opening) → i ≤ j → j < length os → (get_or os i d).account ≤ (get_or os j d).account
-ascending [] up i j d le lt = absurd (omega arith)
-ascending (o ∷ os) up zero zero d le lt = omega arith
-ascending (o ∷ os) up zero (suc j) d le lt = let lower : o.account < (get_or os j d).account = up.0 (get_or os j d) (in_at os j d (omega (arith, lt))) in omega (arith, lower) where
-  in_at : (xs : List Opening) (k : ℕ) (d : Opening) → k < length xs → In (get_or xs k d) xs
-  in_at [] k d lt = absurd (omega arith)
-  in_at (x ∷ xs) zero d lt = inl refl
-  in_at (x ∷ xs) (suc k) d lt = inr (in_at xs k d (omega (arith, lt)))
-ascending (o ∷ os) up (suc i) zero d le lt = absurd (omega arith)
-ascending (o ∷ os) up (suc i) (suc j) d le lt = ascending os up.1 i j d (omega (arith, le)) (omega (arith, lt))
-
-among_opening : (os : List Opening) (a : ℕ) → is_among (opened_accounts os) a ≡ true → (o : Opening) × In o os × (o.account ≡ a)
+pub among_opening : (os : List Opening) (a : ℕ) → is_among (opened_accounts os) a ≡ true → (o : Opening) × In o os × (o.account ≡ a)
 among_opening [] a e = absurd cc
 among_opening (o ∷ os) a e = by (eqb o.account a) refl e (among_opening os a) where
   by : (c : Bool) → eqb o.account a ≡ c → (c || is_among (opened_accounts os) a) ≡ true → (is_among (opened_accounts os) a ≡ true → (w : Opening) × In w os × (w.account ≡ a)) → (w : Opening) × In w (o ∷ os) × (w.account ≡ a)
@@ -53,7 +42,7 @@ search_missed os a i rising searched = by (is_among (opened_accounts os) a) refl
   by : (c : Bool) → is_among (opened_accounts os) a ≡ c → c ≡ false
   by false e = refl
   by true e =
-      let parted = searched (λ p q d le lt. higher a (get_or os p d).account (get_or os q d).account (ascending os (up_rising number_of os rising) p q d le lt)) in
+      let parted = searched (λ p q d le lt. higher a (get_or os p d).account (get_or os q d).account (ascending number_of os (up_rising number_of os rising) p q d le lt)) in
       let (o, there, same) = among_opening os a e in
       let at = contains_from os o there in
       let number : (get_or os at.0 o).account ≡ a = ap number_of at.2 ∙ same in
@@ -141,6 +130,20 @@ unfolding IsDistinct
 taken_more st new a rest taken whole distinct after e =
     ap (λ ns. (taken ++ st a ∷ []) ++ ns) (same_others st new a rest distinct.0 after) ∙ append_assoc taken (st a ∷ []) (map st rest) ∙ e
 
+-- and the rest is still there
+all_same : (st new : ℕ → Name) (rest : List ℕ) → map new rest ≡ map st rest → list_all (λ b. is_some (new b)) rest ≡ list_all (λ b. is_some (st b)) rest
+all_same st new [] e = refl
+all_same st new (b ∷ rest) e =
+    let head : new b ≡ st b = cc in
+    let tail : map new rest ≡ map st rest = cc in
+    ap (λ o. is_some o && list_all (λ b. is_some (new b)) rest) head ∙ ap (λ c. is_some (st b) && c) (all_same st new rest tail)
+
+pub there_more : (st new : ℕ → Name) (a : ℕ) (rest : List ℕ) → IsDistinct eqb (a ∷ rest) → ((b : ℕ) → new b ≡ cond (eqb a b) None (st b)) → list_all (λ b. is_some (st b)) (a ∷ rest) ≡ true
+    → list_all (λ b. is_some (new b)) rest ≡ true
+unfolding IsDistinct
+there_more st new a rest distinct after there =
+    all_same st new rest (same_others st new a rest distinct.0 after) ∙ (and_parts (is_some (st a)) (list_all (λ b. is_some (st b)) rest) there).1
+
 pub distinct_rest : (a : ℕ) (rest : List ℕ) → IsDistinct eqb (a ∷ rest) → IsDistinct eqb rest
 unfolding IsDistinct
 distinct_rest a rest distinct = distinct.1
@@ -152,14 +155,6 @@ left_more st new a rest b before after e = ap (cond (is_among rest b) None) afte
   by true true o = refl
   by true false o = refl
   by false d o = refl
-
-pub none_inside : (st : ℕ → Name) (before after : List Name) (accounts : List ℕ) → before ++ None ∷ after ≡ map st accounts → list_all (λ a. is_some (st a)) accounts ≡ false
-none_inside st [] after [] e = absurd cc
-none_inside st [] after (a ∷ more) e = let none : None ≡ st a = cc in and_left (is_some (st a)) (list_all (λ a. is_some (st a)) more) (ap is_some (sym none))
-none_inside st (n ∷ before) after [] e = absurd cc
-none_inside st (n ∷ before) after (a ∷ more) e = and_right (is_some (st a)) (list_all (λ a. is_some (st a)) more) (none_inside st before after more (cons-inj e)) where
-  cons-inj : (n ∷ before) ++ None ∷ after ≡ map st (a ∷ more) → before ++ None ∷ after ≡ map st more
-  cons-inj h = cc
 
 -- an opening is of a touched account
 pub opening_touched : (directory : DirectoryValue) (is : List Instruction) (plan : PlanValue) → IsPlan directory is plan → (o : Opening) → Contains plan.openings o → is_touched directory is o.account ≡ true

@@ -15,11 +15,11 @@ use Rattle.reg_plan.specs.Plans.{PlanValue, IsPlan, inward}
 use Rattle.reg_plan.specs.Orders.{waits, fault_at, first_fault_after}
 use Rattle.reg_plan.specs.Laws.{TailsAreLastTouchers}
 use Rattle.reg_book.specs.Day.{Day}
-use Rattle.reg_graph.specs.Pool.{directory, tail_of}
+use Rattle.reg_schedules.specs.Pool.{directory, tail_of}
 use Rattle.reg_graph.specs.Slots.{last_of}
-use Rattle.reg_graph.proofs.Members.{In, Found, Missing, search_of, among_push}
-use Rattle.reg_graph.proofs.Tails as tails
-use Rattle.reg_graph.proofs.Tails.{clash}
+use Rattle.reg_schedules.proofs.Members.{In, Found, Missing, search_of, among_push}
+use Rattle.reg_schedules.proofs.Tails as tails
+use Rattle.reg_schedules.proofs.Tails.{clash}
 
 not_false : (b : Bool) → not b ≡ false → b ≡ true
 not_false true e = refl

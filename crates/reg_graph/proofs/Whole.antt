@@ -14,7 +14,7 @@ use Rattle.reg_rules.specs.Effect.{IsBehind}
 use Rattle.reg_book.specs.Book.{BookValue, directory_of}
 use Rattle.reg_book.specs.Settled.{record_numbers}
 use Rattle.reg_graph.specs.Gathering.{IsWhole, IsCommittable, are_counted}
-use Rattle.reg_graph.proofs.Members.{In}
+use Rattle.reg_schedules.proofs.Members.{In}
 use Rattle.reg_graph.proofs.Rising.{Up, up_rising}
 
 -- rows that are counted

@@ -6,10 +6,12 @@ use Rattle.std.specs.List.{list_any}
 use Rattle.std.proofs.lemmas.List.{take_all}
 use Rattle.reg_graph.specs.declared.naming.Naming.{Ghosts}
 use Rattle.reg_graph.specs.declared.task.Task.{Task}
-use Rattle.reg_graph.specs.World.{ParcelValue, TaskValue, HandValue, WorldValue, is_task, is_in_hand, is_in_dock, is_in_list_of, is_in_hand_of, is_done}
-use Rattle.reg_graph.specs.Schedules.{one_if, total, times_found}
+use Rattle.reg_schedules.specs.Docks.{ParcelValue, TaskValue}
+use Rattle.reg_schedules.specs.World.{HandValue, WorldValue, is_task, is_in_hand, is_in_dock, is_in_list_of, is_in_hand_of, is_done}
+use Rattle.reg_counting.specs.Counting.{one_if, total}
+use Rattle.reg_schedules.specs.Schedules.{times_found}
 use Rattle.reg_graph.specs.WorldParts.{task_of}
-use Rattle.reg_graph.proofs.WorldCounts.{in_list, in_hand_once}
+use Rattle.reg_schedules.proofs.WorldCounts.{in_list, in_hand_once}
 use Rattle.reg_graph.proofs.PartFacts.{at-placed}
 
 -- one more without it

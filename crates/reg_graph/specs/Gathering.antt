@@ -1,19 +1,24 @@
 -- What a settled day is gathered from, and what is tested of it.
-use Rattle.std.specs.Prelude.{◌≡◌, ℕ, ◌+◌, ◌==◌, ◌&&◌, Bool, true, nat_eq, List, [], ◌∷◌, length, map, Option, Some, IsPermutation}
+use Rattle.std.specs.Prelude.{◌≡◌, ℕ, ◌+◌, ◌==◌, ◌&&◌, Bool, true, false, not, nat_eq, List, [], ◌∷◌, length, map, Option, Some, IsPermutation}
 use Rattle.std.specs.List.{IsDistinct, AllByRecursion}
 use Rattle.std.specs.FinMap as fin
 use Rattle.reg_base.specs.Directory.{DirectoryValue}
 use Rattle.reg_base.specs.Footprint.{is_among}
+use Rattle.reg_base.specs.Rising.{count_up}
 use Rattle.reg_base.specs.Touches.{is_touched, last_toucher}
 use Rattle.reg_base.specs.Batch.{BatchValue}
 use Rattle.reg_account.specs.Account.{AccountValue}
 use Rattle.reg_rules.specs.Effect.{IsBehind}
 use Rattle.reg_rules.specs.declared.reply.LogRow.{LogRow}
-use Rattle.reg_rules.specs.State.{State, numbers}
+use Rattle.reg_rules.specs.State.{State}
 use Rattle.reg_book.specs.Book.{BookValue}
 use Rattle.reg_book.specs.Settled.{SettledValue, IsSettled, IsOfBook}
-use Rattle.reg_book.specs.Day.{Day, value_at, log_of}
-use Rattle.reg_graph.specs.Pool.{directory}
+use Rattle.reg_book.specs.Day.{Day, log_of, settled_day}
+use Rattle.reg_plan.specs.Plans.{PlanValue}
+use Rattle.reg_schedules.specs.Pool.{directory, footprint_at, leads_on}
+use Rattle.reg_schedules.specs.Schedules.{AreLastValues}
+use Rattle.reg_graph.specs.declared.naming.Naming.{Ghosts}
+use Rattle.reg_graph.specs.declared.done.Done.{Done}
 
 -- if a day is named, these are the rows of its log, in any order
 abbrev pub AreRows : Option Day → List LogRow → Type 0
@@ -34,15 +39,52 @@ pub record AreLast (day : Day) (names : List (ℕ × ℕ)) : Type 0 where
 abbrev pub AreClosing : Option Day → List (ℕ × ℕ) → Type 0
 AreClosing name names = (day : Day) → name ≡ Some day → AreLast day names
 
--- these are the touched accounts as the last instruction left them, in any order
-pub record AreLastValues (day : Day) (accounts : State) : Type 0 where
-  pub once : IsDistinct nat_eq (numbers accounts)
-  pub touched : (a : ℕ) → is_among (numbers accounts) a ≡ is_touched (directory day) day.batch.instructions a
-  pub values : AllByRecursion (λ v. value_at day v.number (length day.batch.instructions) ≡ Some v) accounts
-
 -- if a day is named, the accounts are those
 abbrev pub AreClosingValues : Option Day → State → Type 0
 AreClosingValues name accounts = (day : Day) → name ≡ Some day → AreLastValues day accounts
+
+module _ {N : Type 0} {b : Ghosts N} where
+  -- the places of instructions that were run
+  abbrev pub places_of : List (Done N b) → List ℕ
+  places_of done = map (λ d. d.place) done
+
+  -- their rows
+  abbrev pub rows_in : List (Done N b) → List LogRow
+  rows_in done = map (λ d. d.row) done
+
+-- each place once, and the last parcel of each touched account once, in any order
+pub record AreOutcomes (day : Day) (places : List ℕ) (names : List (ℕ × ℕ)) : Type 0 where
+  pub each : IsPermutation (count_up 1 (length day.batch.instructions)) places
+  pub last : AreLast day names
+
+-- if a day is named, they are not its
+abbrev pub AreNotAll : Option Day → List ℕ → List (ℕ × ℕ) → Type 0
+AreNotAll name places names = (day : Day) → name ≡ Some day → ¬ (AreOutcomes day places names)
+
+-- the numbers are this one, the next one, and so on
+abbrev pub counts_up : ℕ → List ℕ → Bool
+counts_up first [] = true
+counts_up first (x ∷ xs) = (x == first) && counts_up (first + 1) xs
+
+-- the instruction at the place of this name touches its account, and no later one does: no arrow leads on from there
+abbrev pub is_last : Day → PlanValue → ℕ × ℕ → Bool
+is_last day plan name = is_among (footprint_at day name.1) name.0 && not (leads_on plan name.1 name.0)
+
+-- the names are of these accounts, in this order, and each is the last one
+abbrev pub are_last : Day → PlanValue → List ℕ → List (ℕ × ℕ) → Bool
+are_last day plan [] [] = true
+are_last day plan [] (name ∷ names) = false
+are_last day plan (a ∷ more) [] = false
+are_last day plan (a ∷ more) (name ∷ names) = ((name.0 == a) && is_last day plan name) && are_last day plan more names
+
+-- the places are 1, 2 and so on to the last, and the names are the last ones of these accounts
+abbrev pub are_outcomes : Day → PlanValue → List ℕ → List ℕ → List (ℕ × ℕ) → Bool
+are_outcomes day plan accounts places names = ((length places == length day.batch.instructions) && counts_up 1 places) && are_last day plan accounts names
+
+-- if a day is named, these are its log and its settled accounts, in their order
+pub record IsGathered (name : Option Day) (rows : List LogRow) (accounts : State) : Type 0 where
+  pub rows_are : (d : Day) → name ≡ Some d → rows ≡ log_of d
+  pub accounts_are : (d : Day) → name ≡ Some d → accounts ≡ (settled_day d).accounts
 
 -- rows and accounts as a settled day of this batch
 abbrev pub gathered : BatchValue → List LogRow → State → SettledValue

@@ -1,10 +1,7 @@
-pub mod Pool
-pub mod Laws
+pub mod Contexts
 pub mod Names
 pub mod Parcels
 pub mod Gathering
 pub mod Slots
-pub mod World
+pub mod Standing
 pub mod WorldParts
-pub mod Schedules
-pub mod Conserved

@@ -8,10 +8,10 @@ use Rattle.reg_base.specs.Touches.{last_toucher}
 use Rattle.reg_account.specs.Account.{AccountValue}
 use Rattle.reg_rules.specs.Effect.{IsBehind}
 use Rattle.reg_rules.specs.declared.reply.LogRow.{LogRow}
-use Rattle.reg_plan.specs.declared.arrow.Arrow.{Arrow}
 use Rattle.reg_book.specs.Book.{BookValue}
 use Rattle.reg_book.specs.Day.{Day, day_of, value_at, row_at}
-use Rattle.reg_graph.specs.Pool.{directory, footprint_at, tail_in}
+use Rattle.reg_schedules.specs.Pool.{directory, footprint_at}
+use Rattle.reg_schedules.specs.Docks.{is_name}
 
 -- if a day is named, these are its book, its rules and its batch
 abbrev pub IsNamed : Option Day → BookValue → RulesValue → BatchValue → Type 0
@@ -31,15 +31,6 @@ AreValues name (v ∷ vs) (t ∷ ts) = IsValue name v t × AreValues name vs ts
 -- if a day is named, this is the row of that place
 abbrev pub IsRow : Option Day → ℕ → LogRow → Type 0
 IsRow name place row = (day : Day) → name ≡ Some day → row_at day place ≡ Some row
-
--- these are the names of the values that a place needs of these accounts, by the arrows that lead there
-abbrev pub names_needed : List Arrow → List ℕ → List (ℕ × ℕ)
-names_needed arrows [] = []
-names_needed arrows (a ∷ more) = (a, tail_in arrows a) ∷ names_needed arrows more
-
--- two names are one
-abbrev pub is_name : ℕ × ℕ → ℕ × ℕ → Bool
-is_name x y = (x.0 == y.0) && (x.1 == y.1)
 
 -- there are as many names as those that are needed, and each of these is among them
 abbrev pub has_names : List (ℕ × ℕ) → List (ℕ × ℕ) → Bool

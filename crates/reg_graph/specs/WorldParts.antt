@@ -1,5 +1,5 @@
 -- What the parts of a world hold, as plain data.
-use Rattle.std.specs.Prelude.{◌≡◌, ◌≢◌, ℕ, List, [], ◌∷◌, map, Option, None, Result, Err, IsOk}
+use Rattle.std.specs.Prelude.{◌≡◌, ◌≢◌, ℕ, List, [], ◌∷◌, length, map, Option, Some, None, Result, Err, IsOk, vec_capacity}
 use Rattle.std.specs.Option.{option_map}
 use Rattle.std.specs.declared.vec.Vec.{Vec}
 use Rattle.std.specs.declared.collections.vec_deque.VecDeque.{VecDeque}
@@ -10,14 +10,27 @@ use Rattle.reg_graph.specs.declared.task.Task.{Task}
 use Rattle.reg_graph.specs.declared.hand.Hand.{Hand}
 use Rattle.reg_graph.specs.declared.hand.Hand.TheVariants as parts
 use Rattle.reg_graph.specs.declared.parts.Parts.{Parts}
-use Rattle.reg_graph.specs.declared.event.EventFault.{EventFault}
-use Rattle.reg_graph.specs.declared.event.EventFault.TheVariants as fault
+use Rattle.reg_schedules.specs.declared.event.Event.{Event}
+use Rattle.reg_schedules.specs.declared.event.Event.TheVariants.{Pop, Steal, Run, Deliver, Push}
+use Rattle.reg_schedules.specs.declared.event.EventFault.{EventFault}
+use Rattle.reg_schedules.specs.declared.event.EventFault.TheVariants as fault
 use Rattle.reg_plan.specs.Plans.{PlanValue}
-use Rattle.reg_graph.specs.World.{head_of, ParcelValue, TaskValue, HandValue, Holds, Carries, WorldValue}
+use Rattle.reg_book.specs.Day.{Day}
+use Rattle.reg_schedules.specs.Pool.{footprint_at}
+use Rattle.reg_schedules.specs.World.{at_place, head_of, HandValue, Holds, Carries, WorldValue}
+use Rattle.reg_schedules.specs.Docks.{ParcelValue, TaskValue}
 
--- this is why an event was not carried out: it is not possible, or it is, and memory ran out
+-- this is why a run was not carried out: it is not possible, or it is, and memory ran out
 abbrev pub IsWhy : Result WorldValue EventFault → EventFault → Type 0
 IsWhy after why = (why ≡ fault.NoMemory → IsOk after) × (why ≢ fault.NoMemory → after ≡ Err why)
+
+-- this is why an event was not carried out: only a run takes memory, every other event is not possible
+abbrev pub IsWhyOf : Event → Result WorldValue EventFault → EventFault → Type 0
+IsWhyOf (Run worker) after why = IsWhy after why
+IsWhyOf (Pop worker) after why = after ≡ Err why
+IsWhyOf (Steal worker from) after why = after ≡ Err why
+IsWhyOf (Deliver worker) after why = after ≡ Err why
+IsWhyOf (Push worker) after why = after ≡ Err why
 
 -- the place to which an arrow leads on from the first of these parcels
 abbrev pub first_head : PlanValue → List ParcelValue → Option ℕ
@@ -41,6 +54,10 @@ module _ {N : Type 0} {b : Ghosts N} where
   -- the docks
   abbrev pub docks_of : List (Option (Vec (Parcel N b) Global)) → List (Option (List ParcelValue))
   docks_of docks = map (option_map (λ came. parcels_of came.items)) docks
+
+  -- each dock in which parcels wait has room for the accounts that its instruction touches, and for no more
+  abbrev pub HaveRoom : Day → List (Option (Vec (Parcel N b) Global)) → Type 0
+  HaveRoom day docks = (place : ℕ) (came : Vec (Parcel N b) Global) → at_place docks place ≡ Some (Some came) → vec_capacity came ≡ length (footprint_at day place)
 
   -- the lists of tasks
   abbrev pub lists_of : List (VecDeque (Task N b) Global) → List (List TaskValue)

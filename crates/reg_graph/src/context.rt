@@ -5,9 +5,9 @@ ghost use Rattle.reg_base.specs.Touches.{is_touched};
 ghost use Rattle.reg_rules.specs.State.{account};
 ghost use Rattle.reg_plan.specs.Plans.{IsPlan, inward, outward};
 ghost use Rattle.reg_book.specs.Book.{directory_of};
-ghost use Rattle.reg_book.specs.Day.{IsDay, day_of};
+ghost use Rattle.reg_book.specs.Day.{IsDay};
 ghost use Rattle.reg_book.specs.Settling.{IsSettleFault};
-ghost use Rattle.reg_graph.specs.Pool.{footprint_at};
+ghost use Rattle.reg_schedules.specs.Pool.{footprint_at};
 ghost use Rattle.reg_base.specs.Rising.{IsRising};
 ghost use Rattle.reg_graph.specs.Names.{IsNamed};
 ghost use Rattle.reg_graph.specs.Slots.{opened_accounts};
@@ -35,6 +35,8 @@ pub struct Context<'a, N: Naming> {
 }
 
 impl<'a, N: Naming> Context<'a, N> {
+    ghost use Rattle.reg_graph.specs.Contexts.{the_day};
+
     /// The context of a day. If a day is named, it must be this one.
     ///
     /// The time is linear in the instructions, sorting apart.
@@ -100,7 +102,7 @@ impl<'a, N: Naming> Context<'a, N> {
 
     // Reads the parts, so that a proof knows that they make a day.
     pub(crate) fn is_day(&self)
-        ensures { IsDay (day_of self.now.book.now self.now.rules.now self.now.batch.now) }
+        ensures { IsDay (the_day self.now) }
     {
         self.book.next_record();
         self.rules.are_within_limits();
@@ -111,7 +113,7 @@ impl<'a, N: Naming> Context<'a, N> {
     pub(crate) fn touched_at(&self, place: u32) -> Footprint
         requires from_one { 1 ≤ place }
         requires within { place ≤ length self.now.batch.now.instructions }
-        ensures { result ≡ footprint_at (day_of self.now.book.now self.now.rules.now self.now.batch.now) place }
+        ensures { result ≡ footprint_at (the_day self.now) place }
     {
         self.batch.at(place).touches(self.book.directory())
     }

@@ -1,21 +1,23 @@
 //! The event that puts a parcel into its dock.
 
-ghost use Rattle.std.specs.Prelude.{◌≡◌, ◌++◌, ◌≤◌, ◌<◌, ℕ, All, List, Some, None, Ok, Err, [], ◌∷◌, length, slice_get, slice_set, MatchResult, OnOk, OnErr, IfErr, IfSome, vec_len, vec_capacity};
+ghost use Rattle.std.specs.Prelude.{◌≡◌, ◌++◌, ◌≤◌, ◌<◌, ℕ, List, Some, None, Ok, Err, [], ◌∷◌, length, slice_get, slice_set, MatchResult, OnOk, OnErr, IfErr, IfSome, vec_len, vec_capacity};
 ghost use Rattle.std.specs.Option.{option_map, option_map_or};
-ghost use Rattle.reg_base.specs.declared.limits.TheConstants.{MOST_TOUCHED};
-ghost use Rattle.reg_book.specs.Day.{day_of};
-ghost use Rattle.reg_graph.specs.declared.event.EventFault.TheVariants.{NothingToDeliver};
-ghost use Rattle.reg_graph.specs.World.{ParcelValue, Carries, at_place, with_place, complete, head_of, arrived, with_hand, delivered_by};
-ghost use Rattle.reg_graph.specs.WorldParts.{parcels_of, task_of, docks_of, world_of, first_head};
+ghost use Rattle.reg_book.specs.Day.{Day};
+ghost use Rattle.reg_graph.specs.Contexts.{the_day};
+ghost use Rattle.reg_schedules.specs.declared.event.EventFault.TheVariants.{NothingToDeliver};
+ghost use Rattle.reg_schedules.specs.Pool.{footprint_at};
+ghost use Rattle.reg_schedules.specs.Docks.{ParcelValue, complete};
+ghost use Rattle.reg_schedules.specs.World.{Carries, at_place, with_place, head_of, arrived, with_hand, delivered_by};
+ghost use Rattle.reg_graph.specs.WorldParts.{parcels_of, task_of, docks_of, HaveRoom, world_of, first_head};
 
 use crate::context::Context;
-use crate::event::EventFault;
 use crate::hand::Hand;
 use crate::naming::Naming;
 use crate::needs::arrow_at;
 use crate::parcel::Parcel;
 use crate::parts::Parts;
 use crate::task::Task;
+use reg_schedules::EventFault;
 use std::alloc::Global;
 use std::mem;
 
@@ -44,11 +46,10 @@ fn take_dock<N: Naming>(
     docks: &mut Vec<Option<Vec<Parcel<N>>>>,
     place: u32,
 ) -> Option<Vec<Parcel<N>>>
-    requires rooms { All (λ dock. IfSome dock (λ came. MOST_TOUCHED ≤ vec_capacity came)) docks.old.items }
     ensures came { option_map (λ came. parcels_of came.items) result ≡ option_map_or (λ d. d) (at_place (docks_of docks.old.items) place) None }
-    ensures room { IfSome result (λ came. MOST_TOUCHED ≤ vec_capacity came) }
+    ensures room { (day : Day) → HaveRoom day docks.old.items → IfSome result (λ came. vec_capacity came ≡ length (footprint_at day place)) }
     ensures left { docks_of docks.new.items ≡ with_place (docks_of docks.old.items) place None }
-    ensures rooms { All (λ dock. IfSome dock (λ came. MOST_TOUCHED ≤ vec_capacity came)) docks.new.items }
+    ensures rooms { (day : Day) → HaveRoom day docks.old.items → HaveRoom day docks.new.items }
 {
     if place == 0 {
         return None;
@@ -62,12 +63,10 @@ fn take_dock<N: Naming>(
 
 // Puts back what came to the dock of a place.
 fn put_dock<N: Naming>(docks: &mut Vec<Option<Vec<Parcel<N>>>>, place: u32, came: Vec<Parcel<N>>)
-    requires rooms { All (λ dock. IfSome dock (λ came. MOST_TOUCHED ≤ vec_capacity came)) docks.old.items }
-    requires room { MOST_TOUCHED ≤ vec_capacity came }
     requires from_one { 1 ≤ place }
     requires within { place ≤ length docks.old.items }
     ensures there { docks_of docks.new.items ≡ with_place (docks_of docks.old.items) place (Some (parcels_of came.items)) }
-    ensures rooms { All (λ dock. IfSome dock (λ came. MOST_TOUCHED ≤ vec_capacity came)) docks.new.items }
+    ensures rooms { (day : Day) → HaveRoom day docks.old.items → vec_capacity came ≡ length (footprint_at day place) → HaveRoom day docks.new.items }
 {
     docks[place as usize - 1] = Some(came);
 }
@@ -84,8 +83,8 @@ fn receive<N: Naming>(
     requires within { place ≤ length context.now.batch.now.instructions }
     requires room { vec_len came < vec_capacity came }
     ensures { MatchResult result
-        (λ t. complete (day_of context.now.book.now context.now.rules.now context.now.batch.now) context.now.plan place (parcels_of (came.items ++ parcel ∷ [])) ≡ Some (task_of t))
-        (λ ps. (ps.items ≡ came.items ++ parcel ∷ []) × (vec_capacity ps ≡ vec_capacity came) × (complete (day_of context.now.book.now context.now.rules.now context.now.batch.now) context.now.plan place (parcels_of (came.items ++ parcel ∷ [])) ≡ None)) }
+        (λ t. complete (the_day context.now) context.now.plan place (parcels_of (came.items ++ parcel ∷ [])) ≡ Some (task_of t))
+        (λ ps. (ps.items ≡ came.items ++ parcel ∷ []) × (vec_capacity ps ≡ vec_capacity came) × (complete (the_day context.now) context.now.plan place (parcels_of (came.items ++ parcel ∷ [])) ≡ None)) }
 {
     came.push_reserved(parcel);
     Task::assemble(context, place, came)
@@ -103,10 +102,12 @@ impl<N: Naming> Parts<N> {
     ) -> Result<(), EventFault>
         requires there { worker < length self.old.hands.items }
         requires places { length self.old.docks.items ≡ length context.now.batch.now.instructions }
+        requires rooms { HaveRoom (the_day context.now) self.old.docks.items }
         requires sent { (p : ParcelValue) (ps : List ParcelValue) → parcels_of parcels.items ≡ p ∷ ps → (1 ≤ p.after) × (p.after ≤ length context.now.batch.now.instructions) }
-        requires room { (place : ℕ) (came : List ParcelValue) → first_head context.now.plan (parcels_of parcels.items) ≡ Some place → arrived (world_of self.old) place ≡ Some came → length came < MOST_TOUCHED }
-        ensures ok { OnOk result (delivered_by (day_of context.now.book.now context.now.rules.now context.now.batch.now) context.now.plan worker (world_of self.old) (Carries None (parcels_of parcels.items)) ≡ Ok (world_of self.new)) }
-        ensures err { IfErr result (λ why. delivered_by (day_of context.now.book.now context.now.rules.now context.now.batch.now) context.now.plan worker (world_of self.old) (Carries None (parcels_of parcels.items)) ≡ Err why) }
+        requires room { (place : ℕ) (came : List ParcelValue) → first_head context.now.plan (parcels_of parcels.items) ≡ Some place → arrived (world_of self.old) place ≡ Some came → length came < length (footprint_at (the_day context.now) place) }
+        ensures rooms { HaveRoom (the_day context.now) self.new.docks.items }
+        ensures ok { OnOk result (delivered_by (the_day context.now) context.now.plan worker (world_of self.old) (Carries None (parcels_of parcels.items)) ≡ Ok (world_of self.new)) }
+        ensures err { IfErr result (λ why. delivered_by (the_day context.now) context.now.plan worker (world_of self.old) (Carries None (parcels_of parcels.items)) ≡ Err why) }
         ensures back { OnErr result (world_of self.new ≡ record (world_of self.old) { hands = slice_set (world_of self.old).hands worker (Carries None (parcels_of parcels.items)) }) }
     {
         let Some(place) = first_head(context, &parcels) else {
@@ -142,11 +143,13 @@ impl<N: Naming> Parts<N> {
         worker: u32,
     ) -> Result<(), EventFault>
         requires places { length self.old.docks.items ≡ length context.now.batch.now.instructions }
+        requires rooms { HaveRoom (the_day context.now) self.old.docks.items }
         requires sent { (p : ParcelValue) (ps : List ParcelValue) → slice_get (world_of self.old).hands worker ≡ Some (Carries None (p ∷ ps)) → (1 ≤ p.after) × (p.after ≤ length context.now.batch.now.instructions) }
-        requires room { (p : ParcelValue) (ps : List ParcelValue) (place : ℕ) (came : List ParcelValue) → slice_get (world_of self.old).hands worker ≡ Some (Carries None (p ∷ ps)) → head_of context.now.plan p.after p.value.number ≡ Some place → arrived (world_of self.old) place ≡ Some came → length came < MOST_TOUCHED }
-        ensures { MatchResult result
-            (λ _. with_hand (world_of self.old) worker (delivered_by (day_of context.now.book.now context.now.rules.now context.now.batch.now) context.now.plan worker (world_of self.old)) ≡ Ok (world_of self.new))
-            (λ why. (world_of self.new ≡ world_of self.old) × (with_hand (world_of self.old) worker (delivered_by (day_of context.now.book.now context.now.rules.now context.now.batch.now) context.now.plan worker (world_of self.old)) ≡ Err why)) }
+        requires room { (p : ParcelValue) (ps : List ParcelValue) (place : ℕ) (came : List ParcelValue) → slice_get (world_of self.old).hands worker ≡ Some (Carries None (p ∷ ps)) → head_of context.now.plan p.after p.value.number ≡ Some place → arrived (world_of self.old) place ≡ Some came → length came < length (footprint_at (the_day context.now) place) }
+        ensures rooms { HaveRoom (the_day context.now) self.new.docks.items }
+        ensures answer { MatchResult result
+            (λ _. with_hand (world_of self.old) worker (delivered_by (the_day context.now) context.now.plan worker (world_of self.old)) ≡ Ok (world_of self.new))
+            (λ why. (world_of self.new ≡ world_of self.old) × (with_hand (world_of self.old) worker (delivered_by (the_day context.now) context.now.plan worker (world_of self.old)) ≡ Err why)) }
     {
         let worker = worker as usize;
         if worker >= self.hands.len() {

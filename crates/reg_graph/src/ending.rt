@@ -2,19 +2,19 @@
 
 ghost use Rattle.std.specs.Prelude.{◌≡◌, ◌≤◌, true, false, [], length, IfOk, MatchResult, vec_capacity};
 ghost use Rattle.reg_book.specs.Settled.{IsOfBook};
-ghost use Rattle.reg_book.specs.Day.{day_of, settled_day};
-ghost use Rattle.reg_graph.specs.World.{known_of, is_over};
-ghost use Rattle.reg_graph.specs.Schedules.{IsSettled};
+ghost use Rattle.reg_book.specs.Day.{settled_day};
+ghost use Rattle.reg_graph.specs.Contexts.{the_day};
+ghost use Rattle.reg_schedules.specs.World.{known_of, is_over};
+ghost use Rattle.reg_schedules.specs.Schedules.{IsSettled};
 ghost use Rattle.reg_graph.specs.WorldParts.{world_of};
 
 use crate::gather::settle_day;
 use crate::naming::Naming;
 use crate::parts::Parts;
 use crate::world::World;
-use reg_base::laws::{each_footprint_is_sound, last_toucher_is_last};
-use reg_book::{Settled, each_is_a_step, value_is_last_touchers};
-use reg_plan::laws::tails_are_last_touchers;
-use reg_rules::{LogRow, step_laws};
+use reg_book::Settled;
+use reg_rules::LogRow;
+use reg_schedules::laws::every_schedule;
 
 // Moves the rows that are there to an empty log, in their order.
 fn move_rows(rows: Vec<Option<LogRow>>, mut log: Vec<LogRow>) -> Vec<LogRow>
@@ -34,14 +34,9 @@ impl<'c, 'a, N: Naming> World<'c, 'a, N> {
     // What is known of a world that is over. This method does nothing.
     fn is_settled(&self)
         requires over { is_over (world_of self.now.parts) ≡ true }
-        ensures { IsSettled (day_of self.now.context.now.book.now self.now.context.now.rules.now self.now.context.now.batch.now) (world_of self.now.parts) }
+        ensures { IsSettled (the_day self.now.context.now) (world_of self.now.parts) }
     {
-        each_footprint_is_sound();
-        step_laws();
-        each_is_a_step();
-        value_is_last_touchers();
-        last_toucher_is_last();
-        tails_are_last_touchers();
+        every_schedule();
     }
 
     /// The settled day. Takes no memory.
@@ -50,7 +45,7 @@ impl<'c, 'a, N: Naming> World<'c, 'a, N> {
     /// The world as it was, if not all instructions are done.
     pub fn into_settled(self) -> Result<Settled, World<'c, 'a, N>>
         ensures answer { MatchResult result
-            (λ s. (is_over (world_of self.entry.parts) ≡ true) × (s ≡ settled_day (day_of self.entry.context.now.book.now self.entry.context.now.rules.now self.entry.context.now.batch.now)))
+            (λ s. (is_over (world_of self.entry.parts) ≡ true) × (s ≡ settled_day (the_day self.entry.context.now)))
             (λ w. (is_over (world_of self.entry.parts) ≡ false) × (w ≡ self.entry)) }
         ensures of_book { IfOk result (λ s. IsOfBook self.entry.context.now.book.now s) }
     {

@@ -1,6 +1,6 @@
 //! Gathering the settled day from the outcomes of all instructions.
 
-ghost use Rattle.std.specs.Prelude.{◌≡◌, ◌+◌, ◌≤◌, ◌↔◌, Some, None, length, IfOk, IfSome, IsTrue, MatchOption, IsPermutation};
+ghost use Rattle.std.specs.Prelude.{◌≡◌, ◌+◌, ◌≤◌, ◌↔◌, false, Some, None, length, IfOk, IfErr, IfSome, IsTrue, MatchOption, IsPermutation};
 ghost use Rattle.std.specs.List.{AllByRecursion};
 ghost use Rattle.std.specs.List.Sorted.{IsNonDecreasingBy};
 ghost use Rattle.std.specs.FinMap as fin;
@@ -8,18 +8,26 @@ ghost use Rattle.reg_base.specs.Rising.{is_rising_from};
 ghost use Rattle.reg_rules.specs.State.{numbers};
 ghost use Rattle.reg_base.specs.declared.limits.TheConstants.{MOST_RECORD};
 ghost use Rattle.reg_book.specs.Settled.{IsOfBook};
-ghost use Rattle.reg_book.specs.Day.{day_of, log_of, settled_day};
+ghost use Rattle.reg_book.specs.Day.{Day, log_of, settled_day};
+ghost use Rattle.reg_graph.specs.Contexts.{the_day};
 ghost use Rattle.reg_graph.specs.Parcels.{names_of, values_of};
-ghost use Rattle.reg_graph.specs.Gathering.{AreRows, AreClosing, AreLastValues, AreClosingValues, IsCommittable, IsWhole, are_counted};
+ghost use Rattle.reg_graph.specs.Gathering.{AreRows, AreClosing, AreNotAll, IsGathered, IsCommittable, IsWhole, are_counted, are_outcomes, places_of};
+ghost use Rattle.reg_graph.specs.Slots.{LacksFor, opened_accounts};
+ghost use Rattle.reg_schedules.specs.Schedules.{AreLastValues};
 
+use crate::collect::{are_outcomes, into_rows, sort_done, sort_parcels};
 use crate::context::Context;
+use crate::done::Done;
+use crate::lack::Lack;
 use crate::naming::Naming;
 use crate::parcel::Parcel;
 use reg_account::Account;
+use reg_base::laws::last_toucher_is_last;
 use reg_base::{Directory, NoMemory};
 use reg_book::{
     Settled, has_row_ahead, settled_is_closing, settled_is_of_book, value_is_last_touchers,
 };
+use reg_plan::laws::tails_are_last_touchers;
 use reg_rules::LogRow;
 use std::alloc::Global;
 
@@ -114,14 +122,6 @@ fn values<N: Naming>(alloc: Global, parcels: Vec<Parcel<N>>) -> Result<Vec<Accou
     Ok(accounts)
 }
 
-// Sorts rows by record number, in place.
-fn sort_rows(rows: &mut [LogRow])
-    ensures same { IsPermutation rows.old rows.new }
-    ensures sorted { IsNonDecreasingBy (λ row. row.number) rows.new }
-{
-    rows.sort_unstable_by_key(|row| row.number);
-}
-
 // Sorts accounts by number, in place.
 fn sort_accounts(accounts: &mut [Account])
     ensures same { IsPermutation accounts.old accounts.new }
@@ -130,22 +130,19 @@ fn sort_accounts(accounts: &mut [Account])
     accounts.sort_unstable_by_key(|account| account.number());
 }
 
-// The settled day of these rows and accounts, each in any order, if they make one. If a day is named, they do.
+// The settled day of these rows and accounts, each in order, if they make one. If a day is named, they do.
 fn settle<N: Naming>(
     context: &Context<N>,
-    mut rows: Vec<LogRow>,
-    mut accounts: Vec<Account>,
+    rows: Vec<LogRow>,
+    accounts: Vec<Account>,
 ) -> Option<Settled>
-    requires rows { AreRows N.day rows.items }
-    requires accounts { AreClosingValues N.day accounts.items }
+    requires gathered { IsGathered N.day rows.items accounts.items }
     ensures settled { MatchOption result (N.day ≡ None) (λ s. IfSome N.day (λ d. s ≡ settled_day d)) }
     ensures of_book { IfSome result (λ s. IsOfBook context.now.book.now s) }
 {
     context.is_day();
     settled_is_closing();
     settled_is_of_book();
-    sort_rows(&mut rows);
-    sort_accounts(&mut accounts);
     if !are_whole(context, &rows, &accounts) {
         return None;
     }
@@ -159,9 +156,9 @@ pub(crate) fn settle_day<N: Naming>(
     log: Vec<LogRow>,
     mut accounts: Vec<Account>,
 ) -> Settled
-    requires log { log.items ≡ log_of (day_of context.now.book.now context.now.rules.now context.now.batch.now) }
-    requires accounts { AreLastValues (day_of context.now.book.now context.now.rules.now context.now.batch.now) accounts.items }
-    ensures settled { result ≡ settled_day (day_of context.now.book.now context.now.rules.now context.now.batch.now) }
+    requires log { log.items ≡ log_of (the_day context.now) }
+    requires accounts { AreLastValues (the_day context.now) accounts.items }
+    ensures settled { result ≡ settled_day (the_day context.now) }
     ensures of_book { IsOfBook context.now.book.now result }
 {
     context.is_day();
@@ -171,11 +168,93 @@ pub(crate) fn settle_day<N: Naming>(
     Settled::of(context.batch().base(), log, accounts)
 }
 
+// The settled day of rows by rising place and parcels by rising account, if they are those of all places and the last
+// ones of all touched accounts.
+fn settle_sorted<N: Naming>(
+    alloc: Global,
+    context: &Context<N>,
+    rows: Vec<Done<N>>,
+    parcels: Vec<Parcel<N>>,
+) -> Result<Settled, Lack>
+    ensures settled { IfOk result (λ s. IfSome N.day (λ d. s ≡ settled_day d)) }
+    ensures of_book { IfOk result (λ s. IsOfBook context.now.book.now s) }
+    ensures lack { IfErr result (LacksFor ((d : Day) → N.day ≡ Some d → are_outcomes (the_day context.now) context.now.plan (opened_accounts context.now.plan.openings) (places_of rows.items) (names_of parcels.items) ≡ false)) }
+{
+    context.is_day();
+    value_is_last_touchers();
+    last_toucher_is_last();
+    tails_are_last_touchers();
+    settled_is_closing();
+    settled_is_of_book();
+    if !are_outcomes(context, &rows, &parcels) {
+        return Err(Lack::Foreign);
+    }
+    let Ok(log) = into_rows(alloc, rows) else {
+        return Err(Lack::Memory);
+    };
+    let Ok(accounts) = values(alloc, parcels) else {
+        return Err(Lack::Memory);
+    };
+    settle(context, log, accounts).ok_or(Lack::Foreign)
+}
+
+// The place of the instruction of a row, by its record number.
+fn place_of<N: Naming>(context: &Context<N>, row: &LogRow) -> Option<u32>
+    ensures { IfSome result (λ place. place + context.now.batch.now.base ≡ row.now.number) }
+{
+    let place = row.number.get().checked_sub(context.batch().base())?;
+    u32::try_from(place).ok()
+}
+
+// The rows with their places.
+fn with_places<N: Naming>(
+    alloc: Global,
+    context: &Context<N>,
+    rows: Vec<LogRow>,
+) -> Result<Vec<Done<N>>, NoMemory>
+    requires rows { AreRows N.day rows.items }
+{
+    context.is_day();
+    let mut done = Vec::with_capacity(alloc, rows.len())?;
+    for row in rows {
+        let Some(place) = place_of(context, &row) else {
+            return Err(NoMemory);
+        };
+        done.push_reserved(Done::new(place, row));
+    }
+    Ok(done)
+}
+
 impl<N: Naming> Context<'_, N> {
+    /// The settled day, from what is known of each instruction that was run and the parcels that were left at the end,
+    /// both in any order. What they are is known by their types; that none is missing and none stands twice is tested.
+    ///
+    /// The time is linear in the rows and the parcels, sorting and look-ups apart.
+    ///
+    /// # Errors
+    /// `Memory` if memory ran out. `Foreign` if there is not exactly one row for each place, or not exactly one parcel,
+    /// the last, for each touched account. If no day is named, also if they are of another context.
+    pub fn gather_done(
+        &self,
+        alloc: Global,
+        mut rows: Vec<Done<N>>,
+        mut parcels: Vec<Parcel<N>>,
+    ) -> Result<Settled, Lack>
+        ensures settled { IfOk result (λ s. IfSome N.day (λ d. s ≡ settled_day d)) }
+        ensures of_book { IfOk result (λ s. IsOfBook self.now.book.now s) }
+        ensures lack { IfErr result (LacksFor (AreNotAll N.day (places_of rows.items) (names_of parcels.items))) }
+    {
+        last_toucher_is_last();
+        tails_are_last_touchers();
+        sort_done(&mut rows);
+        sort_parcels(&mut parcels);
+        settle_sorted(alloc, self, rows, parcels)
+    }
+
     /// The settled day, from the row of each instruction and the parcel of each touched account after its last
     /// instruction, both in any order.
     ///
-    /// The time is linear in the rows and the parcels, sorting apart.
+    /// The time is linear in the rows and the parcels, sorting and look-ups apart.
     ///
     /// # Errors
     /// `NoMemory` if memory ran out. If no day is named, also if the rows and the parcels are not those.
@@ -190,8 +269,7 @@ impl<N: Naming> Context<'_, N> {
         ensures settled { IfOk result (λ s. IfSome N.day (λ d. s ≡ settled_day d)) }
         ensures of_book { IfOk result (λ s. IsOfBook self.now.book.now s) }
     {
-        value_is_last_touchers();
-        let accounts = values(alloc, parcels)?;
-        settle(self, rows, accounts).ok_or(NoMemory)
+        let done = with_places(alloc, self, rows)?;
+        self.gather_done(alloc, done, parcels).or(Err(NoMemory))
     }
 }

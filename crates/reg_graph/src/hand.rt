@@ -16,7 +16,7 @@ pub(crate) enum Hand<N: Naming> {
 
 impl<N: Naming> Hand<N> {
     ghost use Rattle.std.specs.Prelude.{◌≡◌, ◌↔◌, IsTrue};
-    ghost use Rattle.reg_graph.specs.World.{empty};
+    ghost use Rattle.reg_schedules.specs.World.{empty};
     ghost use Rattle.reg_graph.specs.WorldParts.{hand_of};
 
     // Whether the hand is empty.

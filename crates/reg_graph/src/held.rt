@@ -1,36 +1,24 @@
 //! The event that runs the task in a worker's hand.
 
 ghost use Rattle.std.specs.Prelude.{◌≡◌, ◌+◌, ◌++◌, ◌≤◌, ◌<◌, Some, Ok, not, [], length, map, filter, slice_get, slice_set, MatchResult, OnOk, OnErr, IfErr, vec_len, vec_capacity};
-ghost use Rattle.reg_base.specs.declared.limits.TheConstants.{MOST_TOUCHED};
-ghost use Rattle.reg_book.specs.Day.{day_of};
-ghost use Rattle.reg_graph.specs.Pool.{leads_on};
-ghost use Rattle.reg_graph.specs.World.{TaskValue, Holds, with_hand, run_by};
+ghost use Rattle.reg_graph.specs.Contexts.{the_day};
+ghost use Rattle.reg_schedules.specs.Pool.{leads_on};
+ghost use Rattle.reg_schedules.specs.Docks.{TaskValue};
+ghost use Rattle.reg_schedules.specs.World.{Holds, with_hand, run_by};
 ghost use Rattle.reg_graph.specs.WorldParts.{parcels_of, task_of, world_of, IsWhy};
-ghost use Rattle.reg_graph.specs.declared.event.EventFault.TheVariants.{NoMemory};
+ghost use Rattle.reg_schedules.specs.declared.event.EventFault.TheVariants.{NoMemory};
 
 use crate::context::Context;
-use crate::event::EventFault;
 use crate::hand::Hand;
 use crate::naming::Naming;
+use crate::needs::leads_on;
 use crate::parcel::Parcel;
 use crate::parts::Parts;
 use crate::task::Task;
 use reg_account::Account;
-use reg_base::{AccountNo, MOST_TOUCHED};
+use reg_schedules::EventFault;
 use std::alloc::Global;
 use std::mem;
-
-// Whether an arrow leads on from a place at this account.
-fn leads_on<N: Naming>(context: &Context<N>, place: u32, account: AccountNo) -> bool
-    requires from_one { 1 ≤ place }
-    requires within { place ≤ length context.now.batch.now.instructions }
-    ensures { result ≡ leads_on context.now.plan place account }
-{
-    context
-        .arrows_from(place)
-        .iter()
-        .any(|arrow| arrow.account == account)
-}
 
 // The parcels from which an arrow leads on, in their order. The accounts of the others are added to the closing ones.
 fn close<N: Naming>(
@@ -74,15 +62,17 @@ impl<N: Naming> Parts<N> {
         requires places { length self.old.rows.items ≡ length context.now.batch.now.instructions }
         requires from_one { 1 ≤ task.place }
         requires within { task.place ≤ length context.now.batch.now.instructions }
-        ensures ok { OnOk result (run_by (day_of context.now.book.now context.now.rules.now context.now.batch.now) context.now.plan worker (world_of self.old) (Holds (task_of task)) ≡ Ok (world_of self.new)) }
+        ensures docks { self.new.docks.items ≡ self.old.docks.items }
+        ensures ok { OnOk result (run_by (the_day context.now) context.now.plan worker (world_of self.old) (Holds (task_of task)) ≡ Ok (world_of self.new)) }
         ensures err { IfErr result (λ why. why ≡ NoMemory) }
         ensures back { OnErr result (world_of self.new ≡ record (world_of self.old) { hands = slice_set (world_of self.old).hands worker (Holds (task_of task)) }) }
     {
-        let Ok(kept) = Vec::with_capacity(alloc, MOST_TOUCHED) else {
+        let count = task.parcel_count();
+        let Ok(kept) = Vec::with_capacity(alloc, count) else {
             self.hands[worker] = Hand::Holds(task);
             return Err(EventFault::NoMemory);
         };
-        if self.closing.reserve(MOST_TOUCHED).is_err() {
+        if self.closing.reserve(count).is_err() {
             self.hands[worker] = Hand::Holds(task);
             return Err(EventFault::NoMemory);
         }
@@ -114,9 +104,10 @@ impl<N: Naming> Parts<N> {
     ) -> Result<(), EventFault>
         requires places { length self.old.rows.items ≡ length context.now.batch.now.instructions }
         requires within { (task : TaskValue) → slice_get (world_of self.old).hands worker ≡ Some (Holds task) → (1 ≤ task.place) × (task.place ≤ length context.now.batch.now.instructions) }
-        ensures { MatchResult result
-            (λ _. with_hand (world_of self.old) worker (run_by (day_of context.now.book.now context.now.rules.now context.now.batch.now) context.now.plan worker (world_of self.old)) ≡ Ok (world_of self.new))
-            (λ why. (world_of self.new ≡ world_of self.old) × IsWhy (with_hand (world_of self.old) worker (run_by (day_of context.now.book.now context.now.rules.now context.now.batch.now) context.now.plan worker (world_of self.old))) why) }
+        ensures docks { self.new.docks.items ≡ self.old.docks.items }
+        ensures answer { MatchResult result
+            (λ _. with_hand (world_of self.old) worker (run_by (the_day context.now) context.now.plan worker (world_of self.old)) ≡ Ok (world_of self.new))
+            (λ why. (world_of self.new ≡ world_of self.old) × IsWhy (with_hand (world_of self.old) worker (run_by (the_day context.now) context.now.plan worker (world_of self.old))) why) }
     {
         let worker = worker as usize;
         if worker >= self.hands.len() {

@@ -2,15 +2,16 @@
 //! that keeps to the plan's arrows.
 #![tactic(auto)]
 
+mod collect;
 mod context;
 mod delivery;
 mod docks;
+mod done;
 mod ending;
-mod event;
 mod gather;
 mod hand;
 mod held;
-pub mod laws;
+mod lack;
 mod moves;
 mod naming;
 mod needs;
@@ -20,6 +21,7 @@ mod parcel;
 mod parts;
 mod places;
 mod run;
+mod slot;
 mod slots;
 mod start;
 mod steps;
@@ -27,10 +29,13 @@ mod task;
 mod world;
 
 pub use context::Context;
-pub use event::{Event, EventFault, MOST_WORKERS, Whereabouts};
+pub use done::Done;
+pub use lack::Lack;
 pub use naming::{Naming, Unnamed};
 pub use order::{RunFault, run_order};
 pub use outcome::{Outcome, Ran};
 pub use parcel::Parcel;
+pub use reg_schedules::{Event, EventFault, MOST_WORKERS, Whereabouts, laws};
+pub use slots::Slots;
 pub use task::Task;
 pub use world::World;

@@ -1,14 +1,15 @@
 //! The events that take a task in hand and put one at the end of a list.
 
 ghost use Rattle.std.specs.Prelude.{◌≡◌, ◌==◌, ◌<◌, Some, Ok, Err, List, length, slice_get, MatchResult, if◌then◌else◌};
-ghost use Rattle.reg_graph.specs.declared.event.EventFault.TheVariants.{OwnDeque};
-ghost use Rattle.reg_graph.specs.World.{TaskValue, ParcelValue, Carries, with_hand, with_list, moved, pushed_by};
+ghost use Rattle.reg_schedules.specs.declared.event.EventFault.TheVariants.{OwnDeque};
+ghost use Rattle.reg_schedules.specs.Docks.{TaskValue, ParcelValue};
+ghost use Rattle.reg_schedules.specs.World.{Carries, with_hand, with_list, moved, pushed_by};
 ghost use Rattle.reg_graph.specs.WorldParts.{world_of};
 
-use crate::event::EventFault;
 use crate::hand::Hand;
 use crate::naming::Naming;
 use crate::parts::Parts;
+use reg_schedules::EventFault;
 
 impl<N: Naming> Parts<N> {
     /// Moves the first task of a list to a worker's empty hand.
@@ -16,7 +17,8 @@ impl<N: Naming> Parts<N> {
     /// # Errors
     /// Why that is not possible.
     pub(crate) fn take_task(&mut self, worker: u32, from: u32) -> Result<(), EventFault>
-        ensures { MatchResult result
+        ensures docks { self.new.docks.items ≡ self.old.docks.items }
+        ensures answer { MatchResult result
             (λ _. with_hand (world_of self.old) worker (λ hand. with_list (world_of self.old) from (moved worker from (world_of self.old) hand)) ≡ Ok (world_of self.new))
             (λ why. (world_of self.new ≡ world_of self.old) × (with_hand (world_of self.old) worker (λ hand. with_list (world_of self.old) from (moved worker from (world_of self.old) hand)) ≡ Err why)) }
     {
@@ -42,7 +44,8 @@ impl<N: Naming> Parts<N> {
     /// # Errors
     /// Why that is not possible.
     pub(crate) fn steal_task(&mut self, worker: u32, from: u32) -> Result<(), EventFault>
-        ensures { MatchResult result
+        ensures docks { self.new.docks.items ≡ self.old.docks.items }
+        ensures answer { MatchResult result
             (λ _. with_hand (world_of self.old) worker (λ hand. with_list (world_of self.old) from (λ tasks. if worker == from then Err OwnDeque else moved worker from (world_of self.old) hand tasks)) ≡ Ok (world_of self.new))
             (λ why. (world_of self.new ≡ world_of self.old) × (with_hand (world_of self.old) worker (λ hand. with_list (world_of self.old) from (λ tasks. if worker == from then Err OwnDeque else moved worker from (world_of self.old) hand tasks)) ≡ Err why)) }
     {
@@ -61,7 +64,8 @@ impl<N: Naming> Parts<N> {
     /// Why that is not possible.
     pub(crate) fn push_task(&mut self, worker: u32) -> Result<(), EventFault>
         requires room { (task : TaskValue) (parcels : List ParcelValue) (tasks : List TaskValue) → slice_get (world_of self.old).hands worker ≡ Some (Carries (Some task) parcels) → slice_get (world_of self.old).lists worker ≡ Some tasks → length tasks < length (world_of self.old).rows }
-        ensures { MatchResult result
+        ensures docks { self.new.docks.items ≡ self.old.docks.items }
+        ensures answer { MatchResult result
             (λ _. with_hand (world_of self.old) worker (pushed_by worker (world_of self.old)) ≡ Ok (world_of self.new))
             (λ why. (world_of self.new ≡ world_of self.old) × (with_hand (world_of self.old) worker (pushed_by worker (world_of self.old)) ≡ Err why)) }
     {

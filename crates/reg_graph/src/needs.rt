@@ -1,12 +1,14 @@
 //! Which parcels the instruction at a place needs.
 
-ghost use Rattle.std.specs.Prelude.{◌≡◌, ◌==◌, ◌↔◌, IsTrue, true, find, nat_eq, IsPermutation};
+ghost use Rattle.std.specs.Prelude.{◌≡◌, ◌==◌, ◌↔◌, ◌≤◌, IsTrue, true, find, length, nat_eq, IsPermutation};
 ghost use Rattle.std.specs.List.{list_any, list_all, IsDistinct};
 ghost use Rattle.reg_rules.specs.State.{numbers};
-ghost use Rattle.reg_graph.specs.Pool.{tail_in};
-ghost use Rattle.reg_graph.specs.Names.{names_needed, has_names, is_name, FindsFrom};
+ghost use Rattle.reg_schedules.specs.Pool.{tail_in, leads_on};
+ghost use Rattle.reg_schedules.specs.Docks.{names_needed, is_name};
+ghost use Rattle.reg_graph.specs.Names.{has_names, FindsFrom};
 ghost use Rattle.reg_graph.specs.Parcels.{names_of, values_of};
 
+use crate::context::Context;
 use crate::naming::Naming;
 use crate::parcel::Parcel;
 use reg_base::AccountNo;
@@ -32,7 +34,8 @@ pub(crate) fn arrow_at(arrows: &[Arrow], account: AccountNo) -> Option<Arrow>
         .find(|arrow| arrow.account == account)
 }
 
-fn is_named<N: Naming>(parcel: &Parcel<N>, account: AccountNo, after: u32) -> bool
+// Whether the parcel has this name.
+pub(crate) fn is_named<N: Naming>(parcel: &Parcel<N>, account: AccountNo, after: u32) -> bool
     ensures { result ≡ is_name (parcel.now.value.number, parcel.now.after) (account, after) }
 {
     parcel.account() == account && parcel.after() == after
@@ -107,6 +110,18 @@ pub(crate) fn put_in_order<N: Naming>(
             parcels.swap(place, other);
         }
     }
+}
+
+// Whether an arrow leads on from a place at this account.
+pub(crate) fn leads_on<N: Naming>(context: &Context<N>, place: u32, account: AccountNo) -> bool
+    requires from_one { 1 ≤ place }
+    requires within { place ≤ length context.now.batch.now.instructions }
+    ensures { result ≡ leads_on context.now.plan place account }
+{
+    context
+        .arrows_from(place)
+        .iter()
+        .any(|arrow| arrow.account == account)
 }
 
 // Whether the parcels are of these accounts, in this order.

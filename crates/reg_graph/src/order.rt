@@ -2,22 +2,22 @@
 
 ghost use Rattle.std.specs.Prelude.{◌≡◌, ◌≤◌, Some, None, [], length, IfOk, IfErr, IfSome, OnOk};
 ghost use Rattle.reg_plan.specs.Orders.{first_order_fault};
-ghost use Rattle.reg_book.specs.Day.{day_of, settled_day};
+ghost use Rattle.reg_book.specs.Day.{settled_day};
+ghost use Rattle.reg_graph.specs.Contexts.{the_day};
 ghost use Rattle.reg_book.specs.Settled.{IsOfBook};
-ghost use Rattle.reg_graph.specs.Names.{IsRow};
-ghost use Rattle.reg_graph.specs.Slots.{standing_in, IsLack, AreReady, IsLaidBack, AreStanding, AreRowsAt, IsRunFault};
+ghost use Rattle.reg_graph.specs.Gathering.{places_of};
+ghost use Rattle.reg_graph.specs.Slots.{IsLack, AreReady, IsLaidBack, AreStanding, IsRunFault, run_fault};
+ghost use Rattle.reg_graph.specs.Standing.{stands};
 
 use crate::context::Context;
+use crate::done::Done;
+use crate::lack::Lack;
 use crate::naming::Naming;
-use crate::parcel::Parcel;
-use crate::slots::{Lack, empty_slots, lay_parcels, open_slots, take_parcels};
-use crate::task::Task;
-use reg_base::NoMemory;
-use reg_base::laws::{each_footprint_is_sound, last_toucher_is_last};
+use crate::slots::Slots;
+use reg_base::laws::last_toucher_is_last;
 use reg_book::Settled;
 use reg_plan::OrderFault;
 use reg_plan::laws::{no_fault_is_a_legal_order, tails_are_last_touchers};
-use reg_rules::LogRow;
 use std::alloc::Global;
 use thiserror::Error;
 
@@ -32,65 +32,65 @@ pub enum RunFault {
     NoMemory,
 }
 
+impl From<OrderFault> for RunFault {
+    ghost from_gives = { λ fault why. why ≡ run_fault fault };
+
+    fn from(fault: OrderFault) -> RunFault {
+        match fault {
+            OrderFault::NoMemory => RunFault::NoMemory,
+            _ => RunFault::Order(fault),
+        }
+    }
+}
+
 // Runs the instruction at a place on the parcels that stand for the accounts that it touches, and lays back what it
 // leaves.
 fn run_place<N: Naming>(
     alloc: Global,
-    context: &Context<N>,
-    slots: &mut [Option<Parcel<N>>],
+    slots: &mut Slots<'_, '_, N>,
     place: u32,
-) -> Result<LogRow, Lack>
+) -> Result<Done<N>, Lack>
     requires from_one { 1 ≤ place }
-    requires within { place ≤ length context.now.batch.now.instructions }
-    requires size { length slots.old ≡ length context.now.plan.openings }
-    requires ready { AreReady N.day (day_of context.now.book.now context.now.rules.now context.now.batch.now) context.now.plan place (standing_in context.now.plan.openings slots.old) }
-    ensures row { IfOk result (IsRow N.day place) }
-    ensures laid { OnOk result (IsLaidBack N.day (day_of context.now.book.now context.now.rules.now context.now.batch.now) place (standing_in context.now.plan.openings slots.old) (standing_in context.now.plan.openings slots.new)) }
+    requires within { place ≤ length slots.old.context.now.batch.now.instructions }
+    requires ready { AreReady N.day (the_day slots.old.context.now) slots.old.context.now.plan place (stands slots.old) }
+    ensures context { slots.new.context.now ≡ slots.old.context.now }
+    ensures place { IfOk result (λ done. done.place ≡ place) }
+    ensures laid { OnOk result (IsLaidBack N.day (the_day slots.old.context.now) place (stands slots.old) (stands slots.new)) }
     ensures lack { IfErr result (IsLack N.day) }
 {
-    each_footprint_is_sound();
-    let openings = context.openings();
-    let touched = context.touched_at(place);
-    let parcels = take_parcels(alloc, openings, slots, touched.as_slice())?;
-    let Ok(task) = Task::assemble(context, place, parcels) else {
-        return Err(Lack::Foreign);
-    };
-    let Ok(outcome) = task.run(alloc, context) else {
+    let task = slots.take(alloc, place)?;
+    let Ok(outcome) = task.run(alloc, slots.context()) else {
         return Err(Lack::Memory);
     };
-    let (_, row, left) = outcome.into_parts();
-    if !lay_parcels(openings, slots, left) {
-        return Err(Lack::Foreign);
+    match slots.lay(outcome) {
+        Ok((_, done)) => Ok(done),
+        Err(_) => Err(Lack::Foreign),
     }
-    Ok(row)
 }
 
-// Runs the instructions at these places one after another, and answers their rows.
+// Runs the instructions at these places one after another.
 fn run_places<N: Naming>(
     alloc: Global,
-    context: &Context<N>,
-    slots: &mut [Option<Parcel<N>>],
+    slots: &mut Slots<'_, '_, N>,
     order: &[u32],
-) -> Result<Vec<LogRow>, Lack>
-    requires size { length slots.old ≡ length context.now.plan.openings }
-    requires legal { first_order_fault context.now.plan order.now ≡ None }
-    requires opened { AreStanding N.day (day_of context.now.book.now context.now.rules.now context.now.batch.now) [] (standing_in context.now.plan.openings slots.old) }
-    ensures rows { IfOk result (λ rows. AreRowsAt N.day order.now rows.items) }
-    ensures standing { OnOk result (AreStanding N.day (day_of context.now.book.now context.now.rules.now context.now.batch.now) order.now (standing_in context.now.plan.openings slots.new)) }
+) -> Result<Vec<Done<N>>, Lack>
+    requires legal { first_order_fault slots.old.context.now.plan order.now ≡ None }
+    requires opened { AreStanding N.day (the_day slots.old.context.now) [] (stands slots.old) }
+    ensures context { slots.new.context.now ≡ slots.old.context.now }
+    ensures places { IfOk result (λ done. places_of done.items ≡ order.now) }
+    ensures standing { OnOk result (AreStanding N.day (the_day slots.old.context.now) order.now (stands slots.new)) }
     ensures lack { IfErr result (IsLack N.day) }
 {
     last_toucher_is_last();
     tails_are_last_touchers();
-    let Ok(mut rows) = Vec::with_capacity(alloc, order.len()) else {
+    let Ok(mut done) = Vec::with_capacity(alloc, order.len()) else {
         return Err(Lack::Memory);
     };
     for place in order {
-        let row = run_place(alloc, context, slots, *place)?;
-        if rows.push(row).is_err() {
-            return Err(Lack::Memory);
-        }
+        let one = run_place(alloc, slots, *place)?;
+        done.push_reserved(one);
     }
-    Ok(rows)
+    Ok(done)
 }
 
 // Runs the instructions in a legal order, each on the parcels that those before it left, and gathers what comes out.
@@ -103,15 +103,11 @@ fn run_legal<N: Naming>(alloc: Global, context: &Context<N>, order: &[u32]) -> R
     last_toucher_is_last();
     tails_are_last_touchers();
     no_fault_is_a_legal_order();
-    let Ok(mut slots) = open_slots(alloc, context) else {
+    let Ok(mut slots) = Slots::open(alloc, context) else {
         return Err(Lack::Memory);
     };
-    let rows = run_places(alloc, context, &mut slots, order)?;
-    let parcels = empty_slots(alloc, slots)?;
-    match context.gather(alloc, rows, parcels) {
-        Ok(settled) => Ok(settled),
-        Err(NoMemory) => Err(Lack::Memory),
-    }
+    let done = run_places(alloc, &mut slots, order)?;
+    slots.close(alloc, done)
 }
 
 /// Runs the batch in an order of its instructions, given by their places, counted from 1. If the order is legal, this
@@ -133,21 +129,9 @@ pub fn run_order<N: Naming>(
     ensures of_book { IfOk result (λ s. IsOfBook context.now.book.now s) }
     ensures fault { IfErr result (IsRunFault context.now.plan order.now) }
 {
-    check(alloc, context, order)?;
+    context.plan().check_order(alloc, order)?;
     match run_legal(alloc, context, order) {
         Ok(settled) => Ok(settled),
         Err(_) => Err(RunFault::NoMemory),
-    }
-}
-
-// Whether the order is legal.
-fn check<N: Naming>(alloc: Global, context: &Context<N>, order: &[u32]) -> Result<(), RunFault>
-    ensures legal { OnOk result ((first_order_fault context.now.plan order.now ≡ None) × (length order.now ≡ length context.now.plan.levels)) }
-    ensures fault { IfErr result (IsRunFault context.now.plan order.now) }
-{
-    match context.plan().check_order(alloc, order) {
-        Ok(()) => Ok(()),
-        Err(OrderFault::NoMemory) => Err(RunFault::NoMemory),
-        Err(fault) => Err(RunFault::Order(fault)),
     }
 }

@@ -4,6 +4,7 @@ ghost use Rattle.std.specs.Prelude.{◌≡◌};
 ghost use Rattle.reg_graph.specs.Names.{IsRow, AreLeft};
 ghost use Rattle.reg_graph.specs.Parcels.{names_of};
 
+use crate::done::Done;
 use crate::naming::Naming;
 use crate::parcel::Parcel;
 use reg_rules::LogRow;
@@ -20,8 +21,8 @@ pub struct Outcome<N: Naming> {
     pub ghost left: { AreLeft N.day place (names_of parcels.items) },
 }
 
-/// The instruction at a place was run. Only [`Outcome::into_parts`] makes one, so each stands for a run of the complete
-/// task.
+/// The instruction at a place was run. Only an outcome that is taken apart gives one, so each stands for a run of the
+/// complete task.
 #[derive(Drop)]
 pub struct Ran<N: Naming> {
     place: u32,
@@ -52,11 +53,19 @@ impl<N: Naming> Outcome<N> {
         }
     }
 
-    /// The run of the place, the row of its instruction, and the parcels in the order of the footprint, each named by
-    /// the place.
-    pub fn into_parts(self) -> (Ran<N>, LogRow, Vec<Parcel<N>>)
+    // The parcels, as the instruction left them.
+    pub(crate) fn parcels(&self) -> &[Parcel<N>]
+        ensures value { result.now ≡ self.now.parcels.items }
+        ensures left { AreLeft N.day self.now.place (names_of result.now) }
+    {
+        &self.parcels
+    }
+
+    /// The run of the place, its row with its place, and the parcels in the order of the footprint, each named by the
+    /// place.
+    pub fn into_done(self) -> (Ran<N>, Done<N>, Vec<Parcel<N>>)
         ensures ran { result.0.place ≡ self.place }
-        ensures row { (result.1 ≡ self.row) × IsRow N.day self.place result.1 }
+        ensures done { (result.1.place ≡ self.place) × (result.1.row ≡ self.row) }
         ensures parcels { (result.2.items ≡ self.parcels.items) × AreLeft N.day self.place (names_of result.2.items) }
     {
         let Outcome {
@@ -68,6 +77,17 @@ impl<N: Naming> Outcome<N> {
             place,
             of: PhantomData,
         };
-        (ran, row, parcels)
+        (ran, Done::new(place, row), parcels)
+    }
+
+    /// The run of the place, the row of its instruction, and the parcels in the order of the footprint, each named by
+    /// the place.
+    pub fn into_parts(self) -> (Ran<N>, LogRow, Vec<Parcel<N>>)
+        ensures ran { result.0.place ≡ self.place }
+        ensures row { (result.1 ≡ self.row) × IsRow N.day self.place result.1 }
+        ensures parcels { (result.2.items ≡ self.parcels.items) × AreLeft N.day self.place (names_of result.2.items) }
+    {
+        let (ran, done, parcels) = self.into_done();
+        (ran, done.into_row(), parcels)
     }
 }

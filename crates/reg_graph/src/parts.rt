@@ -1,9 +1,7 @@
 //! The parts of a world.
 
-ghost use Rattle.std.specs.Prelude.{◌≡◌, ◌≤◌, All, IfSome, [], length, vec_capacity};
+ghost use Rattle.std.specs.Prelude.{◌≡◌, ◌≤◌, All, [], length, vec_capacity};
 ghost use Rattle.std.specs.VecDeque.{deque_capacity};
-ghost use Rattle.std.proofs.Props.{props};
-ghost use Rattle.reg_base.specs.declared.limits.TheConstants.{MOST_TOUCHED};
 
 use crate::hand::Hand;
 use crate::naming::Naming;
@@ -28,5 +26,4 @@ pub(crate) struct Parts<N: Naming> {
     pub ghost no_log: { log.items ≡ [] },
     pub ghost log_room: { length rows.items ≤ vec_capacity log },
     pub ghost list_room: { All (λ tasks. length rows.items ≤ deque_capacity tasks) lists.items },
-    pub ghost dock_room: { All (λ dock. IfSome dock (λ came. MOST_TOUCHED ≤ vec_capacity came)) docks.items } by { Prim.hlevel props },
 }

@@ -6,8 +6,8 @@ ghost use Rattle.reg_base.specs.declared.limits.TheConstants.{MOST_TOUCHED};
 ghost use Rattle.reg_rules.specs.Effect.{IsBehind};
 ghost use Rattle.reg_rules.specs.State.{numbers};
 ghost use Rattle.reg_book.specs.Book.{has_row_ahead};
-ghost use Rattle.reg_book.specs.Day.{day_of};
-ghost use Rattle.reg_graph.specs.Pool.{footprint_at, run_at};
+ghost use Rattle.reg_graph.specs.Contexts.{the_day};
+ghost use Rattle.reg_schedules.specs.Pool.{footprint_at, run_at};
 ghost use Rattle.reg_graph.specs.Names.{IsValue, AreValues};
 ghost use Rattle.reg_graph.specs.Parcels.{values_of, afters_of};
 
@@ -55,9 +55,9 @@ pub(crate) fn carry_out<N: Naming>(
 ) -> Result<LogRow, NoMemory>
     requires from_one { 1 ≤ place }
     requires within { place ≤ length context.now.batch.now.instructions }
-    requires touched { numbers own.old ≡ footprint_at (day_of context.now.book.now context.now.rules.now context.now.batch.now) place }
+    requires touched { numbers own.old ≡ footprint_at (the_day context.now) place }
     requires behind { All (IsBehind (context.now.batch.now.base + place)) own.old }
-    ensures ok { IfOk result (λ row. run_at (day_of context.now.book.now context.now.rules.now context.now.batch.now) place own.old ≡ Some (own.new, row)) }
+    ensures ok { IfOk result (λ row. run_at (the_day context.now) place own.old ≡ Some (own.new, row)) }
     ensures err { OnErr result (own.new ≡ own.old) }
 {
     let number = number_of(context, place);

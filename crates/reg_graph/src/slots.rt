@@ -1,156 +1,139 @@
-//! The parcels that stand between instructions: a slot for each touched account, in the order of a plan's openings.
+//! The parcels that stand between the instructions of a day: one for each account that an instruction touches.
 
-ghost use Rattle.std.specs.Prelude.{◌≡◌, ℕ, ◌<◌, ◌==◌, true, false, Some, None, nat_eq, length, map, slice_index, is_some, OnOk, IfOk, IfErr, MatchOption, if◌then◌else◌};
-ghost use Rattle.std.specs.Option.{option_map};
-ghost use Rattle.std.specs.List.{IsDistinct, list_all};
-ghost use Rattle.reg_base.specs.Footprint.{is_among};
-ghost use Rattle.reg_base.specs.Rising.{IsRising};
-ghost use Rattle.reg_graph.specs.Parcels.{names_of};
-ghost use Rattle.reg_graph.specs.Slots.{opened_accounts, name_of, standing_in, laid_at, LacksFor};
+ghost use Rattle.std.specs.Prelude.{◌≡◌, length};
 
 use crate::context::Context;
+use crate::done::Done;
+use crate::lack::Lack;
 use crate::naming::Naming;
+use crate::outcome::{Outcome, Ran};
 use crate::parcel::Parcel;
-use reg_base::{AccountNo, NoMemory};
-use reg_plan::Opening;
+use crate::slot::{are_ready, empty_slots, have_slots, lay_parcels, open_slots, take_parcels};
+use crate::task::Task;
+use reg_base::NoMemory;
+use reg_base::laws::{each_footprint_is_sound, last_toucher_is_last};
+use reg_book::Settled;
+use reg_plan::laws::tails_are_last_touchers;
 use std::alloc::Global;
 
-/// Why an order is not run to its end.
-#[derive(Clone, Copy)]
-pub(crate) enum Lack {
-    /// Memory ran out.
-    Memory,
-    /// A parcel of another context came. Under a name there is none.
-    Foreign,
-}
-
-// The slot of an account, counted from 0.
-fn slot_of(openings: &[Opening], account: AccountNo) -> Option<usize>
-    requires { IsRising (opened_accounts openings.now) }
-    ensures { MatchOption result (is_among (opened_accounts openings.now) account ≡ false) (λ k. (k < length openings.now) × (slice_index (opened_accounts openings.now) k ≡ account)) }
-{
-    match openings.binary_search_by_key(&account, |opening| opening.account) {
-        Ok(slot) => Some(slot),
-        Err(_) => None,
-    }
-}
-
-// Takes the parcel out of the slot of an account.
-fn take_parcel<N: Naming>(
-    openings: &[Opening],
-    slots: &mut [Option<Parcel<N>>],
-    account: AccountNo,
-) -> Option<Parcel<N>>
-    requires rising { IsRising (opened_accounts openings.now) }
-    requires size { length slots.old ≡ length openings.now }
-    ensures value { option_map name_of result ≡ standing_in openings.now slots.old account }
-    ensures left { (b : ℕ) → standing_in openings.now slots.new b ≡ (if account == b then None else standing_in openings.now slots.old b) }
-{
-    let Some(slot) = slot_of(openings, account) else {
-        return None;
-    };
-    slots[slot].take()
-}
-
-// Puts a parcel into the slot of its account, and answers whether there is one.
-fn lay_parcel<N: Naming>(
-    openings: &[Opening],
-    slots: &mut [Option<Parcel<N>>],
-    parcel: Parcel<N>,
-) -> bool
-    requires rising { IsRising (opened_accounts openings.now) }
-    requires size { length slots.old ≡ length openings.now }
-    ensures there { result ≡ is_among (opened_accounts openings.now) parcel.value.number }
-    ensures laid { result ≡ true → (b : ℕ) → standing_in openings.now slots.new b ≡ (if parcel.value.number == b then Some (name_of parcel) else standing_in openings.now slots.old b) }
-{
-    let Some(slot) = slot_of(openings, parcel.account()) else {
-        return false;
-    };
-    slots[slot].replace(parcel);
-    true
-}
-
-/// A slot for each touched account, with its opening value.
-pub(crate) fn open_slots<N: Naming>(
-    alloc: Global,
-    context: &Context<N>,
-) -> Result<Vec<Option<Parcel<N>>>, NoMemory>
-    ensures { IfOk result (λ slots. map (option_map name_of) slots.items ≡ map (λ opening. Some (opening.account, 0)) context.now.plan.openings) }
-{
-    let openings = context.openings();
-    let mut slots = Vec::with_capacity(alloc, openings.len())?;
-    for opening in openings {
-        let parcel = context.opening(alloc, opening.account)?;
-        slots.push(Some(parcel))?;
-    }
-    Ok(slots)
-}
-
-/// Takes the parcels of these accounts out of their slots.
-pub(crate) fn take_parcels<N: Naming>(
-    alloc: Global,
-    openings: &[Opening],
-    slots: &mut [Option<Parcel<N>>],
-    accounts: &[AccountNo],
-) -> Result<Vec<Parcel<N>>, Lack>
-    requires rising { IsRising (opened_accounts openings.now) }
-    requires size { length slots.old ≡ length openings.now }
-    requires distinct { IsDistinct nat_eq accounts.now }
-    ensures names { IfOk result (λ parcels. map Some (names_of parcels.items) ≡ map (standing_in openings.now slots.old) accounts.now) }
-    ensures left { OnOk result ((b : ℕ) → standing_in openings.now slots.new b ≡ (if is_among accounts.now b then None else standing_in openings.now slots.old b)) }
-    ensures lack { IfErr result (LacksFor (list_all (λ a. is_some (standing_in openings.now slots.old a)) accounts.now ≡ false)) }
-{
-    let Ok(mut parcels) = Vec::with_capacity(alloc, accounts.len()) else {
-        return Err(Lack::Memory);
-    };
-    for account in accounts {
-        let Some(parcel) = take_parcel(openings, slots, *account) else {
-            return Err(Lack::Foreign);
-        };
-        if parcels.push(parcel).is_err() {
-            return Err(Lack::Memory);
-        }
-    }
-    Ok(parcels)
-}
-
-/// Puts parcels into the slots of their accounts, and answers whether there are such slots.
-pub(crate) fn lay_parcels<N: Naming>(
-    openings: &[Opening],
-    slots: &mut [Option<Parcel<N>>],
-    parcels: Vec<Parcel<N>>,
-) -> bool
-    requires rising { IsRising (opened_accounts openings.now) }
-    requires size { length slots.old ≡ length openings.now }
-    ensures there { result ≡ list_all (λ n. is_among (opened_accounts openings.now) n.0) (names_of parcels.items) }
-    ensures laid { result ≡ true → (b : ℕ) → standing_in openings.now slots.new b ≡ laid_at (names_of parcels.items) (standing_in openings.now slots.old b) b }
-{
-    for parcel in parcels {
-        if !lay_parcel(openings, slots, parcel) {
-            return false;
-        }
-    }
-    true
-}
-
-/// The parcels of all slots.
-pub(crate) fn empty_slots<N: Naming>(
-    alloc: Global,
+/// A slot for each account that an instruction of the day touches. The parcel that the last instruction so far left stands
+/// in it, or the opening value, until the next instruction takes it.
+#[derive(Drop)]
+pub struct Slots<'c, 'a, N: Naming> {
+    context: &'c Context<'a, N>,
     slots: Vec<Option<Parcel<N>>>,
-) -> Result<Vec<Parcel<N>>, Lack>
-    ensures names { IfOk result (λ parcels. map Some (names_of parcels.items) ≡ map (option_map name_of) slots.items) }
-    ensures lack { IfErr result (LacksFor (list_all is_some (map (option_map name_of) slots.items) ≡ false)) }
-{
-    let Ok(mut parcels) = Vec::with_capacity(alloc, slots.len()) else {
-        return Err(Lack::Memory);
-    };
-    for slot in slots {
-        let Some(parcel) = slot else {
+    pub ghost size: { length slots.items ≡ length context.now.plan.openings },
+}
+
+impl<'c, 'a, N: Naming> Slots<'c, 'a, N> {
+    ghost use Rattle.std.specs.Prelude.{ℕ, ◌≤◌, Some, None, true, false, IfOk, IfErr, IfSome, OnOk, OnErr};
+    ghost use Rattle.reg_book.specs.Day.{Day, settled_day};
+    ghost use Rattle.reg_book.specs.Settled.{IsOfBook};
+    ghost use Rattle.reg_graph.specs.Contexts.{the_day};
+    ghost use Rattle.reg_graph.specs.Gathering.{places_of};
+    ghost use Rattle.reg_graph.specs.Parcels.{names_of};
+    ghost use Rattle.reg_graph.specs.Slots.{AreOpened, AreTaken, AreLaid, StandAsBefore, IsAtEnd, LacksFor, have_slots, is_ready};
+    ghost use Rattle.reg_graph.specs.Standing.{stands};
+
+    /// The slots before the first instruction: the opening value stands in each.
+    ///
+    /// The time is linear in the touched accounts, sorting and look-ups apart.
+    ///
+    /// # Errors
+    /// `NoMemory` if memory ran out.
+    pub fn open(alloc: Global, context: &'c Context<'a, N>) -> Result<Slots<'c, 'a, N>, NoMemory>
+        ensures context { IfOk result (λ s. s.context.now ≡ context.now) }
+        ensures opened { IfOk result (λ s. AreOpened (the_day context.now) (stands s)) }
+    {
+        last_toucher_is_last();
+        tails_are_last_touchers();
+        let slots = open_slots(alloc, context)?;
+        Ok(Slots { context, slots })
+    }
+
+    /// The day whose instructions these are.
+    pub fn context(&self) -> &'c Context<'a, N>
+        ensures { result.now ≡ self.now.context.now }
+    {
+        self.context
+    }
+
+    /// Takes the parcels that the instruction at a place needs out of their slots, and makes its task. The place is counted
+    /// from 1.
+    ///
+    /// # Errors
+    /// `Foreign` if one of them is not there. Otherwise `Memory` if memory ran out. Nothing is taken then.
+    pub fn take(&mut self, alloc: Global, place: u32) -> Result<Task<N>, Lack>
+        requires from_one { 1 ≤ place }
+        requires within { place ≤ length self.old.context.now.batch.now.instructions }
+        ensures context { self.new.context.now ≡ self.old.context.now }
+        ensures place { IfOk result (λ t. t.place ≡ place) }
+        ensures ready { OnOk result (is_ready (the_day self.old.context.now) self.old.context.now.plan place (stands self.old) ≡ true) }
+        ensures taken { OnOk result (AreTaken (the_day self.old.context.now) place (stands self.old) (stands self.new)) }
+        ensures lack { IfErr result (LacksFor (is_ready (the_day self.old.context.now) self.old.context.now.plan place (stands self.old) ≡ false)) }
+        ensures back { OnErr result (StandAsBefore (stands self.old) (stands self.new)) }
+    {
+        each_footprint_is_sound();
+        let context = self.context;
+        let touched = context.touched_at(place);
+        let accounts = touched.as_slice();
+        if !are_ready(
+            context.openings(),
+            &self.slots,
+            accounts,
+            context.arrows_to(place),
+        ) {
             return Err(Lack::Foreign);
-        };
-        if parcels.push(parcel).is_err() {
+        }
+        let Ok(parcels) = take_parcels(alloc, context.openings(), &mut self.slots, accounts) else {
             return Err(Lack::Memory);
+        };
+        match Task::assemble(context, place, parcels) {
+            Ok(task) => Ok(task),
+            Err(_) => unreachable!(),
         }
     }
-    Ok(parcels)
+
+    /// Lays what an instruction left into the slots of its accounts, in place of what stood there, and answers what is kept
+    /// of the instruction itself.
+    ///
+    /// # Errors
+    /// The outcome as it was, if one of its accounts has no slot. If a day is named, this does not occur.
+    pub fn lay(&mut self, outcome: Outcome<N>) -> Result<(Ran<N>, Done<N>), Outcome<N>>
+        ensures context { self.new.context.now ≡ self.old.context.now }
+        ensures ran { IfOk result (λ r. r.0.place ≡ outcome.place) }
+        ensures done { IfOk result (λ r. (r.1.place ≡ outcome.place) × (r.1.row ≡ outcome.row)) }
+        ensures laid { OnOk result (AreLaid (names_of outcome.parcels.items) (stands self.old) (stands self.new)) }
+        ensures there { IfErr result (λ o. have_slots (the_day self.old.context.now) (names_of outcome.parcels.items) ≡ false) }
+        ensures named { IfErr result (λ o. N.day ≡ None) }
+        ensures back { IfErr result (λ o. o ≡ outcome) }
+        ensures unchanged { OnErr result (self.new ≡ self.old) }
+    {
+        last_toucher_is_last();
+        tails_are_last_touchers();
+        let openings = self.context.openings();
+        if !have_slots(openings, outcome.parcels()) {
+            return Err(outcome);
+        }
+        let (ran, done, parcels) = outcome.into_done();
+        lay_parcels(openings, &mut self.slots, parcels);
+        Ok((ran, done))
+    }
+
+    /// The settled day, from what is kept of each instruction, in any order, and what stands in the slots.
+    ///
+    /// # Errors
+    /// `Memory` if memory ran out. `Foreign` if there is not exactly one row for each place, or if what stands for some
+    /// account is not what its last instruction left. If no day is named, also if they are of another context.
+    pub fn close(self, alloc: Global, done: Vec<Done<N>>) -> Result<Settled, Lack>
+        ensures settled { IfOk result (λ s. IfSome N.day (λ d. s ≡ settled_day d)) }
+        ensures of_book { IfOk result (λ s. IsOfBook self.entry.context.now.book.now s) }
+        ensures lack { IfErr result (LacksFor ((d : Day) → N.day ≡ Some d → ¬ (IsAtEnd d (places_of done.items) (stands self.entry)))) }
+    {
+        last_toucher_is_last();
+        tails_are_last_touchers();
+        let Slots { context, slots, .. } = self;
+        let parcels = empty_slots(alloc, slots)?;
+        context.gather_done(alloc, done, parcels)
+    }
 }

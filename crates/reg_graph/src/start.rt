@@ -2,7 +2,7 @@
 
 ghost use Rattle.std.specs.Prelude.{◌≡◌, ◌≤◌, [], None, All, IfOk, map, replicate};
 ghost use Rattle.std.specs.VecDeque.{deque_capacity};
-ghost use Rattle.reg_graph.specs.World.{empty};
+ghost use Rattle.reg_schedules.specs.World.{empty};
 ghost use Rattle.reg_graph.specs.WorldParts.{task_of, hand_of};
 
 use crate::context::Context;
@@ -55,14 +55,16 @@ fn no_rows(alloc: Global, places: u32) -> Result<Vec<Option<LogRow>>, NoMemory>
 }
 
 impl<N: Naming> Parts<N> {
-    ghost use Rattle.std.specs.Prelude.{Bool, List, ◌++◌, ◌∷◌, ◌<◌, length};
-    ghost use Rattle.reg_book.specs.Day.{day_of};
-    ghost use Rattle.reg_graph.specs.World.{TaskValue, complete, opened_at, dock_at, dealt, before_some, at_start};
-    ghost use Rattle.reg_graph.specs.WorldParts.{docks_of, lists_of, world_of};
+    ghost use Rattle.std.specs.Prelude.{Bool, List, ◌+◌, ◌++◌, ◌∷◌, ◌<◌, length};
+    ghost use Rattle.reg_graph.specs.Contexts.{the_day};
+    ghost use Rattle.reg_schedules.specs.Docks.{TaskValue, complete};
+    ghost use Rattle.reg_schedules.specs.World.{opened_at, dock_at, dealt, before_some, at_start};
+    ghost use Rattle.reg_graph.specs.WorldParts.{docks_of, HaveRoom, lists_of, world_of};
 
     // No dock yet. Each list is without tasks, each hand is empty, and no place has a row.
     fn without_docks(alloc: Global, places: u32, workers: u32) -> Result<Parts<N>, NoMemory>
-        ensures { IfOk result (λ parts. world_of parts ≡ record { docks = []; lists = replicate workers []; hands = replicate workers empty; rows = replicate places None; closing = [] }) }
+        ensures none { IfOk result (λ parts. parts.docks.items ≡ []) }
+        ensures world { IfOk result (λ parts. world_of parts ≡ record { docks = []; lists = replicate workers []; hands = replicate workers empty; rows = replicate places None; closing = [] }) }
     {
         let count = places as usize;
         Ok(Parts {
@@ -87,9 +89,13 @@ impl<N: Naming> Parts<N> {
         requires from_one { 1 ≤ place }
         requires within { place ≤ length context.now.batch.now.instructions }
         requires there { worker < length self.old.lists.items }
+        requires next { length self.old.docks.items + 1 ≡ place }
+        requires rooms { HaveRoom (the_day context.now) self.old.docks.items }
         ensures there { IfOk result (λ next. next < length self.new.lists.items) }
-        ensures docks { IfOk result (λ next. docks_of self.new.docks.items ≡ docks_of self.old.docks.items ++ dock_at (day_of context.now.book.now context.now.rules.now context.now.batch.now) context.now.plan place ∷ []) }
-        ensures lists { IfOk result (λ next. (more : List TaskValue) → dealt next more (lists_of self.new.lists.items) ≡ dealt worker (before_some (complete (day_of context.now.book.now context.now.rules.now context.now.batch.now) context.now.plan place (opened_at (day_of context.now.book.now context.now.rules.now context.now.batch.now) context.now.plan place)) more) (lists_of self.old.lists.items)) }
+        ensures count { IfOk result (λ next. length self.new.docks.items ≡ length self.old.docks.items + 1) }
+        ensures rooms { IfOk result (λ next. HaveRoom (the_day context.now) self.new.docks.items) }
+        ensures docks { IfOk result (λ next. docks_of self.new.docks.items ≡ docks_of self.old.docks.items ++ dock_at (the_day context.now) context.now.plan place ∷ []) }
+        ensures lists { IfOk result (λ next. (more : List TaskValue) → dealt next more (lists_of self.new.lists.items) ≡ dealt worker (before_some (complete (the_day context.now) context.now.plan place (opened_at (the_day context.now) context.now.plan place)) more) (lists_of self.old.lists.items)) }
         ensures others { IfOk result (λ next. world_of self.new ≡ record (world_of self.old) { docks = docks_of self.new.docks.items; lists = lists_of self.new.lists.items }) }
     {
         let came = open_dock(alloc, context, place)?;
@@ -118,7 +124,8 @@ impl<N: Naming> Parts<N> {
         workers: u32,
     ) -> Result<Parts<N>, NoMemory>
         requires some { 1 ≤ workers }
-        ensures { IfOk result (λ parts. world_of parts ≡ at_start (day_of context.now.book.now context.now.rules.now context.now.batch.now) context.now.plan workers) }
+        ensures start { IfOk result (λ parts. world_of parts ≡ at_start (the_day context.now) context.now.plan workers) }
+        ensures rooms { IfOk result (λ parts. HaveRoom (the_day context.now) parts.docks.items) }
     {
         let places = context.batch().len();
         let mut parts = Parts::without_docks(alloc, places, workers)?;

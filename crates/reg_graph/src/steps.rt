@@ -1,19 +1,20 @@
 //! Carrying events out.
 
 ghost use Rattle.std.specs.Prelude.{◌≡◌, ◌≤◌, ◌<◌, ℕ, List, Some, None, Ok, ◌∷◌, length, slice_get, MatchResult};
-ghost use Rattle.reg_base.specs.declared.limits.TheConstants.{MOST_TOUCHED};
-ghost use Rattle.reg_book.specs.Day.{day_of};
-ghost use Rattle.reg_graph.specs.World.{TaskValue, ParcelValue, Holds, Carries, head_of, arrived, after_event};
-ghost use Rattle.reg_graph.specs.Schedules.{times_found};
-ghost use Rattle.reg_graph.specs.WorldParts.{world_of, IsWhy};
-ghost use Rattle.reg_graph.specs.declared.event.TheConstants.{MOST_WORKERS};
+ghost use Rattle.reg_graph.specs.Contexts.{the_day};
+ghost use Rattle.reg_schedules.specs.Pool.{footprint_at};
+ghost use Rattle.reg_schedules.specs.Docks.{TaskValue, ParcelValue};
+ghost use Rattle.reg_schedules.specs.World.{Holds, Carries, head_of, arrived, after_event};
+ghost use Rattle.reg_schedules.specs.Schedules.{times_found};
+ghost use Rattle.reg_graph.specs.WorldParts.{world_of, IsWhyOf};
+ghost use Rattle.reg_schedules.specs.declared.event.TheConstants.{MOST_WORKERS};
 
-use crate::event::{Event, EventFault};
 use crate::naming::Naming;
 use crate::world::World;
 use reg_base::laws::{each_footprint_is_sound, last_toucher_is_last};
 use reg_plan::laws::tails_are_last_touchers;
 use reg_rules::step_laws;
+use reg_schedules::{Event, EventFault};
 
 impl<N: Naming> World<'_, '_, N> {
     // What is known of a world that a schedule leads to. This method does nothing.
@@ -25,7 +26,7 @@ impl<N: Naming> World<'_, '_, N> {
         ensures list_room { (worker : ℕ) (task : TaskValue) (parcels : List ParcelValue) (tasks : List TaskValue) → slice_get (world_of self.now.parts).hands worker ≡ Some (Carries (Some task) parcels) → slice_get (world_of self.now.parts).lists worker ≡ Some tasks → length tasks < length (world_of self.now.parts).rows }
         ensures held { (worker : ℕ) (task : TaskValue) → slice_get (world_of self.now.parts).hands worker ≡ Some (Holds task) → (1 ≤ task.place) × (task.place ≤ length self.now.context.now.batch.now.instructions) }
         ensures sent { (worker : ℕ) (p : ParcelValue) (ps : List ParcelValue) → slice_get (world_of self.now.parts).hands worker ≡ Some (Carries None (p ∷ ps)) → (1 ≤ p.after) × (p.after ≤ length self.now.context.now.batch.now.instructions) }
-        ensures dock_room { (worker : ℕ) (p : ParcelValue) (ps : List ParcelValue) (place : ℕ) (came : List ParcelValue) → slice_get (world_of self.now.parts).hands worker ≡ Some (Carries None (p ∷ ps)) → head_of self.now.context.now.plan p.after p.value.number ≡ Some place → arrived (world_of self.now.parts) place ≡ Some came → length came < MOST_TOUCHED }
+        ensures dock_room { (worker : ℕ) (p : ParcelValue) (ps : List ParcelValue) (place : ℕ) (came : List ParcelValue) → slice_get (world_of self.now.parts).hands worker ≡ Some (Carries None (p ∷ ps)) → head_of self.now.context.now.plan p.after p.value.number ≡ Some place → arrived (world_of self.now.parts) place ≡ Some came → length came < length (footprint_at (the_day self.now.context.now) place) }
     {
         self.context.is_day();
         each_footprint_is_sound();
@@ -34,16 +35,23 @@ impl<N: Naming> World<'_, '_, N> {
         tails_are_last_touchers();
     }
 
-    /// Carries out an event.
+    /// Carries out an event. Only a `Run` takes memory.
     ///
     /// # Errors
-    /// The first reason why it is not possible, or `NoMemory` if it is possible and memory ran out. The world is
-    /// unchanged.
+    /// The world is unchanged. The answer is the first reason why the event is not possible:
+    /// - `NoSuchWorker` if the world has no such worker, for a `Steal` also if it has not the one that is stolen from;
+    /// - `OwnDeque` if a `Steal` is from the worker itself;
+    /// - `HandsFull` if something is in the hand of the worker of a `Pop` or a `Steal`;
+    /// - `EmptyDeque` if the list has no task for a `Pop` or a `Steal`;
+    /// - `NothingToRun`, `NothingToDeliver` or `NothingToPush` if the worker has in hand no task to run, no parcel to
+    ///   deliver, or no task that became complete;
+    /// - `NoMemory` if a `Run` is possible and memory ran out. The task is still in the hand, so the same event may
+    ///   come again.
     pub fn event(&mut self, event: Event) -> Result<(), EventFault>
         ensures context { self.new.context.now ≡ self.old.context.now }
         ensures answer { MatchResult result
-            (λ _. after_event (day_of self.old.context.now.book.now self.old.context.now.rules.now self.old.context.now.batch.now) self.old.context.now.plan (world_of self.old.parts) event ≡ Ok (world_of self.new.parts))
-            (λ why. (world_of self.new.parts ≡ world_of self.old.parts) × IsWhy (after_event (day_of self.old.context.now.book.now self.old.context.now.rules.now self.old.context.now.batch.now) self.old.context.now.plan (world_of self.old.parts) event) why) }
+            (λ _. after_event (the_day self.old.context.now) self.old.context.now.plan (world_of self.old.parts) event ≡ Ok (world_of self.new.parts))
+            (λ why. (world_of self.new.parts ≡ world_of self.old.parts) × IsWhyOf event (after_event (the_day self.old.context.now) self.old.context.now.plan (world_of self.old.parts) event) why) }
     {
         self.knows();
         match event {

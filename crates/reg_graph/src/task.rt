@@ -28,12 +28,14 @@ pub struct Task<N: Naming> {
 impl<N: Naming> Task<N> {
     ghost use Rattle.std.specs.Prelude.{◌≤◌, true, Some, None, length, is_ok, IfOk, IfErr, MatchResult, IsPermutation};
     ghost use Rattle.reg_plan.specs.Plans.{inward};
-    ghost use Rattle.reg_book.specs.Day.{Day, day_of};
-    ghost use Rattle.reg_graph.specs.Pool.{footprint_at, run_at};
+    ghost use Rattle.reg_book.specs.Day.{Day};
+    ghost use Rattle.reg_graph.specs.Contexts.{the_day};
+    ghost use Rattle.reg_schedules.specs.Pool.{footprint_at, run_at};
     ghost use Rattle.reg_graph.specs.Parcels.{values_of, afters_of};
-    ghost use Rattle.reg_graph.specs.Names.{names_needed, has_names, IsFor};
+    ghost use Rattle.reg_schedules.specs.Docks.{names_needed, complete};
+    ghost use Rattle.reg_graph.specs.Names.{has_names, IsFor};
     ghost use Rattle.reg_base.specs.declared.limits.TheConstants.{MOST_TOUCHED};
-    ghost use Rattle.reg_graph.specs.World.{complete, left_by};
+    ghost use Rattle.reg_schedules.specs.World.{left_by};
     ghost use Rattle.reg_graph.specs.WorldParts.{parcels_of, task_of};
 
     /// The task of a place, exactly if the parcels are, in any order, one for each account that its instruction
@@ -49,13 +51,13 @@ impl<N: Naming> Task<N> {
     ) -> Result<Task<N>, Vec<Parcel<N>>>
         requires from_one { 1 ≤ place }
         requires within { place ≤ length context.now.batch.now.instructions }
-        ensures fits { is_ok result ≡ has_names (names_of parcels.items) (names_needed (inward context.now.plan.arrows place) (footprint_at (day_of context.now.book.now context.now.rules.now context.now.batch.now) place)) }
+        ensures fits { is_ok result ≡ has_names (names_of parcels.items) (names_needed (inward context.now.plan.arrows place) (footprint_at (the_day context.now) place)) }
         ensures place { IfOk result (λ t. t.place ≡ place) }
         ensures parcels { IfOk result (λ t. IsPermutation parcels.items t.parcels.items) }
         ensures back { IfErr result (λ ps. ps ≡ parcels) }
         ensures complete { MatchResult result
-            (λ t. complete (day_of context.now.book.now context.now.rules.now context.now.batch.now) context.now.plan place (parcels_of parcels.items) ≡ Some (task_of t))
-            (λ ps. complete (day_of context.now.book.now context.now.rules.now context.now.batch.now) context.now.plan place (parcels_of parcels.items) ≡ None) }
+            (λ t. complete (the_day context.now) context.now.plan place (parcels_of parcels.items) ≡ Some (task_of t))
+            (λ ps. complete (the_day context.now) context.now.plan place (parcels_of parcels.items) ≡ None) }
     {
         let touched = context.touched_at(place);
         let arrows = context.arrows_to(place);
@@ -76,10 +78,17 @@ impl<N: Naming> Task<N> {
         self.place
     }
 
+    // How many parcels it has: one for each account that its instruction touches.
+    pub(crate) fn parcel_count(&self) -> usize
+        ensures { result ≡ length self.now.parcels.items }
+    {
+        self.parcels.len()
+    }
+
     // Whether the task is of the context: its place is one of the context's, its parcels are of the accounts that the
     // instruction touches, and their surrenders and deletions have lower record numbers. If a day is named, it is.
     fn fits(&self, context: &Context<N>) -> bool
-        ensures is_for { result ≡ true → IsFor (day_of context.now.book.now context.now.rules.now context.now.batch.now) self.now.place (values_of self.now.parcels.items) }
+        ensures is_for { result ≡ true → IsFor (the_day context.now) self.now.place (values_of self.now.parcels.items) }
         ensures named { (d : Day) → N.day ≡ Some d → result ≡ true }
     {
         context.is_day();
@@ -101,7 +110,7 @@ impl<N: Naming> Task<N> {
     /// The task as it was, if memory ran out. If no day is named, also if the task is of another context.
     pub fn run(self, alloc: Global, context: &Context<N>) -> Result<Outcome<N>, Task<N>>
         ensures place { IfOk result (λ o. o.place ≡ self.place) }
-        ensures made { IfOk result (λ o. run_at (day_of context.now.book.now context.now.rules.now context.now.batch.now) self.place (values_of self.parcels.items) ≡ Some (values_of o.parcels.items, o.row)) }
+        ensures made { IfOk result (λ o. run_at (the_day context.now) self.place (values_of self.parcels.items) ≡ Some (values_of o.parcels.items, o.row)) }
         ensures left { IfOk result (λ o. parcels_of o.parcels.items ≡ left_by self.place (values_of o.parcels.items)) }
         ensures few { IfOk result (λ o. length o.parcels.items ≤ MOST_TOUCHED) }
         ensures back { IfErr result (λ t. (t.place ≡ self.place) × (values_of t.parcels.items ≡ values_of self.parcels.items) × (afters_of t.parcels.items ≡ afters_of self.parcels.items)) }

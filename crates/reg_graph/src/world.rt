@@ -1,27 +1,29 @@
 //! The workers' world.
 
 ghost use Rattle.std.specs.Prelude.{◌≡◌, ◌≤◌, IfOk};
-ghost use Rattle.reg_book.specs.Day.{day_of};
-ghost use Rattle.reg_graph.specs.World.{at_start};
-ghost use Rattle.reg_graph.specs.Schedules.{IsReached};
-ghost use Rattle.reg_graph.specs.WorldParts.{world_of};
-ghost use Rattle.reg_graph.specs.declared.event.TheConstants.{MOST_WORKERS};
+ghost use Rattle.reg_graph.specs.Contexts.{the_day};
+ghost use Rattle.reg_schedules.specs.World.{at_start};
+ghost use Rattle.reg_schedules.specs.Schedules.{IsReached};
+ghost use Rattle.reg_graph.specs.WorldParts.{world_of, HaveRoom};
+ghost use Rattle.reg_schedules.specs.declared.event.TheConstants.{MOST_WORKERS};
 
 use crate::context::Context;
-use crate::event::MOST_WORKERS;
 use crate::naming::Naming;
 use crate::parts::Parts;
 use reg_base::NoMemory;
+use reg_schedules::MOST_WORKERS;
 use std::alloc::Global;
 
 /// Workers with their lists of tasks, the docks in which parcels wait for each other, and what was done. Some schedule
-/// of the workers' events leads to it from the start.
+/// of the workers' events leads to it from the start. A dock has room for the accounts that its instruction touches, and
+/// for no more.
 #[derive(Drop)]
 pub struct World<'c, 'a, N: Naming> {
     pub(crate) context: &'c Context<'a, N>,
     pub(crate) alloc: Global,
     pub(crate) parts: Parts<N>,
-    pub ghost reached: { ∥ IsReached (day_of context.now.book.now context.now.rules.now context.now.batch.now) context.now.plan (world_of parts) ∥₁ },
+    pub ghost reached: { ∥ IsReached (the_day context.now) context.now.plan (world_of parts) ∥₁ },
+    pub ghost dock_room: { HaveRoom (the_day context.now) parts.docks.items },
 }
 
 impl<'c, 'a, N: Naming> World<'c, 'a, N> {
@@ -38,7 +40,7 @@ impl<'c, 'a, N: Naming> World<'c, 'a, N> {
     ) -> Result<World<'c, 'a, N>, NoMemory>
         requires some { 1 ≤ workers }
         requires few { workers ≤ MOST_WORKERS }
-        ensures start { IfOk result (λ w. world_of w.parts ≡ at_start (day_of context.now.book.now context.now.rules.now context.now.batch.now) context.now.plan workers) }
+        ensures start { IfOk result (λ w. world_of w.parts ≡ at_start (the_day context.now) context.now.plan workers) }
         ensures context { IfOk result (λ w. w.context.now ≡ context.now) }
     {
         let parts = Parts::at_start(alloc, context, workers)?;

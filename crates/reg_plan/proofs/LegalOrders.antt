@@ -47,7 +47,7 @@ none_find p [] h = refl
 none_find p (y ∷ ys) h = ap (λ b. cond b (Some y) (find p ys)) (h y (inl refl)) ∙ none_find p ys (λ x m. h x (inr m))
 
 -- what a filter keeps
-of_filter : {X : Type 0} (p : X → Bool) (xs : List X) (x : X) → In x (filter p xs) → In x xs × (p x ≡ true)
+pub of_filter : {X : Type 0} (p : X → Bool) (xs : List X) (x : X) → In x (filter p xs) → In x xs × (p x ≡ true)
 of_filter p [] x m = absurd m
 of_filter p (y ∷ ys) x m = by (p y) refl m (of_filter p ys x) where
   by : (b : Bool) → p y ≡ b → In x (cond b (y ∷ filter p ys) (filter p ys)) → (In x (filter p ys) → In x ys × (p x ≡ true)) → In x (y ∷ ys) × (p x ≡ true)

@@ -9,3 +9,6 @@ pub mod LevelFacts
 pub mod Permutations
 pub mod LegalOrders
 pub mod LastTouchers
+pub mod Sorting
+pub mod PlanLaws
+pub mod FaultPositions

@@ -295,7 +295,7 @@ pair a b p q sorted other = elim (cases_lt a b) [
   ]
 ]
 
-touch_cmp-total : IsTotalOrder touch_cmp
+pub touch_cmp-total : IsTotalOrder touch_cmp
 touch_cmp-total = then_total (on_total (λ (t : Touch). t.account) nat_cmp_total) (on_total (λ (t : Touch). t.place) nat_cmp_total)
 
 pub rises-sorted : (xs : List Touch) → IsSorted touch_cmp xs → IsDistinct same_touch xs → Rises xs

@@ -19,3 +19,4 @@ pub mod Singles
 pub mod Acts
 pub mod Listings
 pub mod Conserved
+pub mod ClosedStay

@@ -8,3 +8,4 @@ pub mod Step
 pub mod Laws
 pub mod ActLaws
 pub mod Conservation
+pub mod Closed

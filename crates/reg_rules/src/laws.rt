@@ -2,6 +2,7 @@
 //! calls it.
 
 ghost use Rattle.reg_rules.specs.ActLaws.{ActLaws};
+ghost use Rattle.reg_rules.specs.Closed.{ClosedIsNeverLeft, ClosedStays, NothingIsDoneOnClosed};
 ghost use Rattle.reg_rules.specs.Conservation.{StepConserves};
 ghost use Rattle.reg_rules.specs.Laws.{StepLaws};
 
@@ -34,3 +35,11 @@ pub fn step_conserves()
 {
     number_laws();
 }
+
+/// An accepted instruction touches no closed account. So a closed account stays closed, and it keeps what it holds, its
+/// lists and everything else.
+pub fn step_keeps_closed()
+    ensures nothing_done { NothingIsDoneOnClosed }
+    ensures value { ClosedStays }
+    ensures status { ClosedIsNeverLeft }
+{}

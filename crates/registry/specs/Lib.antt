@@ -1,1 +1,3 @@
+pub mod Serving
 pub mod Statuses
+pub mod Words

@@ -3,31 +3,22 @@
 #![tactic(auto)]
 
 ghost use Rattle.std.specs.Prelude.{◌≡◌};
+ghost use Rattle.registry.specs.Serving.{IsShown, Obeys, Serves};
 ghost use Rattle.registry.specs.Statuses.{status_of};
 
+mod input;
 mod words;
 
+use crate::input::Input;
 use crate::words::read_words;
 use clap::error::ErrorKind;
 use reg_front::{Command, FrontFault, run_without_freeing};
 use std::alloc::{AllocError, Global};
 use std::convert::AsStr;
-use std::io::{IsTerminal, Read, Write};
+use std::io::{Read, Write};
 use std::process::ExitCode;
 use std::rt::Env;
 use std::{env, io};
-
-// What somebody sees who has started the program at a terminal without a text.
-const HINT: &str = "reading a day text from the terminal; Ctrl-D ends it";
-
-// Where the day text comes from.
-#[derive(Clone, Copy, Debug, PartialEq, Eq)]
-enum Source {
-    // Somebody types it.
-    Terminal,
-    // A file or another program.
-    Stream,
-}
 
 /// Carries out the command of these words, which stand without the program's name: reads a day text from `reader`
 /// and writes the command's text to `writer`. Help goes to `writer` too.
@@ -35,38 +26,20 @@ enum Source {
 /// Answers the exit status of the program: 0, or the status of the fault. A fault is written as one line to `faults`,
 /// and words that are not taken as a longer text, before any input is read. The status is the same if these can't be
 /// written.
+///
+/// The memory that the command has used is not freed: the program ends with it.
 pub fn serve<S: AsStr, R: Read, W: Write, F: Write>(
     alloc: Global,
     words: &[S],
     reader: &mut R,
     writer: &mut W,
     faults: &mut F,
-) -> u8 {
-    serve_from(Source::Stream, alloc, words, reader, writer, faults)
-}
-
-// The same, with a hint for somebody who types the text.
-fn serve_from<S: AsStr, R: Read, W: Write, F: Write>(
-    source: Source,
-    alloc: Global,
-    words: &[S],
-    reader: &mut R,
-    writer: &mut W,
-    faults: &mut F,
-) -> u8 {
+) -> u8
+    ensures { Serves result (R.remaining reader.old) (R.remaining reader.new) (W.contents writer.old) (W.contents writer.new) }
+{
     match read_words(alloc, words) {
-        Ok(command) => {
-            give_hint(source, faults);
-            carry_out(alloc, command, reader, writer, faults)
-        }
+        Ok(command) => carry_out(alloc, command, reader, writer, faults),
         Err(error) => show(&error, writer, faults),
-    }
-}
-
-// Says that the program waits for somebody to type.
-fn give_hint<F: Write>(source: Source, faults: &mut F) {
-    if source == Source::Terminal {
-        let _ = writeln!(faults, "{HINT}");
     }
 }
 
@@ -77,7 +50,9 @@ fn carry_out<R: Read, W: Write, F: Write>(
     reader: &mut R,
     writer: &mut W,
     faults: &mut F,
-) -> u8 {
+) -> u8
+    ensures { Obeys command result (R.remaining reader.old) (R.remaining reader.new) (W.contents writer.old) (W.contents writer.new) }
+{
     match run_without_freeing(alloc, reader, writer, command) {
         Ok(()) => 0,
         Err(fault) => tell(fault, faults),
@@ -85,7 +60,9 @@ fn carry_out<R: Read, W: Write, F: Write>(
 }
 
 // Shows help, or why the words are not taken, and answers the status.
-fn show<W: Write, F: Write>(error: &clap::Error, writer: &mut W, faults: &mut F) -> u8 {
+fn show<W: Write, F: Write>(error: &clap::Error, writer: &mut W, faults: &mut F) -> u8
+    ensures { IsShown result (W.contents writer.old) (W.contents writer.new) }
+{
     if error.kind() == ErrorKind::OutOfMemory {
         return tell(FrontFault::NoMemory, faults);
     }
@@ -133,19 +110,12 @@ fn read_arguments<R: Env + AllocGlobal>(rt: &R) -> Result<Vec<String>, AllocErro
 }
 
 fn main(rt: HostRuntime) -> ExitCode {
-    let mut input = rt.stdin();
     let mut faults = rt.stderr();
-    let source = if input.is_terminal() {
-        Source::Terminal
-    } else {
-        Source::Stream
-    };
     let status = match read_arguments(&rt) {
-        Ok(words) => serve_from(
-            source,
+        Ok(words) => serve(
             rt.alloc(),
             words.as_slice(),
-            &mut input,
+            &mut Input::new(rt.stdin(), faults),
             &mut rt.stdout(),
             &mut faults,
         ),
@@ -153,3 +123,6 @@ fn main(rt: HostRuntime) -> ExitCode {
     };
     ExitCode::from(status)
 }
+
+#[cfg(test)]
+mod tests;

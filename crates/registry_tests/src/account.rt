@@ -1,8 +1,6 @@
-//! Accounts: their limits at both sides, and their changes.
+//! Accounts: their limits at both sides, and the first year without emissions.
 
-use crate::fixtures::{
-    AccountRow, account_no, holder, read, row_of, row_of_parts, surrendered, year,
-};
+use crate::fixtures::{AccountRow, account_no, holder, read, row_of_parts, surrendered, year};
 use reg_account::{
     Account, AccountFault, AccountParts, Emission, Figure, FigureFault, Holdings, Lists,
 };
@@ -168,17 +166,4 @@ fn the_first_year_without_emissions_is_named(rt: HostRuntime) {
     ] {
         assert_eq!(rt; figure(&rt, rt.alloc(), number), wanted, "{number}");
     }
-}
-
-// Whether an account with this row is as it was after it was copied, and its copy is equal.
-fn is_copied(rt: &impl Abort, alloc: Global, row: &AccountRow) -> bool {
-    let account = Account::of(parts_with(alloc, *row)).expect(rt, "an account");
-    let copy = account.copy(alloc).expect(rt, "memory");
-    row_of(&copy) == *row && row_of(&account) == *row
-}
-
-#[test]
-fn a_copy_is_equal(rt: HostRuntime) {
-    let row = row(&rt, 0, 100, 0);
-    assert!(rt; is_copied(&rt, rt.alloc(), &row));
 }

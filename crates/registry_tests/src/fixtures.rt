@@ -1,12 +1,43 @@
 //! Values that the tests share. What can't be made ends the test.
 
-use reg_account::{Account, AccountParts, Holdings, Retirement, RetirementRow};
+use reg_account::{AccountParts, Holdings, Retirement, RetirementRow};
 use reg_base::{
     AccountKind, AccountNo, AllowanceKind, Day, HolderNo, RecordNo, Status, UserNo, Year,
 };
 use reg_text::{DayInput, read_day};
 use std::alloc::Global;
 use std::process::Abort;
+
+// The worked accounts, up to the instructions of a day.
+const WORKED: &str = "\
+format,1
+day,2025-03-31,1
+period,2021,2030
+lags,0,1,1,2
+surrender,operator,general
+surrender,aircraft,general
+surrender,aircraft,aviation
+admin,901
+admin,902
+work,2025-03-31
+work,2025-04-01
+work,2025-04-02
+work,2025-04-03
+work,2025-04-04
+account,1,operator,11,open,no,no,0,100,0
+user,101,propose
+user,102,approve
+trusted,2,2025-03-03
+account,2,trading,12,open,no,no,0,0,0
+user,201,both
+user,202,both
+trusted,1,2025-03-03
+account,3,aircraft,13,open,no,no,0,0,50
+user,301,propose
+user,302,approve
+account,8,allocation,1,open,no,no,0,0,0
+account,9,total,1,open,no,no,0,0,0
+";
 
 /// The day that lies so many days after 1970-01-01.
 pub(crate) fn day(rt: &impl Abort, count: u32) -> Day {
@@ -58,23 +89,6 @@ pub(crate) struct AccountRow {
     pub held: Holdings,
 }
 
-/// What an account answers.
-pub(crate) fn row_of(account: &Account) -> AccountRow {
-    AccountRow {
-        number: account.number(),
-        kind: account.kind(),
-        holder: account.holder(),
-        status: account.status(),
-        outside: account.outside(),
-        waiver: account.waiver(),
-        correction: account.correction(),
-        held: Holdings {
-            general: account.held(AllowanceKind::General),
-            aviation: account.held(AllowanceKind::Aviation),
-        },
-    }
-}
-
 /// What the parts of an account say.
 pub(crate) fn row_of_parts(parts: &AccountParts) -> AccountRow {
     AccountRow {
@@ -87,6 +101,12 @@ pub(crate) fn row_of_parts(parts: &AccountParts) -> AccountRow {
         correction: parts.correction,
         held: parts.held,
     }
+}
+
+/// The worked day with these instructions.
+pub(crate) fn worked(rt: &impl Abort, alloc: Global, instructions: &str) -> DayInput {
+    let text = format!(in alloc; "{}{}end\n", WORKED, instructions).expect(rt, "memory");
+    read(rt, alloc, text.as_str())
 }
 
 /// The day of a text.

@@ -8,6 +8,10 @@ mod base;
 #[cfg(test)]
 mod book;
 #[cfg(test)]
+mod changes;
+#[cfg(test)]
+mod days;
+#[cfg(test)]
 mod fixtures;
 #[cfg(test)]
 mod front;

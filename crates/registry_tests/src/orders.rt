@@ -4,39 +4,19 @@ ghost use Rattle.std.specs.Prelude.{◌≡◌, ◌≤◌, true, length, IsTrue, 
 ghost use Rattle.reg_base.specs.Touches.{touches, is_touched};
 ghost use Rattle.reg_book.specs.Book.{directory_of};
 ghost use Rattle.reg_book.specs.Day.{day_of, settled_day};
+ghost use Rattle.reg_book.specs.Settled.{IsOfBook};
 ghost use Rattle.reg_graph.specs.Names.{IsNamed};
 
-use crate::fixtures::{account_no, read};
+use crate::days::put_in;
+use crate::fixtures::{account_no, worked};
 use reg_base::{AccountNo, Batch, Directory, Instruction, Rules};
 use reg_book::{Book, Settled, settle_plain};
 use reg_graph::{Context, Naming, Outcome, Parcel, Task, Unnamed, run_order};
 use reg_rules::LogRow;
-use reg_text::DayInput;
+use reg_text::{DayInput, write_report};
 use std::alloc::Global;
 use std::marker::Brand;
 use std::process::Abort;
-
-// A day up to its instructions.
-const ACCOUNTS: &str = "\
-format,1
-day,2025-03-31,1
-period,2021,2030
-lags,0,1,1,2
-surrender,operator,general
-surrender,aircraft,aviation
-work,2025-03-31
-account,1,operator,11,open,no,no,0,100,0
-user,101,propose
-user,102,approve
-trusted,2,2025-03-31
-account,2,trading,12,open,no,no,0,0,0
-user,201,propose
-user,202,approve
-trusted,1,2025-03-31
-account,3,aircraft,13,open,no,no,0,0,50
-user,301,propose
-user,302,approve
-";
 
 // Two transfers of which the second finds too little.
 const TWICE: &str = "\
@@ -50,11 +30,30 @@ do,2025-03-31,101,102,surrender,1,general,50
 do,2025-03-31,301,302,surrender,3,aviation,50
 ";
 
-/// A day with these instructions.
-pub(crate) fn day(rt: &impl Abort, alloc: Global, instructions: &str) -> DayInput {
-    let text = format!(in alloc; "{}{}end\n", ACCOUNTS, instructions).expect(rt, "memory");
-    read(rt, alloc, text.as_str())
-}
+// The report of the day with both, whichever came first.
+const REPORT: &str = "\
+log,1,2025-03-31,2025-03-31,101,102,surrender,1,general,50,done,,1,50,0
+log,2,2025-03-31,2025-03-31,301,302,surrender,3,aviation,50,done,,3,0,0
+book,3
+account,1,operator,11,open,no,no,0,50,0
+user,101,propose
+user,102,approve
+trusted,2,2025-03-03
+retired,1,surrender,general,50,2025-03-31,no
+account,2,trading,12,open,no,no,0,0,0
+user,201,both
+user,202,both
+trusted,1,2025-03-03
+account,3,aircraft,13,open,no,no,0,0,0
+user,301,propose
+user,302,approve
+retired,2,surrender,aviation,50,2025-03-31,no
+account,8,allocation,1,open,no,no,0,0,0
+account,9,total,1,open,no,no,0,0,0
+totals,general,50,50,0
+totals,aviation,0,50,0
+end
+";
 
 /// What a settled day leaves: its log, and each account that it touched.
 pub(crate) fn told(rt: &impl Abort, alloc: Global, settled: &Settled) -> String {
@@ -63,7 +62,7 @@ pub(crate) fn told(rt: &impl Abort, alloc: Global, settled: &Settled) -> String 
 
 /// What these instructions one after another leave.
 pub(crate) fn settled(rt: &impl Abort, alloc: Global, instructions: &str) -> String {
-    let DayInput { rules, book, batch } = day(rt, alloc, instructions);
+    let DayInput { rules, book, batch } = worked(rt, alloc, instructions);
     let settled = settle_plain(alloc, &book, &rules, &batch).expect(rt, "memory");
     told(rt, alloc, &settled)
 }
@@ -96,6 +95,33 @@ fn run_under<N: Naming>(
         return None;
     };
     run_order(alloc, &context, order).ok()
+}
+
+// The settled day of a batch that is run in a legal order.
+fn run_in(
+    rt: &impl Abort,
+    alloc: Global,
+    book: &Book,
+    rules: &Rules,
+    batch: &Batch,
+    order: &[u32],
+) -> Settled
+    ensures { IsOfBook book.now result }
+{
+    let context = Context::<Unnamed>::of(alloc, book, rules, batch).expect(rt, "memory");
+    run_order(alloc, &context, order).expect(rt, "a legal order")
+}
+
+// The report of the day with both surrenders, run in this order.
+fn reported(rt: &impl Abort, alloc: Global, order: &[u32]) -> Vec<u8> {
+    let DayInput {
+        rules,
+        mut book,
+        batch,
+    } = worked(rt, alloc, APART);
+    let settled = run_in(rt, alloc, &book, &rules, &batch, order);
+    let log = put_in(rt, &mut book, settled);
+    write_report(alloc, &book, log.as_slice()).expect(rt, "memory")
 }
 
 fn touches(instruction: &Instruction, directory: &Directory, number: AccountNo) -> bool
@@ -151,7 +177,7 @@ fn both_openings(
 
 // How many parcels come back of the opening values of both accounts, given for a place of the two transfers.
 fn given_back(rt: &impl Abort, alloc: Global, place: u32) -> usize {
-    let DayInput { rules, book, batch } = day(rt, alloc, TWICE);
+    let DayInput { rules, book, batch } = worked(rt, alloc, TWICE);
     let context = Context::<Unnamed>::of(alloc, &book, &rules, &batch).expect(rt, "memory");
     let parcels = both_openings(rt, alloc, &context);
     match task(rt, &context, place, parcels) {
@@ -201,7 +227,7 @@ fn run_both(
 
 // What is gathered of both surrenders.
 fn gathered(rt: &impl Abort, alloc: Global) -> String {
-    let DayInput { rules, book, batch } = day(rt, alloc, APART);
+    let DayInput { rules, book, batch } = worked(rt, alloc, APART);
     let context = Context::<Unnamed>::of(alloc, &book, &rules, &batch).expect(rt, "memory");
     let (rows, parcels) = run_both(rt, alloc, &context);
     let settled = context.gather(alloc, rows, parcels).expect(rt, "memory");
@@ -210,13 +236,21 @@ fn gathered(rt: &impl Abort, alloc: Global) -> String {
 
 #[test]
 fn a_day_runs_under_its_own_name(rt: HostRuntime) {
-    let DayInput { rules, book, batch } = day(&rt, rt.alloc(), APART);
+    let DayInput { rules, book, batch } = worked(&rt, rt.alloc(), APART);
     let ran = run_named(rt.alloc(), &book, &rules, &batch, &[2, 1]);
     let ran = ran.expect(&rt, "a legal order");
     assert_eq!(rt;
         told(&rt, rt.alloc(), &ran),
         settled(&rt, rt.alloc(), APART)
     );
+}
+
+#[test]
+fn both_orders_of_two_surrenders_give_the_same_report(rt: HostRuntime) {
+    for order in [[1, 2], [2, 1]] {
+        let report = reported(&rt, rt.alloc(), &order);
+        assert_eq!(rt; report.as_slice(), REPORT.as_bytes(), "{order:?}");
+    }
 }
 
 #[test]

@@ -77,8 +77,8 @@ fn assert_touched(
     assert!(rt; are_same(&numbers, touched.as_slice()));
 }
 
-// Whether each surrender and each deletion of the account has a number below this one.
-fn is_behind(account: &Account, number: RecordNo) -> bool
+/// Whether each surrender and each deletion of the account has a number below this one.
+pub(crate) fn is_behind(account: &Account, number: RecordNo) -> bool
     ensures { result ≡ list_all (λ row. nat_lt row.number number) account.now.rows }
 {
     account.rows().iter().all(|row| row.number < number)

@@ -1,6 +1,7 @@
 //! Worlds of two workers: worked schedules, event by event.
 
-use crate::orders::{APART, day, settled, told};
+use crate::fixtures::worked;
+use crate::orders::{APART, settled, told};
 use reg_graph::Event::{Deliver, Pop, Push, Run, Steal};
 use reg_graph::{Context, Event, Unnamed, World};
 use reg_text::DayInput;
@@ -44,7 +45,7 @@ fn played(
     first: &[Event],
     others: &[Event],
 ) -> String {
-    let DayInput { rules, book, batch } = day(rt, alloc, instructions);
+    let DayInput { rules, book, batch } = worked(rt, alloc, instructions);
     let context = Context::<Unnamed>::of(alloc, &book, &rules, &batch).expect(rt, "memory");
     let mut world = World::new(alloc, &context, 2).expect(rt, "memory");
     let mut played = String::new(alloc);

@@ -1,4 +1,4 @@
-use Rattle.std.proofs.Common.{◌≡◌, sym, ap, ◌∙◌, List}
+use Rattle.std.proofs.Common.{sym, ap, ◌∙◌, List}
 use Rattle.reg_account.specs.Account.{AccountValue}
 use Rattle.reg_book.specs.Book.{first_fault}
 use Rattle.reg_book.proofs.Directories.{can_take}

@@ -5,7 +5,6 @@ use Rattle.reg_rules.specs.State.{State, Setting}
 use Rattle.reg_rules.specs.Step.{step}
 use Rattle.reg_rules.specs.Effect.{IsBehind}
 use Rattle.reg_base.specs.Footprint.{footprint}
-use Rattle.reg_account.specs.Account.{AccountValue}
 use Rattle.std.proofs.lemmas.List.{take-map}
 use Rattle.std.proofs.lemmas.List.Elements.{All-take}
 use Rattle.reg_book.proofs.Turns.{front-turn}

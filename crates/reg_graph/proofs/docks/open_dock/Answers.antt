@@ -2,9 +2,9 @@ use Rattle.std.proofs.Common.{◌≡◌, ℕ, zero, suc, ◌<◌, true, eqb, Lis
 use Rattle.std.proofs.lemmas.Bool.{eq-eqb, or_left, or_right}
 use Rattle.reg_base.specs.Footprint.{is_among}
 use Rattle.reg_book.specs.Day.{day_of}
-use Rattle.reg_graph.specs.Pool.{directory, footprint_at}
-use Rattle.reg_graph.proofs.Known.{footprint_touches}
-use Rattle.reg_graph.proofs.Tails.{touched_from}
+use Rattle.reg_schedules.specs.Pool.{directory, footprint_at}
+use Rattle.reg_schedules.proofs.Known.{footprint_touches}
+use Rattle.reg_schedules.proofs.Tails.{touched_from}
 use Rattle.reg_graph.proofs.docks.open_dock.Goals as goal
 
 among-at : (ns : List ℕ) (k a : ℕ) → k < length ns → a ≡ get_or ns k a → is_among ns a ≡ true
@@ -19,3 +19,6 @@ opening-requires g c =
     let there = among-at c.as_slice-accounts.result.now c.loop-account.account-index a c.loop-account-test.true c.account-item.is in
     let own : is_among (footprint_at day c.args.place) a ≡ true = ap (λ ns. is_among ns a) (sym (c.as_slice-accounts.ensures.value ∙ c.touched_at-touched.ensures)) ∙ there in
     record { touched = touched_from (directory day) day.batch.instructions a c.args.place (sym (footprint_touches day c.args.place a) ∙ own) }
+
+pub returns-clause-room : goal.returns-clause-room
+returns-clause-room g c = c.loop-account.invariant.room ∙ ap length (c.as_slice-accounts.ensures.value ∙ c.touched_at-touched.ensures)

@@ -1,5 +1,5 @@
 use Rattle.std.proofs.Common.{◌≡◌, ◌≤◌, ◌+◌, ◌++◌, length, vec_len, vec_capacity}
-use Rattle.reg_graph.specs.World.{known_of}
+use Rattle.reg_schedules.specs.World.{known_of}
 use Rattle.reg_graph.proofs.ending.move_rows.Given as goal
 
 -- the rows so far, and those that come, are all

@@ -1,6 +1,6 @@
 use Rattle.std.proofs.Common.{◌≡◌, ◌≤◌, ◌+◌, ◌++◌, not, length, map, vec_len, vec_capacity}
 use Rattle.std.specs.Prelude.{filter}
-use Rattle.reg_graph.specs.Pool.{leads_on}
+use Rattle.reg_schedules.specs.Pool.{leads_on}
 use Rattle.reg_graph.specs.WorldParts.{parcels_of}
 use Rattle.reg_graph.proofs.held.close.Given as goal
 

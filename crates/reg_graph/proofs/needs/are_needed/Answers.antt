@@ -1,7 +1,7 @@
 use Rattle.std.proofs.Common.{sym, ap, ◌∙◌, length, ◌&&◌}
 use Rattle.std.specs.List.{list_all, list_any}
 use Rattle.std.proofs.lemmas.Bool.{eq-eqb, ne_eqb}
-use Rattle.reg_graph.specs.Names.{names_needed, is_name}
+use Rattle.reg_schedules.specs.Docks.{names_needed, is_name}
 use Rattle.reg_graph.specs.Parcels.{names_of}
 use Rattle.reg_graph.proofs.Names.{names_test, names_size}
 use Rattle.reg_graph.proofs.needs.are_needed.Goals as goal

@@ -1,6 +1,6 @@
 use Rattle.std.proofs.Common.{◌≡◌, ◌<◌, ◌≤◌, ℕ, false}
 use Rattle.std.specs.Prelude.{slice_index_or}
-use Rattle.reg_graph.specs.Names.{is_name}
+use Rattle.reg_schedules.specs.Docks.{is_name}
 use Rattle.reg_graph.specs.Parcels.{names_of}
 use Rattle.reg_graph.proofs.needs.find_from.Given as goal
 

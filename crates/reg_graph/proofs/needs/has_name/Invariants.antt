@@ -1,6 +1,6 @@
 use Rattle.std.proofs.Common.{◌≡◌, drop}
 use Rattle.std.specs.List.{list_any}
-use Rattle.reg_graph.specs.Names.{is_name}
+use Rattle.reg_schedules.specs.Docks.{is_name}
 use Rattle.reg_graph.specs.Parcels.{names_of}
 use Rattle.reg_graph.proofs.needs.has_name.Given as goal
 

@@ -1,8 +1,9 @@
 use Rattle.std.proofs.Common.{◌≡◌, ◌<◌, length, get_or, arith, sym, ap, subst, ◌∙◌}
 use Rattle.std.specs.Prelude.{IsPermutation}
 use Rattle.std.proofs.lemmas.List.Sorted.{IsPermutation-trans}
-use Rattle.reg_graph.specs.Pool.{tail_in}
-use Rattle.reg_graph.specs.Names.{names_needed, FindsFrom}
+use Rattle.reg_schedules.specs.Pool.{tail_in}
+use Rattle.reg_schedules.specs.Docks.{names_needed}
+use Rattle.reg_graph.specs.Names.{FindsFrom}
 use Rattle.reg_graph.specs.Parcels.{names_of}
 use Rattle.reg_graph.proofs.Names.{InOrder, in_order, never_missing, fetched, all_in_order, needed_at, get_or_any, name_same, names_size}
 use Rattle.reg_graph.proofs.needs.put_in_order.Goals as goal

@@ -1,6 +1,6 @@
 use Rattle.std.proofs.Common.{◌≡◌, ◌<◌, ℕ, get_or}
 use Rattle.std.specs.Prelude.{IsPermutation}
-use Rattle.reg_graph.specs.Names.{names_needed}
+use Rattle.reg_schedules.specs.Docks.{names_needed}
 use Rattle.reg_graph.specs.Parcels.{names_of}
 use Rattle.reg_graph.proofs.needs.put_in_order.Given as goal
 

@@ -1,12 +1,15 @@
-use Rattle.std.proofs.Common.{◌≡◌, ◌++◌, take, drop, length, map, Some}
-use Rattle.reg_book.specs.Day.{Day, row_at, day_of}
-use Rattle.reg_graph.specs.Slots.{standing_in, AreStanding}
+use Rattle.std.proofs.Common.{◌≡◌, ◌+◌, ◌≤◌, take, length, vec_len, vec_capacity}
+use Rattle.reg_graph.specs.Contexts.{the_day}
+use Rattle.reg_graph.specs.Gathering.{places_of}
+use Rattle.reg_graph.specs.Slots.{AreStanding}
+use Rattle.reg_graph.specs.Standing.{stands}
 use Rattle.reg_graph.proofs.order.run_places.Given as goal
 
--- what has come so far
+-- what was done so far
 abbrev pub invariant-loop-place : goal.invariant-loop-place
 invariant-loop-place g l = record {
-  size : length l.slots ≡ length l.context.plan.openings;
-  standing : AreStanding g.N.Naming.day (day_of l.context.book.now l.context.rules.now l.context.batch.now) (take l.place-index l.order) (standing_in l.context.plan.openings l.slots);
-  rows : (d : Day) → g.N.Naming.day ≡ Some d → map Some l.rows.items ++ map (row_at d) (drop l.place-index l.order) ≡ map (row_at d) l.order;
+  context : l.slots.context.now ≡ l.initial.slots.context.now;
+  room : vec_len l.done + length l.order ≤ vec_capacity l.done + l.place-index;
+  places : places_of l.done.items ≡ take l.place-index l.order;
+  standing : AreStanding g.N.Naming.day (the_day l.slots.context.now) (take l.place-index l.order) (stands l.slots);
 }

@@ -1,16 +1,12 @@
 use Rattle.std.proofs.Common.{◌≡◌, ℕ, true, nat_lt, List, [], ◌∷◌, sym, ◌∙◌}
 use Rattle.std.specs.List.{AllByRecursion, list_all}
-use Rattle.std.proofs.lemmas.Bool.{and_parts, ltb-true}
+use Rattle.std.proofs.lemmas.Bool.{and_parts}
 use Rattle.std.proofs.lemmas.List.Elements.{All-from_recursion}
 use Rattle.reg_account.specs.declared.rows.RetirementRow.{RetirementRow}
 use Rattle.reg_account.specs.Account.{AccountValue}
-use Rattle.reg_account.specs.Rows.{AreBelow, row_numbers}
 use Rattle.reg_rules.specs.Effect.{IsBehind}
+use Rattle.registry_tests.proofs.Behind.{below}
 use Rattle.registry_tests.proofs.rules.are_behind.Goals as goal
-
-below : (n : ℕ) (rows : List RetirementRow) → list_all (λ (row : RetirementRow). nat_lt row.number n) rows ≡ true → AreBelow n (row_numbers rows)
-below n [] e = tt
-below n (r ∷ rows) e = let both = and_parts (nat_lt r.number n) (list_all (λ (row : RetirementRow). nat_lt row.number n) rows) e in (ltb-true _ _ both.0, below n rows both.1)
 
 behind : (n : ℕ) (accounts : List AccountValue) → list_all (λ (v : AccountValue). list_all (λ (row : RetirementRow). nat_lt row.number n) v.rows) accounts ≡ true → AllByRecursion (IsBehind n) accounts
 behind n [] e = tt

@@ -1,7 +1,8 @@
 use Rattle.std.proofs.Common.{ap, sym, ◌∙◌, Some}
 use Rattle.std.specs.Option.{option_copied}
 use Rattle.reg_book.specs.Day.{day_of}
-use Rattle.reg_graph.proofs.Known.{touched_account, some_copied, opened}
+use Rattle.reg_schedules.proofs.Known.{touched_account}
+use Rattle.reg_graph.proofs.Opening.{some_copied, opened}
 use Rattle.reg_graph.proofs.context.Context.opening.Goals as goal
 
 pub unwrap-requires : goal.unwrap-requires

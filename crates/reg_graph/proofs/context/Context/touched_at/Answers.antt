@@ -1,6 +1,6 @@
 use Rattle.std.proofs.Common.{◌∙◌}
 use Rattle.reg_book.specs.Day.{day_of}
-use Rattle.reg_graph.proofs.Known.{footprint_is}
+use Rattle.reg_schedules.proofs.Known.{footprint_is}
 use Rattle.reg_graph.proofs.context.Context.touched_at.Goals as goal
 
 pub returns : goal.returns

@@ -4,10 +4,11 @@ use Rattle.std.specs.Option.{option_map}
 use Rattle.std.proofs.lemmas.List.{map-set, map-append, length-map}
 use Rattle.reg_book.specs.Day.{day_of}
 use Rattle.reg_graph.specs.declared.hand.Hand.TheVariants as hand
-use Rattle.reg_graph.specs.World.{ParcelValue, Carries, with_place, complete, after_delivery, delivered_by}
+use Rattle.reg_schedules.specs.Docks.{ParcelValue, complete}
+use Rattle.reg_schedules.specs.World.{Carries, with_place, after_delivery, delivered_by}
 use Rattle.reg_graph.specs.WorldParts.{parcels_of, task_of, hand_of, docks_of, world_of, first_head}
-use Rattle.reg_graph.proofs.WorldSums.{at_within, length-place}
-use Rattle.reg_graph.proofs.WorldCounts.{dock-of}
+use Rattle.reg_schedules.proofs.WorldSums.{at_within, length-place}
+use Rattle.reg_schedules.proofs.WorldCounts.{dock-of}
 use Rattle.reg_graph.proofs.PartFacts.{goes-to, still-none, place-twice, first-is}
 use Rattle.reg_graph.proofs.parts.Parts.deliver_held.Goals as goal
 
@@ -32,7 +33,8 @@ receive-requires-clause-room g c =
     let head : first_head plan (parcels_of c.args.parcels.items) ≡ Some c.in-Some.place = ap (λ ps. first_head plan (parcels_of ps)) (sym c.deref.ensures.value) ∙ sym c.in-Some.ensures in
     let size : length came.items ≡ vec_len came = search rules in
     let many : length (parcels_of came.items) ≡ length came.items = length-map came.items _ in
-    omega (arith, c.requires.room c.in-Some.place (parcels_of came.items) head (sym c.in-Some-take_dock.ensures.came), c.in-Some-take_dock.ensures.room, size, many)
+    let day = day_of c.args.context.now.book.now c.args.context.now.rules.now c.args.context.now.batch.now in
+    omega (arith, c.requires.room c.in-Some.place (parcels_of came.items) head (sym c.in-Some-take_dock.ensures.came), c.in-Some-take_dock.ensures.room day c.requires.rooms, size, many)
 
 pub put_dock-requires-clause-within : goal.put_dock-requires-clause-within
 put_dock-requires-clause-within g c =
@@ -89,3 +91,14 @@ returns-in-Err-clause-ok g c =
     ∙ ap (λ o. Ok (after_delivery k w (parcels_of rest) place (parcels_of came.items ++ one ∷ []) o)) open_yet
     ∙ ap (λ ds. Ok (record w { docks = ds; hands = slice_set w.hands k (Carries None (parcels_of rest)) })) docks
     ∙ ap (λ hs. Ok (record w { docks = docks_of c.put_dock.new.docks.items; hands = hs })) (sym (map-set hand_of p.hands.items k (hand.Carries None c.remove-parcel.new.self)))
+
+pub returns-in_default-take_dock-clause-rooms : goal.returns-in_default-take_dock-clause-rooms
+returns-in_default-take_dock-clause-rooms g c = c.take_dock.ensures.rooms (day_of c.args.context.now.book.now c.args.context.now.rules.now c.args.context.now.batch.now) c.requires.rooms
+
+pub returns-in-Ok-clause-rooms : goal.returns-in-Ok-clause-rooms
+returns-in-Ok-clause-rooms g c = c.take_dock.ensures.rooms (day_of c.args.context.now.book.now c.args.context.now.rules.now c.args.context.now.batch.now) c.requires.rooms
+
+pub returns-in-Err-clause-rooms : goal.returns-in-Err-clause-rooms
+returns-in-Err-clause-rooms g c =
+    let day = day_of c.args.context.now.book.now c.args.context.now.rules.now c.args.context.now.batch.now in
+    c.put_dock.ensures.rooms day (c.take_dock.ensures.rooms day c.requires.rooms) (c.in-Err.ensures.1 ∙ c.in-Some-take_dock.ensures.room day c.requires.rooms)

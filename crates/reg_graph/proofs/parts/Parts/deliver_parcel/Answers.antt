@@ -4,7 +4,7 @@ use Rattle.std.proofs.lemmas.List.{map-set}
 use Rattle.std.proofs.Math.Seq.{map-set_same}
 use Rattle.reg_book.specs.Day.{day_of}
 use Rattle.reg_graph.specs.declared.hand.Hand.TheVariants as hand
-use Rattle.reg_graph.specs.World.{Carries, delivered_by}
+use Rattle.reg_schedules.specs.World.{Carries, delivered_by}
 use Rattle.reg_graph.specs.WorldParts.{parcels_of, hand_of, world_of}
 use Rattle.reg_graph.proofs.PartFacts.{view-at, with-one, set-twice, set-back, deliver-anew, why-delivery, with-first}
 use Rattle.reg_graph.proofs.parts.Parts.deliver_parcel.Goals as goal
@@ -31,8 +31,8 @@ deliver_held-requires-clause-room g c =
     let held : slice_get w.hands k ≡ Some (Carries None qs) = was ∙ ap (λ h. Some (hand_of h)) (sym c.replace.ensures.value ∙ c.in-Carries.is ∙ ap (λ r. hand.Carries r c.in-Carries.parcels) c.in-None.is) in
     λ place came head there. with-first c.args.context.now.plan qs place _ head (λ one rest e first. c.requires.room one rest place came (held ∙ ap (λ ps. Some (Carries None ps)) e) first there)
 
-pub returns-in-None : goal.returns-in-None
-returns-in-None g c =
+pub returns-in-None-clause-answer : goal.returns-in-None-clause-answer
+returns-in-None-clause-answer g c =
     let p = c.args.self.now in
     let w = world_of p in
     let k = c.args.worker in
@@ -49,8 +49,8 @@ returns-in-None g c =
     (λ back. back ∙ ap (λ hs. record w { hands = slice_set hs k (Carries None qs) }) hands ∙ ap (λ hs. record w { hands = hs }) (set-twice w.hands k (hand_of c.replace.new.dest) (Carries None qs) ∙ set-back w.hands k (Carries None qs) held))
     (λ why e. one ∙ sym anew ∙ e)
 
-pub returns-in-Some : goal.returns-in-Some
-returns-in-Some g c =
+pub returns-in-Some-clause-answer : goal.returns-in-Some-clause-answer
+returns-in-Some-clause-answer g c =
     let p = c.args.self.now in
     let w = world_of p in
     let k = c.args.worker in
@@ -64,8 +64,8 @@ returns-in-Some g c =
       with-one w k _ (delivered_by day plan k w) (was ∙ ap (λ h. Some (hand_of h)) (sym c.replace.ensures.value ∙ is)),
     )
 
-pub returns-in-Holds : goal.returns-in-Holds
-returns-in-Holds g c =
+pub returns-in-Holds-clause-answer : goal.returns-in-Holds-clause-answer
+returns-in-Holds-clause-answer g c =
     let p = c.args.self.now in
     let w = world_of p in
     let k = c.args.worker in

@@ -1,12 +1,14 @@
-use Rattle.std.proofs.Common.{◌≡◌, ℕ, suc, ◌+◌, cond, eqb, List, [], ◌∷◌, length, map, sym, ap, ◌∙◌, arith, rules}
+use Rattle.std.proofs.Common.{◌≡◌, ℕ, suc, ◌+◌, cond, eqb, List, [], ◌∷◌, length, map, Some, None, vec_capacity, sym, ap, subst, ◌∙◌, arith, rules}
 use Rattle.std.specs.Prelude.{slice_set}
 use Rattle.std.proofs.lemmas.Bool.{eq-eqb, ne_eqb}
 use Rattle.std.proofs.lemmas.List.{map-set, map-append, length-map}
 use Rattle.reg_book.specs.Day.{day_of}
-use Rattle.reg_graph.specs.World.{TaskValue, complete, opened_at, dealt, before_some}
-use Rattle.reg_graph.specs.WorldParts.{task_of, lists_of}
+use Rattle.reg_schedules.specs.Docks.{TaskValue, complete}
+use Rattle.reg_schedules.specs.World.{opened_at, dealt, before_some}
+use Rattle.reg_graph.specs.WorldParts.{task_of, HaveRoom, lists_of}
 use Rattle.reg_graph.proofs.PartFacts.{view-at}
 use Rattle.reg_graph.proofs.Dealing.{deal-one}
+use Rattle.reg_graph.proofs.DockRoom.{room-more}
 use Rattle.reg_graph.proofs.parts.Parts.open_place.Goals as goal
 use Rattle.reg_graph.proofs.parts.Parts.open_place.Goals.{After-len}
 use Rattle.reg_graph.proofs.parts.Parts.open_place.Given.{Over}
@@ -39,3 +41,19 @@ returns-else-next-len-clause-lists g c = λ more.
     let next : c.args.worker + 1 ≡ suc c.args.worker = omega arith in
     let turn = ne_eqb (suc c.args.worker) (length (lists_of c.args.self.now.lists.items)) (λ e. c.if-next-len.false (omega (arith, e, c.len.ensures, size, length-map c.args.self.now.lists.items (λ tasks. map task_of tasks.items)))) in
     dealt-next g (goal.at.returns-else-next-len-clause-lists g c).After-len (c.args.worker + 1) more (next ∙ ap (λ b. cond b 0 (suc c.args.worker)) (sym turn))
+
+pub returns-then-next-len-clause-rooms : goal.returns-then-next-len-clause-rooms
+returns-then-next-len-clause-rooms g c =
+    let day = day_of c.args.context.now.book.now c.args.context.now.rules.now c.args.context.now.batch.now in
+    subst (HaveRoom day) (sym c.in_ok-push-in-Ok.ensures.items) (room-more day c.args.self.now.docks.items c.args.place None c.requires.next c.requires.rooms tt)
+
+pub returns-else-next-len-clause-rooms : goal.returns-else-next-len-clause-rooms
+returns-else-next-len-clause-rooms g c =
+    let day = day_of c.args.context.now.book.now c.args.context.now.rules.now c.args.context.now.batch.now in
+    subst (HaveRoom day) (sym c.in_ok-push-in-Ok.ensures.items) (room-more day c.args.self.now.docks.items c.args.place None c.requires.next c.requires.rooms tt)
+
+pub returns-in_ok-push-in-Err-clause-rooms : goal.returns-in_ok-push-in-Err-clause-rooms
+returns-in_ok-push-in-Err-clause-rooms g c =
+    let day = day_of c.args.context.now.book.now c.args.context.now.rules.now c.args.context.now.batch.now in
+    subst (HaveRoom day) (sym c.in_ok-push-in-Err.ensures.items)
+    (room-more day c.args.self.now.docks.items c.args.place (Some c.in-Err.came) c.requires.next c.requires.rooms (ap vec_capacity c.in-Err.ensures.back ∙ c.in_ok-came.ensures.room))

@@ -5,13 +5,13 @@ use Rattle.std.specs.VecDeque.{deque_len, deque_capacity}
 use Rattle.std.proofs.lemmas.List.{map-set, map-append, length-map}
 use Rattle.std.proofs.Math.Seq.{map-set_same}
 use Rattle.reg_graph.specs.declared.hand.Hand.TheVariants as hand
-use Rattle.reg_graph.specs.World.{Carries, pushed_by}
+use Rattle.reg_schedules.specs.World.{Carries, pushed_by}
 use Rattle.reg_graph.specs.WorldParts.{parcels_of, task_of, hand_of, world_of}
 use Rattle.reg_graph.proofs.PartFacts.{view-at, with-one, list-there}
 use Rattle.reg_graph.proofs.parts.Parts.push_task.Goals as goal
 
-pub returns-in_default : goal.returns-in_default
-returns-in_default g c =
+pub returns-in_default-clause-answer : goal.returns-in_default-clause-answer
+returns-in_default-clause-answer g c =
     let p = c.args.self.now in
     let here : c.args.worker < length p.hands.items = search rules in
     let held = view-at hand_of p.hands.items c.args.worker c.index_mut.result.now here c.index_mut.ensures.value in (
@@ -19,8 +19,8 @@ returns-in_default g c =
       with-one (world_of p) c.args.worker _ (pushed_by c.args.worker (world_of p)) (held ∙ ap (λ h. Some (hand_of h)) c.in_default.is),
     )
 
-pub returns-in_default-take : goal.returns-in_default-take
-returns-in_default-take g c =
+pub returns-in_default-take-clause-answer : goal.returns-in_default-take-clause-answer
+returns-in_default-take-clause-answer g c =
     let p = c.args.self.now in
     let here : c.args.worker < length p.hands.items = search rules in
     let none = sym c.in_default-take.ensures.value in
@@ -44,8 +44,8 @@ push_back_reserved-requires g c =
     let room : length p.rows.items ≤ deque_capacity list = subst (λ l. length p.rows.items ≤ deque_capacity l) (sym c.index_mut-2.ensures.value) (p.list_room c.args.worker list many) in
     omega (arith, c.requires.room _ _ _ held listed, length-map list.items task_of, size, room)
 
-pub returns : goal.returns
-returns g c =
+pub returns-clause-answer : goal.returns-clause-answer
+returns-clause-answer g c =
     let p = c.args.self.now in
     let list = c.index_mut-2.result.now in
     let here : c.args.worker < length p.hands.items = search rules in

@@ -1,16 +1,17 @@
-use Rattle.std.proofs.Common.{◌≡◌, ◌-◌, ◌++◌, not, map, Some, None, Ok, Err, sym, ap, ◌∙◌}
+use Rattle.std.proofs.Common.{◌≡◌, ◌+◌, ◌-◌, ◌≤◌, ◌++◌, not, length, map, Some, None, Ok, Err, vec_len, vec_capacity, sym, ap, ◌∙◌, rules, arith}
 use Rattle.std.specs.Prelude.{slice_set, filter}
 use Rattle.std.specs.Option.{option_map_or}
 use Rattle.std.proofs.lemmas.List.{map-set}
 use Rattle.reg_book.specs.Day.{day_of}
 use Rattle.reg_rules.specs.State.{State}
-use Rattle.reg_graph.specs.Pool.{leads_on, run_at}
+use Rattle.reg_schedules.specs.Pool.{leads_on, run_at}
 use Rattle.reg_graph.specs.declared.hand.Hand.TheVariants as hand
-use Rattle.reg_graph.specs.World.{Holds, Carries, with_place, left_by, goes_on, after_run}
-use Rattle.reg_graph.specs.declared.event.EventFault.TheVariants.{NothingToRun}
+use Rattle.reg_schedules.specs.World.{Holds, Carries, with_place, left_by, goes_on, after_run}
+use Rattle.reg_schedules.specs.declared.event.EventFault.TheVariants.{NothingToRun}
 use Rattle.reg_graph.specs.Parcels.{values_of}
 use Rattle.reg_graph.specs.WorldParts.{parcels_of, task_of, hand_of, world_of}
 use Rattle.reg_graph.proofs.PartFacts.{values-are, same-parcels, those-on, those-closing, placed}
+use Rattle.reg_graph.proofs.DockRoom.{as-many}
 use Rattle.reg_graph.proofs.parts.Parts.run_held.Goals as goal
 
 pub returns-in_default-clause-back : goal.returns-in_default-clause-back
@@ -59,3 +60,16 @@ returns-in-Ok-run-clause-ok g c =
     ∙ ap (λ hs. Ok (record w { hands = hs; rows = with_place w.rows t (Some c.in-Ok-run.outcome.row); closing = w.closing ++ map (λ p. p.value) (filter (λ p. not (goes_on plan p)) (left_by t vs)) })) hands
     ∙ ap (λ rs. Ok (record w { hands = map hand_of (slice_set p.hands.items k (hand.Carries None c.close-kept.result)); rows = rs; closing = w.closing ++ map (λ p. p.value) (filter (λ p. not (goes_on plan p)) (left_by t vs)) })) rows
     ∙ ap (λ cs. Ok (record w { hands = map hand_of (slice_set p.hands.items k (hand.Carries None c.close-kept.result)); rows = slice_set p.rows.items (place - 1) (Some row); closing = cs })) closing
+
+pub close-kept-requires-clause-fits : goal.close-kept-requires-clause-fits
+close-kept-requires-clause-fits g c =
+    let day = day_of c.args.context.now.book.now c.args.context.now.rules.now c.args.context.now.batch.now in
+    let many = as-many day c.args.task.place c.args.task.parcels.items c.in-Ok-run.outcome.parcels.items c.in-Ok-run.outcome.row c.in-Ok-run.ensures.made in
+    omega (arith, many, ap length c.into_parts-row.ensures.parcels.0, c.parcel_count-count.ensures, c.in-Ok.ensures.exact)
+
+pub close-kept-requires-clause-room : goal.close-kept-requires-clause-room
+close-kept-requires-clause-room g c =
+    let day = day_of c.args.context.now.book.now c.args.context.now.rules.now c.args.context.now.batch.now in
+    let many = as-many day c.args.task.place c.args.task.parcels.items c.in-Ok-run.outcome.parcels.items c.in-Ok-run.outcome.row c.in-Ok-run.ensures.made in
+    let room : vec_len c.reserve.new.self + c.parcel_count-count.result ≤ vec_capacity c.reserve.new.self = search rules in
+    omega (arith, many, ap length c.into_parts-row.ensures.parcels.0, c.parcel_count-count.ensures, room)

@@ -4,7 +4,7 @@ use Rattle.std.proofs.lemmas.List.{map-set}
 use Rattle.std.proofs.Math.Seq.{map-set_same}
 use Rattle.reg_book.specs.Day.{day_of}
 use Rattle.reg_graph.specs.declared.hand.Hand.TheVariants as hand
-use Rattle.reg_graph.specs.World.{Holds, run_by}
+use Rattle.reg_schedules.specs.World.{Holds, run_by}
 use Rattle.reg_graph.specs.WorldParts.{task_of, hand_of, world_of}
 use Rattle.reg_graph.proofs.PartFacts.{view-at, with-one, set-twice, set-back, run-anew, can-run, why-run}
 use Rattle.reg_graph.proofs.parts.Parts.run_task.Goals as goal
@@ -21,8 +21,8 @@ run_held-requires-clause-within g c =
     (c.requires.within (task_of c.in-Holds.task)
     (view-at hand_of c.args.self.now.hands.items c.args.worker c.index_mut.result.now here c.index_mut.ensures.value ∙ ap (λ h. Some (hand_of h)) (sym c.replace.ensures.value ∙ c.in-Holds.is))).1
 
-pub returns-in-Holds : goal.returns-in-Holds
-returns-in-Holds g c =
+pub returns-in-Holds-clause-answer : goal.returns-in-Holds-clause-answer
+returns-in-Holds-clause-answer g c =
     let p = c.args.self.now in
     let w = world_of p in
     let k = c.args.worker in
@@ -39,8 +39,8 @@ returns-in-Holds g c =
     (λ back. back ∙ ap (λ hs. record w { hands = slice_set hs k (Holds task) }) hands ∙ ap (λ hs. record w { hands = hs }) (set-twice w.hands k (hand_of c.replace.new.dest) (Holds task) ∙ set-back w.hands k (Holds task) held))
     (subst IsOk (sym one) (can-run day plan k w task bounds.0 bounds.1))
 
-pub returns-in-Carries : goal.returns-in-Carries
-returns-in-Carries g c =
+pub returns-in-Carries-clause-answer : goal.returns-in-Carries-clause-answer
+returns-in-Carries-clause-answer g c =
     let p = c.args.self.now in
     let w = world_of p in
     let k = c.args.worker in

@@ -3,13 +3,13 @@ use Rattle.std.specs.Prelude.{slice_set}
 use Rattle.std.specs.VecDeque.{deque_len}
 use Rattle.std.proofs.lemmas.List.{map-set}
 use Rattle.std.proofs.Math.Seq.{map-set_same}
-use Rattle.reg_graph.specs.World.{Holds, moved}
+use Rattle.reg_schedules.specs.World.{Holds, moved}
 use Rattle.reg_graph.specs.WorldParts.{task_of, hand_of, world_of}
 use Rattle.reg_graph.proofs.PartFacts.{view-at, none-left, with-both}
 use Rattle.reg_graph.proofs.parts.Parts.take_task.Goals as goal
 
-pub returns-in-Some : goal.returns-in-Some
-returns-in-Some g c =
+pub returns-in-Some-clause-answer : goal.returns-in-Some-clause-answer
+returns-in-Some-clause-answer g c =
     let p = c.args.self.now in
     let here : c.args.worker < length p.hands.items = search rules in
     let many : c.args.from < length p.lists.items = search rules in
@@ -19,8 +19,8 @@ returns-in-Some g c =
     ∙ ap (λ ls. Ok (record (world_of p) { lists = ls; hands = slice_set (world_of p).hands c.args.worker (Holds (task_of c.in-Some.task)) })) (sym (map-set (λ tasks. map task_of tasks.items) p.lists.items c.args.from c.pop_front.new.self))
     ∙ ap (λ hs. Ok (record (world_of p) { lists = map (λ tasks. map task_of tasks.items) (slice_set p.lists.items c.args.from c.pop_front.new.self); hands = hs })) (sym (map-set hand_of p.hands.items c.args.worker _))
 
-pub returns-in-None : goal.returns-in-None
-returns-in-None g c =
+pub returns-in-None-clause-answer : goal.returns-in-None-clause-answer
+returns-in-None-clause-answer g c =
     let p = c.args.self.now in
     let here : c.args.worker < length p.hands.items = search rules in
     let many : c.args.from < length p.lists.items = search rules in

@@ -4,14 +4,15 @@ use Rattle.std.specs.List.{IsDistinct}
 use Rattle.std.proofs.lemmas.List.Sorted.{length_permutation, IsPermutation-map}
 use Rattle.reg_plan.specs.Plans.{inward}
 use Rattle.reg_book.specs.Day.{day_of}
-use Rattle.reg_graph.specs.Pool.{footprint_at}
-use Rattle.reg_graph.specs.Names.{names_needed, has_names}
+use Rattle.reg_schedules.specs.Pool.{footprint_at}
+use Rattle.reg_schedules.specs.Docks.{names_needed}
+use Rattle.reg_graph.specs.Names.{has_names}
 use Rattle.reg_graph.specs.Parcels.{names_of}
 use Rattle.reg_graph.specs.WorldParts.{parcels_of}
 use Rattle.reg_graph.proofs.Names.{written_whole}
-use Rattle.reg_graph.proofs.Known.{footprint_distinct}
+use Rattle.reg_schedules.proofs.Known.{footprint_distinct}
 use Rattle.reg_graph.proofs.Complete.{complete_from}
-use Rattle.reg_graph.proofs.WorldFits.{names_are}
+use Rattle.reg_schedules.proofs.WorldFits.{names_are}
 use Rattle.reg_graph.proofs.Assembled.{names-are, complete-of, incomplete}
 use Rattle.reg_graph.proofs.task.Task.assemble.Goals as goal
 

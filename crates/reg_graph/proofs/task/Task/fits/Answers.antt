@@ -7,7 +7,7 @@ use Rattle.reg_rules.specs.State.{numbers}
 use Rattle.reg_rules.specs.Effect.{IsBehind}
 use Rattle.reg_book.specs.Book.{has_row_ahead}
 use Rattle.reg_book.specs.Day.{Day, IsDay, day_of}
-use Rattle.reg_graph.specs.Pool.{footprint_at}
+use Rattle.reg_schedules.specs.Pool.{footprint_at}
 use Rattle.reg_graph.specs.Parcels.{values_of}
 use Rattle.reg_graph.proofs.Running.{all_behind}
 use Rattle.reg_graph.proofs.Fitting.{numbers_fit, rows_fit, few_values}

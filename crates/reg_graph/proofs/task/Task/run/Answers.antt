@@ -2,14 +2,15 @@ use Rattle.std.proofs.Common.{◌≡◌, ap, sym, subst, ◌∙◌, length, take
 use Rattle.std.specs.List.{AllByRecursion}
 use Rattle.reg_book.specs.Day.{Day, day_of}
 use Rattle.reg_rules.specs.State.{State, numbers}
-use Rattle.reg_graph.specs.Pool.{footprint_at, run_at}
+use Rattle.reg_schedules.specs.Pool.{footprint_at, run_at}
 use Rattle.reg_graph.specs.Names.{AreValues, AreNeeded, IsValue}
 use Rattle.reg_graph.specs.Parcels.{values_of, names_of}
-use Rattle.reg_graph.specs.World.{left_by}
+use Rattle.reg_schedules.specs.World.{left_by}
 use Rattle.reg_graph.specs.WorldParts.{parcels_of}
 use Rattle.reg_graph.proofs.PartFacts.{left-of}
 use Rattle.reg_graph.proofs.Names.{written_whole}
-use Rattle.reg_graph.proofs.Running.{parcels_right, same_names, names_after, ran_named, each_right, IsRight}
+use Rattle.reg_graph.proofs.Running.{parcels_right, same_names, names_after, ran_named, each_right}
+use Rattle.reg_schedules.proofs.Ran.{IsRight}
 use Rattle.reg_graph.proofs.task.Task.run.Goals as goal
 
 pub pack-parcels-requires-clause-right : goal.pack-parcels-requires-clause-right

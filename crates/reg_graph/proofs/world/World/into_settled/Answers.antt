@@ -1,6 +1,6 @@
 use Rattle.std.proofs.Common.{ap, ◌∙◌}
 use Rattle.reg_book.specs.Day.{day_of, log_of}
-use Rattle.reg_graph.specs.World.{known_of}
+use Rattle.reg_schedules.specs.World.{known_of}
 use Rattle.reg_graph.proofs.PartFacts.{known-all}
 use Rattle.reg_graph.proofs.world.World.into_settled.Goals as goal
 

@@ -2,7 +2,6 @@ use Rattle.std.proofs.Props.{props}
 use mathlib.Core.Logic.{∥∥₁_elim}
 use Rattle.reg_book.specs.Day.{day_of}
 use Rattle.reg_graph.specs.WorldParts.{world_of}
-use Rattle.reg_graph.proofs.WorldClosing.{schedule-decides}
 use Rattle.reg_graph.proofs.world.World.is_settled.Goals as goal
 
 pub returns : goal.returns
@@ -11,5 +10,4 @@ returns g c =
     let plan = c.args.self.now.context.now.plan in
     let w = world_of c.args.self.now.parts in
     ∥∥₁_elim c.args.self.now.context.now.planned (Prim.hlevel props) (λ made. ∥∥₁_elim c.args.self.now.reached (Prim.hlevel props) (λ r.
-    (schedule-decides c.step_laws.ensures c.each_is_a_step.ensures c.value_is_last_touchers.ensures c.each_footprint_is_sound.ensures c.tails_are_last_touchers.ensures c.last_toucher_is_last.ensures
-    day plan made r.workers r.some r.events w r.after).settled c.requires.over))
+    (c.every_schedule.ensures day plan r.workers r.events w made r.some r.after).settled c.requires.over))

@@ -3,11 +3,11 @@ use Rattle.std.proofs.lemmas.List.{length-map}
 use Rattle.std.proofs.Props.{props}
 use mathlib.Core.Logic.{∥∥₁_elim}
 use Rattle.reg_book.specs.Day.{day_of}
-use Rattle.reg_graph.specs.World.{Holds, Carries}
+use Rattle.reg_schedules.specs.World.{Holds, Carries}
 use Rattle.reg_graph.specs.WorldParts.{world_of}
-use Rattle.reg_graph.proofs.WorldFits.{IsHand, all-get}
-use Rattle.reg_graph.proofs.WorldEnds.{whole-after}
-use Rattle.reg_graph.proofs.WorldRoom.{list-room, dock-room, sent-after, awaited-few}
+use Rattle.reg_schedules.proofs.WorldFits.{IsHand, all-get}
+use Rattle.reg_schedules.proofs.WorldEnds.{whole-after}
+use Rattle.reg_schedules.proofs.WorldRoom.{list-room, dock-room, sent-after}
 use Rattle.reg_graph.proofs.world.World.knows.Goals as goal
 
 pub returns-clause-rows : goal.returns-clause-rows
@@ -89,4 +89,4 @@ returns-clause-dock_room g c =
     λ worker p ps place came h first there.
     ∥∥₁_elim c.args.self.now.context.now.planned (Prim.hlevel props) (λ made. ∥∥₁_elim c.args.self.now.reached (Prim.hlevel props) (λ r.
     let whole = whole-after c.step_laws.ensures c.each_footprint_is_sound.ensures c.tails_are_last_touchers.ensures c.last_toucher_is_last.ensures day plan made r.workers r.some r.events w r.after in
-    omega (arith, dock-room c.step_laws.ensures c.each_footprint_is_sound.ensures c.tails_are_last_touchers.ensures c.last_toucher_is_last.ensures day plan made r.workers w whole worker p ps place came h first there, awaited-few c.step_laws.ensures c.each_footprint_is_sound.ensures c.tails_are_last_touchers.ensures c.last_toucher_is_last.ensures day plan made place)))
+    dock-room c.step_laws.ensures c.each_footprint_is_sound.ensures c.tails_are_last_touchers.ensures c.last_toucher_is_last.ensures day plan made r.workers w whole worker p ps place came h first there))

@@ -1,10 +1,10 @@
 use Rattle.std.proofs.Common.{◌≡◌, suc, ◌+◌, ◌-◌, ◌<◌, ◌≤◌, length, map, take, sym, subst, ◌∙◌, arith, rules}
 use Rattle.std.specs.Option.{option_map}
 use Rattle.std.proofs.lemmas.List.{length-map}
-use Rattle.reg_graph.specs.World.{is_in_dock}
-use Rattle.reg_graph.specs.Schedules.{total}
+use Rattle.reg_schedules.specs.World.{is_in_dock}
+use Rattle.reg_counting.specs.Counting.{total}
 use Rattle.reg_graph.specs.WorldParts.{parcels_of, task_of, hand_of, lists_of, world_of}
-use Rattle.reg_graph.proofs.WorldCounts.{in_list, in_hand_once}
+use Rattle.reg_schedules.proofs.WorldCounts.{in_list, in_hand_once}
 use Rattle.reg_graph.proofs.PartFacts.{view-at}
 use Rattle.reg_graph.proofs.WorldPlaces.{none-yet, none-at-all, dock-there, not-listed, is-listed, not-held, done-then, in-list-there, in-hand-there}
 use Rattle.reg_graph.proofs.world.World.whereabouts.Goals as goal
