@@ -1,7 +1,7 @@
 //! Runs a day's instructions by a schedule of workers that a number chooses.
 
 ghost use Rattle.std.specs.Prelude.{◌≤◌};
-ghost use Rattle.reg_graph.specs.declared.event.TheConstants.{MOST_WORKERS};
+ghost use Rattle.reg_schedules.specs.declared.event.TheConstants.{MOST_WORKERS};
 
 use reg_book::Settled;
 use reg_graph::{Context, Event, Unnamed, World};
