@@ -16,6 +16,7 @@ use Rattle.reg_claim.proofs.Keeps.{Holds, total-at, one-of, flag-once, done-most
 -- what the last seat's view says of the count found at the end
 pub record Tallied (n found : ℕ) (v : View) : Type 0 where
   pub done : found / 2 ≡ length v.finished
+  pub most : found / 2 ≤ n
   pub small : found / 2 < 4294967296
   pub seen : v.seen ≤ found
   pub stopped : is_odd v.seen ≡ true → is_odd found ≡ true
@@ -60,6 +61,7 @@ tally n id words views v last k at =
     let c = k.claims p in
     let d = flag-once words n p k.wide in omega arith) in record {
       done = omega arith;
+      most = half;
       small = omega arith;
       seen = mine.seen;
       stopped = λ o. is-odd (get_or words 0 0) (mine.stopped (odd-is v.seen o));

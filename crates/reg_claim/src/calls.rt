@@ -137,6 +137,7 @@ impl ClaimTable {
         requires own { IsSeatOf self seat }
         requires last { (known seat).share ≡ 16 }
         ensures done { result.done ≡ length (known seat).finished }
+        ensures most { result.done ≤ places self }
         ensures seen { (known seat).seen / 2 ≤ result.done }
         ensures stopped { is_odd (known seat).seen ≡ true → result.stopped ≡ true }
         ensures no_repeat { HasNoRepeat (known seat).finished }

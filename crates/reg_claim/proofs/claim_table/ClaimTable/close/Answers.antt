@@ -16,6 +16,9 @@ overflow_cast-result c = let h = (told (goal.at.overflow_cast-result c).After-wo
 pub returns-clause-done : goal.returns-clause-done
 returns-clause-done c = (told (goal.at.returns-clause-done c).After-word-found).done
 
+pub returns-clause-most : goal.returns-clause-most
+returns-clause-most c = (let h = (told (goal.at.returns-clause-most c).After-word-found).most in omega arith)
+
 pub returns-clause-seen : goal.returns-clause-seen
 returns-clause-seen c = (let h = (told (goal.at.returns-clause-seen c).After-word-found).seen in omega arith)
 
