@@ -2,7 +2,7 @@
 //! Each thread tries every place, so that most claims meet those of other threads. `bench/claims.py` measures it.
 #![tactic(auto)]
 
-ghost use Rattle.std.specs.Prelude.{◌≡◌, ◌<◌, ◌≤◌, ◌*◌, ◌^◌, length};
+ghost use Rattle.std.specs.Prelude.{◌≡◌, ◌<◌, ◌≤◌, ◌-◌, ◌*◌, ◌^◌, length, vec_len, IfOk};
 ghost use Rattle.reg_claim.specs.Seats.{known, seat_table, places, IsSeatOf};
 ghost use Rattle.std.specs.Thread.{IsSync};
 
@@ -68,19 +68,31 @@ fn in_threads<R: Threads + Sync>(
     let (pair, rest) = thread::join(
         rt,
         move || claim_all(table, pair, marks),
-        move || in_threads(rt, table, rest, marks, threads - 1),
+        move || -> Seat
+            requires seat { IsSync R.row × IsSeatOf table.now rest × ((known rest).share ≡ 2 * (threads - 1)) × (2 ≤ threads) }
+            requires marks { (length marks.now ≡ places table.now) × (places table.now < 2 ^ 32) }
+            ensures { (seat_table result ≡ seat_table rest) × ((known result).share ≡ 2 * (threads - 1)) }
+        { in_threads(rt, table, rest, marks, threads - 1) },
     );
     table.join(pair, rest)
 }
 
-// How many marks there are for places that were claimed once, and what the table counted.
-fn claimed_once<R: Threads + Sync>(rt: &R, alloc: Global) -> Result<(usize, Tally), NoMemory> {
+// A mark for each place, that of no claim yet.
+fn no_marks(alloc: Global) -> Result<Vec<AtomicU32>, NoMemory>
+    ensures { IfOk result (λ marks. vec_len marks ≡ 16384) }
+{
     let mut marks = Vec::with_capacity(alloc, PLACES as usize)?;
     for _ in 0..PLACES {
-        let Ok(()) = marks.push(AtomicU32::new(0)) else {
+        if marks.push(AtomicU32::new(0)).is_err() {
             return Err(NoMemory);
-        };
+        }
     }
+    Ok(marks)
+}
+
+// How many places were claimed once, and what the table counted.
+fn claimed_once<R: Threads + Sync>(rt: &R, alloc: Global) -> Result<(usize, Tally), NoMemory> {
+    let marks = no_marks(alloc)?;
     let (table, seat) = ClaimTable::new(alloc, PLACES)?;
     let seat = in_threads(rt, &table, seat, marks.as_slice(), THREADS);
     let once = marks
