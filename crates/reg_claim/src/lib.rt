@@ -20,6 +20,3 @@ pub use claim_table::{ClaimTable, Look, Tally};
 pub use fault::NoMemory;
 pub use seats::Seat;
 pub use views::View;
-
-#[cfg(test)]
-mod tests;

@@ -12,6 +12,9 @@ use std::sync::atomic::{AtomicU32, Ordering};
 use std::thread::Threads;
 use std::{io, thread};
 
+#[cfg(test)]
+mod tests;
+
 const PLACES: u32 = 16_384;
 
 const THREADS: u32 = 8;

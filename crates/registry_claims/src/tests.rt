@@ -3,7 +3,8 @@
 ghost use Rattle.std.specs.Prelude.{◌≡◌, true, Contains};
 ghost use Rattle.reg_claim.specs.Seats.{known, seat_table, places, IsSeatOf};
 
-use crate::{ClaimTable, Look, Seat, Tally};
+use crate::{PLACES, claimed_once};
+use reg_claim::{ClaimTable, Look, Seat, Tally};
 use std::alloc::Global;
 use std::process::Abort;
 use std::thread;
@@ -132,4 +133,16 @@ fn a_table_of_no_places(rt: HostRuntime) {
         },
     );
     assert_eq!(rt; without_places(&rt, rt.alloc()), wanted);
+}
+
+#[test]
+fn each_place_is_claimed_once_by_sixteen_seats(rt: HostRuntime) {
+    let wanted = (
+        PLACES as usize,
+        Tally {
+            done: PLACES,
+            stopped: false,
+        },
+    );
+    assert_eq!(rt; claimed_once(&rt, rt.alloc()).expect(&rt, "a table"), wanted);
 }
