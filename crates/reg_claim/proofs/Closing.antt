@@ -11,7 +11,7 @@ use Rattle.reg_claim.specs.Views.{spent, is_odd}
 use Rattle.reg_claim.specs.Claims.{HasNoRepeat}
 use Rattle.reg_claim.proofs.Numbers.{contains-times, times-distinct, once-most, once-only, length-full}
 use Rattle.reg_claim.proofs.Counts.{Knows, Rests, Counted, counted, odd-is, is-odd}
-use Rattle.reg_claim.proofs.Keeps.{Holds, total-at, one-of, flag-once, done-most}
+use Rattle.reg_claim.proofs.Keeps.{Holds, total-at, alone, one-of, flag-once, done-most}
 
 -- what the last seat's view says of the count found at the end
 pub record Tallied (n found : ℕ) (v : View) : Type 0 where
@@ -23,25 +23,6 @@ pub record Tallied (n found : ℕ) (v : View) : Type 0 where
   pub no_repeat : HasNoRepeat v.finished
   pub within : All (λ p. (1 ≤ p) × (p ≤ n)) v.finished
   pub all : found / 2 ≡ n → (p : ℕ) → times p v.finished ≡ once n p
-
-none-left : (f : View → ℕ) → f spent ≡ 0 → (views : List View) → AllByRecursion Rests views → total (λ u. u.share) views ≡ 0 → total f views ≡ 0
-none-left f bare [] rest h = refl
-none-left f bare (x ∷ xs) rest h =
-    let here : f x ≡ f spent = ap f (rest.0 (omega arith)) in
-    let tail = none-left f bare xs rest.1 (omega arith) in omega arith
-
--- where one seat has the whole share, all other views are spent
-alone : (f : View → ℕ) → f spent ≡ 0 → (views : List View) (id : ℕ) (v : View) → get_elem? views id ≡ some v → AllByRecursion Rests views → total (λ u. u.share) views ≤ v.share → total f views ≡ f v
-alone f bare [] id v at rest h = absurd (some-ne-none v (sym at))
-alone f bare (x ∷ xs) zero v at rest h =
-    let same : x ≡ v = some-injective x v at in
-    let s = ap (λ (u : View). u.share) same in
-    let tail = none-left f bare xs rest.1 (omega arith) in
-    let g = ap f same in omega arith
-alone f bare (x ∷ xs) (suc id) v at rest h =
-    let big = total-at (λ u. u.share) xs id v at in
-    let here : f x ≡ f spent = ap f (rest.0 (omega arith)) in
-    let tail = alone f bare xs id v at rest.1 (omega arith) in omega arith
 
 first-word : (ws : List ℕ) (found : ℕ) → get_elem? ws 0 ≡ some found → get_or ws 0 0 ≡ found
 first-word [] found e = absurd (some-ne-none found (sym e))

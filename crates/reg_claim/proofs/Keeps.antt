@@ -217,6 +217,35 @@ fresh-claim n words views id v k at j free =
       (λ h. let some_of = contains-times v.finished (suc j) h in absurd (omega arith)),
     )
 
+none-left : (f : View → ℕ) → f spent ≡ 0 → (views : List View) → AllByRecursion Rests views → total (λ u. u.share) views ≡ 0 → total f views ≡ 0
+none-left f bare [] rest h = refl
+none-left f bare (x ∷ xs) rest h =
+    let here : f x ≡ f spent = ap f (rest.0 (omega arith)) in
+    let tail = none-left f bare xs rest.1 (omega arith) in omega arith
+
+-- where one seat has the whole share, all other views are spent
+pub alone : (f : View → ℕ) → f spent ≡ 0 → (views : List View) (id : ℕ) (v : View) → get_elem? views id ≡ some v → AllByRecursion Rests views → total (λ u. u.share) views ≤ v.share → total f views ≡ f v
+alone f bare [] id v at rest h = absurd (some-ne-none v (sym at))
+alone f bare (x ∷ xs) zero v at rest h =
+    let same : x ≡ v = some-injective x v at in
+    let s = ap (λ (u : View). u.share) same in
+    let tail = none-left f bare xs rest.1 (omega arith) in
+    let g = ap f same in omega arith
+alone f bare (x ∷ xs) (suc id) v at rest h =
+    let big = total-at (λ u. u.share) xs id v at in
+    let here : f x ≡ f spent = ap f (rest.0 (omega arith)) in
+    let tail = alone f bare xs id v at rest.1 (omega arith) in omega arith
+
+-- a place whose word is set was claimed by the seat, if that has the whole share
+own-claim : (n : ℕ) (words : List ℕ) (views : List View) (id : ℕ) (v : View) → Counted n words views → get_elem? views id ≡ some v → (j : ℕ) → get_or words (suc j) 0 ≢ 0
+    → v.share ≡ 16 → Contains v.claimed (suc j)
+own-claim n words views id v k at j full last =
+    let shares = k.shares in
+    let set_one : flag words (suc j) ≡ 1 = set_of-some (get_or words (suc j) 0) full in
+    let all = k.claims (suc j) in
+    let own = alone (λ u. times (suc j) u.claimed) refl views id v at (recursion_from_All Rests views k.rest) (omega arith) in
+    times-contains v.claimed (suc j) (omega arith)
+
 -- the four steps that find a number in a word
 claim-next : (n slots id : ℕ) (me : Known) (j : ℕ) → 0 < me.0.share → suc j ≤ n → Allows (Holds n) slots id me (suc j) (λ _. 1) (ClaimStep (step slots (suc j) 1 0 none) me)
 claim-next n slots id me j lives within s t homes at small =
@@ -234,7 +263,7 @@ claim-next n slots id me j lives within s t homes at small =
       keeps,
       tt,
       ruled n (set s.words (suc j) 1) (set s.views id me.0) (missed n s.words s.views id me.0 k at lives j within full),
-      (refl, (λ free. absurd (full free)), λ _. refl),
+      (refl, (λ free. absurd (full free)), λ _. (refl, own-claim n s.words s.views id me.0 k at j full)),
     ))
 
 pub claim-allowed : (n slots id : ℕ) (me : Known) (place : ℕ) → 0 < me.0.share → 1 ≤ place → place ≤ n → Allows (Holds n) slots id me place (λ _. 1) (ClaimStep (step slots place 1 0 none) me)

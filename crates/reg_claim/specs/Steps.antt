@@ -23,12 +23,13 @@ pub record SeesLater (v w : View) : Type 0 where
 abbrev pub Known : Type 0
 Known = Me (Unit {0}) View
 
--- claim: a swap of a place's word. If it found 0, the place is the seat's now, and it was not before; else it tells nothing
+-- claim: a swap of a place's word. If it found 0, the place is the seat's now, and it was not before. Else the seat knows no more; and if
+-- it has the whole share, it claimed the place itself
 abbrev pub ClaimStep : Step (Unit {0}) → Known → ℕ → Known → Type 0
 ClaimStep step m found m' =
     (m'.1 ≡ m.1)
     × (found ≡ 0 → (m'.0 ≡ with_claimed step.word m.0) × ¬ Contains m.0.claimed step.word × ¬ Contains m.0.finished step.word)
-    × (found ≢ 0 → m'.0 ≡ m.0)
+    × (found ≢ 0 → (m'.0 ≡ m.0) × (m.0.share ≡ 16 → Contains m.0.claimed step.word))
 
 -- finish: an addition of 2 to the count
 abbrev pub FinishStep : ℕ → Known → ℕ → Known → Type 0

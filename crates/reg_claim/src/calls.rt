@@ -60,19 +60,22 @@ impl ClaimTable {
 
     /// Claims a place, 1 to the number of places, by one swap. True for the first claim of the place: then it is this
     /// seat's to finish. Else the seat knows no more than before. The seat must be of this table.
+    ///
+    /// A seat with the whole share knows the answer: true if it has not claimed the place before.
     pub fn claim(&self, seat: &mut Seat, place: u32) -> bool
         requires own { IsSeatOf self.now seat.old }
         requires place { 1 ≤ place }
         requires within { place ≤ places self.now }
         ensures same { seat_table seat.new ≡ seat_table seat.old }
         ensures view { MatchBool result (known seat.new ≡ with_claimed place (known seat.old)) (known seat.new ≡ known seat.old) }
+        ensures first { result ≡ true → ¬ Contains (known seat.old).claimed place }
+        ensures alone { (known seat.old).share ≡ 16 → ¬ Contains (known seat.old).claimed place → result ≡ true }
         ensures claimed { result ≡ true → Contains (known seat.new).claimed place }
         ensures unfinished { result ≡ true → ¬ Contains (known seat.new).finished place }
     {
-        self.table
-            .shared
-            .swap::<Claiming>(&mut seat.seat, place as usize, 1)
-            == 0
+        let shared = &self.table.shared;
+        let found = shared.swap::<Claiming>(&mut seat.seat, place as usize, 1);
+        found == 0
     }
 
     /// Counts a place as finished. The seat must be of this table, have claimed the place, and not have finished it.
@@ -98,9 +101,8 @@ impl ClaimTable {
         ensures later { SeesLater (known seat.old) (known seat.new) }
         ensures counted { (known seat.old).seen + 2 ≤ (known seat.new).seen }
     {
-        self.table
-            .shared
-            .fetch_add::<Finishing<P>>(&mut seat.seat, 0, 2);
+        let shared = &self.table.shared;
+        shared.fetch_add::<Finishing<P>>(&mut seat.seat, 0, 2);
     }
 
     /// How many places are finished, at least those that this seat finished, and whether the workers are to leave. No
