@@ -151,9 +151,8 @@ impl ClaimTable {
         let closed = table.close_with(seat);
         let found = closed.word(0);
         closed.free();
-        Tally {
-            done: (found / 2) as u32,
-            stopped: found % 2 == 1,
-        }
+        let done = (found / 2) as u32;
+        let stopped = found % 2 == 1;
+        Tally { done, stopped }
     }
 }

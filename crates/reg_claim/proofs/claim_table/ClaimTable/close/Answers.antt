@@ -10,8 +10,8 @@ told c = tallied _ c.args.seat.seat.id _ _ _ _ c.requires.last c.close_with-clos
 pub free-requires : goal.free-requires
 free-requires c k h = absurd (omega (arith, c.close_with-closed.ensures.counts.1, c.args.self.no_slots))
 
-pub overflow_cast-result : goal.overflow_cast-result
-overflow_cast-result c = let h = (told (goal.at.overflow_cast-result c).After-word-found).small in search rules
+pub overflow_cast-done : goal.overflow_cast-done
+overflow_cast-done c = let h = (told (goal.at.overflow_cast-done c).After-word-found).small in search rules
 
 pub returns-clause-done : goal.returns-clause-done
 returns-clause-done c = (told (goal.at.returns-clause-done c).After-word-found).done
