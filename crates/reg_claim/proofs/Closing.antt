@@ -1,13 +1,12 @@
 -- The last seat has all that was claimed and finished.
-use Rattle.std.proofs.Common.{◌≡◌, ℕ, zero, suc, ◌/◌, ◌<◌, ◌≤◌, true, List, [], ◌∷◌, length, get_or, refl, sym, ap, ◌∙◌, subst, arith, All, Contains}
-use Rattle.std.specs.List.{AllByRecursion}
+use Rattle.std.proofs.Common.{◌≡◌, ℕ, ◌/◌, ◌<◌, ◌≤◌, true, List, [], ◌∷◌, length, get_or, refl, sym, ap, ◌∙◌, subst, arith, All, Contains}
 use Rattle.std.proofs.lemmas.List.Elements.{recursion_from_All, All-weaker, All-contains_itself}
 use mathlib.Core.Option.{some, some-injective, some-ne-none}
 use lib.ListN.{get_elem?}
 use Rattle.atomic_table.specs.Table.{State, Final, Seen}
-use Rattle.reg_counting.specs.Counting.{total, times, once}
+use Rattle.reg_counting.specs.Counting.{times, once}
 use Rattle.reg_claim.specs.declared.views.View.{View}
-use Rattle.reg_claim.specs.Views.{spent, is_odd}
+use Rattle.reg_claim.specs.Views.{is_odd}
 use Rattle.reg_claim.specs.Claims.{HasNoRepeat}
 use Rattle.reg_claim.proofs.Numbers.{contains-times, times-distinct, once-most, once-only, length-full}
 use Rattle.reg_claim.proofs.Counts.{Knows, Rests, Counted, counted, odd-is, is-odd}

@@ -144,5 +144,8 @@ fn each_place_is_claimed_once_by_sixteen_seats(rt: HostRuntime) {
             stopped: false,
         },
     );
-    assert_eq!(rt; claimed_once(&rt, rt.alloc()).expect(&rt, "a table"), wanted);
+    assert_eq!(rt;
+        claimed_once(&rt, rt.alloc()).expect(&rt, "a table"),
+        wanted
+    );
 }

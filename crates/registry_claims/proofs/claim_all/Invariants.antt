@@ -1,5 +1,5 @@
 use Rattle.std.proofs.Common.{◌≡◌}
-use Rattle.reg_claim.specs.Seats.{known, seat_table, table_id}
+use Rattle.reg_claim.specs.Seats.{known, seat_table}
 use Rattle.registry_claims.proofs.claim_all.Given as goal
 
 abbrev pub invariant-loop-mark : goal.invariant-loop-mark

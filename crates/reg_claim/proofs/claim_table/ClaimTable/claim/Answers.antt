@@ -1,4 +1,4 @@
-use Rattle.std.proofs.Common.{◌≡◌, ◌≢◌, ℕ, true, nat_eq, arith, subst, sym, Contains}
+use Rattle.std.proofs.Common.{◌≡◌, ℕ, true, nat_eq, arith, subst, sym, Contains}
 use Rattle.std.proofs.lemmas.Bool.Decides.{nat_tests}
 use Rattle.std.proofs.lemmas.List.Elements.{Contains-push}
 use Rattle.reg_claim.specs.declared.views.View.{View}
