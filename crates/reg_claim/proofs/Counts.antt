@@ -113,7 +113,7 @@ pub flag-most : (words : List ℕ) (p : ℕ) → flag words p ≤ 1
 flag-most words zero = omega arith
 flag-most words (suc j) = set_of-most (get_or words (suc j) 0)
 
-set_of-some : (x : ℕ) → x ≢ 0 → set_of x ≡ 1
+pub set_of-some : (x : ℕ) → x ≢ 0 → set_of x ≡ 1
 set_of-some zero h = absurd (h refl)
 set_of-some (suc x) h = refl
 

@@ -20,7 +20,7 @@ use Rattle.reg_claim.specs.Views.{fresh, newcomer, spent, with_claimed, with_fin
 use Rattle.reg_claim.specs.Claims.{IsClaimTable}
 use Rattle.reg_claim.specs.Steps.{IsLater, Known, ClaimStep, FinishStep, LookStep, StopStep}
 use Rattle.reg_claim.proofs.Numbers.{equal-one, apart-none, contains-times, times-contains, once-yes, length-most}
-use Rattle.reg_claim.proofs.Counts.{set_of, flag, flag-most, Knows, Rests, Counted, counted, ruled, odd-is, is-odd, flat-times, flat-length}
+use Rattle.reg_claim.proofs.Counts.{set_of, set_of-some, flag, flag-most, Knows, Rests, Counted, counted, ruled, odd-is, is-odd, flat-times, flat-length}
 
 abbrev St : Type 0
 St = State (Unit {0}) View
@@ -69,10 +69,6 @@ flag-here words j y h = ap set_of (get_or-set_same words (suc j) y 0 h)
 flag-else : (words : List ℕ) (j y p : ℕ) → p ≢ suc j → flag (set words (suc j) y) p ≡ flag words p
 flag-else words j y zero apart = refl
 flag-else words j y (suc i) apart = ap set_of (get_or-set_other words (suc j) (suc i) y 0 apart)
-
-set_of-some : (x : ℕ) → x ≢ 0 → set_of x ≡ 1
-set_of-some zero h = absurd (h refl)
-set_of-some (suc x) h = refl
 
 pub flag-once : (words : List ℕ) (n p : ℕ) → length words ≡ n + 1 → flag words p ≤ once n p
 flag-once words n zero wide = omega arith
