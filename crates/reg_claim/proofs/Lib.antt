@@ -1,0 +1,4 @@
+pub mod Numbers
+pub mod Counts
+pub mod Keeps
+pub mod Closing

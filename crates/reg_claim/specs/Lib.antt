@@ -1,0 +1,4 @@
+pub mod Views
+pub mod Claims
+pub mod Steps
+pub mod Seats

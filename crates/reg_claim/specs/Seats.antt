@@ -1,0 +1,24 @@
+-- What a contract says of a table and its seats.
+use Rattle.std.specs.Prelude.{◌≡◌, ℕ}
+use Rattle.atomic_table.specs.Seated.{TableId}
+use Rattle.reg_claim.specs.declared.views.View.{View}
+use Rattle.reg_claim.specs.declared.seats.Seat.{Seat}
+use Rattle.reg_claim.specs.declared.claim_table.ClaimTable.{ClaimTable}
+
+-- what the seat knows
+abbrev pub known : Seat → View
+known seat = seat.seat.me.0
+
+-- the table that the seat is of
+abbrev pub seat_table : Seat → TableId
+seat_table seat = seat.seat.table_id
+
+abbrev pub table_id : ClaimTable → TableId
+table_id table = table.table.shared.table_id
+
+-- how many places the table has
+abbrev pub places : ClaimTable → ℕ
+places table = table.table.shared.key
+
+abbrev pub IsSeatOf : ClaimTable → Seat → Type 0
+IsSeatOf table seat = seat_table seat ≡ table_id table
