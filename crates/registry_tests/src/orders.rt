@@ -139,7 +139,7 @@ fn is_touched(batch: &Batch, directory: &Directory, number: AccountNo) -> bool
 }
 
 // The opening value of an account.
-fn opening<N: Naming>(
+pub(crate) fn opening<N: Naming>(
     rt: &impl Abort,
     alloc: Global,
     context: &Context<N>,
@@ -151,7 +151,7 @@ fn opening<N: Naming>(
 }
 
 // A task of these parcels, if they make one.
-fn task<N: Naming>(
+pub(crate) fn task<N: Naming>(
     rt: &impl Abort,
     context: &Context<N>,
     place: u32,
