@@ -1,7 +1,5 @@
 -- Instructions of one level touch no account in common.
 use Rattle.std.proofs.Common.{◌≡◌, ℕ, zero, suc, ◌+◌, ◌-◌, ◌<◌, ◌≤◌, inl, inr, Bool, true, false, ◌||◌, eqb, List, [], ◌∷◌, ◌++◌, length, take, drop, get_or, Option, Some, None, arith, refl, sym, ap, subst, ◌∙◌}
-use Rattle.std.specs.Prelude.{Contains}
-use Rattle.std.specs.List.{list_all}
 use Rattle.std.proofs.Props.{props}
 use Rattle.std.proofs.lemmas.Bool.{cases_lt, cases_eq, eq-eqb, eqb-true}
 use mathlib.Core.Logic.{∥∥₁_elim}
@@ -28,11 +26,11 @@ use Rattle.reg_levels.proofs.Between.{between_at, take_between, none_passes, siz
 -- an arrow that leads to a place is one of the plan's, and its head is there
 inward_is : (ws : List Arrow) (place : ℕ) (w : Arrow) → In w (inward ws place) → In w ws × (w.to ≡ place)
 inward_is [] place w m = absurd m
-inward_is (v ∷ ws) place w m = by (eqb v.to place) refl m where
-  by : (b : Bool) → eqb v.to place ≡ b → In w (Rattle.std.proofs.Common.cond b (v ∷ inward ws place) (inward ws place)) → In w (v ∷ ws) × (w.to ≡ place)
-  by true e (inl same) = (inl same, ap (λ (x : Arrow). x.to) same ∙ eqb-true v.to place e)
-  by true e (inr n) = let r = inward_is ws place w n in (inr r.0, r.1)
-  by false e n = let r = inward_is ws place w n in (inr r.0, r.1)
+inward_is (v ∷ ws) place w m = by (eqb v.to place) refl m (inward_is ws place w) where
+  by : (b : Bool) → eqb v.to place ≡ b → In w (Rattle.std.proofs.Common.cond b (v ∷ inward ws place) (inward ws place)) → (In w (inward ws place) → In w ws × (w.to ≡ place)) → In w (v ∷ ws) × (w.to ≡ place)
+  by true e (inl same) more = (inl same, ap (λ (x : Arrow). x.to) (sym same) ∙ eqb-true v.to place e)
+  by true e (inr n) more = let r = more n in (inr r.0, r.1)
+  by false e n more = let r = more n in (inr r.0, r.1)
 
 -- a number that stands before a position
 among_taken : (xs : List ℕ) (j k : ℕ) → j < k → k ≤ length xs → is_among (take k xs) (get_or xs j 0) ≡ true
@@ -47,6 +45,10 @@ among_taken (x ∷ xs) (suc j) (suc k) lt le = by (eqb x (get_or xs j 0)) (among
 not_true : (b : Bool) → (b ≡ true → ⊥) → b ≡ false
 not_true true h = absurd (h refl)
 not_true false h = refl
+
+-- those after the first of a level
+pub level_more : (plan : PlanValue) (order : List ℕ) (from to : ℕ) → IsOneLevel plan order from to → IsOneLevel plan order (from + 1) to
+level_more plan order from to level k le lt = level k (omega (arith, le)) lt ∙ sym (level (from + 1) (omega arith) (omega (arith, le, lt)))
 
 module _ (rise : LevelsRiseAlongArrows) (tails : TailsAreLastTouchers) (last : LastToucherIsLast) (day : Day) (plan : PlanValue) where
   abbrev On : ℕ → ℕ → Type 0

@@ -1,29 +1,31 @@
 -- What stands in the slots while a level runs: one more task taken, one more outcome laid.
-use Rattle.std.proofs.Common.{◌≡◌, ℕ, suc, ◌+◌, ◌-◌, ◌<◌, ◌≤◌, Bool, true, false, cond, ◌||◌, List, [], ◌∷◌, ◌++◌, length, take, drop, get_or, Option, Some, None, arith, refl, sym, ap, ◌∙◌}
+use Rattle.std.proofs.Common.{◌≡◌, ℕ, zero, suc, ◌+◌, ◌-◌, ◌<◌, ◌≤◌, inl, inr, Bool, true, false, cond, ◌||◌, List, [], ◌∷◌, ◌++◌, length, take, drop, get_or, Some, None, arith, refl, sym, ap, ◌∙◌}
 use Rattle.std.specs.List.{list_any}
 use Rattle.std.proofs.lemmas.List.{take_more, drop_more, get_or-take, get_or-drop}
+use Rattle.std.proofs.lemmas.Bool.{cases_lt}
 use Rattle.std.proofs.Math.Seq.{take-add}
 use Rattle.std.proofs.lemmas.List.Folds.{list_any-append}
 use Rattle.reg_base.specs.Footprint.{is_among}
-use Rattle.reg_base.specs.Touches.{is_touched}
 use Rattle.reg_plan.specs.Arrows.{touches_place}
 use Rattle.reg_book.specs.Day.{Day}
 use Rattle.reg_schedules.specs.Pool.{directory, footprint_at}
 use Rattle.reg_schedules.proofs.Known.{footprint_touches}
-use Rattle.reg_graph.specs.Slots.{last_of, StandAfter, AreOpened, AreTaken, AreLaid, laid_at}
-use Rattle.reg_graph.proofs.Placing.{laid_left}
+use Rattle.reg_graph.specs.Slots.{last_of, StandAfter, AreOpened, AreTaken}
 use Rattle.reg_graph.proofs.Slotting.{Name}
 use Rattle.reg_graph.proofs.Standing.{last_push}
 use Rattle.reg_levels.specs.Levels.{touched_by, StandsBetween, between}
 
 -- positions of an order
 size_drop : (xs : List ℕ) (k m : ℕ) → k + m < length xs → m < length (drop k xs)
-size_drop xs zero m lt = lt
+size_drop xs zero m lt = omega (arith, lt)
 size_drop [] (suc k) m lt = absurd (omega (arith, lt))
 size_drop (x ∷ xs) (suc k) m lt = size_drop xs k m (omega (arith, lt))
 
 pub between_none : (order : List ℕ) (k : ℕ) → between order k k ≡ []
 between_none order k = ap (λ n. take n (drop k order)) (let e : k - k ≡ 0 = omega arith in e)
+
+pub none_between : (order : List ℕ) (from to : ℕ) → to ≤ from → between order from to ≡ []
+none_between order from to le = ap (λ n. take n (drop from order)) (let e : to - from ≡ 0 = omega (arith, le) in e)
 
 pub between_more : (order : List ℕ) (from k : ℕ) → from ≤ k → k < length order → between order from (k + 1) ≡ between order from k ++ get_or order k 0 ∷ []
 between_more order from k le lt =
@@ -37,6 +39,19 @@ pub between_first : (order : List ℕ) (j to : ℕ) → j < to → to ≤ length
 between_first order j to lt le =
     let one : to - j ≡ suc (to - (j + 1)) = omega (arith, lt) in
     ap (λ n. take n (drop j order)) one ∙ ap (take (suc (to - (j + 1)))) (drop_more order j 0 (omega (arith, lt, le)))
+
+-- the first of those that are left
+pub next_is : (order : List ℕ) (j to p : ℕ) (ps : List ℕ) → to ≤ length order → p ∷ ps ≡ between order j to → (j < to) × (p ≡ get_or order j 0) × (ps ≡ between order (j + 1) to)
+next_is order j to p ps le e = elim (cases_lt j to) [
+  | inl lt ↦ let whole : p ∷ ps ≡ get_or order j 0 ∷ between order (j + 1) to = e ∙ between_first order j to lt le in (lt, cc, cc)
+  | inr over ↦ let none : p ∷ ps ≡ [] = e ∙ none_between order j to over in absurd cc
+]
+
+pub none_left : (order : List ℕ) (j to : ℕ) → j ≤ to → to ≤ length order → [] ≡ between order j to → j ≡ to
+none_left order j to up le e = elim (cases_lt j to) [
+  | inl lt ↦ let some : [] ≡ get_or order j 0 ∷ between order (j + 1) to = e ∙ between_first order j to lt le in absurd cc
+  | inr over ↦ omega (arith, up, over)
+]
 
 pub between_at : (order : List ℕ) (from to j : ℕ) → from + j < to → get_or (between order from to) j 0 ≡ get_or order (from + j) 0
 between_at order from to j lt = get_or-take (to - from) (drop from order) j 0 (omega (arith, lt)) ∙ get_or-drop from order j 0
@@ -61,10 +76,11 @@ module _ (day : Day) where
   -- what the last of some instructions left, if none of those after them touches the account
   pub last_untouched : (a before : ℕ) (places : List ℕ) → touched_by day places a ≡ false → last_of day a before places ≡ before
   last_untouched a before [] none = refl
-  last_untouched a before (p ∷ places) none = by (touches_place (directory day) day.batch.instructions a p) refl none where
-    by : (b : Bool) → touches_place (directory day) day.batch.instructions a p ≡ b → (b || touched_by day places a) ≡ false → last_of day a (cond (touches_place (directory day) day.batch.instructions a p) p before) places ≡ before
-    by true e h = absurd cc
-    by false e h = ap (λ c. last_of day a (cond c p before) places) e ∙ last_untouched a before places h
+  last_untouched a before (p ∷ places) none = by (touches_place (directory day) day.batch.instructions a p) refl none (last_untouched a before places) where
+    by : (b : Bool) → touches_place (directory day) day.batch.instructions a p ≡ b → (b || touched_by day places a) ≡ false → (touched_by day places a ≡ false → last_of day a before places ≡ before)
+        → last_of day a (cond (touches_place (directory day) day.batch.instructions a p) p before) places ≡ before
+    by true e h more = absurd cc
+    by false e h more = ap (λ c. last_of day a (cond c p before) places) e ∙ more h
 
   pub last_append : (a before : ℕ) (xs ys : List ℕ) → last_of day a before (xs ++ ys) ≡ last_of day a (last_of day a before xs) ys
   last_append a before [] ys = refl

@@ -1,5 +1,5 @@
 -- Places by rising level are a legal order.
-use Rattle.std.proofs.Common.{◌≡◌, ℕ, zero, suc, ◌+◌, ◌<◌, ◌≤◌, inl, inr, List, [], ◌∷◌, ◌++◌, length, get_or, None, Some, arith, ap, ◌∙◌}
+use Rattle.std.proofs.Common.{◌≡◌, ℕ, zero, suc, ◌+◌, ◌<◌, inl, inr, List, [], ◌∷◌, ◌++◌, length, get_or, None, Some, arith, ap, ◌∙◌}
 use Rattle.std.specs.Prelude.{slice_get, Contains, IsPermutation}
 use Rattle.std.specs.List.Sorted.{IsNonDecreasingBy}
 use Rattle.std.proofs.lemmas.Bool.{cases_lt}
@@ -8,7 +8,7 @@ use Rattle.reg_base.specs.declared.instruction.Instruction.{Instruction}
 use Rattle.reg_base.specs.Directory.{DirectoryValue}
 use Rattle.reg_plan.specs.declared.arrow.Arrow.{Arrow}
 use Rattle.reg_plan.specs.Plans.{PlanValue, IsPlan, level_at}
-use Rattle.reg_plan.specs.Orders.{IsLegalOrder, first_order_fault}
+use Rattle.reg_plan.specs.Orders.{first_order_fault}
 use Rattle.reg_levels.specs.Levels.{IsOneLevel}
 use Rattle.reg_plan.specs.Laws.{NoFaultIsALegalOrder, LevelsRiseAlongArrows}
 
