@@ -1,5 +1,5 @@
 -- A day's instructions level by level: which run at the same time, and what stands in the slots meanwhile.
-use Rattle.std.specs.Prelude.{◌≡◌, ℕ, ◌-◌, ◌<◌, ◌≤◌, Bool, true, List, take, drop, map, slice_index, Option, Some, None, if◌then◌else◌}
+use Rattle.std.specs.Prelude.{◌≡◌, ◌≢◌, ℕ, ◌-◌, ◌<◌, ◌≤◌, Bool, true, List, length, take, drop, map, slice_index, Option, Some, None, if◌then◌else◌}
 use Rattle.std.specs.List.{list_any}
 use Rattle.reg_base.specs.Touches.{is_touched}
 use Rattle.reg_plan.specs.Arrows.{touches_place}
@@ -31,6 +31,10 @@ between order from to = take (to - from) (drop from order)
 -- these places have the same level
 abbrev pub IsOneLevel : PlanValue → List ℕ → ℕ → ℕ → Type 0
 IsOneLevel plan order from to = (k : ℕ) → from ≤ k → k < to → level_at plan.levels (slice_index order k) ≡ level_at plan.levels (slice_index order from)
+
+-- the instruction after these, if there is one, has another level
+abbrev pub EndsLevel : PlanValue → List ℕ → ℕ → ℕ → Type 0
+EndsLevel plan order from to = to < length order → level_at plan.levels (slice_index order to) ≢ level_at plan.levels (slice_index order from)
 
 module _ {N : Type 0} {b : Ghosts N} where
   -- the places of tasks

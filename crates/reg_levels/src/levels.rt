@@ -40,7 +40,7 @@ impl<'c, 'a, N: Naming> Levels<'c, 'a, N> {
     ghost use Rattle.reg_book.specs.Day.{settled_day};
     ghost use Rattle.reg_book.specs.Settled.{IsOfBook};
     ghost use Rattle.reg_graph.specs.Slots.{IsLack};
-    ghost use Rattle.reg_levels.specs.Levels.{places_of, places_run};
+    ghost use Rattle.reg_levels.specs.Levels.{EndsLevel, places_of, places_run};
 
     /// The levels of a day, before the first.
     ///
@@ -103,6 +103,7 @@ impl<'c, 'a, N: Naming> Levels<'c, 'a, N> {
         ensures laid { self.new.laid ≡ self.old.laid }
         ensures tasks { IfOk result (λ tasks. places_of tasks.items ≡ between self.new.order.items self.new.laid self.new.taken) }
         ensures some { OnOk result (self.old.taken < self.new.taken) }
+        ensures whole { OnOk result (EndsLevel self.new.slots.context.now.plan self.new.order.items self.new.laid self.new.taken) }
         ensures lack { IfErr result (IsLack N.day) }
     {
         let context = self.slots.context();

@@ -5,7 +5,7 @@ ghost use Rattle.std.specs.List.Sorted.{IsNonDecreasingBy};
 ghost use Rattle.reg_base.specs.Rising.{count_up};
 ghost use Rattle.reg_plan.specs.Plans.{level_at};
 ghost use Rattle.reg_plan.specs.Orders.{first_order_fault};
-ghost use Rattle.reg_levels.specs.Levels.{IsOneLevel};
+ghost use Rattle.reg_levels.specs.Levels.{EndsLevel, IsOneLevel};
 
 use reg_base::NoMemory;
 use reg_graph::{Context, Naming};
@@ -64,6 +64,7 @@ pub(crate) fn level_end(plan: &Plan, order: &[u32], from: usize) -> usize
     ensures some { from < result }
     ensures within { result ≤ length order.now }
     ensures one { IsOneLevel plan.now order.now from result }
+    ensures whole { EndsLevel plan.now order.now from result }
 {
     let levels = plan.levels();
     let level = level_of(levels, order[from]);
