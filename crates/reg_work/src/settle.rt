@@ -12,15 +12,12 @@ use crate::gate::Gate;
 use crate::level::run_level;
 use reg_base::{Batch, Rules};
 use reg_book::{Book, Settled};
-use reg_graph::{Context, Naming};
+use reg_graph::{Context, MOST_WORKERS, Naming};
 use reg_levels::Levels;
 use std::alloc::Global;
 use std::marker::Brand;
 use std::sync::Wait;
 use std::thread::Threads;
-
-// The most workers of a settlement.
-const MOST_WORKERS: u32 = 8;
 
 // Whether this number of workers is within its limits.
 fn is_allowed(workers: u32) -> bool
