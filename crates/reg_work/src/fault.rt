@@ -1,6 +1,12 @@
 //! Why a day was not settled.
 
+ghost use Rattle.std.specs.Prelude.{◌≡◌};
+ghost use Rattle.reg_work.specs.Shortages.{fault_of, fault_of_context};
+ghost use Rattle.reg_work.specs.declared.fault.Shortage.TheVariants.{Memory};
+
 use reg_base::NoMemory;
+use reg_book::SettleFault;
+use reg_graph::Lack;
 use std::alloc::AllocError;
 use thiserror::Error;
 
@@ -26,7 +32,7 @@ pub enum WorkFault {
 
 /// What the workers of a level lacked: the first of these that applies.
 #[derive(Clone, Copy, Debug, PartialEq, Eq, Error)]
-pub enum Shortage {
+pub(crate) enum Shortage {
     /// A thread could not be started.
     #[error("no thread")]
     Thread,
@@ -35,14 +41,49 @@ pub enum Shortage {
     Memory,
 }
 
+impl From<Shortage> for WorkFault {
+    ghost from_gives = { λ shortage fault. fault ≡ fault_of shortage };
+
+    fn from(shortage: Shortage) -> WorkFault {
+        match shortage {
+            Shortage::Thread => WorkFault::NoThread,
+            Shortage::Memory => WorkFault::NoMemory,
+        }
+    }
+}
+
+impl From<SettleFault> for WorkFault {
+    ghost from_gives = { λ plain fault. fault ≡ fault_of_context plain };
+
+    fn from(fault: SettleFault) -> WorkFault {
+        match fault {
+            SettleFault::WrongBase { next } => WorkFault::WrongBase { next },
+            SettleFault::NoMemory => WorkFault::NoMemory,
+        }
+    }
+}
+
 impl From<NoMemory> for Shortage {
+    ghost from_gives = { λ _ shortage. shortage ≡ Memory };
+
     fn from(_none: NoMemory) -> Shortage {
         Shortage::Memory
     }
 }
 
 impl From<AllocError> for Shortage {
+    ghost from_gives = { λ _ shortage. shortage ≡ Memory };
+
     fn from(_refused: AllocError) -> Shortage {
+        Shortage::Memory
+    }
+}
+
+/// If a day is named, nothing foreign can come, so that only memory can be lacking.
+impl From<Lack> for Shortage {
+    ghost from_gives = { λ _ shortage. shortage ≡ Memory };
+
+    fn from(_lack: Lack) -> Shortage {
         Shortage::Memory
     }
 }

@@ -1,8 +1,8 @@
 //! Running the tasks of a level.
 
-ghost use Rattle.std.specs.Prelude.{◌≡◌, ◌≤◌, ◌++◌, [], map, flat_map, vec_len, vec_capacity, IfOk, IfErr, OnOk};
+ghost use Rattle.std.specs.Prelude.{◌≡◌, ◌≤◌, ◌++◌, [], Err, flat_map, vec_len, vec_capacity, IfOk, IfErr, OnOk, is_ok, true};
 ghost use Rattle.reg_work.specs.declared.fault.Shortage.TheVariants.{Thread};
-ghost use Rattle.reg_work.specs.Places.{places_of, places_run};
+ghost use Rattle.reg_levels.specs.Levels.{places_of, places_run};
 ghost use Rattle.reg_work.specs.Parts.{joined};
 
 use crate::fault::Shortage;
@@ -10,7 +10,7 @@ use crate::gate::Gate;
 use crate::parts::divide;
 use reg_base::NoMemory;
 use reg_graph::{Context, Naming, Outcome, Task};
-use std::alloc::{AllocError, Global};
+use std::alloc::Global;
 use std::snapshot::Snapshot;
 use std::sync::Wait;
 use std::thread;
@@ -103,6 +103,16 @@ fn start_all<'s, E, N: Naming + Send + Sync + 's, G: Gate + 's>(
     Ok(())
 }
 
+// What was lacking, if anything: a thread comes before memory.
+fn first_lack(started: Result<(), Shortage>, joined: Result<(), NoMemory>) -> Result<(), Shortage>
+    ensures thread { IfErr started (λ shortage. result ≡ Err shortage) }
+    ensures both { OnOk result ((is_ok started ≡ true) × (is_ok joined ≡ true)) }
+{
+    started?;
+    joined?;
+    Ok(())
+}
+
 // Runs each part in a thread of its own, and joins all threads. There are so many tasks in all.
 fn run_parts<N: Naming + Send + Sync, R: Threads + Wait, G: Gate>(
     rt: &R,
@@ -124,8 +134,7 @@ fn run_parts<N: Naming + Send + Sync, R: Threads + Wait, G: Gate>(
             let mut handles = Vec::with_capacity(alloc, parts.len())?;
             let started = start_all(scope, alloc, context, gate, parts, &mut handles);
             let joined = join_all(rt, handles, &mut outcomes);
-            started?;
-            joined?;
+            first_lack(started, joined)?;
             Ok(outcomes)
         },
     )
@@ -138,7 +147,7 @@ fn run_parts<N: Naming + Send + Sync, R: Threads + Wait, G: Gate>(
 /// # Errors
 /// `Thread` if a thread could not be started. Otherwise `Memory` if memory ran out, or if no day is named, also if a task
 /// is of another context. All threads have ended then.
-pub fn run_level<N: Naming + Send + Sync, R: Threads + Wait, G: Gate>(
+pub(crate) fn run_level<N: Naming + Send + Sync, R: Threads + Wait, G: Gate>(
     rt: &R,
     alloc: Global,
     context: &Context<N>,

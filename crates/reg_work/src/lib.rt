@@ -1,13 +1,12 @@
-//! Workers: the tasks of a day, run in threads.
+//! Workers: the instructions of a day, run level by level in threads.
 #![tactic(auto)]
 
 mod fault;
 mod gate;
 mod level;
 mod parts;
-mod probe;
+mod settle;
 
 pub use fault::WorkFault;
 pub use gate::{Gate, OpenGate};
-pub use level::run_level;
-pub use probe::settle_probe;
+pub use settle::settle_waves;

@@ -18,8 +18,8 @@ use std::alloc::Global;
 use std::marker::Brand;
 use std::process::Abort;
 
-// Two transfers of which the second finds too little.
-const TWICE: &str = "\
+/// Two transfers of which the second finds too little.
+pub(crate) const TWICE: &str = "\
 do,2025-03-31,101,102,transfer,1,2,general,70
 do,2025-03-31,101,102,transfer,1,2,general,70
 ";
@@ -139,7 +139,7 @@ fn is_touched(batch: &Batch, directory: &Directory, number: AccountNo) -> bool
 }
 
 // The opening value of an account.
-pub(crate) fn opening<N: Naming>(
+fn opening<N: Naming>(
     rt: &impl Abort,
     alloc: Global,
     context: &Context<N>,
@@ -151,7 +151,7 @@ pub(crate) fn opening<N: Naming>(
 }
 
 // A task of these parcels, if they make one.
-pub(crate) fn task<N: Naming>(
+fn task<N: Naming>(
     rt: &impl Abort,
     context: &Context<N>,
     place: u32,

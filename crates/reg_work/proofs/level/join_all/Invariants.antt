@@ -1,5 +1,5 @@
 use Rattle.std.proofs.Common.{◌≡◌, ◌++◌, flat_map, OnOk}
-use Rattle.reg_work.specs.Places.{places_of, places_run}
+use Rattle.reg_levels.specs.Levels.{places_of, places_run}
 use Rattle.reg_work.proofs.level.join_all.Given as goal
 
 -- what was joined, and what is left, are the whole

@@ -1,5 +1,5 @@
 use Rattle.std.proofs.Common.{◌≡◌, ◌++◌}
-use Rattle.reg_work.specs.Places.{places_of, places_run}
+use Rattle.reg_levels.specs.Levels.{places_of, places_run}
 use Rattle.reg_work.proofs.level.run_part.Given as goal
 
 -- the tasks that were run, and those that are left, are the whole
