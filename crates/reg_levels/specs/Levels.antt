@@ -1,5 +1,5 @@
 -- A day's instructions level by level: which run at the same time, and what stands in the slots meanwhile.
-use Rattle.std.specs.Prelude.{◌≡◌, ◌≢◌, ℕ, ◌-◌, ◌<◌, ◌≤◌, Bool, true, List, length, take, drop, map, slice_index, Option, Some, None, if◌then◌else◌}
+use Rattle.std.specs.Prelude.{◌≡◌, ◌≢◌, ◌⊎◌, ℕ, ◌+◌, ◌-◌, ◌<◌, ◌≤◌, Bool, true, List, length, take, drop, map, slice_index, Option, Some, None, if◌then◌else◌}
 use Rattle.std.specs.List.{list_any}
 use Rattle.reg_base.specs.Touches.{is_touched}
 use Rattle.reg_plan.specs.Arrows.{touches_place}
@@ -35,6 +35,10 @@ IsOneLevel plan order from to = (k : ℕ) → from ≤ k → k < to → level_at
 -- the instruction after these, if there is one, has another level
 abbrev pub EndsLevel : PlanValue → List ℕ → ℕ → ℕ → Type 0
 EndsLevel plan order from to = to < length order → level_at plan.levels (slice_index order to) ≢ level_at plan.levels (slice_index order from)
+
+-- these are so many, or they are the rest of a level
+abbrev pub AreRestOrMost : PlanValue → List ℕ → ℕ → ℕ → ℕ → Type 0
+AreRestOrMost plan order most from to = EndsLevel plan order from to ⊎ (to ≡ from + most)
 
 module _ {N : Type 0} {b : Ghosts N} where
   -- the places of tasks

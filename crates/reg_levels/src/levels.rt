@@ -40,7 +40,7 @@ impl<'c, 'a, N: Naming> Levels<'c, 'a, N> {
     ghost use Rattle.reg_book.specs.Day.{settled_day};
     ghost use Rattle.reg_book.specs.Settled.{IsOfBook};
     ghost use Rattle.reg_graph.specs.Slots.{IsLack};
-    ghost use Rattle.reg_levels.specs.Levels.{EndsLevel, places_of, places_run};
+    ghost use Rattle.reg_levels.specs.Levels.{AreRestOrMost, places_of, places_run};
 
     /// The levels of a day, before the first.
     ///
@@ -91,23 +91,38 @@ impl<'c, 'a, N: Naming> Levels<'c, 'a, N> {
         Ok(task)
     }
 
-    /// Takes the tasks of the next level, by rising place. The outcomes of the level before it were laid.
+    /// How many tasks of the next level are left to take, or `most` if there are more. It looks at so many at most.
+    pub fn count_left(&self, most: usize) -> usize
+        requires left { self.now.taken < length self.now.order.items }
+        requires most { 1 ≤ most }
+        ensures some { 1 ≤ result }
+        ensures few { result ≤ most }
+        ensures one { IsOneLevel self.now.slots.context.now.plan self.now.order.items self.now.taken (self.now.taken + result) }
+        ensures whole { AreRestOrMost self.now.slots.context.now.plan self.now.order.items most self.now.taken (self.now.taken + result) }
+    {
+        let context = self.slots.context();
+        level_end(context.plan(), &self.order, self.taken, most) - self.taken
+    }
+
+    /// Takes the tasks of the next level, by rising place, or the first `most` of them that are left. What was taken before
+    /// was laid.
     ///
     /// # Errors
     /// `Memory` if memory ran out. If no day is named, `Foreign` if a value of another context was laid.
-    pub fn take(&mut self, alloc: Global) -> Result<Vec<Task<N>>, Lack>
+    pub fn take(&mut self, alloc: Global, most: usize) -> Result<Vec<Task<N>>, Lack>
         requires laid { self.old.laid ≡ self.old.taken }
         requires left { self.old.taken < length self.old.order.items }
+        requires most { 1 ≤ most }
         ensures context { self.new.slots.context.now ≡ self.old.slots.context.now }
         ensures order { self.new.order ≡ self.old.order }
         ensures laid { self.new.laid ≡ self.old.laid }
         ensures tasks { IfOk result (λ tasks. places_of tasks.items ≡ between self.new.order.items self.new.laid self.new.taken) }
         ensures some { OnOk result (self.old.taken < self.new.taken) }
-        ensures whole { OnOk result (EndsLevel self.new.slots.context.now.plan self.new.order.items self.new.laid self.new.taken) }
+        ensures whole { OnOk result (AreRestOrMost self.new.slots.context.now.plan self.new.order.items most self.new.laid self.new.taken) }
         ensures lack { IfErr result (IsLack N.day) }
     {
         let context = self.slots.context();
-        let end = level_end(context.plan(), &self.order, self.taken);
+        let end = level_end(context.plan(), &self.order, self.taken, most);
         let Ok(mut tasks) = Vec::with_capacity(alloc, end - self.taken) else {
             return Err(Lack::Memory);
         };

@@ -1,11 +1,11 @@
 //! The instructions of a day by rising level.
 
-ghost use Rattle.std.specs.Prelude.{◌≡◌, ◌<◌, ◌≤◌, None, length, IfOk, OnOk, IsPermutation};
+ghost use Rattle.std.specs.Prelude.{◌≡◌, ◌+◌, ◌<◌, ◌≤◌, None, length, IfOk, OnOk, IsPermutation};
 ghost use Rattle.std.specs.List.Sorted.{IsNonDecreasingBy};
 ghost use Rattle.reg_base.specs.Rising.{count_up};
 ghost use Rattle.reg_plan.specs.Plans.{level_at};
 ghost use Rattle.reg_plan.specs.Orders.{first_order_fault};
-ghost use Rattle.reg_levels.specs.Levels.{EndsLevel, IsOneLevel};
+ghost use Rattle.reg_levels.specs.Levels.{AreRestOrMost, IsOneLevel};
 
 use reg_base::NoMemory;
 use reg_graph::{Context, Naming};
@@ -58,20 +58,23 @@ pub(crate) fn order_by_level<N: Naming>(
     Ok(order)
 }
 
-/// How far the places of an order from this position on, counted from 0, have its level.
-pub(crate) fn level_end(plan: &Plan, order: &[u32], from: usize) -> usize
-    requires { from < length order.now }
+/// How far the places of an order from this position on, counted from 0, have its level. At most so many are looked at.
+pub(crate) fn level_end(plan: &Plan, order: &[u32], from: usize, most: usize) -> usize
+    requires there { from < length order.now }
+    requires most { 1 ≤ most }
     ensures some { from < result }
     ensures within { result ≤ length order.now }
+    ensures few { result ≤ from + most }
     ensures one { IsOneLevel plan.now order.now from result }
-    ensures whole { EndsLevel plan.now order.now from result }
+    ensures whole { AreRestOrMost plan.now order.now most from result }
 {
     let levels = plan.levels();
     let level = level_of(levels, order[from]);
-    for position in from + 1..order.len() {
+    let end = from + most.min(order.len() - from);
+    for position in from + 1..end {
         if level_of(levels, order[position]) != level {
             return position;
         }
     }
-    order.len()
+    end
 }

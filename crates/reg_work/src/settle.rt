@@ -26,16 +26,49 @@ fn is_allowed(workers: u32) -> bool
     1 <= workers && workers <= MOST_WORKERS
 }
 
-// Runs the tasks of the next level, and lays what they leave.
+// So many tasks take about as long as starting a thread for them.
+const WORTH_A_THREAD: u32 = 256;
+
+// So many levels are divided among threads even if they have fewer tasks than that. So a small day runs as a large one
+// does, and a day of many small levels does not spend its time starting threads.
+const SMALL_LEVELS: u32 = 4;
+
+// So many tasks are taken at once if one worker runs them: their values then stay near the processor.
+const AT_ONCE: usize = 32;
+
+// By how many workers the next tasks are run, and how many of them at most.
+fn share_next<N: Naming>(levels: &Levels<N>, workers: u32, small_levels: &mut u32) -> (u32, usize)
+    requires workers { are_workers workers ≡ true }
+    requires left { levels.now.taken < length levels.now.order.items }
+    ensures workers { 1 ≤ result.0 }
+    ensures most { 1 ≤ result.1 }
+{
+    if workers == 1 {
+        return (1, AT_ONCE);
+    }
+    let enough = (workers * WORTH_A_THREAD) as usize;
+    let tasks = levels.count_left(enough);
+    if tasks == enough {
+        return (workers, usize::MAX);
+    }
+    if tasks == 1 || *small_levels == 0 {
+        return (1, AT_ONCE);
+    }
+    *small_levels -= 1;
+    (workers, enough)
+}
+
+// Runs the tasks of the next level, or some of them, and lays what they leave.
 fn run_next<N: Naming + Send + Sync, R: Threads + Wait, G: Gate>(
     rt: &R,
     alloc: Global,
     context: &Context<N>,
     levels: &mut Levels<N>,
     workers: u32,
+    small_levels: &mut u32,
     gate: &G,
 ) -> Result<(), Shortage>
-    requires workers { 1 ≤ workers }
+    requires workers { are_workers workers ≡ true }
     requires laid { levels.old.laid ≡ levels.old.taken }
     requires left { levels.old.taken < length levels.old.order.items }
     ensures context { levels.new.slots.context.now ≡ levels.old.slots.context.now }
@@ -43,7 +76,8 @@ fn run_next<N: Naming + Send + Sync, R: Threads + Wait, G: Gate>(
     ensures laid { OnOk result (levels.new.laid ≡ levels.new.taken) }
     ensures more { OnOk result (levels.old.taken < levels.new.taken) }
 {
-    let tasks = levels.take(alloc)?;
+    let (workers, most) = share_next(levels, workers, small_levels);
+    let tasks = levels.take(alloc, most)?;
     let outcomes = run_level(rt, alloc, context, gate, workers, tasks)?;
     levels.lay(outcomes)?;
     Ok(())
@@ -58,13 +92,14 @@ fn run_all<N: Naming + Send + Sync, R: Threads + Wait, G: Gate>(
     workers: u32,
     gate: &G,
 ) -> Result<(), Shortage>
-    requires workers { 1 ≤ workers }
+    requires workers { are_workers workers ≡ true }
     requires laid { levels.old.laid ≡ levels.old.taken }
     ensures context { levels.new.slots.context.now ≡ levels.old.slots.context.now }
     ensures laid { OnOk result (levels.new.laid ≡ length levels.new.order.items) }
 {
+    let mut small_levels = SMALL_LEVELS;
     while levels.are_left() {
-        run_next(rt, alloc, context, levels, workers, gate)?;
+        run_next(rt, alloc, context, levels, workers, &mut small_levels, gate)?;
     }
     Ok(())
 }
@@ -77,7 +112,7 @@ fn settle_context<N: Naming + Send + Sync, R: Threads + Wait, G: Gate>(
     workers: u32,
     gate: &G,
 ) -> Result<Settled, Shortage>
-    requires workers { 1 ≤ workers }
+    requires workers { are_workers workers ≡ true }
     ensures settled { IfOk result (λ s. IfSome N.day (λ d. s ≡ settled_day d)) }
     ensures of_book { IfOk result (λ s. IsOfBook context.now.book.now s) }
 {
@@ -111,6 +146,9 @@ fn settle_named<N: Naming + Send + Sync, R: Threads + Wait, G: Gate>(
 /// same time. They are divided among so many workers, or as many as there are instructions in the level if these are fewer,
 /// in parts whose sizes differ by at most one. Each worker has a thread of its own, in which it calls the gate before each
 /// run; a single worker is the calling thread. The book is not changed.
+///
+/// Starting a thread takes about as long as 256 runs. So after the first four levels of two instructions or more, a level
+/// with fewer than 256 instructions for each worker is run by the calling thread alone, as worker 0.
 ///
 /// The settled day is that of `settle_plain`, for each number of workers.
 ///
