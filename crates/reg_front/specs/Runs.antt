@@ -1,10 +1,11 @@
 -- What a command makes of an input: the text that it writes, or the fault that it answers.
-use Rattle.std.specs.Prelude.{◌≡◌, ℕ, Bool, ◌&&◌, nat_le, List, Option, Some, None, Err, ⊤, IfSome, if◌then◌else◌}
+use Rattle.std.specs.Prelude.{◌≡◌, ℕ, List, Option, Some, None, Err, ⊤, IfSome, if◌then◌else◌}
 use Rattle.std.specs.Io.KnownBytes.{Keeps, Appends}
 use Rattle.reg_plan.specs.Plans.{PlanValue, IsPlan}
 use Rattle.reg_book.specs.Book.{BookValue, directory_of}
 use Rattle.reg_book.specs.Settled.{committed}
 use Rattle.reg_book.specs.Day.{settled_day, log_of}
+use Rattle.reg_work.specs.Faults.{are_workers}
 use Rattle.reg_text.specs.Day.{DayValue}
 use Rattle.reg_text.specs.Rows.{rows_of}
 use Rattle.reg_text.specs.Faults.{day_of_rows}
@@ -17,12 +18,8 @@ use Rattle.reg_text.specs.Statement.{statement_of, has_account}
 use Rattle.reg_front.specs.declared.command.Command.{Command}
 use Rattle.reg_front.specs.declared.command.Command.TheVariants.{Settle, Plan, Statement, Figures, Totals}
 use Rattle.reg_front.specs.declared.fault.FrontFault.{FrontFault}
-use Rattle.reg_front.specs.declared.fault.FrontFault.TheVariants.{Row, Read, Workers, NoAccount, NoMemory, WriteFailed}
+use Rattle.reg_front.specs.declared.fault.FrontFault.TheVariants.{Row, Read, Workers, NoAccount, NoThread, NoMemory, WriteFailed}
 use Rattle.reg_front.specs.Devices.{AppendsFrontOf, ConsumesFront, IsReadWhole}
-
--- this number of workers is within its limits
-abbrev pub are_workers : ℕ → Bool
-are_workers workers = nat_le 1 workers && nat_le workers 8
 
 -- why the command is refused for a day with this book, if it is
 abbrev pub command_fault : Command → BookValue → Option FrontFault
@@ -60,12 +57,18 @@ IsText command input text = (day : DayValue) × IsReading (rows_of input) day ×
 abbrev pub IsRefused : Command → List ℕ → FrontFault → Type 0
 IsRefused command input fault = (day : DayValue) × IsReading (rows_of input) day × (command_fault command day.book ≡ Some fault)
 
--- the command may answer this fault for this input; a lack of memory and a failed reader can occur with every input
+-- the command starts threads
+abbrev pub StartsThreads : Command → Type 0
+StartsThreads command = (workers : ℕ) × (command ≡ Settle workers)
+
+-- the command may answer this fault for this input; a lack of threads can occur with every day text that is to be settled by
+-- workers, a lack of memory and a failed reader with every input
 abbrev pub IsFault : Command → List ℕ → FrontFault → Type 0
 IsFault command input (Row row cause) = day_of_rows (rows_of input) ≡ Err (row, cause)
 IsFault command input Workers = IsRefused command input Workers
 IsFault command input NoAccount = IsRefused command input NoAccount
 IsFault command input WriteFailed = (text : List ℕ) × IsText command input text
+IsFault command input NoThread = StartsThreads command × ((day : DayValue) × IsReading (rows_of input) day × (command_fault command day.book ≡ None))
 IsFault command input Read = ⊤
 IsFault command input NoMemory = ⊤
 
@@ -80,6 +83,7 @@ Leaves command input (Row row cause) old new = Keeps old new
 Leaves command input Workers old new = Keeps old new
 Leaves command input NoAccount old new = Keeps old new
 Leaves command input WriteFailed old new = IfSome input (λ bytes. (text : List ℕ) × IsText command bytes text × AppendsFrontOf text old new)
+Leaves command input NoThread old new = Keeps old new
 Leaves command input Read old new = Keeps old new
 Leaves command input NoMemory old new = Keeps old new
 
@@ -89,6 +93,7 @@ abbrev pub Reads : FrontFault → Option (List ℕ) → Option (List ℕ) → Ty
 Reads (Row row cause) input rest = IsReadWhole input rest
 Reads Workers input rest = IsReadWhole input rest
 Reads NoAccount input rest = IsReadWhole input rest
+Reads NoThread input rest = IsReadWhole input rest
 Reads WriteFailed input rest = IsReadWhole input rest
 Reads Read input rest = ConsumesFront input rest
 Reads NoMemory input rest = ConsumesFront input rest
@@ -115,15 +120,18 @@ abbrev pub IsReadingFault : Option (List ℕ) → FrontFault → Type 0
 IsReadingFault input (Row row cause) = IfSome input (λ bytes. day_of_rows (rows_of bytes) ≡ Err (row, cause))
 IsReadingFault input Workers = ⊥
 IsReadingFault input NoAccount = ⊥
+IsReadingFault input NoThread = ⊥
 IsReadingFault input WriteFailed = ⊥
 IsReadingFault input Read = ⊤
 IsReadingFault input NoMemory = ⊤
 
--- why a command gave no text for a day that was read: it is refused for that day, or if it is not, memory ran out
+-- why a command gave no text for a day that was read: it is refused for that day, or if it is not, threads or memory were
+-- lacking
 abbrev pub IsCommandFault : Command → BookValue → FrontFault → Type 0
 IsCommandFault command book (Row row cause) = ⊥
 IsCommandFault command book Workers = command_fault command book ≡ Some Workers
 IsCommandFault command book NoAccount = command_fault command book ≡ Some NoAccount
+IsCommandFault command book NoThread = StartsThreads command × (command_fault command book ≡ None)
 IsCommandFault command book WriteFailed = ⊥
 IsCommandFault command book Read = ⊥
 IsCommandFault command book NoMemory = command_fault command book ≡ None

@@ -5,9 +5,9 @@ use reg_base::AccountNo;
 /// What [`run`](crate::run) does with the day that it reads.
 #[derive(Clone, Copy, Debug, PartialEq, Eq)]
 pub enum Command {
-    /// Settles the day and writes the report.
+    /// Settles the day by workers and writes the report.
     Settle {
-        /// The number of workers, 1 to 8. The report does not depend on it. This version only checks the number.
+        /// The number of workers, 1 to 8. The report does not depend on it.
         workers: u32,
     },
     /// Writes which instructions of the day have to wait for which others. Settles nothing.

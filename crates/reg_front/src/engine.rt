@@ -16,6 +16,8 @@ use reg_text::{DayInput, read_day};
 use std::alloc::Global;
 use std::io::{Read, Write};
 use std::mem;
+use std::sync::Wait;
+use std::thread::Threads;
 
 /// Reads the whole input, carries out the command on the day that it describes, and writes the command's text. The
 /// whole text is made before its first byte is written.
@@ -25,11 +27,13 @@ use std::mem;
 /// - `Row` if the input is not a day text, with the first faulty row and the first cause that applies to it.
 /// - `Workers` if the input is a day text and the number of workers is not 1 to 8.
 /// - `NoAccount` if the input is a day text and the account of a statement is not in its book.
+/// - `NoThread` if the input is a day text to be settled and a thread could not be started.
 /// - `NoMemory` if memory ran out.
 /// - `WriteFailed` if the writer fails. A prefix of the text has then been written.
 ///
 /// After all faults except `WriteFailed`, nothing has been written.
-pub fn run<R: Read, W: Write>(
+pub fn run<T: Threads + Wait, R: Read, W: Write>(
+    rt: &T,
     alloc: Global,
     reader: &mut R,
     writer: &mut W,
@@ -37,7 +41,7 @@ pub fn run<R: Read, W: Write>(
 ) -> Result<(), FrontFault>
     ensures { CarriesOut command (result_err result) (R.remaining reader.old) (R.remaining reader.new) (W.contents writer.old) (W.contents writer.new) }
 {
-    run_and_keep(alloc, reader, writer, command)?;
+    run_and_keep(rt, alloc, reader, writer, command)?;
     Ok(())
 }
 
@@ -46,7 +50,8 @@ pub fn run<R: Read, W: Write>(
 ///
 /// # Errors
 /// As [`run`].
-pub fn run_without_freeing<R: Read, W: Write>(
+pub fn run_without_freeing<T: Threads + Wait, R: Read, W: Write>(
+    rt: &T,
     alloc: Global,
     reader: &mut R,
     writer: &mut W,
@@ -54,12 +59,13 @@ pub fn run_without_freeing<R: Read, W: Write>(
 ) -> Result<(), FrontFault>
     ensures { CarriesOut command (result_err result) (R.remaining reader.old) (R.remaining reader.new) (W.contents writer.old) (W.contents writer.new) }
 {
-    mem::forget(run_and_keep(alloc, reader, writer, command)?);
+    mem::forget(run_and_keep(rt, alloc, reader, writer, command)?);
     Ok(())
 }
 
 // Runs the command, and answers what it has used.
-fn run_and_keep<R: Read, W: Write>(
+fn run_and_keep<T: Threads + Wait, R: Read, W: Write>(
+    rt: &T,
     alloc: Global,
     reader: &mut R,
     writer: &mut W,
@@ -68,7 +74,7 @@ fn run_and_keep<R: Read, W: Write>(
     ensures { CarriesOut command (result_err result) (R.remaining reader.old) (R.remaining reader.new) (W.contents writer.old) (W.contents writer.new) }
 {
     let (day, input) = read_input(alloc, reader)?;
-    let used = make_text(alloc, day, input, &command)?;
+    let used = make_text(rt, alloc, day, input, &command)?;
     if write_all(writer, used.text.as_slice()).is_err() {
         return Err(FrontFault::WriteFailed);
     }

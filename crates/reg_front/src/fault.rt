@@ -30,6 +30,9 @@ pub enum FrontFault {
     /// The account of a statement is not in the book.
     #[error("no such account")]
     NoAccount,
+    /// A thread could not be started.
+    #[error("no thread")]
+    NoThread,
     /// Memory ran out.
     #[error("out of memory")]
     NoMemory,

@@ -1,26 +1,30 @@
 //! The text of each command, for a day that was read.
 
-ghost use Rattle.std.specs.Prelude.{◌≡◌, ◌+◌, true, None, Some, IfOk, MatchResult, if◌then◌else◌};
+ghost use Rattle.std.specs.Prelude.{◌≡◌, ◌+◌, true, None, IfOk, MatchResult};
 ghost use Rattle.reg_book.specs.Day.{settled_day, log_of};
+ghost use Rattle.reg_book.specs.Settled.{IsOfBook};
+ghost use Rattle.reg_work.specs.Faults.{are_workers};
 ghost use Rattle.reg_text.specs.Inputs.{day_of_input};
 ghost use Rattle.reg_text.specs.Report.{text_of};
 ghost use Rattle.reg_text.specs.Determined.{figures_rows};
 ghost use Rattle.reg_text.specs.Totals.{totals_rows};
 ghost use Rattle.reg_text.specs.Statement.{statement_of, has_account};
-ghost use Rattle.reg_front.specs.Runs.{are_workers, report_of, book_after, command_fault, IsPlanOf, IsTextFor, IsCommandFault};
+ghost use Rattle.reg_front.specs.declared.command.Command.TheVariants.{Settle, Statement};
+ghost use Rattle.reg_front.specs.declared.fault.FrontFault.TheVariants as front;
+ghost use Rattle.reg_front.specs.Runs.{report_of, book_after, command_fault, IsPlanOf, IsTextFor, IsCommandFault};
 
 use crate::command::Command;
 use crate::fault::FrontFault;
 use reg_base::{AccountNo, NoMemory};
-use reg_book::{Book, Closed, SettleFault, Settled, settle_in_place, settle_plain};
+use reg_book::{Closed, SettleFault, Settled, settle_in_place, settle_plain};
 use reg_plan::Plan;
 use reg_text::{
     DayInput, StatementFault, figures_over, plan_text, statement, totals_text, write_report_over,
 };
+use reg_work::{OpenGate, WorkFault, settle_waves};
 use std::alloc::Global;
-
-// The most workers of a settlement.
-const MOST_WORKERS: u32 = 8;
+use std::sync::Wait;
+use std::thread::Threads;
 
 /// What a command has used: its text, and the closed day that the text was made from, if the command closed the day.
 /// Nothing is done with it but to free it, or not to.
@@ -34,8 +38,9 @@ pub(crate) struct Used {
 ///
 /// # Errors
 /// `Workers` if the number of workers is not 1 to 8. `NoAccount` if the account of a statement is not in the book.
-/// Otherwise `NoMemory` if memory ran out.
-pub(crate) fn make_text(
+/// Otherwise `NoThread` if a thread could not be started, and `NoMemory` if memory ran out.
+pub(crate) fn make_text<T: Threads + Wait>(
+    rt: &T,
     alloc: Global,
     day: DayInput,
     bytes: Vec<u8>,
@@ -46,54 +51,8 @@ pub(crate) fn make_text(
         (λ used. (command_fault command.now day.book ≡ None) × IsTextFor command.now (day_of_input day) used.text.items)
         (IsCommandFault command.now day.book) }
 {
-    match find_fault(command, &day.book) {
-        Some(fault) => Err(fault),
-        None => match make_accepted(alloc, day, bytes, command) {
-            Ok(used) => Ok(used),
-            Err(NoMemory) => Err(FrontFault::NoMemory),
-        },
-    }
-}
-
-// Why the command is refused for a day with this book, if it is.
-fn find_fault(command: &Command, book: &Book) -> Option<FrontFault>
-    ensures { result ≡ command_fault command.now book.now }
-{
     match *command {
-        Command::Settle { workers } => fault_unless(is_allowed(workers), FrontFault::Workers),
-        Command::Statement { account } => {
-            fault_unless(book.get(account).is_some(), FrontFault::NoAccount)
-        }
-        Command::Plan | Command::Figures | Command::Totals => None,
-    }
-}
-
-fn fault_unless(holds: bool, fault: FrontFault) -> Option<FrontFault>
-    ensures { result ≡ (if holds then None else Some fault) }
-{
-    if holds { None } else { Some(fault) }
-}
-
-// Whether this number of workers is within its limits.
-fn is_allowed(workers: u32) -> bool
-    ensures { result ≡ are_workers workers }
-{
-    1 <= workers && workers <= MOST_WORKERS
-}
-
-// The text of a command that is not refused.
-fn make_accepted(
-    alloc: Global,
-    day: DayInput,
-    bytes: Vec<u8>,
-    command: &Command,
-) -> Result<Used, NoMemory>
-    requires follows { day.batch.base + 1 ≡ day.book.next }
-    requires accepted { command_fault command.now day.book ≡ None }
-    ensures { IfOk result (λ used. IsTextFor command.now (day_of_input day) used.text.items) }
-{
-    match *command {
-        Command::Settle { .. } => make_report(alloc, day, bytes),
+        Command::Settle { workers } => make_report(rt, alloc, day, bytes, workers),
         Command::Plan => make_plan(alloc, &day),
         Command::Statement { account } => make_statement(alloc, &day, account),
         Command::Figures => make_figures(alloc, day, bytes),
@@ -101,12 +60,20 @@ fn make_accepted(
     }
 }
 
-// The report of the settled day, in the place of bytes that are no longer needed.
-fn make_report(alloc: Global, day: DayInput, bytes: Vec<u8>) -> Result<Used, NoMemory>
+// The report of the day, settled by workers, in the place of bytes that are no longer needed.
+fn make_report<T: Threads + Wait>(
+    rt: &T,
+    alloc: Global,
+    day: DayInput,
+    bytes: Vec<u8>,
+    workers: u32,
+) -> Result<Used, FrontFault>
     requires { day.batch.base + 1 ≡ day.book.next }
-    ensures { IfOk result (λ used. used.text.items ≡ report_of (day_of_input day)) }
+    ensures { MatchResult result
+        (λ used. (are_workers workers ≡ true) × (used.text.items ≡ report_of (day_of_input day)))
+        (IsCommandFault (Settle workers) day.book) }
 {
-    let closed = close_day(alloc, day)?;
+    let closed = close_by_workers(rt, alloc, day, workers)?;
     let text = write_report_over(bytes, &closed.book, closed.rows.as_slice())?;
     Ok(Used {
         text,
@@ -115,32 +82,36 @@ fn make_report(alloc: Global, day: DayInput, bytes: Vec<u8>) -> Result<Used, NoM
 }
 
 // The plan of the day's instructions.
-fn make_plan(alloc: Global, day: &DayInput) -> Result<Used, NoMemory>
-    ensures { IfOk result (λ used. IsPlanOf (day_of_input day.now) used.text.items) }
+fn make_plan(alloc: Global, day: &DayInput) -> Result<Used, FrontFault>
+    ensures { MatchResult result (λ used. IsPlanOf (day_of_input day.now) used.text.items) (λ fault. fault ≡ front.NoMemory) }
 {
     let plan = Plan::of(alloc, &day.batch, day.book.directory())?;
     let text = plan_text(alloc, &plan)?;
     Ok(Used { text, closed: None })
 }
 
-// The statement of an account of the book.
-fn make_statement(alloc: Global, day: &DayInput, account: AccountNo) -> Result<Used, NoMemory>
-    requires follows { day.now.batch.base + 1 ≡ day.now.book.next }
-    requires known { has_account day.now.book account ≡ true }
-    ensures { IfOk result (λ used. used.text.items ≡ text_of (statement_of day.now.book (log_of (day_of_input day.now)) account)) }
+// The statement of an account.
+fn make_statement(alloc: Global, day: &DayInput, account: AccountNo) -> Result<Used, FrontFault>
+    requires { day.now.batch.base + 1 ≡ day.now.book.next }
+    ensures { MatchResult result
+        (λ used. (has_account day.now.book account ≡ true) × (used.text.items ≡ text_of (statement_of day.now.book (log_of (day_of_input day.now)) account)))
+        (IsCommandFault (Statement account) day.now.book) }
 {
+    if day.book.get(account).is_none() {
+        return Err(FrontFault::NoAccount);
+    }
     let settled = settle(alloc, day)?;
     match statement(alloc, &day.book, settled.rows(), account) {
         Ok(text) => Ok(Used { text, closed: None }),
-        Err(StatementFault::NoMemory) => Err(NoMemory),
+        Err(StatementFault::NoMemory) => Err(FrontFault::NoMemory),
         Err(StatementFault::UnknownAccount) => unreachable!(),
     }
 }
 
 // The determined figures of all accounts after the day, in the place of bytes that are no longer needed.
-fn make_figures(alloc: Global, day: DayInput, bytes: Vec<u8>) -> Result<Used, NoMemory>
+fn make_figures(alloc: Global, day: DayInput, bytes: Vec<u8>) -> Result<Used, FrontFault>
     requires { day.batch.base + 1 ≡ day.book.next }
-    ensures { IfOk result (λ used. used.text.items ≡ text_of (figures_rows (book_after (day_of_input day)))) }
+    ensures { MatchResult result (λ used. used.text.items ≡ text_of (figures_rows (book_after (day_of_input day)))) (λ fault. fault ≡ front.NoMemory) }
 {
     let closed = close_day(alloc, day)?;
     let text = figures_over(bytes, &closed.book)?;
@@ -151,9 +122,9 @@ fn make_figures(alloc: Global, day: DayInput, bytes: Vec<u8>) -> Result<Used, No
 }
 
 // The totals after the day.
-fn make_totals(alloc: Global, day: DayInput) -> Result<Used, NoMemory>
+fn make_totals(alloc: Global, day: DayInput) -> Result<Used, FrontFault>
     requires { day.batch.base + 1 ≡ day.book.next }
-    ensures { IfOk result (λ used. used.text.items ≡ text_of (totals_rows (book_after (day_of_input day)))) }
+    ensures { MatchResult result (λ used. used.text.items ≡ text_of (totals_rows (book_after (day_of_input day)))) (λ fault. fault ≡ front.NoMemory) }
 {
     let closed = close_day(alloc, day)?;
     let text = totals_text(alloc, &closed.book)?;
@@ -182,4 +153,48 @@ fn close_day(alloc: Global, day: DayInput) -> Result<Closed, NoMemory>
     ensures log { IfOk result (λ closed. closed.rows.items ≡ log_of (day_of_input day)) }
 {
     settle_in_place(alloc, day.book, &day.rules, &day.batch)
+}
+
+// Settles the day by workers, and puts the settled day into its book. Answers the book after the day, and the log.
+fn close_by_workers<T: Threads + Wait>(
+    rt: &T,
+    alloc: Global,
+    day: DayInput,
+    workers: u32,
+) -> Result<Closed, FrontFault>
+    requires { day.batch.base + 1 ≡ day.book.next }
+    ensures { MatchResult result
+        (λ closed. (are_workers workers ≡ true) × (closed.book ≡ book_after (day_of_input day)) × (closed.rows.items ≡ log_of (day_of_input day)))
+        (IsCommandFault (Settle workers) day.book) }
+{
+    let settled = settle_by_workers(rt, alloc, &day, workers)?;
+    let mut book = day.book;
+    match book.commit(settled) {
+        Ok(rows) => Ok(Closed { book, rows }),
+        Err(_) => unreachable!(),
+    }
+}
+
+// Settles the day by workers. Its book stays as it is.
+fn settle_by_workers<T: Threads + Wait>(
+    rt: &T,
+    alloc: Global,
+    day: &DayInput,
+    workers: u32,
+) -> Result<Settled, FrontFault>
+    requires { day.now.batch.base + 1 ≡ day.now.book.next }
+    ensures settled { MatchResult result
+        (λ s. (are_workers workers ≡ true) × (s ≡ settled_day (day_of_input day.now)))
+        (IsCommandFault (Settle workers) day.now.book) }
+    ensures of_book { IfOk result (λ s. IsOfBook day.now.book s) }
+{
+    match settle_waves(
+        rt, alloc, &day.book, &day.rules, &day.batch, workers, &OpenGate,
+    ) {
+        Ok(settled) => Ok(settled),
+        Err(WorkFault::Workers) => Err(FrontFault::Workers),
+        Err(WorkFault::WrongBase { .. }) => unreachable!(),
+        Err(WorkFault::NoThread) => Err(FrontFault::NoThread),
+        Err(WorkFault::NoMemory) => Err(FrontFault::NoMemory),
+    }
 }

@@ -18,6 +18,8 @@ use std::convert::AsStr;
 use std::io::{Read, Write};
 use std::process::ExitCode;
 use std::rt::Env;
+use std::sync::Wait;
+use std::thread::Threads;
 use std::{env, io};
 
 /// Carries out the command of these words, which stand without the program's name: reads a day text from `reader`
@@ -28,7 +30,8 @@ use std::{env, io};
 /// written.
 ///
 /// The memory that the command has used is not freed: the program ends with it.
-pub fn serve<S: AsStr, R: Read, W: Write, F: Write>(
+pub fn serve<T: Threads + Wait, S: AsStr, R: Read, W: Write, F: Write>(
+    rt: &T,
     alloc: Global,
     words: &[S],
     reader: &mut R,
@@ -38,13 +41,14 @@ pub fn serve<S: AsStr, R: Read, W: Write, F: Write>(
     ensures { Serves result (R.remaining reader.old) (R.remaining reader.new) (W.contents writer.old) (W.contents writer.new) }
 {
     match read_words(alloc, words) {
-        Ok(command) => carry_out(alloc, command, reader, writer, faults),
+        Ok(command) => carry_out(rt, alloc, command, reader, writer, faults),
         Err(error) => show(&error, writer, faults),
     }
 }
 
 // Runs the command, and answers the status.
-fn carry_out<R: Read, W: Write, F: Write>(
+fn carry_out<T: Threads + Wait, R: Read, W: Write, F: Write>(
+    rt: &T,
     alloc: Global,
     command: Command,
     reader: &mut R,
@@ -53,7 +57,7 @@ fn carry_out<R: Read, W: Write, F: Write>(
 ) -> u8
     ensures { Obeys command result (R.remaining reader.old) (R.remaining reader.new) (W.contents writer.old) (W.contents writer.new) }
 {
-    match run_without_freeing(alloc, reader, writer, command) {
+    match run_without_freeing(rt, alloc, reader, writer, command) {
         Ok(()) => 0,
         Err(fault) => tell(fault, faults),
     }
@@ -93,7 +97,7 @@ fn status(fault: FrontFault) -> u8
     match fault {
         FrontFault::Workers | FrontFault::NoAccount => WORDS_NOT_TAKEN,
         FrontFault::Row { .. } => 3,
-        FrontFault::NoMemory => 4,
+        FrontFault::NoThread | FrontFault::NoMemory => 4,
         FrontFault::Read | FrontFault::WriteFailed => 5,
     }
 }
@@ -113,6 +117,7 @@ fn main(rt: HostRuntime) -> ExitCode {
     let mut faults = rt.stderr();
     let status = match read_arguments(&rt) {
         Ok(words) => serve(
+            &rt,
             rt.alloc(),
             words.as_slice(),
             &mut Input::new(rt.stdin(), faults),

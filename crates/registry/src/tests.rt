@@ -4,6 +4,8 @@ use crate::serve;
 use std::alloc::Global;
 use std::io;
 use std::io::{ErrorKind, Read, Write};
+use std::sync::Wait;
+use std::thread::Threads;
 
 // A first day: one transfer, which is done.
 const DAY: &str = "\
@@ -50,10 +52,16 @@ impl Write for Broken {
 }
 
 // The status of these words over a text, what is written, and the line of the fault.
-fn serve_text(alloc: Global, words: &[&str], text: &str) -> (u8, Vec<u8>, Vec<u8>) {
+fn serve_text<T: Threads + Wait>(
+    rt: &T,
+    alloc: Global,
+    words: &[&str],
+    text: &str,
+) -> (u8, Vec<u8>, Vec<u8>) {
     let mut written = Vec::new(alloc);
     let mut faults = Vec::new(alloc);
     let status = serve(
+        rt,
         alloc,
         words,
         &mut text.as_bytes(),
@@ -77,7 +85,7 @@ fn answers_0_2_and_3(rt: HostRuntime) {
         ),
         (["statement", "2"], "", 3, "", "row 1: end\n"),
     ] {
-        let (status, written, faults) = serve_text(rt.alloc(), &words, text);
+        let (status, written, faults) = serve_text(&rt, rt.alloc(), &words, text);
         assert_eq!(rt; status, wanted, "{line}");
         assert_eq!(rt; written.as_slice(), output.as_bytes(), "{line}");
         assert_eq!(rt; faults.as_slice(), line.as_bytes(), "{line}");
@@ -86,7 +94,7 @@ fn answers_0_2_and_3(rt: HostRuntime) {
 
 #[test]
 fn answers_2_if_the_words_are_not_taken(rt: HostRuntime) {
-    let (status, written, faults) = serve_text(rt.alloc(), &["sattle"], DAY);
+    let (status, written, faults) = serve_text(&rt, rt.alloc(), &["sattle"], DAY);
     assert_eq!(rt; status, 2);
     assert!(rt; written.is_empty() && !faults.is_empty());
 }
@@ -95,8 +103,16 @@ fn answers_2_if_the_words_are_not_taken(rt: HostRuntime) {
 fn answers_5_if_a_stream_fails(rt: HostRuntime) {
     let alloc = rt.alloc();
     let mut faults = Vec::new(alloc);
-    let unread = serve(alloc, &["totals"], &mut Broken, &mut Broken, &mut faults);
+    let unread = serve(
+        &rt,
+        alloc,
+        &["totals"],
+        &mut Broken,
+        &mut Broken,
+        &mut faults,
+    );
     let unwritten = serve(
+        &rt,
         alloc,
         &["totals"],
         &mut DAY.as_bytes(),
@@ -114,6 +130,7 @@ fn answers_5_if_a_stream_fails(rt: HostRuntime) {
 fn keeps_the_status_of_a_fault_that_cannot_be_told(rt: HostRuntime) {
     let mut written = Vec::new(rt.alloc());
     let status = serve(
+        &rt,
         rt.alloc(),
         &["totals"],
         &mut b"".as_slice(),

@@ -4,6 +4,8 @@ use reg_front::{Command, FrontFault, run};
 use std::alloc::Global;
 use std::io;
 use std::io::{ErrorKind, Read, Write};
+use std::sync::Wait;
+use std::thread::Threads;
 
 // A first day: one transfer, which is done.
 const DAY: &str = "\
@@ -86,19 +88,24 @@ fn make_device(alloc: Global, rest: &[u8], call: usize) -> Device<'_> {
 }
 
 // What settling the day answers, and what it writes. The reader and the writer fail at these calls.
-fn settle(alloc: Global, workers: u32, calls: [usize; 2]) -> (Result<(), FrontFault>, Vec<u8>) {
+fn settle<T: Threads + Wait>(
+    rt: &T,
+    alloc: Global,
+    workers: u32,
+    calls: [usize; 2],
+) -> (Result<(), FrontFault>, Vec<u8>) {
     let [read_call, write_call] = calls;
     let mut reader = make_device(alloc, DAY.as_bytes(), read_call);
     let mut writer = make_device(alloc, b"", write_call);
     let command = Command::Settle { workers };
-    let answer = run(alloc, &mut reader, &mut writer, command);
+    let answer = run(rt, alloc, &mut reader, &mut writer, command);
     (answer, writer.written)
 }
 
 #[test]
 fn moves_a_text_byte_by_byte_for_each_number_of_workers(rt: HostRuntime) {
     for workers in 1..9 {
-        let (answer, written) = settle(rt.alloc(), workers, [0, 0]);
+        let (answer, written) = settle(&rt, rt.alloc(), workers, [0, 0]);
         assert_eq!(rt; answer, Ok(()), "{workers} workers");
         assert_eq!(rt; written.as_slice(), REPORT.as_bytes(), "{workers} workers");
     }
@@ -108,7 +115,7 @@ fn moves_a_text_byte_by_byte_for_each_number_of_workers(rt: HostRuntime) {
 #[test]
 fn reports_each_failed_read(rt: HostRuntime) {
     for call in 1..DAY.len() + 2 {
-        let (answer, written) = settle(rt.alloc(), 4, [call, 0]);
+        let (answer, written) = settle(&rt, rt.alloc(), 4, [call, 0]);
         assert_eq!(rt; answer, Err(FrontFault::Read), "at call {call}");
         assert!(rt; written.is_empty(), "at call {call}");
     }
@@ -118,7 +125,7 @@ fn reports_each_failed_read(rt: HostRuntime) {
 #[test]
 fn reports_each_failed_write(rt: HostRuntime) {
     for call in 1..REPORT.len() + 2 {
-        let (answer, written) = settle(rt.alloc(), 4, [0, call]);
+        let (answer, written) = settle(&rt, rt.alloc(), 4, [0, call]);
         assert_eq!(rt; answer, Err(FrontFault::WriteFailed), "at call {call}");
         assert_eq!(rt; written.as_slice(), &REPORT.as_bytes()[..call - 1]);
     }

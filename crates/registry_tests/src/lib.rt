@@ -16,6 +16,8 @@ mod fixtures;
 #[cfg(test)]
 mod front;
 #[cfg(test)]
+mod levels;
+#[cfg(test)]
 mod orders;
 #[cfg(test)]
 mod plan;

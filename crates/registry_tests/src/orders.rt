@@ -18,8 +18,8 @@ use std::alloc::Global;
 use std::marker::Brand;
 use std::process::Abort;
 
-// Two transfers of which the second finds too little.
-const TWICE: &str = "\
+/// Two transfers of which the second finds too little.
+pub(crate) const TWICE: &str = "\
 do,2025-03-31,101,102,transfer,1,2,general,70
 do,2025-03-31,101,102,transfer,1,2,general,70
 ";

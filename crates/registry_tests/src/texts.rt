@@ -5,6 +5,7 @@ use reg_base::{BatchFault, CalendarFault, NoMemory, RulesFault};
 use reg_book::{BookFault, SettleFault, Stale};
 use reg_front::FrontFault;
 use reg_text::{Cause, DayFault};
+use reg_work::WorkFault;
 
 #[test]
 fn faults_of_the_base_have_their_texts(rt: HostRuntime) {
@@ -63,14 +64,34 @@ the next record number is 2
 fn faults_of_texts_and_of_the_engine_have_their_texts(rt: HostRuntime) {
     let (row, cause) = (28, Cause::Fields);
     let text = format!(in rt.alloc();
-        "{}\n{}\n{}\n",
+        "{}\n{}\n{}\n{}\n",
         DayFault::Row { row, cause },
         DayFault::NoMemory,
+        FrontFault::NoThread,
         FrontFault::NoMemory,
     );
     let wanted = "\
 row 28: fields
 out of memory
+no thread
+out of memory
+";
+    assert_eq!(rt; text.expect(&rt, "memory").as_str(), wanted);
+}
+
+#[test]
+fn faults_of_workers_have_their_texts(rt: HostRuntime) {
+    let text = format!(in rt.alloc();
+        "{}\n{}\n{}\n{}\n",
+        WorkFault::Workers,
+        WorkFault::WrongBase { next: 2 },
+        WorkFault::NoThread,
+        WorkFault::NoMemory,
+    );
+    let wanted = "\
+workers must be 1 to 8
+the batch does not begin with record 2
+no thread
 out of memory
 ";
     assert_eq!(rt; text.expect(&rt, "memory").as_str(), wanted);

@@ -1,0 +1,191 @@
+//! The levels of a day, one after another.
+
+ghost use Rattle.std.specs.Prelude.{◌≡◌, ◌+◌, ◌≤◌, None, take, length, vec_len, vec_capacity};
+ghost use Rattle.reg_plan.specs.Orders.{first_order_fault};
+ghost use Rattle.reg_graph.specs.Contexts.{the_day};
+ghost use Rattle.reg_graph.specs.Gathering.{places_of as places_done};
+ghost use Rattle.reg_graph.specs.Standing.{stands};
+ghost use Rattle.reg_levels.specs.Levels.{AreBetween, IsOneLevel, between};
+
+use crate::order::{level_end, order_by_level};
+use reg_base::NoMemory;
+use reg_base::laws::last_toucher_is_last;
+use reg_book::Settled;
+use reg_graph::{Context, Done, Lack, Naming, Outcome, Slots, Task};
+use reg_plan::laws::{
+    levels_rise_along_arrows, no_fault_is_a_legal_order, tails_are_last_touchers,
+};
+use std::alloc::Global;
+
+/// The instructions of a day, level by level. The tasks of a level are taken together. When they were run, their outcomes are
+/// laid, and then the tasks of the next level are complete.
+#[derive(Drop)]
+pub struct Levels<'c, 'a, N: Naming> {
+    slots: Slots<'c, 'a, N>,
+    order: Vec<u32>,
+    laid: usize,
+    taken: usize,
+    done: Vec<Done<N>>,
+    pub ghost legal: { first_order_fault slots.context.now.plan order.items ≡ None },
+    pub ghost ahead: { laid ≤ taken },
+    pub ghost within: { taken ≤ length order.items },
+    pub ghost level: { IsOneLevel slots.context.now.plan order.items laid taken },
+    pub ghost standing: { AreBetween N.day (the_day slots.context.now) (take laid order.items) (between order.items laid taken) (stands slots) },
+    pub ghost rows: { places_done done.items ≡ take laid order.items },
+    pub ghost room: { vec_len done + length order.items ≤ vec_capacity done + laid },
+}
+
+impl<'c, 'a, N: Naming> Levels<'c, 'a, N> {
+    ghost use Rattle.std.specs.Prelude.{Bool, ◌<◌, ◌==◌, IfOk, IfErr, IfSome, OnOk, slice_index, nat_lt};
+    ghost use Rattle.reg_book.specs.Day.{settled_day};
+    ghost use Rattle.reg_book.specs.Settled.{IsOfBook};
+    ghost use Rattle.reg_graph.specs.Slots.{IsLack};
+    ghost use Rattle.reg_levels.specs.Levels.{AreRestOrMost, places_of, places_run};
+
+    /// The levels of a day, before the first.
+    ///
+    /// The time is linear in the instructions, sorting and look-ups apart.
+    ///
+    /// # Errors
+    /// `NoMemory` if memory ran out.
+    pub fn open(alloc: Global, context: &'c Context<'a, N>) -> Result<Levels<'c, 'a, N>, NoMemory>
+        ensures context { IfOk result (λ l. l.slots.context.now ≡ context.now) }
+        ensures start { IfOk result (λ l. (l.laid ≡ 0) × (l.taken ≡ 0)) }
+    {
+        let order = order_by_level(alloc, context)?;
+        let done = Vec::with_capacity(alloc, order.len())?;
+        let slots = Slots::open(alloc, context)?;
+        Ok(Levels {
+            slots,
+            order,
+            laid: 0,
+            taken: 0,
+            done,
+        })
+    }
+
+    /// Whether tasks are left to take.
+    pub fn are_left(&self) -> bool
+        ensures { result ≡ nat_lt self.now.taken (length self.now.order.items) }
+    {
+        self.taken < self.order.len()
+    }
+
+    // Takes the next task.
+    fn take_one(&mut self, alloc: Global) -> Result<Task<N>, Lack>
+        requires left { self.old.taken < length self.old.order.items }
+        requires level { IsOneLevel self.old.slots.context.now.plan self.old.order.items self.old.laid (self.old.taken + 1) }
+        ensures context { self.new.slots.context.now ≡ self.old.slots.context.now }
+        ensures order { self.new.order ≡ self.old.order }
+        ensures laid { self.new.laid ≡ self.old.laid }
+        ensures taken { OnOk result (self.new.taken ≡ self.old.taken + 1) }
+        ensures place { IfOk result (λ t. t.place ≡ slice_index self.old.order.items self.old.taken) }
+        ensures lack { IfErr result (IsLack N.day) }
+    {
+        levels_rise_along_arrows();
+        last_toucher_is_last();
+        tails_are_last_touchers();
+        let place = self.order[self.taken];
+        let task = self.slots.take(alloc, place)?;
+        self.taken += 1;
+        Ok(task)
+    }
+
+    /// How many tasks of the next level are left to take, or `most` if there are more. It looks at so many at most.
+    pub fn count_left(&self, most: usize) -> usize
+        requires left { self.now.taken < length self.now.order.items }
+        requires most { 1 ≤ most }
+        ensures some { 1 ≤ result }
+        ensures few { result ≤ most }
+        ensures one { IsOneLevel self.now.slots.context.now.plan self.now.order.items self.now.taken (self.now.taken + result) }
+        ensures whole { AreRestOrMost self.now.slots.context.now.plan self.now.order.items most self.now.taken (self.now.taken + result) }
+    {
+        let context = self.slots.context();
+        level_end(context.plan(), &self.order, self.taken, most) - self.taken
+    }
+
+    /// Takes the tasks of the next level, by rising place, or the first `most` of them that are left. What was taken before
+    /// was laid.
+    ///
+    /// # Errors
+    /// `Memory` if memory ran out. If no day is named, `Foreign` if a value of another context was laid.
+    pub fn take(&mut self, alloc: Global, most: usize) -> Result<Vec<Task<N>>, Lack>
+        requires laid { self.old.laid ≡ self.old.taken }
+        requires left { self.old.taken < length self.old.order.items }
+        requires most { 1 ≤ most }
+        ensures context { self.new.slots.context.now ≡ self.old.slots.context.now }
+        ensures order { self.new.order ≡ self.old.order }
+        ensures laid { self.new.laid ≡ self.old.laid }
+        ensures tasks { IfOk result (λ tasks. places_of tasks.items ≡ between self.new.order.items self.new.laid self.new.taken) }
+        ensures some { OnOk result (self.old.taken < self.new.taken) }
+        ensures whole { OnOk result (AreRestOrMost self.new.slots.context.now.plan self.new.order.items most self.new.laid self.new.taken) }
+        ensures lack { IfErr result (IsLack N.day) }
+    {
+        let context = self.slots.context();
+        let end = level_end(context.plan(), &self.order, self.taken, most);
+        let Ok(mut tasks) = Vec::with_capacity(alloc, end - self.taken) else {
+            return Err(Lack::Memory);
+        };
+        for _ in self.taken..end {
+            let task = self.take_one(alloc)?;
+            tasks.push_reserved(task);
+        }
+        Ok(tasks)
+    }
+
+    // Lays the outcome of the first task that runs.
+    fn lay_one(&mut self, outcome: Outcome<N>) -> Result<(), Lack>
+        requires running { self.old.laid < self.old.taken }
+        requires place { outcome.place ≡ slice_index self.old.order.items self.old.laid }
+        ensures context { self.new.slots.context.now ≡ self.old.slots.context.now }
+        ensures order { self.new.order ≡ self.old.order }
+        ensures taken { self.new.taken ≡ self.old.taken }
+        ensures laid { OnOk result (self.new.laid ≡ self.old.laid + 1) }
+        ensures lack { IfErr result (IsLack N.day) }
+    {
+        levels_rise_along_arrows();
+        last_toucher_is_last();
+        tails_are_last_touchers();
+        let Ok((_, done)) = self.slots.lay(outcome) else {
+            return Err(Lack::Foreign);
+        };
+        self.done.push_reserved(done);
+        self.laid += 1;
+        Ok(())
+    }
+
+    /// Lays what the tasks of a level left, in the order in which the tasks were taken.
+    ///
+    /// # Errors
+    /// If no day is named, `Foreign` if a value of another context comes.
+    pub fn lay(&mut self, outcomes: Vec<Outcome<N>>) -> Result<(), Lack>
+        requires outcomes { places_run outcomes.items ≡ between self.old.order.items self.old.laid self.old.taken }
+        ensures context { self.new.slots.context.now ≡ self.old.slots.context.now }
+        ensures order { self.new.order ≡ self.old.order }
+        ensures taken { self.new.taken ≡ self.old.taken }
+        ensures laid { OnOk result (self.new.laid ≡ self.new.taken) }
+        ensures lack { IfErr result (IsLack N.day) }
+    {
+        for outcome in outcomes {
+            self.lay_one(outcome)?;
+        }
+        Ok(())
+    }
+
+    /// The settled day, after the outcomes of the last level were laid.
+    ///
+    /// # Errors
+    /// `Memory` if memory ran out. If no day is named, `Foreign` if a value of another context was laid.
+    pub fn close(self, alloc: Global) -> Result<Settled, Lack>
+        requires laid { self.laid ≡ length self.order.items }
+        ensures settled { IfOk result (λ s. IfSome N.day (λ d. s ≡ settled_day d)) }
+        ensures of_book { IfOk result (λ s. IsOfBook self.entry.slots.context.now.book.now s) }
+        ensures lack { IfErr result (IsLack N.day) }
+    {
+        last_toucher_is_last();
+        tails_are_last_touchers();
+        no_fault_is_a_legal_order();
+        let Levels { slots, done, .. } = self;
+        slots.close(alloc, done)
+    }
+}

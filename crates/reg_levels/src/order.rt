@@ -1,0 +1,80 @@
+//! The instructions of a day by rising level.
+
+ghost use Rattle.std.specs.Prelude.{◌≡◌, ◌+◌, ◌<◌, ◌≤◌, None, length, IfOk, OnOk, IsPermutation};
+ghost use Rattle.std.specs.List.Sorted.{IsNonDecreasingBy};
+ghost use Rattle.reg_base.specs.Rising.{count_up};
+ghost use Rattle.reg_plan.specs.Plans.{level_at};
+ghost use Rattle.reg_plan.specs.Orders.{first_order_fault};
+ghost use Rattle.reg_levels.specs.Levels.{AreRestOrMost, IsOneLevel};
+
+use reg_base::NoMemory;
+use reg_graph::{Context, Naming};
+use reg_plan::Plan;
+use reg_plan::laws::{levels_rise_along_arrows, no_fault_is_a_legal_order};
+use std::alloc::Global;
+
+// The level of a place, counted from 1, or 0 if there is no such place.
+fn level_of(levels: &[u32], place: u32) -> u32
+    ensures { result ≡ level_at levels.now place }
+{
+    match levels.get(place.saturating_sub(1) as usize) {
+        Some(level) => *level,
+        None => 0,
+    }
+}
+
+// The places of so many instructions.
+fn places(alloc: Global, count: u32) -> Result<Vec<u32>, NoMemory>
+    ensures { IfOk result (λ places. places.items ≡ count_up 1 count) }
+{
+    let mut places = Vec::with_capacity(alloc, count as usize)?;
+    for before in 0..count {
+        places.push(before + 1)?;
+    }
+    Ok(places)
+}
+
+// Sorts places by level. Those of one level keep their order.
+fn sort_by_level(levels: &[u32], places: &mut Vec<u32>) -> Result<(), NoMemory>
+    ensures same { IsPermutation places.old.items places.new.items }
+    ensures sorted { OnOk result (IsNonDecreasingBy (λ place. level_at levels.now place) places.new.items) }
+{
+    places.sort_by_key(|place| level_of(levels, *place))?;
+    Ok(())
+}
+
+/// The places by rising level, and within a level by rising place. That is a legal order.
+pub(crate) fn order_by_level<N: Naming>(
+    alloc: Global,
+    context: &Context<N>,
+) -> Result<Vec<u32>, NoMemory>
+    ensures { IfOk result (λ order. first_order_fault context.now.plan order.items ≡ None) }
+{
+    levels_rise_along_arrows();
+    no_fault_is_a_legal_order();
+    let plan = context.plan();
+    let mut order = places(alloc, plan.len())?;
+    sort_by_level(plan.levels(), &mut order)?;
+    Ok(order)
+}
+
+/// How far the places of an order from this position on, counted from 0, have its level. At most so many are looked at.
+pub(crate) fn level_end(plan: &Plan, order: &[u32], from: usize, most: usize) -> usize
+    requires there { from < length order.now }
+    requires most { 1 ≤ most }
+    ensures some { from < result }
+    ensures within { result ≤ length order.now }
+    ensures few { result ≤ from + most }
+    ensures one { IsOneLevel plan.now order.now from result }
+    ensures whole { AreRestOrMost plan.now order.now most from result }
+{
+    let levels = plan.levels();
+    let level = level_of(levels, order[from]);
+    let end = from + most.min(order.len() - from);
+    for position in from + 1..end {
+        if level_of(levels, order[position]) != level {
+            return position;
+        }
+    }
+    end
+}

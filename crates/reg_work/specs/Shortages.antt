@@ -1,0 +1,17 @@
+-- What the workers of a level lacked, as a fault.
+use Rattle.reg_book.specs.declared.settle.SettleFault.{SettleFault}
+use Rattle.reg_book.specs.declared.settle.SettleFault.TheVariants as plain
+use Rattle.reg_work.specs.declared.fault.Shortage.{Shortage}
+use Rattle.reg_work.specs.declared.fault.Shortage.TheVariants.{Thread, Memory}
+use Rattle.reg_work.specs.declared.fault.WorkFault.{WorkFault}
+use Rattle.reg_work.specs.declared.fault.WorkFault.TheVariants as fault
+
+-- the fault for what was lacking
+abbrev pub fault_of : Shortage → WorkFault
+fault_of Thread = fault.NoThread
+fault_of Memory = fault.NoMemory
+
+-- the fault for that of a context
+abbrev pub fault_of_context : SettleFault → WorkFault
+fault_of_context (plain.WrongBase next) = fault.WrongBase next
+fault_of_context plain.NoMemory = fault.NoMemory

@@ -1,0 +1,89 @@
+//! Why a day was not settled.
+
+ghost use Rattle.std.specs.Prelude.{◌≡◌};
+ghost use Rattle.reg_work.specs.Shortages.{fault_of, fault_of_context};
+ghost use Rattle.reg_work.specs.declared.fault.Shortage.TheVariants.{Memory};
+
+use reg_base::NoMemory;
+use reg_book::SettleFault;
+use reg_graph::Lack;
+use std::alloc::AllocError;
+use thiserror::Error;
+
+/// Why workers did not settle a batch: the first of these that applies.
+#[derive(Clone, Copy, Debug, PartialEq, Eq, Error)]
+pub enum WorkFault {
+    /// The number of workers is not 1 to 8.
+    #[error("workers must be 1 to 8")]
+    Workers,
+    /// The first record number of the batch is not the book's next record number.
+    #[error("the batch does not begin with record {next}")]
+    WrongBase {
+        /// The book's next record number.
+        next: u64,
+    },
+    /// A thread could not be started.
+    #[error("no thread")]
+    NoThread,
+    /// Memory ran out.
+    #[error("out of memory")]
+    NoMemory,
+}
+
+/// What the workers of a level lacked: the first of these that applies.
+#[derive(Clone, Copy, Debug, PartialEq, Eq, Error)]
+pub(crate) enum Shortage {
+    /// A thread could not be started.
+    #[error("no thread")]
+    Thread,
+    /// Memory ran out.
+    #[error("out of memory")]
+    Memory,
+}
+
+impl From<Shortage> for WorkFault {
+    ghost from_gives = { λ shortage fault. fault ≡ fault_of shortage };
+
+    fn from(shortage: Shortage) -> WorkFault {
+        match shortage {
+            Shortage::Thread => WorkFault::NoThread,
+            Shortage::Memory => WorkFault::NoMemory,
+        }
+    }
+}
+
+impl From<SettleFault> for WorkFault {
+    ghost from_gives = { λ plain fault. fault ≡ fault_of_context plain };
+
+    fn from(fault: SettleFault) -> WorkFault {
+        match fault {
+            SettleFault::WrongBase { next } => WorkFault::WrongBase { next },
+            SettleFault::NoMemory => WorkFault::NoMemory,
+        }
+    }
+}
+
+impl From<NoMemory> for Shortage {
+    ghost from_gives = { λ _ shortage. shortage ≡ Memory };
+
+    fn from(_none: NoMemory) -> Shortage {
+        Shortage::Memory
+    }
+}
+
+impl From<AllocError> for Shortage {
+    ghost from_gives = { λ _ shortage. shortage ≡ Memory };
+
+    fn from(_refused: AllocError) -> Shortage {
+        Shortage::Memory
+    }
+}
+
+/// If a day is named, nothing foreign can come, so that only memory can be lacking.
+impl From<Lack> for Shortage {
+    ghost from_gives = { λ _ shortage. shortage ≡ Memory };
+
+    fn from(_lack: Lack) -> Shortage {
+        Shortage::Memory
+    }
+}

@@ -1,0 +1,208 @@
+//! Settlement by levels: what only running threads show.
+
+use crate::fixtures::worked;
+use crate::orders::{APART, TWICE, settled, told};
+use crossbeam_utils::Backoff;
+use reg_graph::{Naming, Task};
+use reg_plan::{OrderFault, Plan};
+use reg_text::DayInput;
+use reg_work::{Gate, OpenGate, WorkFault, settle_waves};
+use std::alloc::Global;
+use std::process::Abort;
+use std::sync::Wait;
+use std::sync::atomic::{AtomicU32, Ordering};
+use std::thread::Threads;
+
+// How often a gate looks before it gives up.
+const TURNS: u32 = 1_000_000;
+
+// A transfer, and another that brings back what the first one moved.
+const BACK: &str = "\
+do,2025-03-31,101,102,transfer,1,2,general,100
+do,2025-03-31,201,202,transfer,2,1,general,100
+";
+
+// Eight transfers to unknown accounts, which touch no account.
+const UNKNOWN: &str = "\
+do,2025-03-31,101,102,transfer,1,71,general,1
+do,2025-03-31,101,102,transfer,1,72,general,1
+do,2025-03-31,101,102,transfer,1,73,general,1
+do,2025-03-31,101,102,transfer,1,74,general,1
+do,2025-03-31,101,102,transfer,1,75,general,1
+do,2025-03-31,101,102,transfer,1,76,general,1
+do,2025-03-31,101,102,transfer,1,77,general,1
+do,2025-03-31,101,102,transfer,1,78,general,1
+";
+
+// A gate that holds each task until so many have entered. It counts the tasks that waited in vain, and adds up the
+// numbers of the workers.
+#[derive(Drop)]
+struct Meeting {
+    wanted: u32,
+    entered: AtomicU32,
+    missed: AtomicU32,
+    workers: AtomicU32,
+}
+
+impl Meeting {
+    fn of(wanted: u32) -> Meeting {
+        Meeting {
+            wanted,
+            entered: AtomicU32::new(0),
+            missed: AtomicU32::new(0),
+            workers: AtomicU32::new(0),
+        }
+    }
+}
+
+impl Gate for Meeting {
+    fn enter<N: Naming>(&self, worker: u32, _task: &Task<N>) {
+        self.workers.fetch_add(worker, Ordering::SeqCst);
+        self.entered.fetch_add(1, Ordering::SeqCst);
+        let backoff = Backoff::new();
+        for _ in 0..TURNS {
+            if self.entered.load(Ordering::SeqCst) >= self.wanted {
+                return;
+            }
+            backoff.snooze();
+        }
+        self.missed.fetch_add(1, Ordering::SeqCst);
+    }
+}
+
+// A gate that notes the places of two tasks in the order in which they enter.
+#[derive(Drop)]
+struct Notes {
+    entered: AtomicU32,
+    first: AtomicU32,
+    second: AtomicU32,
+}
+
+impl Gate for Notes {
+    fn enter<N: Naming>(&self, _worker: u32, task: &Task<N>) {
+        if self.entered.fetch_add(1, Ordering::SeqCst) == 0 {
+            self.first.store(task.place(), Ordering::SeqCst);
+        } else {
+            self.second.store(task.place(), Ordering::SeqCst);
+        }
+    }
+}
+
+// What so many workers leave of these instructions.
+fn by_workers<R: Abort + Threads + Wait, G: Gate>(
+    rt: &R,
+    alloc: Global,
+    instructions: &str,
+    workers: u32,
+    gate: &G,
+) -> String {
+    let DayInput { rules, book, batch } = worked(rt, alloc, instructions);
+    let settled = settle_waves(rt, alloc, &book, &rules, &batch, workers, gate);
+    told(rt, alloc, &settled.expect(rt, "memory and threads"))
+}
+
+// Whether so many workers leave what the instructions one after another leave.
+fn is_same<R: Abort + Threads + Wait>(
+    rt: &R,
+    alloc: Global,
+    instructions: &str,
+    workers: u32,
+) -> bool {
+    by_workers(rt, alloc, instructions, workers, &OpenGate) == settled(rt, alloc, instructions)
+}
+
+// Why so many workers do not settle a day.
+fn refused<R: Abort + Threads + Wait>(rt: &R, alloc: Global, workers: u32) -> Option<WorkFault> {
+    let DayInput { rules, book, batch } = worked(rt, alloc, BACK);
+    settle_waves(rt, alloc, &book, &rules, &batch, workers, &OpenGate).err()
+}
+
+// Of so many workers who each wait until so many have entered: how many waited in vain, and the sum of their numbers.
+fn met<R: Abort + Threads + Wait>(
+    rt: &R,
+    alloc: Global,
+    instructions: &str,
+    workers: u32,
+    wanted: u32,
+) -> (u32, u32) {
+    let gate = Meeting::of(wanted);
+    let left = by_workers(rt, alloc, instructions, workers, &gate);
+    assert!(rt; left == settled(rt, alloc, instructions));
+    let missed = gate.missed.load(Ordering::SeqCst);
+    (missed, gate.workers.load(Ordering::SeqCst))
+}
+
+// The places of two transfers in the order in which two workers enter with them.
+fn noted<R: Abort + Threads + Wait>(rt: &R, alloc: Global) -> [u32; 2] {
+    let gate = Notes {
+        entered: AtomicU32::new(0),
+        first: AtomicU32::new(0),
+        second: AtomicU32::new(0),
+    };
+    by_workers(rt, alloc, TWICE, 2, &gate);
+    [
+        gate.first.load(Ordering::SeqCst),
+        gate.second.load(Ordering::SeqCst),
+    ]
+}
+
+// What is wrong with an order of the two transfers.
+fn fault_of(rt: &impl Abort, alloc: Global, order: &[u32]) -> Option<OrderFault> {
+    let DayInput { book, batch, .. } = worked(rt, alloc, TWICE);
+    let plan = Plan::of(alloc, &batch, book.directory()).expect(rt, "memory");
+    plan.check_order(alloc, order).err()
+}
+
+// As many transfers as a batch can have, of which the first 100 find enough.
+fn full_batch(rt: &impl Abort, alloc: Global) -> String {
+    "do,2025-03-31,101,102,transfer,1,2,general,1\n"
+        .repeat(alloc, 16_384)
+        .expect(rt, "memory")
+}
+
+#[test]
+fn two_workers_run_at_once(rt: HostRuntime) {
+    assert_eq!(rt; met(&rt, rt.alloc(), APART, 2, 2), (0, 1));
+}
+
+#[test]
+fn eight_workers_run_at_once(rt: HostRuntime) {
+    assert_eq!(rt; met(&rt, rt.alloc(), UNKNOWN, 8, 8), (0, 28));
+}
+
+#[test]
+fn more_workers_than_tasks_run_each_task_once(rt: HostRuntime) {
+    assert_eq!(rt; met(&rt, rt.alloc(), APART, 8, 2), (0, 1));
+}
+
+#[test]
+fn one_worker_runs_one_task_after_another(rt: HostRuntime) {
+    assert_eq!(rt; met(&rt, rt.alloc(), APART, 1, 1), (0, 0));
+}
+
+#[test]
+fn workers_leave_what_one_instruction_after_another_leaves(rt: HostRuntime) {
+    for instructions in ["", BACK, TWICE, UNKNOWN] {
+        assert!(rt; is_same(&rt, rt.alloc(), instructions, 2), "{instructions}");
+    }
+}
+
+#[test]
+fn eight_workers_settle_a_full_batch(rt: HostRuntime) {
+    let instructions = full_batch(&rt, rt.alloc());
+    assert!(rt; is_same(&rt, rt.alloc(), instructions.as_str(), 8));
+}
+
+#[test]
+fn an_instruction_enters_after_those_that_it_waits_for(rt: HostRuntime) {
+    let order = noted(&rt, rt.alloc());
+    assert_eq!(rt; fault_of(&rt, rt.alloc(), &order), None);
+}
+
+#[test]
+fn there_are_one_to_eight_workers(rt: HostRuntime) {
+    for workers in [0, 9] {
+        let fault = refused(&rt, rt.alloc(), workers);
+        assert_eq!(rt; fault, Some(WorkFault::Workers), "{workers} workers");
+    }
+}
