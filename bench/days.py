@@ -132,6 +132,16 @@ def totals(accounts, years=0):
     return [f"totals,general,{general},{gone},0", f"totals,aviation,{aviation},0,0"]
 
 
+def of_transfers(accounts, transfers):
+    """The day text of these transfers between accounts 1 to `accounts`."""
+    rows = ["format,1", f"day,{SETTLEMENT_DAY},1", "period,2021,2030", "lags,0,1,1,2", f"work,{SETTLEMENT_DAY}"]
+    # Accounts of one holder trust each other.
+    users = "user,101,propose\nuser,102,approve"
+    rows += [f"account,{n},trading,1,open,no,no,0,100,0\n{users}" for n in range(1, accounts + 1)]
+    rows += [f"do,{SETTLEMENT_DAY},101,102,transfer,{a},{b},general,{1 + k % 60}" for k, (a, b) in enumerate(transfers)]
+    return "\n".join(rows + ["end", ""]).encode()
+
+
 def main():
     words = argparse.ArgumentParser(
         description=__doc__, formatter_class=argparse.RawDescriptionHelpFormatter)

@@ -31,17 +31,6 @@ import days
 
 TOP = os.path.dirname(os.path.dirname(os.path.abspath(__file__)))
 PROGRAM = os.path.join(TOP, "crates", "registry_orders", "out", "registry_orders")
-DAY = days.SETTLEMENT_DAY
-
-
-def text(accounts, transfers):
-    """The day text of these transfers between accounts 1 to `accounts`."""
-    rows = ["format,1", f"day,{DAY},1", "period,2021,2030", "lags,0,1,1,2", f"work,{DAY}"]
-    # Accounts of one holder trust each other.
-    users = "user,101,propose\nuser,102,approve"
-    rows += [f"account,{n},trading,1,open,no,no,0,100,0\n{users}" for n in range(1, accounts + 1)]
-    rows += [f"do,{DAY},101,102,transfer,{a},{b},general,{1 + k % 60}" for k, (a, b) in enumerate(transfers)]
-    return "\n".join(rows + ["end", ""]).encode()
 
 
 def program(data, *words):
@@ -128,7 +117,7 @@ def draw_pairs(accounts, count, chance):
 def try_lists(name, accounts, transfers, lists):
     """Tries lists, and answers how many of them gave the settled day."""
     words = [",".join(map(str, order)) for order in lists]
-    lines, _ = program(text(accounts, transfers), "orders", *words)
+    lines, _ = program(days.of_transfers(accounts, transfers), "orders", *words)
     wanted = [answer(transfers, order) for order in lists]
     for order, line, want in zip(lists, lines, wanted, strict=True):
         if line != want:
@@ -170,7 +159,7 @@ def try_schedules(samples, chance):
         accounts, count = chance.randrange(2, 20), chance.randrange(1, 61)
         transfers = draw_pairs(accounts, count, chance)
         words = [f"{chance.randrange(1, 9)}:{chance.randrange(2 ** 32)}" for _ in range(20)]
-        lines, _ = program(text(accounts, transfers), "orders", *words)
+        lines, _ = program(days.of_transfers(accounts, transfers), "orders", *words)
         for word, line in zip(words, lines, strict=True):
             if line != "same":
                 sys.exit(f"orders.py: {transfers} by the schedule {word}: {line!r}")
@@ -188,7 +177,7 @@ def measure(repeat, chance):
     }
     print(f"{'':9}{'read':>9}{'plain':>9}{'plan':>9}{'batch':>9}{'workers':>9}   (seconds; the last four without reading)")
     for name, (accounts, transfers) in batches.items():
-        data = text(accounts, transfers)
+        data = days.of_transfers(accounts, transfers)
         words = ("read", "plain", "plan", "batch", "workers")
         least = {word: min(program(data, word)[1] for _ in range(repeat)) for word in words}
         rest = "".join(f"{least[word] - least['read']:9.3f}" for word in words[1:])

@@ -14,9 +14,9 @@ use Rattle.reg_rules.specs.Checks.{refusal}
 use Rattle.reg_rules.specs.Step.{step, step_by, row_of}
 use Rattle.reg_book.specs.Day.{Day, setting}
 use Rattle.reg_schedules.specs.Pool.{footprint_at, run_at}
-use Rattle.reg_graph.specs.declared.naming.Naming.{Ghosts}
-use Rattle.reg_graph.specs.declared.parcel.Parcel.{Parcel}
-use Rattle.reg_graph.specs.Parcels.{values_of}
+use Rattle.reg_tasks.specs.declared.naming.Naming.{Ghosts}
+use Rattle.reg_tasks.specs.declared.parcel.Parcel.{Parcel}
+use Rattle.reg_tasks.specs.Parcels.{values_of}
 use Rattle.reg_graph.specs.WorldParts.{HaveRoom}
 
 -- what stands in a list with another item at one place, and in one with one more item

@@ -11,15 +11,15 @@ use Rattle.reg_schedules.specs.Pool.{leads_on, run_at}
 use Rattle.reg_schedules.specs.declared.event.EventFault.TheVariants.{NothingToRun, NothingToDeliver}
 use Rattle.reg_schedules.specs.declared.event.EventFault.TheVariants as fault
 use Rattle.reg_schedules.proofs.WorldPossible.{runs-at}
-use Rattle.reg_graph.specs.declared.naming.Naming.{Ghosts}
-use Rattle.reg_graph.specs.declared.parcel.Parcel.{Parcel}
-use Rattle.reg_graph.specs.Parcels.{values_of, afters_of}
+use Rattle.reg_tasks.specs.declared.naming.Naming.{Ghosts}
+use Rattle.reg_tasks.specs.declared.parcel.Parcel.{Parcel}
 use Rattle.reg_schedules.specs.declared.event.EventFault.{EventFault}
 use Rattle.reg_schedules.specs.World.{at_start, known_of, after_event, after_result, after_events, head_of, arrived, after_delivery, delivered_to, delivered_by, HandValue, WorldValue, with_hand, at_place, with_place, with_list, pushed_to, left_by, goes_on, Holds, Carries, after_run, run_by}
 use Rattle.reg_schedules.specs.Docks.{complete, ParcelValue, TaskValue}
 use Rattle.reg_schedules.specs.declared.event.Event.{Event}
 use Rattle.reg_schedules.specs.Schedules.{IsReached}
-use Rattle.reg_graph.specs.WorldParts.{parcels_of, first_head, IsWhy}
+use Rattle.reg_tasks.specs.Parcels.{parcels_of}
+use Rattle.reg_graph.specs.WorldParts.{first_head, IsWhy}
 
 -- what is read at a place of a list that is a view of another
 pub view-at : {X Y : Type 0} (f : X → Y) (xs : List X) (k : ℕ) (x : X) → k < length xs → x ≡ get_or xs k x → slice_get (map f xs) k ≡ Some (f x)
@@ -43,30 +43,6 @@ with-one w worker hand f h = rw h refl
 
 pub list-there : (w : WorldValue) (worker : ℕ) (task : TaskValue) (tasks : List TaskValue) → slice_get w.lists worker ≡ Some tasks → pushed_to worker task w.lists ≡ slice_set w.lists worker (tasks ++ task ∷ [])
 list-there w worker task tasks l = rw l refl
-
-module _ {N : Type 0} {b : Ghosts N} where
-  -- parcels that all stand after one place
-  pub left-of : (ps : List (Parcel N b)) (place : ℕ) → afters_of ps ≡ map (λ v. place) (values_of ps) → parcels_of ps ≡ left_by place (values_of ps)
-  left-of [] place e = refl
-  left-of (p ∷ ps) place e =
-      let one : p.after ≡ place = cc in
-      let rest : afters_of ps ≡ map (λ v. place) (values_of ps) = cc in
-      ap (λ t. record { value = p.value; after = t } ∷ parcels_of ps) one ∙ ap (λ qs. record { value = p.value; after = place } ∷ qs) (left-of ps place rest)
-
-  pub values-are : (ps : List (Parcel N b)) → map (λ p. p.value) (parcels_of ps) ≡ values_of ps
-  values-are [] = refl
-  values-are (p ∷ ps) = ap (λ vs. p.value ∷ vs) (values-are ps)
-
-  pub same-parcels : (ps qs : List (Parcel N b)) → values_of ps ≡ values_of qs → afters_of ps ≡ afters_of qs → parcels_of ps ≡ parcels_of qs
-  same-parcels [] [] v t = refl
-  same-parcels [] (q ∷ qs) v t = absurd cc
-  same-parcels (p ∷ ps) [] v t = absurd cc
-  same-parcels (p ∷ ps) (q ∷ qs) v t =
-      let value : p.value ≡ q.value = cc in
-      let after : p.after ≡ q.after = cc in
-      let values : values_of ps ≡ values_of qs = cc in
-      let afters : afters_of ps ≡ afters_of qs = cc in
-      ap (λ x. record { value = x; after = p.after } ∷ parcels_of ps) value ∙ ap (λ x. record { value = q.value; after = x } ∷ parcels_of ps) after ∙ ap (λ xs. record { value = q.value; after = q.after } ∷ xs) (same-parcels ps qs values afters)
 
 -- of parcels that stand after one place, the arrows from that place lead on from these
 pub those-on : (plan : PlanValue) (place : ℕ) (vs : State) → filter (goes_on plan) (left_by place vs) ≡ filter (λ p. leads_on plan place p.value.number) (left_by place vs)

@@ -4,13 +4,13 @@ use Rattle.std.specs.Prelude.{slice_get, is_some}
 use Rattle.std.specs.Option.{option_map, option_map_or}
 use Rattle.std.specs.List.{list_any}
 use Rattle.std.proofs.lemmas.List.{take_all}
-use Rattle.reg_graph.specs.declared.naming.Naming.{Ghosts}
-use Rattle.reg_graph.specs.declared.task.Task.{Task}
+use Rattle.reg_tasks.specs.declared.naming.Naming.{Ghosts}
+use Rattle.reg_tasks.specs.declared.task.Task.{Task}
 use Rattle.reg_schedules.specs.Docks.{ParcelValue, TaskValue}
 use Rattle.reg_schedules.specs.World.{HandValue, WorldValue, is_task, is_in_hand, is_in_dock, is_in_list_of, is_in_hand_of, is_done}
 use Rattle.reg_counting.specs.Counting.{one_if, total}
 use Rattle.reg_schedules.specs.Schedules.{times_found}
-use Rattle.reg_graph.specs.WorldParts.{task_of}
+use Rattle.reg_tasks.specs.Tasks.{task_of}
 use Rattle.reg_schedules.proofs.WorldCounts.{in_list, in_hand_once}
 use Rattle.reg_graph.proofs.PartFacts.{at-placed}
 

@@ -1,7 +1,1 @@
-pub mod Contexts
-pub mod Names
-pub mod Parcels
-pub mod Gathering
-pub mod Slots
-pub mod Standing
 pub mod WorldParts

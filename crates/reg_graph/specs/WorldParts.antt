@@ -4,9 +4,11 @@ use Rattle.std.specs.Option.{option_map}
 use Rattle.std.specs.declared.vec.Vec.{Vec}
 use Rattle.std.specs.declared.collections.vec_deque.VecDeque.{VecDeque}
 use Rattle.std.proofs.Common.{Global}
-use Rattle.reg_graph.specs.declared.naming.Naming.{Ghosts}
-use Rattle.reg_graph.specs.declared.parcel.Parcel.{Parcel}
-use Rattle.reg_graph.specs.declared.task.Task.{Task}
+use Rattle.reg_tasks.specs.Parcels.{parcels_of}
+use Rattle.reg_tasks.specs.Tasks.{task_of}
+use Rattle.reg_tasks.specs.declared.naming.Naming.{Ghosts}
+use Rattle.reg_tasks.specs.declared.parcel.Parcel.{Parcel}
+use Rattle.reg_tasks.specs.declared.task.Task.{Task}
 use Rattle.reg_graph.specs.declared.hand.Hand.{Hand}
 use Rattle.reg_graph.specs.declared.hand.Hand.TheVariants as parts
 use Rattle.reg_graph.specs.declared.parts.Parts.{Parts}
@@ -38,14 +40,6 @@ first_head plan [] = None
 first_head plan (p ∷ ps) = head_of plan p.after p.value.number
 
 module _ {N : Type 0} {b : Ghosts N} where
-  -- the parcels
-  abbrev pub parcels_of : List (Parcel N b) → List ParcelValue
-  parcels_of parcels = map (λ p. record { value = p.value; after = p.after }) parcels
-
-  -- the task
-  abbrev pub task_of : Task N b → TaskValue
-  task_of t = record { place = t.place; parcels = parcels_of t.parcels.items }
-
   -- the hand
   abbrev pub hand_of : Hand N b → HandValue
   hand_of (parts.Holds t) = Holds (task_of t)

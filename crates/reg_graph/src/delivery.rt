@@ -3,32 +3,21 @@
 ghost use Rattle.std.specs.Prelude.{◌≡◌, ◌++◌, ◌≤◌, ◌<◌, ℕ, List, Some, None, Ok, Err, [], ◌∷◌, length, slice_get, slice_set, MatchResult, OnOk, OnErr, IfErr, IfSome, vec_len, vec_capacity};
 ghost use Rattle.std.specs.Option.{option_map, option_map_or};
 ghost use Rattle.reg_book.specs.Day.{Day};
-ghost use Rattle.reg_graph.specs.Contexts.{the_day};
+ghost use Rattle.reg_tasks.specs.Contexts.{the_day};
 ghost use Rattle.reg_schedules.specs.declared.event.EventFault.TheVariants.{NothingToDeliver};
 ghost use Rattle.reg_schedules.specs.Pool.{footprint_at};
 ghost use Rattle.reg_schedules.specs.Docks.{ParcelValue, complete};
 ghost use Rattle.reg_schedules.specs.World.{Carries, at_place, with_place, head_of, arrived, with_hand, delivered_by};
-ghost use Rattle.reg_graph.specs.WorldParts.{parcels_of, task_of, docks_of, HaveRoom, world_of, first_head};
+ghost use Rattle.reg_tasks.specs.Parcels.{parcels_of};
+ghost use Rattle.reg_tasks.specs.Tasks.{task_of};
+ghost use Rattle.reg_graph.specs.WorldParts.{docks_of, HaveRoom, world_of, first_head};
 
-use crate::context::Context;
 use crate::hand::Hand;
-use crate::naming::Naming;
-use crate::needs::arrow_at;
-use crate::parcel::Parcel;
 use crate::parts::Parts;
-use crate::task::Task;
 use reg_schedules::EventFault;
+use reg_tasks::{Context, Naming, Parcel, Task};
 use std::alloc::Global;
 use std::mem;
-
-// The place to which the arrow at the parcel's account leads on, if there is one.
-fn head_of<N: Naming>(context: &Context<N>, parcel: &Parcel<N>) -> Option<u32>
-    requires from_one { 1 ≤ parcel.now.after }
-    requires within { parcel.now.after ≤ length context.now.batch.now.instructions }
-    ensures { result ≡ head_of context.now.plan parcel.now.after parcel.now.value.number }
-{
-    arrow_at(context.arrows_from(parcel.after()), parcel.account()).map(|arrow| arrow.to)
-}
 
 // The place to which an arrow leads on from the first of these parcels, if there is one.
 fn first_head<N: Naming>(context: &Context<N>, parcels: &[Parcel<N>]) -> Option<u32>
@@ -36,7 +25,7 @@ fn first_head<N: Naming>(context: &Context<N>, parcels: &[Parcel<N>]) -> Option<
     ensures { result ≡ first_head context.now.plan (parcels_of parcels.now) }
 {
     match parcels.split_first() {
-        Some((first, _)) => head_of(context, first),
+        Some((first, _)) => context.head_of(first.after(), first.account()),
         None => None,
     }
 }

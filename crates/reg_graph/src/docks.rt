@@ -1,16 +1,13 @@
 //! The docks at the start.
 
 ghost use Rattle.std.specs.Prelude.{◌≡◌, ◌≤◌, length, IfOk, vec_capacity};
-ghost use Rattle.reg_graph.specs.Contexts.{the_day};
+ghost use Rattle.reg_tasks.specs.Contexts.{the_day};
 ghost use Rattle.reg_schedules.specs.Pool.{footprint_at};
 ghost use Rattle.reg_schedules.specs.World.{opened_at};
-ghost use Rattle.reg_graph.specs.WorldParts.{parcels_of};
+ghost use Rattle.reg_tasks.specs.Parcels.{parcels_of};
 
-use crate::context::Context;
-use crate::naming::Naming;
-use crate::needs::tail_in;
-use crate::parcel::Parcel;
 use reg_base::NoMemory;
+use reg_tasks::{Context, Naming, Parcel};
 use std::alloc::Global;
 
 // The opening values that lie in the dock of a place at the start, with room for all parcels that it awaits, and for no
@@ -25,12 +22,10 @@ pub(crate) fn open_dock<N: Naming>(
     ensures came { IfOk result (λ came. parcels_of came.items ≡ opened_at (the_day context.now) context.now.plan place) }
     ensures room { IfOk result (λ came. vec_capacity came ≡ length (footprint_at (the_day context.now) place)) }
 {
-    let touched = context.touched_at(place);
-    let accounts = touched.as_slice();
-    let arrows = context.arrows_to(place);
+    let accounts = context.touched_at(place);
     let mut came = Vec::with_capacity(alloc, accounts.len())?;
     for account in accounts {
-        if tail_in(arrows, *account) == 0 {
+        if context.tail_of(place, *account) == 0 {
             came.push_reserved(context.opening(alloc, *account)?);
         }
     }

@@ -3,18 +3,17 @@
 ghost use Rattle.std.specs.Prelude.{◌≡◌, ◌≤◌, true, false, [], length, IfOk, MatchResult, vec_capacity};
 ghost use Rattle.reg_book.specs.Settled.{IsOfBook};
 ghost use Rattle.reg_book.specs.Day.{settled_day};
-ghost use Rattle.reg_graph.specs.Contexts.{the_day};
+ghost use Rattle.reg_tasks.specs.Contexts.{the_day};
 ghost use Rattle.reg_schedules.specs.World.{known_of, is_over};
 ghost use Rattle.reg_schedules.specs.Schedules.{IsSettled};
 ghost use Rattle.reg_graph.specs.WorldParts.{world_of};
 
-use crate::gather::settle_day;
-use crate::naming::Naming;
 use crate::parts::Parts;
 use crate::world::World;
 use reg_book::Settled;
 use reg_rules::LogRow;
 use reg_schedules::laws::every_schedule;
+use reg_tasks::Naming;
 
 // Moves the rows that are there to an empty log, in their order.
 fn move_rows(rows: Vec<Option<LogRow>>, mut log: Vec<LogRow>) -> Vec<LogRow>
@@ -60,6 +59,6 @@ impl<'c, 'a, N: Naming> World<'c, 'a, N> {
             log,
             ..
         } = parts;
-        Ok(settle_day(context, move_rows(rows, log), closing))
+        Ok(context.settle_day(move_rows(rows, log), closing))
     }
 }

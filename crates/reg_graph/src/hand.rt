@@ -1,8 +1,6 @@
 //! What a worker has in hand.
 
-use crate::naming::Naming;
-use crate::parcel::Parcel;
-use crate::task::Task;
+use reg_tasks::{Naming, Parcel, Task};
 
 /// What a worker has in hand.
 #[derive(Drop)]

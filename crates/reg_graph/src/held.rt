@@ -1,22 +1,20 @@
 //! The event that runs the task in a worker's hand.
 
 ghost use Rattle.std.specs.Prelude.{◌≡◌, ◌+◌, ◌++◌, ◌≤◌, ◌<◌, Some, Ok, not, [], length, map, filter, slice_get, slice_set, MatchResult, OnOk, OnErr, IfErr, vec_len, vec_capacity};
-ghost use Rattle.reg_graph.specs.Contexts.{the_day};
+ghost use Rattle.reg_tasks.specs.Contexts.{the_day};
 ghost use Rattle.reg_schedules.specs.Pool.{leads_on};
 ghost use Rattle.reg_schedules.specs.Docks.{TaskValue};
 ghost use Rattle.reg_schedules.specs.World.{Holds, with_hand, run_by};
-ghost use Rattle.reg_graph.specs.WorldParts.{parcels_of, task_of, world_of, IsWhy};
+ghost use Rattle.reg_tasks.specs.Parcels.{parcels_of};
+ghost use Rattle.reg_tasks.specs.Tasks.{task_of};
+ghost use Rattle.reg_graph.specs.WorldParts.{world_of, IsWhy};
 ghost use Rattle.reg_schedules.specs.declared.event.EventFault.TheVariants.{NoMemory};
 
-use crate::context::Context;
 use crate::hand::Hand;
-use crate::naming::Naming;
-use crate::needs::leads_on;
-use crate::parcel::Parcel;
 use crate::parts::Parts;
-use crate::task::Task;
 use reg_account::Account;
 use reg_schedules::EventFault;
+use reg_tasks::{Context, Naming, Parcel, Task};
 use std::alloc::Global;
 use std::mem;
 
@@ -37,7 +35,7 @@ fn close<N: Naming>(
     ensures closing { closing.new.items ≡ closing.old.items ++ map (λ p. p.value) (filter (λ p. not (leads_on context.now.plan place p.value.number)) (parcels_of parcels.items)) }
 {
     for parcel in parcels {
-        if leads_on(context, place, parcel.account()) {
+        if context.leads_on(place, parcel.account()) {
             kept.push_reserved(parcel);
         } else {
             let (value, _) = parcel.into_parts();

@@ -7,9 +7,9 @@ ghost use Rattle.reg_schedules.specs.World.{Carries, with_hand, with_list, moved
 ghost use Rattle.reg_graph.specs.WorldParts.{world_of};
 
 use crate::hand::Hand;
-use crate::naming::Naming;
 use crate::parts::Parts;
 use reg_schedules::EventFault;
+use reg_tasks::Naming;
 
 impl<N: Naming> Parts<N> {
     /// Moves the first task of a list to a worker's empty hand.

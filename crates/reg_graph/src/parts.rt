@@ -4,11 +4,9 @@ ghost use Rattle.std.specs.Prelude.{◌≡◌, ◌≤◌, All, [], length, vec_c
 ghost use Rattle.std.specs.VecDeque.{deque_capacity};
 
 use crate::hand::Hand;
-use crate::naming::Naming;
-use crate::parcel::Parcel;
-use crate::task::Task;
 use reg_account::Account;
 use reg_rules::LogRow;
+use reg_tasks::{Naming, Parcel, Task};
 use std::collections::VecDeque;
 
 /// The parts of a world: for each place the parcels that came to its dock, until its task goes out; for each worker its

@@ -6,10 +6,9 @@ ghost use Rattle.reg_schedules.specs.World.{is_in_hand, is_over, IsAt};
 ghost use Rattle.reg_graph.specs.WorldParts.{hand_of, world_of};
 
 use crate::hand::Hand;
-use crate::naming::Naming;
-use crate::task::Task;
 use crate::world::World;
 use reg_schedules::Whereabouts;
+use reg_tasks::{Naming, Task};
 use std::collections::VecDeque;
 
 // Whether a task of the place is in the list.

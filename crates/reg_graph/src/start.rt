@@ -3,16 +3,15 @@
 ghost use Rattle.std.specs.Prelude.{◌≡◌, ◌≤◌, [], None, All, IfOk, map, replicate};
 ghost use Rattle.std.specs.VecDeque.{deque_capacity};
 ghost use Rattle.reg_schedules.specs.World.{empty};
-ghost use Rattle.reg_graph.specs.WorldParts.{task_of, hand_of};
+ghost use Rattle.reg_tasks.specs.Tasks.{task_of};
+ghost use Rattle.reg_graph.specs.WorldParts.{hand_of};
 
-use crate::context::Context;
 use crate::docks::open_dock;
 use crate::hand::Hand;
-use crate::naming::Naming;
 use crate::parts::Parts;
-use crate::task::Task;
 use reg_base::NoMemory;
 use reg_rules::LogRow;
+use reg_tasks::{Context, Naming, Task};
 use std::alloc::Global;
 use std::collections::VecDeque;
 
@@ -56,7 +55,7 @@ fn no_rows(alloc: Global, places: u32) -> Result<Vec<Option<LogRow>>, NoMemory>
 
 impl<N: Naming> Parts<N> {
     ghost use Rattle.std.specs.Prelude.{Bool, List, ◌+◌, ◌++◌, ◌∷◌, ◌<◌, length};
-    ghost use Rattle.reg_graph.specs.Contexts.{the_day};
+    ghost use Rattle.reg_tasks.specs.Contexts.{the_day};
     ghost use Rattle.reg_schedules.specs.Docks.{TaskValue, complete};
     ghost use Rattle.reg_schedules.specs.World.{opened_at, dock_at, dealt, before_some, at_start};
     ghost use Rattle.reg_graph.specs.WorldParts.{docks_of, HaveRoom, lists_of, world_of};

@@ -1,7 +1,7 @@
 //! Carrying events out.
 
 ghost use Rattle.std.specs.Prelude.{◌≡◌, ◌≤◌, ◌<◌, ℕ, List, Some, None, Ok, ◌∷◌, length, slice_get, MatchResult};
-ghost use Rattle.reg_graph.specs.Contexts.{the_day};
+ghost use Rattle.reg_tasks.specs.Contexts.{the_day};
 ghost use Rattle.reg_schedules.specs.Pool.{footprint_at};
 ghost use Rattle.reg_schedules.specs.Docks.{TaskValue, ParcelValue};
 ghost use Rattle.reg_schedules.specs.World.{Holds, Carries, head_of, arrived, after_event};
@@ -9,12 +9,12 @@ ghost use Rattle.reg_schedules.specs.Schedules.{times_found};
 ghost use Rattle.reg_graph.specs.WorldParts.{world_of, IsWhyOf};
 ghost use Rattle.reg_schedules.specs.declared.event.TheConstants.{MOST_WORKERS};
 
-use crate::naming::Naming;
 use crate::world::World;
 use reg_base::laws::{each_footprint_is_sound, last_toucher_is_last};
 use reg_plan::laws::tails_are_last_touchers;
 use reg_rules::step_laws;
 use reg_schedules::{Event, EventFault};
+use reg_tasks::Naming;
 
 impl<N: Naming> World<'_, '_, N> {
     // What is known of a world that a schedule leads to. This method does nothing.

@@ -1,17 +1,16 @@
 //! The workers' world.
 
 ghost use Rattle.std.specs.Prelude.{◌≡◌, ◌≤◌, IfOk};
-ghost use Rattle.reg_graph.specs.Contexts.{the_day};
+ghost use Rattle.reg_tasks.specs.Contexts.{the_day};
 ghost use Rattle.reg_schedules.specs.World.{at_start};
 ghost use Rattle.reg_schedules.specs.Schedules.{IsReached};
 ghost use Rattle.reg_graph.specs.WorldParts.{world_of, HaveRoom};
 ghost use Rattle.reg_schedules.specs.declared.event.TheConstants.{MOST_WORKERS};
 
-use crate::context::Context;
-use crate::naming::Naming;
 use crate::parts::Parts;
 use reg_base::NoMemory;
 use reg_schedules::MOST_WORKERS;
+use reg_tasks::{Context, Naming};
 use std::alloc::Global;
 
 /// Workers with their lists of tasks, the docks in which parcels wait for each other, and what was done. Some schedule

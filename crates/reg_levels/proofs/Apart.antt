@@ -16,10 +16,10 @@ use Rattle.reg_schedules.proofs.Members.{In, contains_from}
 use Rattle.reg_schedules.proofs.Known.{footprint_touches}
 use Rattle.reg_schedules.proofs.Tails as tail
 use Rattle.reg_schedules.proofs.Tails.{clash}
-use Rattle.reg_graph.specs.Slots.{last_of, is_ready}
-use Rattle.reg_graph.proofs.Slotting.{Name}
-use Rattle.reg_graph.proofs.Placing.{stands_ready}
-use Rattle.reg_graph.proofs.OrderSteps.{faultless_at, ready_at}
+use Rattle.reg_tasks.specs.Slots.{last_of, is_ready}
+use Rattle.reg_tasks.proofs.Slotting.{Name}
+use Rattle.reg_tasks.proofs.Placing.{stands_ready}
+use Rattle.reg_tasks.proofs.OrderSteps.{faultless_at, ready_at}
 use Rattle.reg_levels.specs.Levels.{touched_by, StandsBetween, between, IsOneLevel}
 use Rattle.reg_levels.proofs.Between.{between_at, take_between, none_passes, size_take, last_untouched, last_append}
 

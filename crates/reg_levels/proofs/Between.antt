@@ -10,9 +10,9 @@ use Rattle.reg_plan.specs.Arrows.{touches_place}
 use Rattle.reg_book.specs.Day.{Day}
 use Rattle.reg_schedules.specs.Pool.{directory, footprint_at}
 use Rattle.reg_schedules.proofs.Known.{footprint_touches}
-use Rattle.reg_graph.specs.Slots.{last_of, StandAfter, AreOpened, AreTaken}
-use Rattle.reg_graph.proofs.Slotting.{Name}
-use Rattle.reg_graph.proofs.Standing.{last_push}
+use Rattle.reg_tasks.specs.Slots.{last_of, StandAfter, AreOpened, AreTaken}
+use Rattle.reg_tasks.proofs.Slotting.{Name}
+use Rattle.reg_tasks.proofs.Standing.{last_push}
 use Rattle.reg_levels.specs.Levels.{touched_by, StandsBetween, between}
 
 -- positions of an order

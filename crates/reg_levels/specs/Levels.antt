@@ -6,10 +6,10 @@ use Rattle.reg_plan.specs.Arrows.{touches_place}
 use Rattle.reg_plan.specs.Plans.{PlanValue, level_at}
 use Rattle.reg_book.specs.Day.{Day}
 use Rattle.reg_schedules.specs.Pool.{directory}
-use Rattle.reg_graph.specs.declared.naming.Naming.{Ghosts}
-use Rattle.reg_graph.specs.declared.task.Task.{Task}
-use Rattle.reg_graph.specs.declared.outcome.Outcome.{Outcome}
-use Rattle.reg_graph.specs.Slots.{last_of}
+use Rattle.reg_tasks.specs.declared.naming.Naming.{Ghosts}
+use Rattle.reg_tasks.specs.declared.task.Task.{Task}
+use Rattle.reg_tasks.specs.declared.outcome.Outcome.{Outcome}
+use Rattle.reg_tasks.specs.Slots.{last_of}
 
 -- whether the instruction at one of these places touches the account
 abbrev pub touched_by : Day → List ℕ → ℕ → Bool

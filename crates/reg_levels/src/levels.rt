@@ -2,19 +2,19 @@
 
 ghost use Rattle.std.specs.Prelude.{◌≡◌, ◌+◌, ◌≤◌, None, take, length, vec_len, vec_capacity};
 ghost use Rattle.reg_plan.specs.Orders.{first_order_fault};
-ghost use Rattle.reg_graph.specs.Contexts.{the_day};
-ghost use Rattle.reg_graph.specs.Gathering.{places_of as places_done};
-ghost use Rattle.reg_graph.specs.Standing.{stands};
+ghost use Rattle.reg_tasks.specs.Contexts.{the_day};
+ghost use Rattle.reg_tasks.specs.Gathering.{places_of as places_done};
+ghost use Rattle.reg_tasks.specs.Standing.{stands};
 ghost use Rattle.reg_levels.specs.Levels.{AreBetween, IsOneLevel, between};
 
 use crate::order::{level_end, order_by_level};
 use reg_base::NoMemory;
 use reg_base::laws::last_toucher_is_last;
 use reg_book::Settled;
-use reg_graph::{Context, Done, Lack, Naming, Outcome, Slots, Task};
 use reg_plan::laws::{
     levels_rise_along_arrows, no_fault_is_a_legal_order, tails_are_last_touchers,
 };
+use reg_tasks::{Context, Done, Lack, Naming, Outcome, Slots, Task};
 use std::alloc::Global;
 
 /// The instructions of a day, level by level. The tasks of a level are taken together. When they were run, their outcomes are
@@ -39,7 +39,7 @@ impl<'c, 'a, N: Naming> Levels<'c, 'a, N> {
     ghost use Rattle.std.specs.Prelude.{Bool, ◌<◌, ◌==◌, IfOk, IfErr, IfSome, OnOk, slice_index, nat_lt};
     ghost use Rattle.reg_book.specs.Day.{settled_day};
     ghost use Rattle.reg_book.specs.Settled.{IsOfBook};
-    ghost use Rattle.reg_graph.specs.Slots.{IsLack};
+    ghost use Rattle.reg_tasks.specs.Slots.{IsLack};
     ghost use Rattle.reg_levels.specs.Levels.{AreRestOrMost, places_of, places_run};
 
     /// The levels of a day, before the first.

@@ -8,9 +8,9 @@ ghost use Rattle.reg_plan.specs.Orders.{first_order_fault};
 ghost use Rattle.reg_levels.specs.Levels.{AreRestOrMost, IsOneLevel};
 
 use reg_base::NoMemory;
-use reg_graph::{Context, Naming};
 use reg_plan::Plan;
 use reg_plan::laws::{levels_rise_along_arrows, no_fault_is_a_legal_order};
+use reg_tasks::{Context, Naming};
 use std::alloc::Global;
 
 // The level of a place, counted from 1, or 0 if there is no such place.

@@ -1,3 +1,6 @@
+pub mod Ends
 pub mod Faults
 pub mod Parts
+pub mod Shifts
 pub mod Shortages
+pub mod Stints

@@ -6,7 +6,7 @@ ghost use Rattle.reg_work.specs.declared.fault.Shortage.TheVariants.{Memory};
 
 use reg_base::NoMemory;
 use reg_book::SettleFault;
-use reg_graph::Lack;
+use reg_tasks::Lack;
 use std::alloc::AllocError;
 use thiserror::Error;
 

@@ -1,6 +1,6 @@
 //! What a worker passes before it runs a task.
 
-use reg_graph::{Naming, Task};
+use reg_tasks::{Naming, Task};
 
 /// What each worker passes with a complete task before it runs it. Several workers may pass at once.
 pub trait Gate: Sync {

@@ -9,7 +9,7 @@ use crate::fault::Shortage;
 use crate::gate::Gate;
 use crate::parts::divide;
 use reg_base::NoMemory;
-use reg_graph::{Context, Naming, Outcome, Task};
+use reg_tasks::{Context, Naming, Outcome, Task};
 use std::alloc::Global;
 use std::snapshot::Snapshot;
 use std::sync::Wait;

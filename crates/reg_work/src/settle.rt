@@ -4,7 +4,7 @@ ghost use Rattle.std.specs.Prelude.{◌≡◌, ◌<◌, ◌≤◌, ◌+◌, true
 ghost use Rattle.reg_book.specs.Day.{day_of, settled_day};
 ghost use Rattle.reg_book.specs.Settled.{IsOfBook};
 ghost use Rattle.reg_book.specs.Settling.{IsSettleFault};
-ghost use Rattle.reg_graph.specs.Names.{IsNamed};
+ghost use Rattle.reg_tasks.specs.Names.{IsNamed};
 ghost use Rattle.reg_work.specs.Faults.{are_workers, IsWorkFault};
 
 use crate::fault::{Shortage, WorkFault};
@@ -12,15 +12,16 @@ use crate::gate::Gate;
 use crate::level::run_level;
 use reg_base::{Batch, Rules};
 use reg_book::{Book, Settled};
-use reg_graph::{Context, MOST_WORKERS, Naming};
 use reg_levels::Levels;
+use reg_schedules::MOST_WORKERS;
+use reg_tasks::{Context, Naming};
 use std::alloc::Global;
 use std::marker::Brand;
 use std::sync::Wait;
 use std::thread::Threads;
 
 // Whether this number of workers is within its limits.
-fn is_allowed(workers: u32) -> bool
+pub(crate) fn is_allowed(workers: u32) -> bool
     ensures { result ≡ are_workers workers }
 {
     1 <= workers && workers <= MOST_WORKERS

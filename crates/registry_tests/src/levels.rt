@@ -14,16 +14,16 @@ use std::sync::atomic::{AtomicU32, Ordering};
 use std::thread::Threads;
 
 // How often a gate looks before it gives up.
-const TURNS: u32 = 1_000_000;
+pub(crate) const TURNS: u32 = 1_000_000;
 
 // A transfer, and another that brings back what the first one moved.
-const BACK: &str = "\
+pub(crate) const BACK: &str = "\
 do,2025-03-31,101,102,transfer,1,2,general,100
 do,2025-03-31,201,202,transfer,2,1,general,100
 ";
 
 // Eight transfers to unknown accounts, which touch no account.
-const UNKNOWN: &str = "\
+pub(crate) const UNKNOWN: &str = "\
 do,2025-03-31,101,102,transfer,1,71,general,1
 do,2025-03-31,101,102,transfer,1,72,general,1
 do,2025-03-31,101,102,transfer,1,73,general,1
@@ -37,15 +37,15 @@ do,2025-03-31,101,102,transfer,1,78,general,1
 // A gate that holds each task until so many have entered. It counts the tasks that waited in vain, and adds up the
 // numbers of the workers.
 #[derive(Drop)]
-struct Meeting {
+pub(crate) struct Meeting {
     wanted: u32,
     entered: AtomicU32,
-    missed: AtomicU32,
+    pub(crate) missed: AtomicU32,
     workers: AtomicU32,
 }
 
 impl Meeting {
-    fn of(wanted: u32) -> Meeting {
+    pub(crate) fn of(wanted: u32) -> Meeting {
         Meeting {
             wanted,
             entered: AtomicU32::new(0),
@@ -154,7 +154,7 @@ fn fault_of(rt: &impl Abort, alloc: Global, order: &[u32]) -> Option<OrderFault>
 }
 
 // As many transfers as a batch can have, of which the first 100 find enough.
-fn full_batch(rt: &impl Abort, alloc: Global) -> String {
+pub(crate) fn full_batch(rt: &impl Abort, alloc: Global) -> String {
     "do,2025-03-31,101,102,transfer,1,2,general,1\n"
         .repeat(alloc, 16_384)
         .expect(rt, "memory")

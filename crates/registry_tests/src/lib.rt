@@ -10,7 +10,11 @@ mod book;
 #[cfg(test)]
 mod changes;
 #[cfg(test)]
+mod crew;
+#[cfg(test)]
 mod days;
+#[cfg(test)]
+mod docks;
 #[cfg(test)]
 mod fixtures;
 #[cfg(test)]
@@ -27,3 +31,5 @@ mod rules;
 mod texts;
 #[cfg(test)]
 mod worlds;
+#[cfg(test)]
+mod yards;

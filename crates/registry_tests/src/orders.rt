@@ -5,7 +5,7 @@ ghost use Rattle.reg_base.specs.Touches.{touches, is_touched};
 ghost use Rattle.reg_book.specs.Book.{directory_of};
 ghost use Rattle.reg_book.specs.Day.{day_of, settled_day};
 ghost use Rattle.reg_book.specs.Settled.{IsOfBook};
-ghost use Rattle.reg_graph.specs.Names.{IsNamed};
+ghost use Rattle.reg_tasks.specs.Names.{IsNamed};
 
 use crate::days::put_in;
 use crate::fixtures::{account_no, worked};
@@ -138,8 +138,8 @@ fn is_touched(batch: &Batch, directory: &Directory, number: AccountNo) -> bool
     instructions.any(|instruction| touches(instruction, directory, number))
 }
 
-// The opening value of an account.
-fn opening<N: Naming>(
+/// The opening value of an account.
+pub(crate) fn opening<N: Naming>(
     rt: &impl Abort,
     alloc: Global,
     context: &Context<N>,

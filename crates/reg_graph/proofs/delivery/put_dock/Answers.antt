@@ -1,7 +1,8 @@
 use Rattle.std.proofs.Common.{◌-◌, Some, sym, ◌∙◌}
 use Rattle.std.specs.Option.{option_map}
 use Rattle.std.proofs.lemmas.List.{map-set}
-use Rattle.reg_graph.specs.WorldParts.{parcels_of, docks_of}
+use Rattle.reg_tasks.specs.Parcels.{parcels_of}
+use Rattle.reg_graph.specs.WorldParts.{docks_of}
 use Rattle.reg_graph.proofs.PartFacts.{placed}
 use Rattle.reg_graph.proofs.DockRoom.{room-there}
 use Rattle.reg_graph.proofs.delivery.put_dock.Goals as goal

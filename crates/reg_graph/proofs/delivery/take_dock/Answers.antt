@@ -3,7 +3,8 @@ use Rattle.std.specs.Prelude.{slice_set, IfSome, vec_capacity}
 use Rattle.std.specs.Option.{option_map, option_map_or}
 use Rattle.std.proofs.lemmas.List.{map-set}
 use Rattle.reg_schedules.specs.Pool.{footprint_at}
-use Rattle.reg_graph.specs.WorldParts.{parcels_of, docks_of, HaveRoom}
+use Rattle.reg_tasks.specs.Parcels.{parcels_of}
+use Rattle.reg_graph.specs.WorldParts.{docks_of, HaveRoom}
 use Rattle.reg_graph.proofs.PartFacts.{view-at, placed, at-placed}
 use Rattle.reg_graph.proofs.DockRoom.{room-at, room-closed}
 use Rattle.reg_graph.proofs.delivery.take_dock.Goals as goal

@@ -3,7 +3,7 @@ use Rattle.std.specs.Prelude.{filter}
 use Rattle.reg_book.specs.Day.{day_of}
 use Rattle.reg_schedules.specs.Pool.{tail_of}
 use Rattle.reg_schedules.specs.World.{opening_of, known_of, opened_at}
-use Rattle.reg_graph.specs.WorldParts.{parcels_of}
+use Rattle.reg_tasks.specs.Parcels.{parcels_of}
 use Rattle.reg_graph.proofs.docks.open_dock.Given as goal
 
 -- what came, and what still comes, are the whole, and there is room for what still comes

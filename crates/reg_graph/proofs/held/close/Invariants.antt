@@ -1,7 +1,7 @@
 use Rattle.std.proofs.Common.{◌≡◌, ◌≤◌, ◌+◌, ◌++◌, not, length, map, vec_len, vec_capacity}
 use Rattle.std.specs.Prelude.{filter}
 use Rattle.reg_schedules.specs.Pool.{leads_on}
-use Rattle.reg_graph.specs.WorldParts.{parcels_of}
+use Rattle.reg_tasks.specs.Parcels.{parcels_of}
 use Rattle.reg_graph.proofs.held.close.Given as goal
 
 -- what was kept and closed, and what is still to come, are the whole

@@ -1,7 +1,7 @@
 use Rattle.std.proofs.Common.{◌≡◌, ◌≤◌, [], map}
 use Rattle.std.specs.Prelude.{All, replicate}
 use Rattle.std.specs.VecDeque.{deque_capacity}
-use Rattle.reg_graph.specs.WorldParts.{task_of}
+use Rattle.reg_tasks.specs.Tasks.{task_of}
 use Rattle.reg_graph.proofs.start.empty_lists.Given as goal
 
 abbrev pub invariant-loop : goal.invariant-loop

@@ -5,7 +5,7 @@ use Rattle.reg_base.specs.Rising.{count_up}
 use Rattle.reg_plan.specs.Plans.{PlanValue, level_at}
 use Rattle.std.proofs.Props.{props}
 use mathlib.Core.Logic.{∥∥₁_elim}
-use Rattle.reg_graph.specs.Contexts.{the_day}
+use Rattle.reg_tasks.specs.Contexts.{the_day}
 use Rattle.reg_schedules.specs.Pool.{directory}
 use Rattle.reg_levels.proofs.Ordered.{legal_by_level}
 use Rattle.reg_levels.proofs.order.order_by_level.Goals as goal

@@ -6,7 +6,9 @@ use Rattle.reg_book.specs.Day.{day_of}
 use Rattle.reg_graph.specs.declared.hand.Hand.TheVariants as hand
 use Rattle.reg_schedules.specs.Docks.{ParcelValue, complete}
 use Rattle.reg_schedules.specs.World.{Carries, with_place, after_delivery, delivered_by}
-use Rattle.reg_graph.specs.WorldParts.{parcels_of, task_of, hand_of, docks_of, world_of, first_head}
+use Rattle.reg_tasks.specs.Parcels.{parcels_of}
+use Rattle.reg_tasks.specs.Tasks.{task_of}
+use Rattle.reg_graph.specs.WorldParts.{hand_of, docks_of, world_of, first_head}
 use Rattle.reg_schedules.proofs.WorldSums.{at_within, length-place}
 use Rattle.reg_schedules.proofs.WorldCounts.{dock-of}
 use Rattle.reg_graph.proofs.PartFacts.{goes-to, still-none, place-twice, first-is}

@@ -5,7 +5,8 @@ use Rattle.std.proofs.Math.Seq.{map-set_same}
 use Rattle.reg_book.specs.Day.{day_of}
 use Rattle.reg_graph.specs.declared.hand.Hand.TheVariants as hand
 use Rattle.reg_schedules.specs.World.{Carries, delivered_by}
-use Rattle.reg_graph.specs.WorldParts.{parcels_of, hand_of, world_of}
+use Rattle.reg_tasks.specs.Parcels.{parcels_of}
+use Rattle.reg_graph.specs.WorldParts.{hand_of, world_of}
 use Rattle.reg_graph.proofs.PartFacts.{view-at, with-one, set-twice, set-back, deliver-anew, why-delivery, with-first}
 use Rattle.reg_graph.proofs.parts.Parts.deliver_parcel.Goals as goal
 

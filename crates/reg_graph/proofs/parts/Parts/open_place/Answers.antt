@@ -5,7 +5,8 @@ use Rattle.std.proofs.lemmas.List.{map-set, map-append, length-map}
 use Rattle.reg_book.specs.Day.{day_of}
 use Rattle.reg_schedules.specs.Docks.{TaskValue, complete}
 use Rattle.reg_schedules.specs.World.{opened_at, dealt, before_some}
-use Rattle.reg_graph.specs.WorldParts.{task_of, HaveRoom, lists_of}
+use Rattle.reg_tasks.specs.Tasks.{task_of}
+use Rattle.reg_graph.specs.WorldParts.{HaveRoom, lists_of}
 use Rattle.reg_graph.proofs.PartFacts.{view-at}
 use Rattle.reg_graph.proofs.Dealing.{deal-one}
 use Rattle.reg_graph.proofs.DockRoom.{room-more}

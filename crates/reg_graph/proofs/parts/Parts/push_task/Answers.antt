@@ -6,7 +6,9 @@ use Rattle.std.proofs.lemmas.List.{map-set, map-append, length-map}
 use Rattle.std.proofs.Math.Seq.{map-set_same}
 use Rattle.reg_graph.specs.declared.hand.Hand.TheVariants as hand
 use Rattle.reg_schedules.specs.World.{Carries, pushed_by}
-use Rattle.reg_graph.specs.WorldParts.{parcels_of, task_of, hand_of, world_of}
+use Rattle.reg_tasks.specs.Parcels.{parcels_of}
+use Rattle.reg_tasks.specs.Tasks.{task_of}
+use Rattle.reg_graph.specs.WorldParts.{hand_of, world_of}
 use Rattle.reg_graph.proofs.PartFacts.{view-at, with-one, list-there}
 use Rattle.reg_graph.proofs.parts.Parts.push_task.Goals as goal
 

@@ -8,9 +8,12 @@ use Rattle.reg_schedules.specs.Pool.{leads_on, run_at}
 use Rattle.reg_graph.specs.declared.hand.Hand.TheVariants as hand
 use Rattle.reg_schedules.specs.World.{Holds, Carries, with_place, left_by, goes_on, after_run}
 use Rattle.reg_schedules.specs.declared.event.EventFault.TheVariants.{NothingToRun}
-use Rattle.reg_graph.specs.Parcels.{values_of}
-use Rattle.reg_graph.specs.WorldParts.{parcels_of, task_of, hand_of, world_of}
-use Rattle.reg_graph.proofs.PartFacts.{values-are, same-parcels, those-on, those-closing, placed}
+use Rattle.reg_tasks.specs.Parcels.{values_of}
+use Rattle.reg_tasks.specs.Parcels.{parcels_of}
+use Rattle.reg_tasks.specs.Tasks.{task_of}
+use Rattle.reg_graph.specs.WorldParts.{hand_of, world_of}
+use Rattle.reg_tasks.proofs.Values.{values-are, same-parcels}
+use Rattle.reg_graph.proofs.PartFacts.{those-on, those-closing, placed}
 use Rattle.reg_graph.proofs.DockRoom.{as-many}
 use Rattle.reg_graph.proofs.parts.Parts.run_held.Goals as goal
 

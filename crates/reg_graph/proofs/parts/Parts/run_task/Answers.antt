@@ -5,7 +5,8 @@ use Rattle.std.proofs.Math.Seq.{map-set_same}
 use Rattle.reg_book.specs.Day.{day_of}
 use Rattle.reg_graph.specs.declared.hand.Hand.TheVariants as hand
 use Rattle.reg_schedules.specs.World.{Holds, run_by}
-use Rattle.reg_graph.specs.WorldParts.{task_of, hand_of, world_of}
+use Rattle.reg_tasks.specs.Tasks.{task_of}
+use Rattle.reg_graph.specs.WorldParts.{hand_of, world_of}
 use Rattle.reg_graph.proofs.PartFacts.{view-at, with-one, set-twice, set-back, run-anew, can-run, why-run}
 use Rattle.reg_graph.proofs.parts.Parts.run_task.Goals as goal
 

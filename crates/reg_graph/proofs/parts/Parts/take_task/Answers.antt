@@ -4,7 +4,8 @@ use Rattle.std.specs.VecDeque.{deque_len}
 use Rattle.std.proofs.lemmas.List.{map-set}
 use Rattle.std.proofs.Math.Seq.{map-set_same}
 use Rattle.reg_schedules.specs.World.{Holds, moved}
-use Rattle.reg_graph.specs.WorldParts.{task_of, hand_of, world_of}
+use Rattle.reg_tasks.specs.Tasks.{task_of}
+use Rattle.reg_graph.specs.WorldParts.{hand_of, world_of}
 use Rattle.reg_graph.proofs.PartFacts.{view-at, none-left, with-both}
 use Rattle.reg_graph.proofs.parts.Parts.take_task.Goals as goal
 

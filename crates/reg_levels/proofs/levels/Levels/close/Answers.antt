@@ -3,13 +3,13 @@ use Rattle.std.proofs.lemmas.List.{take_all}
 use Rattle.std.proofs.Props.{props}
 use mathlib.Core.Logic.{∥∥₁_elim}
 use Rattle.reg_book.specs.Day.{Day}
-use Rattle.reg_graph.specs.Contexts.{the_day}
-use Rattle.reg_graph.specs.Gathering.{places_of as places_done}
-use Rattle.reg_graph.specs.Slots.{IsAtEnd}
-use Rattle.reg_graph.specs.Standing.{stands}
-use Rattle.reg_graph.proofs.Gathering.{no_name}
-use Rattle.reg_graph.proofs.Placing.{lack_from, err_more}
-use Rattle.reg_graph.proofs.OrderSteps.{ends_so}
+use Rattle.reg_tasks.specs.Contexts.{the_day}
+use Rattle.reg_tasks.specs.Gathering.{places_of as places_done}
+use Rattle.reg_tasks.specs.Slots.{IsAtEnd}
+use Rattle.reg_tasks.specs.Standing.{stands}
+use Rattle.reg_tasks.proofs.Gathering.{no_name}
+use Rattle.reg_tasks.proofs.Placing.{lack_from, err_more}
+use Rattle.reg_tasks.proofs.OrderSteps.{ends_so}
 use Rattle.reg_levels.specs.Levels.{StandsBetween}
 use Rattle.reg_levels.proofs.Between.{none_between, stands_after}
 use Rattle.reg_levels.proofs.levels.Levels.close.Goals as goal

@@ -4,12 +4,12 @@ use Rattle.reg_base.specs.Footprint.{is_among}
 use Rattle.reg_plan.specs.Orders.{first_order_fault}
 use Rattle.reg_book.specs.Day.{Day}
 use Rattle.reg_schedules.specs.Pool.{footprint_at}
-use Rattle.reg_graph.specs.Contexts.{the_day}
-use Rattle.reg_graph.specs.Gathering.{places_of as places_done}
-use Rattle.reg_graph.specs.Parcels.{names_of}
-use Rattle.reg_graph.specs.Slots.{laid_at}
-use Rattle.reg_graph.specs.Standing.{stands}
-use Rattle.reg_graph.proofs.Placing.{laid_left}
+use Rattle.reg_tasks.specs.Contexts.{the_day}
+use Rattle.reg_tasks.specs.Gathering.{places_of as places_done}
+use Rattle.reg_tasks.specs.Parcels.{names_of}
+use Rattle.reg_tasks.specs.Slots.{laid_at}
+use Rattle.reg_tasks.specs.Standing.{stands}
+use Rattle.reg_tasks.proofs.Placing.{laid_left}
 use Rattle.reg_levels.specs.Levels.{StandsBetween, IsOneLevel, between}
 use Rattle.reg_levels.proofs.Between.{between_first, laid_more}
 use Rattle.reg_levels.proofs.Apart.{untouched_after, level_more}

@@ -1,0 +1,100 @@
+#!/usr/bin/env -S python3 -B
+"""Tries workers that steal on drawn batches, and measures all ways of settling a day beside each other.
+
+usage: workers.py [--repeat N] [--samples N] [--seed N]
+
+It starts crates/registry_workers/out/registry_workers, which `cd crates/registry_workers && rt run` builds.
+
+Tries
+  - batches of one to sixty drawn transfers by one to eight workers, of whom one is held up before each run, each
+    batch several times: each run must give the day that settling one instruction after another gives, and have each
+    instruction in one shift, once.
+Measures, for 16,384 transfers that are wide (no two share an account), chained (each touches an account of the one
+before it) and mixed (random pairs of 2,000 accounts), the milliseconds of processor time and of the clock, least of
+all repeats, without those of reading the text: of settling plainly, in batch order on values of their own, level by
+level and by workers that steal, the last two for each number of workers. All of them in turn, in one run.
+"""
+
+import argparse
+import os
+import random
+import resource
+import subprocess
+import time
+
+import days
+
+TOP = os.path.dirname(os.path.dirname(os.path.abspath(__file__)))
+PROGRAM = os.path.join(TOP, "crates", "registry_workers", "out", "registry_workers")
+WORKERS = range(1, 9)
+
+
+def program(data, *words):
+    """What the program writes, its milliseconds of processor time, and those of the clock."""
+    before = resource.getrusage(resource.RUSAGE_CHILDREN)
+    begun = time.monotonic()
+    done = subprocess.run([PROGRAM, *map(str, words)], input=data, stdout=subprocess.PIPE, check=True, timeout=120)
+    passed = time.monotonic() - begun
+    after = resource.getrusage(resource.RUSAGE_CHILDREN)
+    used = after.ru_utime + after.ru_stime - before.ru_utime - before.ru_stime
+    return done.stdout.decode().splitlines(), 1000 * used, 1000 * passed
+
+
+def try_samples(samples, chance):
+    """Drawn batches by workers of whom one is held up."""
+    tried = 0
+    for _ in range(samples):
+        accounts = chance.randint(2, 12)
+        transfers = [chance.sample(range(1, accounts + 2), 2) for _ in range(chance.randint(1, 60))]
+        workers = chance.choice(WORKERS)
+        held_up = chance.randrange(workers)
+        lines, _, _ = program(days.of_transfers(accounts, transfers), "try", workers, held_up, 10)
+        if lines != ["same"] * 10:
+            raise SystemExit(f"workers.py: {workers} workers, worker {held_up} held up, {transfers}: {lines}")
+        tried += 10
+    print(f"{tried} runs of {samples} drawn batches gave the plain day, each place in one shift")
+
+
+def shapes(chance):
+    """The three days, by name."""
+    most = 16_384
+    wide = days.of_transfers(2 * most, [(2 * k + 1, 2 * k + 2) for k in range(most)])
+    chained = days.of_transfers(most + 1, [(k + 1, k + 2) for k in range(most)])
+    mixed = days.of_transfers(2_000, [chance.sample(range(1, 2_001), 2) for _ in range(most)])
+    return {"wide": wide, "chained": chained, "mixed": mixed}
+
+
+def ways():
+    """All ways of settling, as the program's words."""
+    alone = [("plain",), ("order",)]
+    return alone + [(way, n) for way in ("levels", "crew") for n in WORKERS]
+
+
+def measure(repeat, chance):
+    """The least times of each way, without those of reading."""
+    for name, data in shapes(chance).items():
+        least = {}
+        for _ in range(repeat):
+            for words in [("read",), *ways()]:
+                _, used, passed = program(data, *words)
+                old = least.get(words, (used, passed))
+                least[words] = (min(old[0], used), min(old[1], passed))
+        read = least.pop(("read",))
+        print(f"\n{name}: reading takes {read[0]:.0f} ms of processor time, {read[1]:.0f} ms of the clock")
+        print("| way | processor time | clock |\n|---|---|---|")
+        for words, (used, passed) in least.items():
+            print(f"| {' '.join(map(str, words))} | {used - read[0]:.1f} ms | {passed - read[1]:.1f} ms |")
+
+
+def main():
+    parser = argparse.ArgumentParser(description=__doc__, formatter_class=argparse.RawDescriptionHelpFormatter)
+    parser.add_argument("--repeat", type=int, default=9)
+    parser.add_argument("--samples", type=int, default=100)
+    parser.add_argument("--seed", type=int, default=1)
+    words = parser.parse_args()
+    chance = random.Random(words.seed)
+    try_samples(words.samples, chance)
+    measure(words.repeat, chance)
+
+
+main()

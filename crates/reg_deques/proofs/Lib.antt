@@ -1,0 +1,4 @@
+pub mod Counts
+pub mod Moves
+pub mod Holdings
+pub mod Passes

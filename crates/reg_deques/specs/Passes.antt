@@ -1,0 +1,32 @@
+-- What a contract says of an owner, a desk and a part of a pass.
+use Rattle.atomic_blocks.specs.Lent.{RowsId}
+use Rattle.std.specs.declared.alloc.Global.{Global}
+use Rattle.atomic_table.specs.Seated.{TableId}
+use Rattle.crossbeam_deque.specs.Handles.{worker_deque, worker_view, stealer_deque}
+use Rattle.reg_deques.specs.declared.views.Holding.{Holding}
+use Rattle.reg_deques.specs.declared.views.View.{View}
+use Rattle.reg_deques.specs.declared.owner.Owner.{Owner}
+use Rattle.reg_deques.specs.declared.desk.Desk.{Desk}
+use Rattle.reg_deques.specs.declared.pass.Part.{Part}
+
+-- which deque it is, and which table has its tickets
+abbrev pub DequeId : Type 0
+DequeId = (RowsId × Global) × TableId
+
+module _ {N : Type 0} {b : _} where
+  abbrev pub owner_id : Owner N b → DequeId
+  owner_id o = (worker_deque o.deque, o.table.value.shared.table_id)
+
+  abbrev pub desk_id : Desk N b → DequeId
+  desk_id d = (stealer_deque d.stealer, d.table.value.shared.table_id)
+
+  abbrev pub part_id : Part N b → DequeId
+  part_id p = ((p.pass.rows, p.pass.heap), p.seat.table_id)
+
+  -- what the owner put and took
+  abbrev pub owned : Owner N b → View
+  owned o = worker_view o.deque
+
+  -- what a part of a pass says
+  abbrev pub known : Part N b → Holding
+  known p = p.seat.me.0

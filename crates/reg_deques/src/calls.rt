@@ -1,0 +1,127 @@
+//! What a worker does with the yard and its pass.
+
+ghost use Rattle.std.specs.Prelude.{◌≡◌, ◌≢◌, ◌<◌, ◌≤◌, ◌∷◌, [], All, Some, slice_get, vec_len, map, set, IfOk, IfSome, IfNone};
+ghost use Rattle.std.specs.List.{range_with_len};
+ghost use Rattle.reg_deques.specs.Passes.{desk_id, part_id, known};
+ghost use Rattle.reg_deques.specs.Tickets.{empty};
+ghost use Rattle.reg_deques.specs.Yards.{workers_of, worker_of, deques, deques_of_pass, deques_of_owners, each_owned, views, IsNew, IsPassOf, IsBlank, StealsAt, AllJoin};
+
+use crate::desk::Desk;
+use crate::owner::Owner;
+use crate::pass::{Part, Pass};
+use crate::yard::Yard;
+use reg_base::NoMemory;
+use reg_tasks::{Naming, Task};
+use std::alloc::Global;
+
+// A part of a pass at the deque of one owner.
+fn part_at<N: Naming>(owners: &mut Vec<Owner<N>>, k: usize) -> Part<N>
+    requires within { k < vec_len owners.old }
+    ensures of { slice_get (deques_of_owners owners.old.items) k ≡ Some (part_id result) }
+    ensures blank { known result ≡ empty }
+    ensures same { (deques_of_owners owners.new.items ≡ deques_of_owners owners.old.items) × (each_owned owners.new.items ≡ each_owned owners.old.items) }
+{
+    owners[k].part()
+}
+
+// A pass at the deques of all owners.
+fn pass_at<N: Naming>(
+    alloc: Global,
+    owners: &mut Vec<Owner<N>>,
+    worker: u32,
+) -> Result<Pass<N>, NoMemory>
+    ensures worker { IfOk result (λ p. worker_of p ≡ worker) }
+    ensures of { IfOk result (λ p. deques_of_pass p ≡ deques_of_owners owners.old.items) }
+    ensures blank { IfOk result IsBlank }
+    ensures same { (deques_of_owners owners.new.items ≡ deques_of_owners owners.old.items) × (each_owned owners.new.items ≡ each_owned owners.old.items) }
+{
+    let mut parts = Vec::new(alloc);
+    for k in 0..owners.len() {
+        parts.push(part_at(owners, k))?;
+    }
+    Ok(Pass { worker, parts })
+}
+
+// Joins the parts of one pass with those of another, deque by deque.
+fn join_parts<N: Naming>(desks: &Vec<Desk<N>>, parts: &mut Vec<Part<N>>, mut others: Vec<Part<N>>)
+    requires of { map part_id parts.old.items ≡ map desk_id desks.now.items }
+    requires others { map part_id others.items ≡ map desk_id desks.now.items }
+    ensures of { map part_id parts.new.items ≡ map part_id parts.old.items }
+    ensures joined { AllJoin (map known parts.old.items) (map known others.items) (map known parts.new.items) }
+{
+    while let Some(other) = others.pop() {
+        let k = others.len();
+        desks[k].join(&mut parts[k], other);
+    }
+}
+
+impl<N: Naming> Yard<N> {
+    /// A deque for each worker, in which there is room for 16 tasks, its owner, and a pass for each worker.
+    ///
+    /// # Errors
+    ///
+    /// `NoMemory` if there was no room for the deques.
+    pub fn new(
+        alloc: Global,
+        workers: u32,
+    ) -> Result<(Yard<N>, Vec<Owner<N>>, Vec<Pass<N>>), NoMemory>
+        requires some { 1 ≤ workers }
+        requires few { workers ≤ 8 }
+        ensures counts { IfOk result (λ made. (workers_of made.0 ≡ workers) × (vec_len made.1 ≡ workers) × (vec_len made.2 ≡ workers)) }
+        ensures owners { IfOk result (λ made. deques_of_owners made.1.items ≡ deques made.0) }
+        ensures fresh { IfOk result (λ made. All IsNew (each_owned made.1.items)) }
+        ensures passes { IfOk result (λ made. All (λ p. IsPassOf made.0 p × IsBlank p) made.2.items) }
+        ensures numbers { IfOk result (λ made. map worker_of made.2.items ≡ range_with_len 0 workers) }
+    {
+        let mut owners = Vec::new(alloc);
+        let mut desks = Vec::new(alloc);
+        for _ in 0..workers {
+            let owner = Owner::new(alloc)?;
+            desks.push(Desk::of(&owner)?)?;
+            owners.push(owner)?;
+        }
+        let mut passes = Vec::new(alloc);
+        for worker in 0..workers {
+            passes.push(pass_at(alloc, &mut owners, worker)?)?;
+        }
+        Ok((Yard { desks }, owners, passes))
+    }
+
+    /// How many deques there are.
+    pub fn workers(&self) -> usize
+        ensures { result ≡ workers_of self.now }
+    {
+        self.desks.len()
+    }
+
+    /// Takes the first task of another worker, if there is one and nobody is quicker. The pass must be of this yard.
+    pub fn steal(&self, pass: &mut Pass<N>, from: u32) -> Option<Task<N>>
+        requires of { IsPassOf self.now pass.old }
+        requires within { from < workers_of self.now }
+        requires other { from ≢ worker_of pass.old }
+        ensures of { deques_of_pass pass.new ≡ deques_of_pass pass.old }
+        ensures worker { worker_of pass.new ≡ worker_of pass.old }
+        ensures some { IfSome result (λ t. StealsAt from (views pass.old) t.place (views pass.new)) }
+        ensures none { IfNone result (views pass.new ≡ views pass.old) }
+    {
+        let at = from as usize;
+        self.desks[at].steal(&mut pass.parts[at])
+    }
+
+    /// Makes one pass of two of this yard, which knows what both know. It is the first's worker's.
+    pub fn join(&self, pass: Pass<N>, other: Pass<N>) -> Pass<N>
+        requires of { IsPassOf self.now pass }
+        requires other { IsPassOf self.now other }
+        ensures of { IsPassOf self.now result }
+        ensures worker { worker_of result ≡ worker_of pass }
+        ensures joined { AllJoin (views pass) (views other) (views result) }
+    {
+        let Pass { worker, mut parts } = pass;
+        let Pass {
+            worker: _,
+            parts: others,
+        } = other;
+        join_parts(&self.desks, &mut parts, others);
+        Pass { worker, parts }
+    }
+}

@@ -1,0 +1,29 @@
+//! Deques of ready tasks: one for each worker, who puts tasks behind and takes the first, while the others steal the first.
+//!
+//! A [`Yard`] has a deque for each worker. Its [`Owner`] puts and takes tasks. A worker steals from the others by its [`Pass`],
+//! which says what it knows of each deque: the positions that it took, and the places that it saw to be put. What is known
+//! exists in proofs alone, and takes no bytes. The rule of a deque (`specs/Deques.antt`) holds between any two steps of any
+//! threads, so the tasks come out in the order in which they were put, and each position is taken once.
+//!
+//! The kit's deque joins a pass only with its worker. So each task lies in its deque with a ticket of its position, which who
+//! takes the task gets with it. The tickets of a deque have a table, whose rule (`specs/Tickets.antt`) says that no ticket is
+//! at two seats: so two passes can be joined, and no position is in both. A ticket takes no bytes either.
+//!
+//! Only [`Yard::new`] and [`Owner::put`] take memory. No call here waits.
+#![tactic(auto)]
+
+mod calls;
+mod desk;
+mod owner;
+mod owning;
+mod pass;
+mod rule;
+mod stealing;
+mod ticket;
+mod views;
+mod yard;
+
+pub use owner::Owner;
+pub use pass::{Part, Pass};
+pub use views::{Holding, View};
+pub use yard::Yard;

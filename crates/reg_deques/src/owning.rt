@@ -1,0 +1,105 @@
+//! What the owner of a deque does.
+
+ghost use Rattle.std.specs.Prelude.{◌≡◌, ◌≤◌, ◌∷◌, [], length, IfOk, IfErr, IfSome, IfNone, OnOk};
+ghost use Rattle.crossbeam_deque.specs.Handles.{worker_deque, worker_view, worker_flavor, worker_capacity, worker_index};
+ghost use Rattle.reg_deques.specs.Views.{fresh, with_table, with_put};
+ghost use Rattle.reg_deques.specs.Tickets.{empty};
+ghost use Rattle.reg_deques.specs.Steps.{TakesOwn};
+ghost use Rattle.reg_deques.specs.Passes.{owner_id, part_id, owned, known};
+
+use crate::owner::{Deque, Owner, TicketTable};
+use crate::pass::Part;
+use crate::rule::{
+    Issuing, Parting, Placing, Putting, Returning, Seating, Taking, Telling, Ticketing,
+};
+use crate::ticket::Ticketed;
+use atomic_table::Table;
+use crossbeam_deque::Worker;
+use reg_base::NoMemory;
+use reg_tasks::{Naming, Task};
+use std::alloc::Global;
+use std::marker::Brand;
+use std::sync::Arc;
+
+// Tells the owner of a new deque the table of its tickets.
+fn tell<N: Naming, T: Ticketing>(deque: &mut Deque<N>, table: &TicketTable)
+    requires table { T.table ≡ table.now.shared.table_id }
+    requires fresh { worker_view deque.old ≡ fresh }
+    ensures same { (worker_deque deque.new ≡ worker_deque deque.old) × (worker_flavor deque.new ≡ worker_flavor deque.old) }
+    ensures room { worker_capacity deque.old ≤ worker_capacity deque.new }
+    ensures index { worker_index deque.new ≡ worker_index deque.old }
+    ensures view { worker_view deque.new ≡ with_table T.table fresh }
+{
+    deque.another::<Telling<T>>();
+}
+
+impl<N: Naming> Owner<N> {
+    // A new deque, which has room for 16 tasks, and its table of tickets.
+    pub(crate) fn new(alloc: Global) -> Result<Owner<N>, NoMemory>
+        ensures { IfOk result (λ o. owned o ≡ with_table o.table.value.shared.table_id fresh) }
+    {
+        let (table, seat) = Table::of_words(alloc, &[0], &())?;
+        let Ok(table) = Arc::new(alloc, table) else {
+            return Err(NoMemory);
+        };
+        let mut deque: Deque<N> = Worker::fifo_as(alloc, 16)?;
+        tell::<N, Brand>(&mut deque, &table);
+        Ok(Owner { deque, table, seat })
+    }
+
+    /// Puts a task behind all others.
+    ///
+    /// # Errors
+    ///
+    /// The task, if the deque has no room for it and cannot grow. Then nothing has changed. The first 16 tasks have room.
+    pub fn put(&mut self, task: Task<N>) -> Result<(), Task<N>>
+        ensures put { OnOk result (owned self.new ≡ with_put (task.place ∷ []) (owned self.old)) }
+        ensures back { IfErr result (λ t. t ≡ task) }
+        ensures refused { IfErr result (λ t. owned self.new ≡ owned self.old) }
+        ensures full { IfErr result (λ t. 16 ≤ length (owned self.old).put) }
+        ensures same { owner_id self.new ≡ owner_id self.old }
+    {
+        self.put_named::<Brand>(task)
+    }
+
+    fn put_named<P: Placing>(&mut self, task: Task<N>) -> Result<(), Task<N>>
+        requires place { P.place ≡ task.place }
+        ensures put { OnOk result (owned self.new ≡ with_put (task.place ∷ []) (owned self.old)) }
+        ensures back { IfErr result (λ t. t ≡ task) }
+        ensures refused { IfErr result (λ t. owned self.new ≡ owned self.old) }
+        ensures full { IfErr result (λ t. 16 ≤ length (owned self.old).put) }
+        ensures same { owner_id self.new ≡ owner_id self.old }
+    {
+        let shared = &self.table.shared;
+        let ticket = shared.split_seat::<Issuing<P>>(&mut self.seat);
+        match self.deque.push_as::<Putting>(Ticketed { task, ticket }) {
+            Ok(()) => Ok(()),
+            Err(refused) => {
+                let Ticketed { task, ticket } = refused;
+                shared.join_seat::<Returning>(&mut self.seat, ticket);
+                Err(task)
+            }
+        }
+    }
+
+    /// Takes the first task, if there is one.
+    pub fn take_own(&mut self) -> Option<Task<N>>
+        ensures some { IfSome result (λ t. TakesOwn (owned self.old) t.place (owned self.new)) }
+        ensures none { IfNone result (owned self.new ≡ owned self.old) }
+        ensures same { owner_id self.new ≡ owner_id self.old }
+    {
+        let Ticketed { task, ticket: _ } = self.deque.pop_as::<Taking>()?;
+        Some(task)
+    }
+
+    // What a thief knows of the deque at first: nothing.
+    pub(crate) fn part(&mut self) -> Part<N>
+        ensures of { part_id result ≡ owner_id self.old }
+        ensures blank { known result ≡ empty }
+        ensures same { (owner_id self.new ≡ owner_id self.old) × (owned self.new ≡ owned self.old) }
+    {
+        let pass = self.deque.another::<Parting>();
+        let seat = self.table.shared.split_seat::<Seating>(&mut self.seat);
+        Part { pass, seat }
+    }
+}

@@ -1,0 +1,169 @@
+//! The rule of a deque and that of its table of tickets, and what each kind of step does.
+
+ghost use Rattle.std.specs.Prelude.{ℕ, []};
+ghost use Rattle.atomic_table.specs.Seated.{TableId};
+
+use crate::ticket::Ticketed;
+use crate::views::{Holding, View};
+use atomic_table::{Join, Play, Split, TableRule};
+use crossbeam_deque::protocol::{Outcome, Protocol};
+use reg_tasks::Naming;
+use std::marker::{Brand, PhantomData};
+
+/// The rule of a deque.
+pub(crate) struct InOrder<N: Naming> {
+    of: PhantomData<N>,
+}
+
+impl<N: Naming> Protocol<Ticketed<N>, View> for InOrder<N> {
+    ghost use Rattle.reg_deques.specs.Queues.{queue_of, IsDeque};
+    ghost use Rattle.reg_deques.specs.Views.{fresh};
+
+    ghost holds = { λ tasks views. IsDeque (queue_of tasks) views };
+
+    ghost first = { fresh };
+
+    // No pass is made that way.
+    ghost guest = { fresh };
+}
+
+// The owner puts a task.
+pub(crate) struct Putting;
+
+impl<N: Naming> Outcome<Ticketed<N>, View> for Putting {
+    ghost use Rattle.reg_deques.specs.Queues.{queue_of};
+    ghost use Rattle.reg_deques.specs.Steps.{PutStep};
+
+    ghost then = { λ v tasks w. PutStep v (queue_of tasks) w };
+}
+
+// The owner takes the first task.
+pub(crate) struct Taking;
+
+impl<N: Naming> Outcome<Ticketed<N>, View> for Taking {
+    ghost use Rattle.reg_deques.specs.Queues.{queue_of};
+    ghost use Rattle.reg_deques.specs.Steps.{TakeStep};
+
+    ghost then = { λ v tasks w. TakeStep v (queue_of tasks) w };
+}
+
+// Another worker takes the first task.
+pub(crate) struct Stealing;
+
+impl<N: Naming> Outcome<Ticketed<N>, View> for Stealing {
+    ghost use Rattle.reg_deques.specs.Queues.{queue_of};
+    ghost use Rattle.reg_deques.specs.Steps.{StealStep};
+
+    ghost then = { λ v tasks w. StealStep v (queue_of tasks) w };
+}
+
+// The owner makes a pass for another worker.
+pub(crate) struct Parting;
+
+impl Split<View> for Parting {
+    ghost use Rattle.reg_deques.specs.Views.{blank, table_of};
+
+    ghost left = { λ v. v };
+
+    ghost right = { λ v. blank (table_of v) };
+}
+
+// Which table has the tickets of a deque: a new deque does not know it.
+pub(crate) trait Ticketing {
+    ghost table: { TableId };
+}
+
+impl Ticketing for Brand {
+    ghost table = { record { words = 0; slots = 0; views_name = 0; atom = 0; block = 0; offset = 0; slot_names = [] } };
+}
+
+// The owner of a new deque is told the table of its tickets.
+pub(crate) struct Telling<T: Ticketing> {
+    of: PhantomData<T>,
+}
+
+impl<T: Ticketing> Split<View> for Telling<T> {
+    ghost use Rattle.std.specs.Prelude.{[], ◌∷◌};
+    ghost use Rattle.reg_deques.specs.Views.{with_table, blank};
+
+    ghost left = { λ v. with_table T.table v };
+
+    ghost right = { λ v. blank (T.table ∷ []) };
+}
+
+/// The rule of a table of tickets.
+pub(crate) struct Tickets;
+
+impl TableRule<(), Holding, ()> for Tickets {
+    ghost use Rattle.std.specs.Prelude.{[]};
+    ghost use Rattle.reg_deques.specs.Tickets.{AreTickets, owner_of};
+
+    ghost holds = { λ k s. AreTickets s.views };
+
+    ghost first = { λ k. owner_of [] };
+}
+
+// Of which place the task is that gets the next ticket.
+pub(crate) trait Placing {
+    ghost place: { ℕ };
+}
+
+impl Placing for Brand {
+    ghost place = { 0 };
+}
+
+// The owner makes a ticket for a task that it is about to put.
+pub(crate) struct Issuing<P: Placing> {
+    of: PhantomData<P>,
+}
+
+impl<P: Placing> Split<Holding> for Issuing<P> {
+    ghost use Rattle.std.specs.Prelude.{[], ◌∷◌, ◌++◌};
+    ghost use Rattle.reg_deques.specs.Tickets.{owner_of, ticket_of};
+
+    ghost left = { λ v. owner_of (v.seen ++ P.place ∷ []) };
+
+    ghost right = { λ v. ticket_of (v.seen ++ P.place ∷ []) };
+}
+
+// It takes the ticket back, since the deque did not take the task.
+pub(crate) struct Returning;
+
+impl Join<Holding> for Returning {
+    ghost use Rattle.reg_deques.specs.Tickets.{owner_of, without_last, empty};
+
+    ghost both = { λ v w. owner_of (without_last v.seen) };
+
+    ghost spent = { empty };
+}
+
+// A seat for another worker, which holds nothing.
+pub(crate) struct Seating;
+
+impl Split<Holding> for Seating {
+    ghost use Rattle.reg_deques.specs.Tickets.{empty};
+
+    ghost left = { λ v. v };
+
+    ghost right = { λ v. empty };
+}
+
+// What a seat holds goes to another: a ticket to who stole its task, or all that one of two passes has.
+pub(crate) struct Joining;
+
+impl Join<Holding> for Joining {
+    ghost use Rattle.reg_deques.specs.Tickets.{joined, empty};
+
+    ghost both = { λ v w. joined v w };
+
+    ghost spent = { empty };
+}
+
+// The lists that both saw become one.
+pub(crate) struct Settling;
+
+impl Play<(), Holding> for Settling {
+    ghost use Rattle.reg_deques.specs.Steps.{SettleStep};
+
+    ghost then = { λ step m found m'. SettleStep m m' };
+}

@@ -1,0 +1,319 @@
+-- What the tests of rows and parcels say: that they are those of all places and of all touched accounts.
+use Rattle.std.proofs.Common.{◌≡◌, ℕ, zero, suc, ◌+◌, ◌<◌, ◌≤◌, inl, inr, Bool, true, false, not, ◌||◌, ◌&&◌, eqb, List, [], ◌∷◌, length, map, Some, arith, refl, sym, ap, subst, ◌∙◌}
+use Rattle.std.specs.Prelude.{slice_get, IsPermutation}
+use Rattle.std.specs.List.{IsDistinct, AllByRecursion}
+use Rattle.std.specs.List.Sorted.{IsNonDecreasingBy}
+use Rattle.std.proofs.Props.{props}
+use Rattle.std.proofs.lemmas.Option.{same_Some}
+use Rattle.std.proofs.lemmas.Bool.{eq-eqb, eqb-true, and_parts, and_from, not-true}
+use Rattle.std.proofs.lemmas.List.Sorted.{IsPermutation-map, IsPermutation-trans, IsPermutation-refl, list_any-IsPermutation}
+use Rattle.std.proofs.lemmas.Map.Keys.{IsDistinct-IsPermutation}
+use mathlib.Core.Logic.{∥∥₁_elim}
+use Rattle.reg_base.specs.Footprint.{is_among}
+use Rattle.reg_base.specs.Rising.{IsRising, count_up}
+use Rattle.reg_base.specs.Touches.{is_touched, last_toucher, LastToucherIsLast}
+use Rattle.reg_plan.specs.Arrows.{touches_place}
+use Rattle.reg_plan.specs.Plans.{PlanValue, IsPlan}
+use Rattle.reg_plan.specs.Laws.{TailsAreLastTouchers}
+use Rattle.reg_rules.specs.declared.reply.LogRow.{LogRow}
+use Rattle.reg_account.specs.Account.{AccountValue}
+use Rattle.reg_base.specs.declared.instruction.Instruction.{Instruction}
+use Rattle.reg_rules.specs.State.{State, Setting}
+use Rattle.reg_rules.specs.Step.{step}
+use Rattle.reg_book.specs.Fold.{rows_of}
+use Rattle.reg_book.specs.Day.{Day, IsDay, setting, row_at, log_of, settled_day}
+use Rattle.reg_book.specs.Laws.{ValueIsLastTouchers, SettledAreTouched, SettledIsInOrder}
+use Rattle.reg_schedules.specs.Schedules.{AreLastValues}
+use Rattle.reg_schedules.specs.Pool.{directory, footprint_at, leads_on}
+use Rattle.reg_schedules.proofs.Members.{In}
+use Rattle.reg_schedules.proofs.Known.{footprint_touches}
+use Rattle.reg_schedules.proofs.Tails.{clash, touched_somewhere, last_of_all, not_last, last_touches}
+use Rattle.reg_tasks.specs.Gathering.{AreLast, AreOutcomes, named_accounts, places_of, rows_in, counts_up, is_last, are_last, are_outcomes}
+use Rattle.reg_tasks.specs.Slots.{opened_accounts}
+use Rattle.reg_tasks.specs.declared.naming.Naming.{Ghosts}
+use Rattle.reg_tasks.specs.declared.done.Done.{Done}
+use Rattle.reg_tasks.specs.declared.parcel.Parcel.{Parcel}
+use Rattle.reg_tasks.specs.Parcels.{names_of, values_of}
+use Rattle.reg_tasks.proofs.Rising.{Up, all_in, all_from_in, in_permuted, in_before, up_distinct, up_rising, up_keys, in_map, keys_are, ascending}
+use Rattle.reg_tasks.proofs.Slotting.{number_of, among_opening}
+use Rattle.reg_tasks.proofs.Gathering.{eqb_sym, size_rows, same_accounts, closing_values, accounts_are}
+use Rattle.reg_tasks.proofs.OrderSteps.{touched_opened, all_touched}
+
+-- ---- numbers that count up
+
+pub counted_is : (first : ℕ) (xs : List ℕ) → counts_up first xs ≡ true → xs ≡ count_up first (length xs)
+counted_is first [] e = refl
+counted_is first (x ∷ xs) e =
+    let both = and_parts (eqb x first) (counts_up (first + 1) xs) e in
+    ap (λ y. y ∷ xs) (eqb-true x first both.0) ∙ ap (λ ys. first ∷ ys) (counted_is (first + 1) xs both.1)
+
+pub counts : (first n : ℕ) → counts_up first (count_up first n) ≡ true
+counts first zero = refl
+counts first (suc n) = and_from (eqb first first) (counts_up (first + 1) (count_up (first + 1) n)) (eq-eqb first first refl) (counts (first + 1) n)
+
+counted_from : (first n x : ℕ) → In x (count_up first n) → first ≤ x
+counted_from first zero x m = absurd m
+counted_from first (suc n) x (inl e) = omega (arith, e)
+counted_from first (suc n) x (inr m) = omega (arith, counted_from (first + 1) n x m)
+
+up_count : (first n : ℕ) → Up (λ x. x) (count_up first n)
+up_count first zero = tt
+up_count first (suc n) = ((λ y m. omega (arith, counted_from (first + 1) n y m)), up_count (first + 1) n)
+
+size_count : (first n : ℕ) → length (count_up first n) ≡ n
+size_count first zero = refl
+size_count first (suc n) = ap suc (size_count (first + 1) n)
+
+numbers_same : (ns : List ℕ) → map (λ n. n) ns ≡ ns
+numbers_same [] = refl
+numbers_same (n ∷ ns) = ap (λ ms. n ∷ ms) (numbers_same ns)
+
+count_distinct : (first n : ℕ) → IsDistinct eqb (count_up first n)
+count_distinct first n = subst (IsDistinct eqb) (numbers_same (count_up first n)) (up_distinct (λ x. x) (count_up first n) (up_count first n))
+
+-- sorted elements with the numbers 1 to n
+pub sorted_count : {X : Type 0} (key : X → ℕ) (n : ℕ) (xs : List X) → IsPermutation (count_up 1 n) (map key xs) → IsNonDecreasingBy key xs → map key xs ≡ count_up 1 n
+sorted_count key n xs same sorted =
+    keys_are key xs (count_up 1 n) (up_count 1 n) sorted
+    (IsDistinct-IsPermutation eqb eqb_sym (count_up 1 n) (map key xs) same (count_distinct 1 n))
+    (λ x m. in_before (count_up 1 n) (map key xs) x same m)
+    (λ x m. in_permuted (count_up 1 n) (map key xs) x same m)
+
+-- ---- numbers in a list
+
+in_number : (ns : List ℕ) (a : ℕ) → is_among ns a ≡ true → In a ns
+in_number [] a e = absurd cc
+in_number (n ∷ ns) a e = by (eqb n a) refl e (in_number ns a) where
+  by : (b : Bool) → eqb n a ≡ b → (b || is_among ns a) ≡ true → (is_among ns a ≡ true → In a ns) → In a (n ∷ ns)
+  by true h g more = inl (eqb-true n a h)
+  by false h g more = inr (more g)
+
+number_in : (ns : List ℕ) (a : ℕ) → In a ns → is_among ns a ≡ true
+number_in [] a m = absurd m
+number_in (n ∷ ns) a (inl e) = ap (λ b. b || is_among ns a) (eq-eqb n a e)
+number_in (n ∷ ns) a (inr m) = by (eqb n a) (number_in ns a m) where
+  by : (b : Bool) → is_among ns a ≡ true → (b || is_among ns a) ≡ true
+  by true g = refl
+  by false g = g
+
+-- ---- the last names
+
+pub uneven : (day : Day) (plan : PlanValue) (accounts : List ℕ) (names : List (ℕ × ℕ)) → (length names ≡ length accounts → ⊥) → are_last day plan accounts names ≡ false
+uneven day plan [] [] ne = absurd (ne refl)
+uneven day plan [] (n ∷ names) ne = refl
+uneven day plan (a ∷ more) [] ne = refl
+uneven day plan (a ∷ more) (n ∷ names) ne = by (eqb n.0 a && is_last day plan n) (uneven day plan more names (λ e. ne (ap suc e))) where
+  by : (b : Bool) {c : Bool} → c ≡ false → (b && c) ≡ false
+  by true e = e
+  by false e = refl
+
+pub accounts_tested : (day : Day) (plan : PlanValue) (accounts : List ℕ) (names : List (ℕ × ℕ)) → are_last day plan accounts names ≡ true
+    → (named_accounts names ≡ accounts) × AllByRecursion (λ n. is_last day plan n ≡ true) names
+accounts_tested day plan [] [] e = (refl, tt)
+accounts_tested day plan [] (n ∷ names) e = absurd cc
+accounts_tested day plan (a ∷ more) [] e = absurd cc
+accounts_tested day plan (a ∷ more) (n ∷ names) e =
+    let both = and_parts (eqb n.0 a && is_last day plan n) (are_last day plan more names) e in
+    let here = and_parts (eqb n.0 a) (is_last day plan n) both.0 in
+    let rest = accounts_tested day plan more names both.1 in
+    (ap (λ b. b ∷ named_accounts names) (eqb-true n.0 a here.0) ∙ ap (λ ns. a ∷ ns) rest.0, (here.1, rest.1))
+
+tested_accounts : (day : Day) (plan : PlanValue) (accounts : List ℕ) (names : List (ℕ × ℕ)) → named_accounts names ≡ accounts → AllByRecursion (λ n. is_last day plan n ≡ true) names
+    → are_last day plan accounts names ≡ true
+tested_accounts day plan [] [] e all = refl
+tested_accounts day plan [] (n ∷ names) e all = absurd cc
+tested_accounts day plan (a ∷ more) [] e all = absurd cc
+tested_accounts day plan (a ∷ more) (n ∷ names) e all =
+    let head : n.0 ≡ a = cc in
+    let tail : named_accounts names ≡ more = cc in
+    and_from (eqb n.0 a && is_last day plan n) (are_last day plan more names)
+    (and_from (eqb n.0 a) (is_last day plan n) (eq-eqb n.0 a head) all.0)
+    (tested_accounts day plan more names tail all.1)
+
+-- the last names in another order
+pub last_permuted : (day : Day) (names others : List (ℕ × ℕ)) → IsPermutation names others → AreLast day names → AreLast day others
+last_permuted day names others same is = record {
+  once = IsDistinct-IsPermutation eqb eqb_sym (named_accounts names) (named_accounts others) accounts is.once;
+  touched = λ a. sym (list_any-IsPermutation (λ n. eqb n a) (named_accounts names) (named_accounts others) accounts) ∙ is.touched a;
+  last = all_from_in (λ n. n.1 ≡ last_toucher (directory day) day.batch.instructions n.0 (length day.batch.instructions)) others
+      (λ n m. all_in (λ n. n.1 ≡ last_toucher (directory day) day.batch.instructions n.0 (length day.batch.instructions)) names n is.last (in_before names others n same m));
+} where
+  accounts : IsPermutation (named_accounts names) (named_accounts others)
+  accounts = IsPermutation-map (λ (n : ℕ × ℕ). n.0) names others same
+
+-- what the tests say, and when they pass
+pub outcomes_tested : (day : Day) (plan : PlanValue) (accounts places : List ℕ) (names : List (ℕ × ℕ)) → are_outcomes day plan accounts places names ≡ true
+    → (places ≡ count_up 1 (length day.batch.instructions)) × (are_last day plan accounts names ≡ true)
+outcomes_tested day plan accounts places names e =
+    let both = and_parts (eqb (length places) (length day.batch.instructions) && counts_up 1 places) (are_last day plan accounts names) e in
+    let counted = and_parts (eqb (length places) (length day.batch.instructions)) (counts_up 1 places) both.0 in
+    (counted_is 1 places counted.1 ∙ ap (count_up 1) (eqb-true (length places) (length day.batch.instructions) counted.0), both.1)
+
+pub tested_outcomes : (day : Day) (plan : PlanValue) (accounts places : List ℕ) (names : List (ℕ × ℕ)) → places ≡ count_up 1 (length day.batch.instructions) → are_last day plan accounts names ≡ true
+    → are_outcomes day plan accounts places names ≡ true
+tested_outcomes day plan accounts places names e l =
+    and_from (eqb (length places) (length day.batch.instructions) && counts_up 1 places) (are_last day plan accounts names)
+    (and_from (eqb (length places) (length day.batch.instructions)) (counts_up 1 places)
+    (eq-eqb (length places) (length day.batch.instructions) (ap length e ∙ size_count 1 (length day.batch.instructions)))
+    (ap (counts_up 1) e ∙ counts 1 (length day.batch.instructions))) l
+
+module _ (tails : TailsAreLastTouchers) (last : LastToucherIsLast) (day : Day) (plan : PlanValue) (planned : ∥ IsPlan (directory day) day.batch.instructions plan ∥₁) where
+  -- each touched account has an opening, and no other
+  pub opened_touched : (a : ℕ) → is_among (opened_accounts plan.openings) a ≡ is_touched (directory day) day.batch.instructions a
+  opened_touched a = by (is_among (opened_accounts plan.openings) a) refl (is_touched (directory day) day.batch.instructions a) refl where
+    by : (b : Bool) → is_among (opened_accounts plan.openings) a ≡ b → (c : Bool) → is_touched (directory day) day.batch.instructions a ≡ c → b ≡ c
+    by true h true g = refl
+    by true h false g = let r = among_opening plan.openings a h in
+        absurd (clash (ap (is_touched (directory day) day.batch.instructions) (sym r.2) ∙ all_touched tails last day plan planned r.0 r.1) g)
+    by false h true g = absurd (clash (touched_opened tails last day plan planned a g) h)
+    by false h false g = refl
+
+  is_the_last : (a place : ℕ) → is_last day plan (a, place) ≡ true → place ≡ last_toucher (directory day) day.batch.instructions a (length day.batch.instructions)
+  is_the_last a place e =
+      let both = and_parts (is_among (footprint_at day place) a) (not (leads_on plan place a)) e in
+      ∥∥₁_elim planned (Prim.hlevel props) (λ made. sym (last_of_all tails last (directory day) day.batch.instructions plan made a place
+      (sym (footprint_touches day place a) ∙ both.0) (not-true (leads_on plan place a) both.1)))
+
+  the_last_is : (a place : ℕ) → is_touched (directory day) day.batch.instructions a ≡ true → place ≡ last_toucher (directory day) day.batch.instructions a (length day.batch.instructions)
+      → is_last day plan (a, place) ≡ true
+  the_last_is a place touched e = ∥∥₁_elim planned (Prim.hlevel props) (λ made.
+      let on : touches_place (directory day) day.batch.instructions a place ≡ true = subst (λ q. touches_place (directory day) day.batch.instructions a q ≡ true) (sym e)
+      (last_touches tails last (directory day) day.batch.instructions plan made a one) in
+      and_from (is_among (footprint_at day place) a) (not (leads_on plan place a)) (footprint_touches day place a ∙ on)
+      (by (leads_on plan place a) (λ leads. not_last tails last (directory day) day.batch.instructions plan made a place leads (sym e))))
+    where
+      by : (b : Bool) → (b ≡ true → ⊥) → not b ≡ true
+      by true ne = absurd (ne refl)
+      by false ne = refl
+
+      at_least : (t : ℕ) → last_toucher (directory day) day.batch.instructions a (length day.batch.instructions) ≡ t → (n : ℕ) → n < length day.batch.instructions → touches_place (directory day) day.batch.instructions a (suc n) ≡ true → 1 ≤ last_toucher (directory day) day.batch.instructions a (length day.batch.instructions)
+      at_least (suc t) same n lt on = omega (arith, same)
+      at_least zero same n lt on = absurd (clash on ((last (directory day) day.batch.instructions a (length day.batch.instructions)).none_later n (omega (arith, same)) lt))
+
+      one : 1 ≤ last_toucher (directory day) day.batch.instructions a (length day.batch.instructions)
+      one =
+          let (n, lt, on) = touched_somewhere (directory day) day.batch.instructions a touched in
+          at_least (last_toucher (directory day) day.batch.instructions a (length day.batch.instructions)) refl n lt on
+
+  -- names that pass the test are the last ones
+  pub tested_last : IsRising (opened_accounts plan.openings) → (names : List (ℕ × ℕ)) → are_last day plan (opened_accounts plan.openings) names ≡ true → AreLast day names
+  tested_last rising names e =
+      let both = accounts_tested day plan (opened_accounts plan.openings) names e in
+      record {
+        once = subst (IsDistinct eqb) (sym both.0) (up_distinct number_of plan.openings (up_rising number_of plan.openings rising));
+        touched = λ a. ap (λ ns. is_among ns a) both.0 ∙ opened_touched a;
+        last = all_from_in (λ n. n.1 ≡ last_toucher (directory day) day.batch.instructions n.0 (length day.batch.instructions)) names
+            (λ n m. is_the_last n.0 n.1 (all_in (λ n. is_last day plan n ≡ true) names n both.1 m));
+      }
+
+  -- and the last names pass it if they are of the opened accounts, in their order
+  last_tested : (names : List (ℕ × ℕ)) → AreLast day names → named_accounts names ≡ opened_accounts plan.openings → are_last day plan (opened_accounts plan.openings) names ≡ true
+  last_tested names is accounts =
+      tested_accounts day plan (opened_accounts plan.openings) names accounts
+      (all_from_in (λ n. is_last day plan n ≡ true) names (λ n m. the_last_is n.0 n.1 (on n m)
+      (all_in (λ n. n.1 ≡ last_toucher (directory day) day.batch.instructions n.0 (length day.batch.instructions)) names n is.last m)))
+    where
+      on : (n : ℕ × ℕ) → In n names → is_touched (directory day) day.batch.instructions n.0 ≡ true
+      on n m = sym (is.touched n.0) ∙ number_in (named_accounts names) n.0 (in_map (λ (n : ℕ × ℕ). n.0) names n m)
+
+  module _ {N : Type 0} {b : Ghosts N} where
+    keys_names : (ps : List (Parcel N b)) → map (λ p. p.value.number) ps ≡ named_accounts (names_of ps)
+    keys_names [] = refl
+    keys_names (p ∷ ps) = ap (λ ns. p.value.number ∷ ns) (keys_names ps)
+
+    -- the last parcels, sorted by account, are those of the opened accounts
+    accounts_sorted : IsRising (opened_accounts plan.openings) → (ps : List (Parcel N b)) → AreLast day (names_of ps) → IsNonDecreasingBy (λ p. p.value.number) ps
+        → named_accounts (names_of ps) ≡ opened_accounts plan.openings
+    accounts_sorted rising ps is sorted =
+        sym (keys_names ps)
+        ∙ keys_are (λ p. p.value.number) ps (opened_accounts plan.openings) (up_keys number_of plan.openings (up_rising number_of plan.openings rising)) sorted
+        (subst (IsDistinct eqb) (sym (keys_names ps)) is.once)
+        (λ a m. in_number (opened_accounts plan.openings) a (sym (same a) ∙ number_in (named_accounts (names_of ps)) a (subst (In a) (keys_names ps) m)))
+        (λ a m. subst (In a) (sym (keys_names ps)) (in_number (named_accounts (names_of ps)) a (same a ∙ number_in (opened_accounts plan.openings) a m)))
+      where
+        same : (a : ℕ) → is_among (named_accounts (names_of ps)) a ≡ is_among (opened_accounts plan.openings) a
+        same a = is.touched a ∙ sym (opened_touched a)
+
+    -- what was sorted passes the tests if it is all that is needed
+    pub outcomes_pass : IsRising (opened_accounts plan.openings) → (done sorted : List (Done N b)) (ps sorted_ps : List (Parcel N b)) → IsPermutation done sorted → IsNonDecreasingBy (λ d. d.place) sorted
+        → IsPermutation ps sorted_ps → IsNonDecreasingBy (λ p. p.value.number) sorted_ps → AreOutcomes day (places_of done) (names_of ps)
+        → are_outcomes day plan (opened_accounts plan.openings) (places_of sorted) (names_of sorted_ps) ≡ true
+    outcomes_pass rising done sorted ps sorted_ps same rise same_ps rise_ps all =
+        let n : ℕ = length day.batch.instructions in
+        let places = sorted_count (λ (d : Done N b). d.place) n sorted
+        (IsPermutation-trans (count_up 1 n) (places_of done) (places_of sorted) all.each (IsPermutation-map (λ (d : Done N b). d.place) done sorted same)) rise in
+        let is = last_permuted day (names_of ps) (names_of sorted_ps) (IsPermutation-map (λ (p : Parcel N b). (p.value.number, p.after)) ps sorted_ps same_ps) all.last in
+        tested_outcomes day plan (opened_accounts plan.openings) (places_of sorted) (names_of sorted_ps) places (last_tested (names_of sorted_ps) is (accounts_sorted rising sorted_ps is rise_ps))
+
+-- ---- the rows
+
+rows_from : (day : Day) (rs : List LogRow) → (k : ℕ) → ((j : ℕ) → slice_get (log_of day) (k + j) ≡ slice_get rs j) → map (row_at day) (count_up (k + 1) (length rs)) ≡ map Some rs
+rows_from day [] k at = refl
+rows_from day (r ∷ rs) k at =
+    ap (λ o. o ∷ map (row_at day) (count_up (k + 1 + 1) (length rs))) (ap (row_at day) one ∙ ap (slice_get (log_of day)) zero_is ∙ at 0)
+    ∙ ap (λ os. Some r ∷ os) (rows_from day rs (k + 1) (λ j. ap (slice_get (log_of day)) (shift j) ∙ at (suc j)))
+  where
+    one : k + 1 ≡ suc k
+    one = omega arith
+
+    zero_is : k ≡ k + 0
+    zero_is = omega arith
+
+    shift : (j : ℕ) → k + 1 + j ≡ k + suc j
+    shift j = omega arith
+
+all_rows : (day : Day) → map (row_at day) (count_up 1 (length day.batch.instructions)) ≡ map Some (log_of day)
+all_rows day =
+    ap (λ n. map (row_at day) (count_up 1 n)) (sym (size_rows (setting day) day.book.accounts (day.batch.base + 1) day.batch.instructions))
+    ∙ rows_from day (log_of day) 0 (λ j. ap (slice_get (log_of day)) (zero_add j))
+  where
+    zero_add : (j : ℕ) → 0 + j ≡ j
+    zero_add j = omega arith
+
+same_some : {X : Type 0} (xs ys : List X) → map Some xs ≡ map Some ys → xs ≡ ys
+same_some [] [] e = refl
+same_some [] (y ∷ ys) e = absurd cc
+same_some (x ∷ xs) [] e = absurd cc
+same_some (x ∷ xs) (y ∷ ys) e =
+    let head : x ≡ y = cc in
+    let tail : map Some xs ≡ map Some ys = cc in
+    ap (λ z. z ∷ xs) head ∙ ap (λ zs. y ∷ zs) (same_some xs ys tail)
+
+module _ {N : Type 0} {b : Ghosts N} (day : Day) (named : b.day ≡ Some day) where
+  rows_right : (done : List (Done N b)) → map Some (rows_in done) ≡ map (row_at day) (places_of done)
+  rows_right [] = refl
+  rows_right (d ∷ done) = ap (λ o. o ∷ map Some (rows_in done)) (sym (d.right day named)) ∙ ap (λ os. row_at day d.place ∷ os) (rows_right done)
+
+  -- rows of all places are the log
+  pub log_from : (done : List (Done N b)) → places_of done ≡ count_up 1 (length day.batch.instructions) → rows_in done ≡ log_of day
+  log_from done e = same_some (rows_in done) (log_of day) (rows_right done ∙ ap (map (row_at day)) e ∙ all_rows day)
+
+-- the values of the last parcels, by rising account, are the settled accounts
+module _ {N : Type 0} {b : Ghosts N} where
+  pub settled_from : SettledAreTouched → SettledIsInOrder → ValueIsLastTouchers → (day : Day) → IsDay day → b.day ≡ Some day → (ps : List (Parcel N b)) → AreLast day (names_of ps)
+      → (accounts : List ℕ) → IsRising accounts → named_accounts (names_of ps) ≡ accounts → values_of ps ≡ (settled_day day).accounts
+  settled_from settled in_order values day is_day named ps is accounts rising e =
+      let key : AccountValue → ℕ = λ v. v.number in
+      let closing : AreLastValues day (values_of ps) = closing_values values ps (λ x f. subst (λ (y : Day). AreLast y (names_of ps)) (same_Some day x (sym named ∙ f)) is) day named in
+      let up : Up key (values_of ps) = up_rising key (values_of ps) (subst IsRising (sym e ∙ same_accounts ps) rising) in
+      accounts_are settled day in_order is_day (values_of ps) (values_of ps) closing (IsPermutation-refl (values_of ps)) (ascending key (values_of ps) up)
+
+-- ---- rows without their places
+
+-- the row is the day's row of the place that its record number tells
+pub record IsLogged (day : Day) (row : LogRow) : Type 0 where
+  pub place : ℕ
+  pub number : place + day.batch.base ≡ row.number
+  pub at : row_at day place ≡ Some row
+
+row_index : (c : Setting) (s : State) (n : ℕ) (is : List Instruction) (row : LogRow) → In row (rows_of c s n is) → (k : ℕ) × (slice_get (rows_of c s n is) k ≡ Some row) × (row.number ≡ n + k) × (k < length is)
+row_index c s n [] row m = absurd m
+row_index c s n (i ∷ is) row (inl e) = let head : n ≡ row.number = ap (λ (r : LogRow). r.number) e in (0, ap Some e, omega (arith, head), omega arith)
+row_index c s n (i ∷ is) row (inr m) =
+    let (k, at, number, lt) = row_index c (step c s n i).0 (n + 1) is row m in
+    (suc k, at, omega (arith, number), omega (arith, lt))
+
+pub rows_logged : (d : Day) → (rows : List LogRow) → IsPermutation (log_of d) rows → (row : LogRow) → In row rows → IsLogged d row
+rows_logged d rows same row m =
+    let (k, at, number, lt) = row_index (setting d) d.book.accounts (d.batch.base + 1) d.batch.instructions row (in_before (log_of d) rows row same m) in
+    record { place = suc k; number = omega (arith, number); at = at }

@@ -1,0 +1,23 @@
+-- Opening values.
+use Rattle.std.proofs.Common.{Bor, IsSome, ◌≡◌, ℕ, true, Option, Some, None, refl, ap, subst, ◌∙◌}
+use Rattle.std.specs.Prelude.{is_some}
+use Rattle.std.specs.Option.{option_copied}
+use Rattle.reg_account.specs.Account.{AccountValue}
+use Rattle.reg_rules.specs.State.{account}
+use Rattle.reg_base.specs.Rules.{RulesValue}
+use Rattle.reg_base.specs.Batch.{BatchValue}
+use Rattle.reg_book.specs.Book.{BookValue}
+use Rattle.reg_book.specs.Day.{Day, value_at}
+use Rattle.reg_tasks.specs.Names.{IsNamed, IsValue}
+use Rattle.reg_schedules.proofs.Needed.{number_found}
+
+pub some_copied : {T : Type 0} (o : Option (Bor T)) (x : Option T) → option_copied o ≡ x → is_some x ≡ true → IsSome o
+some_copied None None e h = absurd cc
+some_copied None (Some v) e h = absurd cc
+some_copied (Some r) x e h = refl
+
+-- the opening value of an account
+pub opened : (name : Option Day) (book : BookValue) (rules : RulesValue) (batch : BatchValue) (a : ℕ) (value : AccountValue)
+    → IsNamed name book rules batch → account book.accounts a ≡ Some value → IsValue name value 0
+opened name book rules batch a value named found = λ day e.
+    subst (λ (d : Day). value_at d value.number 0 ≡ Some value) (named day e) (ap (account book.accounts) (number_found book.accounts a value found) ∙ found)

@@ -1,0 +1,33 @@
+use Rattle.std.proofs.Common.{◌≡◌, true, map, Some, sym, ap, ◌∙◌}
+use Rattle.std.specs.List.{list_all}
+use Rattle.reg_plan.specs.Plans.{inward}
+use Rattle.reg_schedules.specs.Pool.{footprint_at}
+use Rattle.reg_schedules.specs.Docks.{names_needed}
+use Rattle.reg_tasks.specs.Contexts.{the_day}
+use Rattle.reg_tasks.specs.Parcels.{names_of}
+use Rattle.reg_tasks.specs.Slots.{standing_in, is_there}
+use Rattle.reg_tasks.proofs.Placing.{ready_stands, taken_needed, has_themselves}
+use Rattle.reg_schedules.proofs.Tails.{clash}
+use Rattle.reg_tasks.proofs.slots.Slots.take.Goals as goal
+
+pub unreachable-requires : goal.unreachable-requires
+unreachable-requires g c =
+    let context = c.args.self.now.context.now in
+    let arrows = inward context.plan.arrows c.args.place in
+    let touched = footprint_at (the_day context) c.args.place in
+    let names = names_of c.in-Ok.parcels.items in
+    let passed : c.are_ready.result ≡ true = c.if-not-are_ready.false in
+    let ready : list_all (λ name. is_there (standing_in context.plan.openings c.args.self.now.slots.items) name) (names_needed arrows touched) ≡ true =
+    ap (λ ws. list_all (λ name. is_there (standing_in context.plan.openings c.args.self.now.slots.items) name) (names_needed ws touched)) (sym c.arrows_to.ensures)
+    ∙ ap (λ ns. list_all (λ name. is_there (standing_in context.plan.openings c.args.self.now.slots.items) name) (names_needed c.arrows_to.result.now ns)) (sym c.touched_at-accounts.ensures.value)
+    ∙ ap (λ os. list_all (λ name. is_there (standing_in os c.args.self.now.slots.items) name) (names_needed c.arrows_to.result.now c.touched_at-accounts.result.now)) (sym c.openings.ensures.value)
+    ∙ ap (λ ss. list_all (λ name. is_there (standing_in c.openings.result.now ss) name) (names_needed c.arrows_to.result.now c.touched_at-accounts.result.now)) (sym c.deref.ensures.value)
+    ∙ sym c.are_ready.ensures ∙ passed in
+    let taken : map Some names ≡ map (standing_in context.plan.openings c.args.self.now.slots.items) touched =
+    c.in-Ok.ensures.names
+    ∙ ap (λ os. map (standing_in os c.deref_mut.result.now) c.touched_at-accounts.result.now) c.openings-2.ensures.value
+    ∙ ap (λ ss. map (standing_in context.plan.openings ss) c.touched_at-accounts.result.now) c.deref_mut.ensures.value
+    ∙ ap (map (standing_in context.plan.openings c.args.self.now.slots.items)) c.touched_at-accounts.ensures.value in
+    let all = has_themselves names (names_needed arrows touched)
+    (taken_needed arrows (standing_in context.plan.openings c.args.self.now.slots.items) touched names (ready_stands arrows (standing_in context.plan.openings c.args.self.now.slots.items) touched ready) taken) in
+    clash all (sym c.in-Err.ensures.fits)

@@ -1,0 +1,107 @@
+-- What a settled day is gathered from, and what is tested of it.
+use Rattle.std.specs.Prelude.{◌≡◌, ℕ, ◌+◌, ◌==◌, ◌&&◌, Bool, true, false, not, nat_eq, List, [], ◌∷◌, length, map, Option, Some, IsPermutation}
+use Rattle.std.specs.List.{IsDistinct, AllByRecursion}
+use Rattle.std.specs.FinMap as fin
+use Rattle.reg_base.specs.Directory.{DirectoryValue}
+use Rattle.reg_base.specs.Footprint.{is_among}
+use Rattle.reg_base.specs.Rising.{count_up}
+use Rattle.reg_base.specs.Touches.{is_touched, last_toucher}
+use Rattle.reg_base.specs.Batch.{BatchValue}
+use Rattle.reg_account.specs.Account.{AccountValue}
+use Rattle.reg_rules.specs.Effect.{IsBehind}
+use Rattle.reg_rules.specs.declared.reply.LogRow.{LogRow}
+use Rattle.reg_rules.specs.State.{State}
+use Rattle.reg_book.specs.Book.{BookValue}
+use Rattle.reg_book.specs.Settled.{SettledValue, IsSettled, IsOfBook}
+use Rattle.reg_book.specs.Day.{Day, log_of, settled_day}
+use Rattle.reg_plan.specs.Plans.{PlanValue}
+use Rattle.reg_schedules.specs.Pool.{directory, footprint_at, leads_on}
+use Rattle.reg_schedules.specs.Schedules.{AreLastValues}
+use Rattle.reg_tasks.specs.declared.naming.Naming.{Ghosts}
+use Rattle.reg_tasks.specs.declared.done.Done.{Done}
+
+-- if a day is named, these are the rows of its log, in any order
+abbrev pub AreRows : Option Day → List LogRow → Type 0
+AreRows name rows = (day : Day) → name ≡ Some day → ∥ IsPermutation (log_of day) rows ∥₁
+
+-- the accounts of names
+abbrev pub named_accounts : List (ℕ × ℕ) → List ℕ
+named_accounts names = map (λ n. n.0) names
+
+-- these are the names of the values that are left at the end: each touched account once, with the last instruction that
+-- touches it
+pub record AreLast (day : Day) (names : List (ℕ × ℕ)) : Type 0 where
+  pub once : IsDistinct nat_eq (named_accounts names)
+  pub touched : (a : ℕ) → is_among (named_accounts names) a ≡ is_touched (directory day) day.batch.instructions a
+  pub last : AllByRecursion (λ n. n.1 ≡ last_toucher (directory day) day.batch.instructions n.0 (length day.batch.instructions)) names
+
+-- if a day is named, the names are those
+abbrev pub AreClosing : Option Day → List (ℕ × ℕ) → Type 0
+AreClosing name names = (day : Day) → name ≡ Some day → AreLast day names
+
+-- if a day is named, the accounts are those
+abbrev pub AreClosingValues : Option Day → State → Type 0
+AreClosingValues name accounts = (day : Day) → name ≡ Some day → AreLastValues day accounts
+
+module _ {N : Type 0} {b : Ghosts N} where
+  -- the places of instructions that were run
+  abbrev pub places_of : List (Done N b) → List ℕ
+  places_of done = map (λ d. d.place) done
+
+  -- their rows
+  abbrev pub rows_in : List (Done N b) → List LogRow
+  rows_in done = map (λ d. d.row) done
+
+-- each place once, and the last parcel of each touched account once, in any order
+pub record AreOutcomes (day : Day) (places : List ℕ) (names : List (ℕ × ℕ)) : Type 0 where
+  pub each : IsPermutation (count_up 1 (length day.batch.instructions)) places
+  pub last : AreLast day names
+
+-- if a day is named, they are not its
+abbrev pub AreNotAll : Option Day → List ℕ → List (ℕ × ℕ) → Type 0
+AreNotAll name places names = (day : Day) → name ≡ Some day → ¬ (AreOutcomes day places names)
+
+-- the numbers are this one, the next one, and so on
+abbrev pub counts_up : ℕ → List ℕ → Bool
+counts_up first [] = true
+counts_up first (x ∷ xs) = (x == first) && counts_up (first + 1) xs
+
+-- the instruction at the place of this name touches its account, and no later one does: no arrow leads on from there
+abbrev pub is_last : Day → PlanValue → ℕ × ℕ → Bool
+is_last day plan name = is_among (footprint_at day name.1) name.0 && not (leads_on plan name.1 name.0)
+
+-- the names are of these accounts, in this order, and each is the last one
+abbrev pub are_last : Day → PlanValue → List ℕ → List (ℕ × ℕ) → Bool
+are_last day plan [] [] = true
+are_last day plan [] (name ∷ names) = false
+are_last day plan (a ∷ more) [] = false
+are_last day plan (a ∷ more) (name ∷ names) = ((name.0 == a) && is_last day plan name) && are_last day plan more names
+
+-- the places are 1, 2 and so on to the last, and the names are the last ones of these accounts
+abbrev pub are_outcomes : Day → PlanValue → List ℕ → List ℕ → List (ℕ × ℕ) → Bool
+are_outcomes day plan accounts places names = ((length places == length day.batch.instructions) && counts_up 1 places) && are_last day plan accounts names
+
+-- if a day is named, these are its log and its settled accounts, in their order
+pub record IsGathered (name : Option Day) (rows : List LogRow) (accounts : State) : Type 0 where
+  pub rows_are : (d : Day) → name ≡ Some d → rows ≡ log_of d
+  pub accounts_are : (d : Day) → name ≡ Some d → accounts ≡ (settled_day d).accounts
+
+-- rows and accounts as a settled day of this batch
+abbrev pub gathered : BatchValue → List LogRow → State → SettledValue
+gathered batch rows accounts = record { base = batch.base; rows = rows; accounts = accounts }
+
+-- there is a row for each instruction, they stand in order, and the settled day may be committed to the book
+pub record IsWhole (book : BookValue) (batch : BatchValue) (rows : List LogRow) (accounts : State) : Type 0 where
+  pub each : length rows ≡ length batch.instructions
+  pub in_order : IsSettled (gathered batch rows accounts)
+  pub of_book : IsOfBook book (gathered batch rows accounts)
+
+-- the rows have the record numbers from this one on
+abbrev pub are_counted : ℕ → List LogRow → Bool
+are_counted first [] = true
+are_counted first (row ∷ rows) = (row.number == first) && are_counted (first + 1) rows
+
+-- the directory has the account with its kind and its holder, and its surrenders and deletions have lower record numbers
+pub record IsCommittable (directory : DirectoryValue) (next : ℕ) (v : AccountValue) : Type 0 where
+  pub listed : fin.get directory v.number ≡ Some (v.kind, v.holder)
+  pub behind : IsBehind next v

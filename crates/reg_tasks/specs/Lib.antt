@@ -1,0 +1,9 @@
+pub mod Contexts
+pub mod Names
+pub mod Parcels
+pub mod Tasks
+pub mod Gathering
+pub mod Slots
+pub mod Openings
+pub mod Standing
+pub mod Touched

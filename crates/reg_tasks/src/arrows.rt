@@ -1,0 +1,70 @@
+//! Where the value of an account comes from, and where it goes on to.
+
+ghost use Rattle.std.specs.Prelude.{◌≡◌, ◌≤◌, length};
+ghost use Rattle.reg_base.specs.Rising.{IsRising};
+ghost use Rattle.reg_tasks.specs.Openings.{first_in};
+ghost use Rattle.reg_tasks.specs.Slots.{opened_accounts};
+
+use crate::context::Context;
+use crate::likely::slot_of;
+use crate::naming::Naming;
+use crate::needs::{arrow_at, tail_in};
+use reg_base::AccountNo;
+use reg_plan::Opening;
+
+// The place of the first instruction that touches an account, if one of these openings is the account's.
+fn first_in(openings: &[Opening], account: AccountNo) -> Option<u32>
+    requires { IsRising (opened_accounts openings.now) }
+    ensures { result ≡ first_in openings.now account }
+{
+    match slot_of(openings, account) {
+        Some(slot) => Some(openings[slot].first),
+        None => None,
+    }
+}
+
+impl<N: Naming> Context<'_, N> {
+    ghost use Rattle.reg_schedules.specs.Pool.{tail_of, leads_on};
+    ghost use Rattle.reg_schedules.specs.World.{head_of};
+    ghost use Rattle.reg_tasks.specs.Openings.{first_at};
+
+    /// The place of the instruction from which the instruction at this place has the value of an account, or 0 if that is
+    /// the opening value. Places are counted from 1.
+    pub fn tail_of(&self, place: u32, account: AccountNo) -> u32
+        requires from_one { 1 ≤ place }
+        requires within { place ≤ length self.now.batch.now.instructions }
+        ensures { result ≡ tail_of self.now.plan place account }
+    {
+        tail_in(self.arrows_to(place), account)
+    }
+
+    /// The place of the instruction that needs the value of an account as the instruction at this place leaves it, if
+    /// there is one. Places are counted from 1.
+    pub fn head_of(&self, place: u32, account: AccountNo) -> Option<u32>
+        requires from_one { 1 ≤ place }
+        requires within { place ≤ length self.now.batch.now.instructions }
+        ensures { result ≡ head_of self.now.plan place account }
+    {
+        arrow_at(self.arrows_from(place), account).map(|arrow| arrow.to)
+    }
+
+    /// Whether an arrow leads on from a place at an account. The place is counted from 1.
+    pub fn leads_on(&self, place: u32, account: AccountNo) -> bool
+        requires from_one { 1 ≤ place }
+        requires within { place ≤ length self.now.batch.now.instructions }
+        ensures { result ≡ leads_on self.now.plan place account }
+    {
+        self.arrows_from(place)
+            .iter()
+            .any(|arrow| arrow.account == account)
+    }
+
+    /// The place of the first instruction that touches an account, if one does. Places are counted from 1.
+    ///
+    /// The time is logarithmic in the touched accounts.
+    pub fn first_at(&self, account: AccountNo) -> Option<u32>
+        ensures { result ≡ first_at self.now.plan account }
+    {
+        first_in(self.openings(), account)
+    }
+}

@@ -1,0 +1,142 @@
+//! The parcels that stand between the instructions of a day: one for each account that an instruction touches.
+
+ghost use Rattle.std.specs.Prelude.{◌≡◌, length};
+
+use crate::context::Context;
+use crate::done::Done;
+use crate::lack::Lack;
+use crate::naming::Naming;
+use crate::outcome::{Outcome, Ran};
+use crate::parcel::Parcel;
+use crate::slot::{are_ready, empty_slots, have_slots, lay_parcels, open_slots, take_parcels};
+use crate::task::Task;
+use reg_base::NoMemory;
+use reg_base::laws::{each_footprint_is_sound, last_toucher_is_last};
+use reg_book::Settled;
+use reg_plan::laws::tails_are_last_touchers;
+use std::alloc::Global;
+
+/// A slot for each account that an instruction of the day touches. The parcel that the last instruction so far left stands
+/// in it, or the opening value, until the next instruction takes it.
+#[derive(Drop)]
+pub struct Slots<'c, 'a, N: Naming> {
+    context: &'c Context<'a, N>,
+    slots: Vec<Option<Parcel<N>>>,
+    pub ghost size: { length slots.items ≡ length context.now.plan.openings },
+}
+
+impl<'c, 'a, N: Naming> Slots<'c, 'a, N> {
+    ghost use Rattle.std.specs.Prelude.{ℕ, ◌≤◌, Some, None, true, false, IfOk, IfErr, IfSome, OnOk, OnErr};
+    ghost use Rattle.reg_book.specs.Day.{Day, settled_day};
+    ghost use Rattle.reg_book.specs.Settled.{IsOfBook};
+    ghost use Rattle.reg_tasks.specs.Contexts.{the_day};
+    ghost use Rattle.reg_tasks.specs.Gathering.{places_of};
+    ghost use Rattle.reg_tasks.specs.Parcels.{names_of};
+    ghost use Rattle.reg_tasks.specs.Slots.{AreOpened, AreTaken, AreLaid, StandAsBefore, IsAtEnd, LacksFor, have_slots, is_ready};
+    ghost use Rattle.reg_tasks.specs.Standing.{stands};
+
+    /// The slots before the first instruction: the opening value stands in each.
+    ///
+    /// The time is linear in the touched accounts, sorting and look-ups apart.
+    ///
+    /// # Errors
+    /// `NoMemory` if memory ran out.
+    pub fn open(alloc: Global, context: &'c Context<'a, N>) -> Result<Slots<'c, 'a, N>, NoMemory>
+        ensures context { IfOk result (λ s. s.context.now ≡ context.now) }
+        ensures opened { IfOk result (λ s. AreOpened (the_day context.now) (stands s)) }
+    {
+        last_toucher_is_last();
+        tails_are_last_touchers();
+        let slots = open_slots(alloc, context)?;
+        Ok(Slots { context, slots })
+    }
+
+    /// The day whose instructions these are.
+    pub fn context(&self) -> &'c Context<'a, N>
+        ensures { result.now ≡ self.now.context.now }
+    {
+        self.context
+    }
+
+    /// Takes the parcels that the instruction at a place needs out of their slots, and makes its task. The place is counted
+    /// from 1.
+    ///
+    /// # Errors
+    /// `Foreign` if one of them is not there. Otherwise `Memory` if memory ran out. Nothing is taken then.
+    pub fn take(&mut self, alloc: Global, place: u32) -> Result<Task<N>, Lack>
+        requires from_one { 1 ≤ place }
+        requires within { place ≤ length self.old.context.now.batch.now.instructions }
+        ensures context { self.new.context.now ≡ self.old.context.now }
+        ensures place { IfOk result (λ t. t.place ≡ place) }
+        ensures ready { OnOk result (is_ready (the_day self.old.context.now) self.old.context.now.plan place (stands self.old) ≡ true) }
+        ensures taken { OnOk result (AreTaken (the_day self.old.context.now) place (stands self.old) (stands self.new)) }
+        ensures lack { IfErr result (LacksFor (is_ready (the_day self.old.context.now) self.old.context.now.plan place (stands self.old) ≡ false)) }
+        ensures back { OnErr result (StandAsBefore (stands self.old) (stands self.new)) }
+    {
+        each_footprint_is_sound();
+        let context = self.context;
+        let accounts = context.touched_at(place);
+        let likely = context.likely_slots(place);
+        if !are_ready(
+            context.openings(),
+            &self.slots,
+            accounts,
+            context.arrows_to(place),
+            likely,
+        ) {
+            return Err(Lack::Foreign);
+        }
+        let Ok(parcels) = take_parcels(alloc, context.openings(), &mut self.slots, accounts, likely)
+        else {
+            return Err(Lack::Memory);
+        };
+        match Task::assemble(context, place, parcels) {
+            Ok(task) => Ok(task),
+            Err(_) => unreachable!(),
+        }
+    }
+
+    /// Lays what an instruction left into the slots of its accounts, in place of what stood there, and answers what is kept
+    /// of the instruction itself.
+    ///
+    /// # Errors
+    /// The outcome as it was, if one of its accounts has no slot. If a day is named, this does not occur.
+    pub fn lay(&mut self, outcome: Outcome<N>) -> Result<(Ran<N>, Done<N>), Outcome<N>>
+        ensures context { self.new.context.now ≡ self.old.context.now }
+        ensures ran { IfOk result (λ r. r.0.place ≡ outcome.place) }
+        ensures done { IfOk result (λ r. (r.1.place ≡ outcome.place) × (r.1.row ≡ outcome.row)) }
+        ensures laid { OnOk result (AreLaid (names_of outcome.parcels.items) (stands self.old) (stands self.new)) }
+        ensures there { IfErr result (λ o. have_slots (the_day self.old.context.now) (names_of outcome.parcels.items) ≡ false) }
+        ensures named { IfErr result (λ o. N.day ≡ None) }
+        ensures back { IfErr result (λ o. o ≡ outcome) }
+        ensures unchanged { OnErr result (self.new ≡ self.old) }
+    {
+        last_toucher_is_last();
+        tails_are_last_touchers();
+        let openings = self.context.openings();
+        let likely = self.context.likely_slots(outcome.place());
+        if !have_slots(openings, outcome.parcels(), likely) {
+            return Err(outcome);
+        }
+        let (ran, done, parcels) = outcome.into_done();
+        lay_parcels(openings, &mut self.slots, parcels, likely);
+        Ok((ran, done))
+    }
+
+    /// The settled day, from what is kept of each instruction, in any order, and what stands in the slots.
+    ///
+    /// # Errors
+    /// `Memory` if memory ran out. `Foreign` if there is not exactly one row for each place, or if what stands for some
+    /// account is not what its last instruction left. If no day is named, also if they are of another context.
+    pub fn close(self, alloc: Global, done: Vec<Done<N>>) -> Result<Settled, Lack>
+        ensures settled { IfOk result (λ s. IfSome N.day (λ d. s ≡ settled_day d)) }
+        ensures of_book { IfOk result (λ s. IsOfBook self.entry.context.now.book.now s) }
+        ensures lack { IfErr result (LacksFor ((d : Day) → N.day ≡ Some d → ¬ (IsAtEnd d (places_of done.items) (stands self.entry)))) }
+    {
+        last_toucher_is_last();
+        tails_are_last_touchers();
+        let Slots { context, slots, .. } = self;
+        let parcels = empty_slots(alloc, slots)?;
+        context.gather_done(alloc, done, parcels)
+    }
+}

@@ -1,0 +1,29 @@
+-- Counting places in shifts.
+use Rattle.std.proofs.Common.{arith, add-one, ◌≡◌, ℕ, ◌+◌, ◌==◌, List, [], ◌∷◌, ◌++◌, map, refl, ap, sym, ◌∙◌}
+use Rattle.std.proofs.lemmas.List.{map-append}
+use Rattle.reg_counting.specs.Counting.{total, times, one_if}
+use Rattle.reg_counting.proofs.Totals.{total-append}
+use Rattle.reg_work.specs.declared.shift.Shift.{Shift}
+use Rattle.reg_work.specs.Shifts.{times_in, places_ran, numbers_below}
+
+-- one shift more adds what stands in it
+pub times-one_more : {N : Type 0} (p : ℕ) (shifts : List (Shift N)) (s : Shift N) → times_in p (shifts ++ s ∷ []) ≡ times_in p shifts + times p (places_ran s.ran.items)
+times-one_more p shifts s = omega (arith, total-append (λ x. times p (places_ran x.ran.items)) shifts (s ∷ []))
+
+-- how often a number stands in two lists, one behind the other
+pub times-append : (p : ℕ) (xs ys : List ℕ) → times p (xs ++ ys) ≡ times p xs + times p ys
+times-append p xs ys = total-append (λ x. one_if (x == p)) xs ys
+
+-- one more number
+pub numbers-next : (n : ℕ) → numbers_below (n + 1) ≡ numbers_below n ++ n ∷ []
+numbers-next n = rw add-one refl
+
+-- if one more is numbered after so many, one more number is there
+pub one-numbered : {X : Type 0} (f : X → ℕ) (all before : List X) (x : X) (n m : ℕ) → all ≡ before ++ x ∷ [] → map f before ≡ numbers_below n → f x ≡ n → m ≡ n + 1 → map f all ≡ numbers_below m
+one-numbered f all before x n m items numbered is next =
+    ap (map f) items
+    ∙ map-append f before (x ∷ [])
+    ∙ ap (λ ns. ns ++ f x ∷ []) numbered
+    ∙ ap (λ k. numbers_below n ++ k ∷ []) is
+    ∙ sym (numbers-next n)
+    ∙ sym (ap numbers_below next)

@@ -1,0 +1,27 @@
+use Rattle.std.proofs.Common.{arith, ◌≡◌, ℕ, ◌+◌, All, length, vec_len, ap, ◌∙◌, subst}
+use Rattle.std.proofs.lemmas.List.Elements.{All-tail}
+use Rattle.reg_claim.specs.declared.views.View.{View}
+use Rattle.reg_deques.specs.Yards.{deques_of_pass}
+use Rattle.reg_work.proofs.crewed.make_posts.Goals as goal
+
+pub loop-pass-preserved : goal.loop-pass-preserved
+loop-pass-preserved g c =
+    let i = c.loop-pass.invariant in
+    let first = c.split-kept.ensures.first in
+    let items = c.in-Some.ensures.steps.0 in
+    let left = ap length items in
+    let pushed = c.in_ok-push.ensures.len in
+    let part = ap (λ (v : View). v.share) first in
+    let share = i.share in
+    let whole = i.whole in
+    let few = c.requires.few in
+    record {
+      can_go = record {};
+      ends = record {};
+      table = c.split-kept.ensures.same.0 ∙ i.table;
+      share = omega arith;
+      idle = ap (λ (v : View). v.finished) first ∙ i.idle;
+      unseen = ap (λ (v : View). v.seen) first ∙ i.unseen;
+      whole = omega arith;
+      deques = All-tail (λ p. deques_of_pass p ≡ g.B.Room.deques) c.in-Some.pass c.next.new.self.rest.items (subst (All (λ p. deques_of_pass p ≡ g.B.Room.deques)) items i.deques);
+    }

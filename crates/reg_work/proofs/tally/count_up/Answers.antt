@@ -1,0 +1,51 @@
+use Rattle.std.proofs.Common.{arith, rules, ◌≡◌, ℕ, ◌+◌, ◌++◌, ◌∷◌, [], append-nil, append_assoc, length, vec_len, ap, sym, ◌∙◌, inl, inr}
+use Rattle.std.proofs.lemmas.List.{nil_from_length}
+use Rattle.reg_counting.specs.Counting.{times, once}
+use Rattle.reg_claim.specs.declared.views.View.{View}
+use Rattle.reg_claim.specs.Seats.{known}
+use Rattle.reg_work.specs.Shifts.{workers_of, places_ran}
+use Rattle.reg_work.specs.Stints.{stint_workers}
+use Rattle.reg_work.proofs.Counting.{times-append}
+use Rattle.reg_work.proofs.Ending.{joined-sees, all-finished, was-there}
+use Rattle.reg_work.proofs.tally.count_up.Goals as goal
+
+pub loop-stint-preserved : goal.loop-stint-preserved
+loop-stint-preserved g c =
+    let i = c.loop-stint.invariant in
+    let view = c.join-rest.ensures.view in
+    let post = c.in-Some.stint.post in
+    let items = c.in-Some.ensures.steps.0 in
+    let left = ap length items in
+    let part = ap (λ (v : View). v.share) view in
+    let one = post.one_part in
+    let share = i.share in
+    record {
+      can_go = record {};
+      ends = record {};
+      table = c.join-rest.ensures.same ∙ i.table;
+      share = omega arith;
+      seen = inr (rw view (joined-sees g.B.Room.count _ (known c.loop-stint.rest) (known post.seat) i.seen c.in-Some.stint.over));
+      times = λ p.
+          ap (λ (v : View). times p v.finished) view
+          ∙ times-append p (known c.loop-stint.rest).finished (known post.seat).finished
+          ∙ (let old = i.times p in let new = c.in_ok-add.ensures.times p in let same = ap (times p) post.finished in omega arith);
+      workers = ap (λ ws. ws ++ stint_workers c.next.new.self.rest.items) c.in_ok-add.ensures.workers
+          ∙ append_assoc (workers_of c.loop-stint.work.shifts.items) (c.in-Some.stint.worker ∷ []) (stint_workers c.next.new.self.rest.items)
+          ∙ ap (λ ss. workers_of c.loop-stint.work.shifts.items ++ stint_workers ss) (sym items)
+          ∙ i.workers;
+    }
+
+pub returns : goal.returns
+returns g c =
+    let i = c.loop-stint.invariant in
+    let none : c.loop-stint.stint-iterator.rest.items ≡ [] = nil_from_length _ (sym c.loop-stint.stint-iterator.rest.ok.0 ∙ c.in-None.ensures.steps.0) in
+    let all = c.close-tally.ensures in
+    let ends = was-there g.B.Room.count _ _ (known c.loop-stint.rest) (ap length none) c.requires.some i.seen in
+    let places_are = c.requires.table.1 in
+    let whole = all-finished g.B.Room.count (known c.loop-stint.rest) c.close-tally.result.done c.close-tally.result.stopped ends all.stopped c.if-tally.false all.seen (let most = all.most in omega arith) ∙ sym places_are in
+    record {
+      shifts = record {
+        workers_are = sym (append-nil (workers_of c.loop-stint.work.shifts.items)) ∙ ap (λ ss. workers_of c.loop-stint.work.shifts.items ++ stint_workers ss) (sym none) ∙ i.workers ∙ c.requires.workers;
+        each_once = λ p. sym (i.times p) ∙ all.all whole p ∙ ap (λ n. once n p) places_are;
+      };
+    }

@@ -1,0 +1,16 @@
+-- What a worker's seat shows of the end of the work.
+use Rattle.std.specs.Prelude.{◌≡◌, ℕ, ◌/◌, Bool, ◌||◌, nat_le, Contains}
+use Rattle.reg_claim.specs.declared.views.View.{View}
+use Rattle.reg_claim.specs.Views.{is_odd}
+
+-- this count shows that so many places are finished, or that the workers are to leave
+abbrev pub shows_end : ℕ → ℕ → Bool
+shows_end places count = is_odd count || nat_le places (count / 2)
+
+-- the seat has seen such a count
+abbrev pub sees_end : ℕ → View → Bool
+sees_end places v = shows_end places v.seen
+
+-- the seat has claimed the place, and has not finished it
+abbrev pub IsToFinish : ℕ → View → Type 0
+IsToFinish place v = Contains v.claimed place × ¬ Contains v.finished place

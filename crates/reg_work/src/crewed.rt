@@ -1,0 +1,231 @@
+//! Settlement by workers that steal.
+
+ghost use Rattle.std.specs.Prelude.{◌≡◌, ◌+◌, ◌≤◌, ◌<◌, [], true, length, vec_len, All, IfOk, IfSome, MatchResult};
+ghost use Rattle.reg_book.specs.Day.{day_of, settled_day};
+ghost use Rattle.reg_book.specs.Settled.{IsOfBook};
+ghost use Rattle.reg_claim.specs.Views.{fresh};
+ghost use Rattle.reg_claim.specs.Seats.{known, seat_table, table_id, places};
+ghost use Rattle.reg_tasks.specs.Names.{IsNamed};
+ghost use Rattle.reg_deques.specs.Yards.{deques, deques_of_pass};
+ghost use Rattle.reg_work.specs.Faults.{are_workers, IsWorkFault};
+ghost use Rattle.reg_work.specs.Shifts.{AreShifts};
+
+use crate::crew::work_all;
+use crate::fault::{Shortage, WorkFault};
+use crate::gate::Gate;
+use crate::post::Post;
+use crate::room::{Board, Room};
+use crate::settle::is_allowed;
+use crate::shift::Shift;
+use crate::tally::{Work, count_up};
+use reg_base::{Batch, NoMemory, Rules};
+use reg_book::{Book, Settled};
+use reg_claim::{ClaimTable, Seat};
+use reg_tasks::{Context, Naming, Task};
+use reg_yard::{Docks, Owner, Pass, Yard};
+use std::alloc::Global;
+use std::marker::{Brand, PhantomData};
+use std::sync::Wait;
+use std::thread::Threads;
+
+// Puts a task into the deque of the worker whose turn it is.
+fn deal<N: Naming>(
+    owners: &mut Vec<Owner<N>>,
+    next: usize,
+    task: Task<N>,
+) -> Result<usize, NoMemory>
+    requires { next < vec_len owners.old }
+    ensures same { vec_len owners.new ≡ vec_len owners.old }
+    ensures next { IfOk result (λ n. n < vec_len owners.old) }
+{
+    if owners[next].put(task).is_err() {
+        return Err(NoMemory);
+    }
+    let after = next + 1;
+    Ok(if after == owners.len() { 0 } else { after })
+}
+
+// Deals the tasks that wait for nothing to the deques, by turns, and those that the opening values complete.
+fn deal_all<N: Naming, R: Wait>(
+    rt: &R,
+    alloc: Global,
+    context: &Context<N>,
+    docks: &Docks<'_, '_, N>,
+    ready: Vec<Task<N>>,
+    owners: &mut Vec<Owner<N>>,
+) -> Result<(), NoMemory>
+    requires some { 0 < vec_len owners.old }
+    ensures same { vec_len owners.new ≡ vec_len owners.old }
+{
+    let mut next = 0;
+    for task in ready {
+        next = deal(owners, next, task)?;
+    }
+    let openings = context.plan().openings();
+    for opening in openings {
+        let parcel = context.opening(alloc, opening.account)?;
+        let Ok(complete) = docks.deliver(rt, parcel) else {
+            return Err(NoMemory);
+        };
+        if let Some(task) = complete {
+            next = deal(owners, next, task)?;
+        }
+    }
+    Ok(())
+}
+
+// A post for each worker, with a seat of its own.
+fn make_posts<N: Naming, B: Room>(
+    alloc: Global,
+    table: &ClaimTable,
+    seat: Seat,
+    owners: Vec<Owner<N>>,
+    passes: Vec<Pass<N>>,
+) -> Result<(Seat, Vec<Post<N, B>>), NoMemory>
+    requires table { (table_id table.now ≡ B.table) × (seat_table seat ≡ B.table) }
+    requires fresh { ((known seat).share ≡ 16) × ((known seat).finished ≡ []) × ((known seat).seen ≡ 0) }
+    requires few { (vec_len passes ≤ 8) × (vec_len owners ≡ vec_len passes) }
+    requires deques { All (λ p. deques_of_pass p ≡ B.deques) passes.items }
+    ensures table { IfOk result (λ r. seat_table r.0 ≡ B.table) }
+    ensures share { IfOk result (λ r. (known r.0).share + vec_len r.1 ≡ 16) }
+    ensures fresh { IfOk result (λ r. ((known r.0).finished ≡ []) × ((known r.0).seen ≡ 0)) }
+    ensures each { IfOk result (λ r. vec_len r.1 ≡ vec_len passes) }
+{
+    let mut rest = seat;
+    let mut posts = Vec::with_capacity(alloc, passes.len())?;
+    let mut owners = owners.into_iter();
+    for pass in passes {
+        let Some(owner) = owners.next() else {
+            return Err(NoMemory);
+        };
+        let (kept, own) = table.split(rest);
+        rest = kept;
+        posts.push(Post::new(alloc, owner, pass, own))?;
+    }
+    Ok((rest, posts))
+}
+
+// Divides the table among the workers, lets them work, and counts up what they did.
+fn in_room<'c, N: Naming + Send + Sync, B: Room + Send + Sync, R: Threads + Wait + Sync, G: Gate>(
+    rt: &R,
+    alloc: Global,
+    context: &'c Context<'c, N>,
+    docks: Docks<'c, 'c, N>,
+    table: ClaimTable,
+    seat: Seat,
+    yard: Yard<N>,
+    owners: Vec<Owner<N>>,
+    passes: Vec<Pass<N>>,
+    gate: &G,
+) -> Result<Work<N>, Shortage>
+    requires count { length context.now.batch.now.instructions ≡ B.count }
+    requires table { (table_id table ≡ B.table) × (places table ≡ B.count) × (seat_table seat ≡ B.table) }
+    requires fresh { known seat ≡ fresh }
+    requires yard { deques yard ≡ B.deques }
+    requires passes { All (λ p. deques_of_pass p ≡ B.deques) passes.items }
+    requires some { 0 < vec_len passes }
+    requires few { (vec_len passes ≤ 8) × (vec_len owners ≡ vec_len passes) }
+    ensures shifts { IfOk result (λ w. AreShifts (vec_len passes) B.count w.shifts.items) }
+{
+    let (rest, mut posts): (Seat, Vec<Post<N, B>>) = make_posts(
+        alloc, &table, seat, owners, passes,
+    )?;
+    let last = posts.pop().unwrap();
+    let board: Board<'_, N, B> = Board {
+        context,
+        docks,
+        table,
+        yard,
+        of: PhantomData,
+    };
+    let stints = work_all(rt, alloc, &board, gate, posts, last)?;
+    let Board { table, .. } = board;
+    Ok(count_up(alloc, table, rest, stints)?)
+}
+
+// Settles the day of a context.
+fn settle_context<N: Naming + Send + Sync, R: Threads + Wait + Sync, G: Gate>(
+    rt: &R,
+    alloc: Global,
+    context: &Context<N>,
+    workers: u32,
+    gate: &G,
+) -> Result<(Settled, Vec<Shift<N>>), Shortage>
+    requires workers { are_workers workers ≡ true }
+    ensures settled { IfOk result (λ s. IfSome N.day (λ d. s.0 ≡ settled_day d)) }
+    ensures of_book { IfOk result (λ s. IsOfBook context.now.book.now s.0) }
+    ensures shifts { IfOk result (λ s. AreShifts workers (length context.now.batch.now.instructions) s.1.items) }
+{
+    let (docks, ready) = Docks::new(alloc, context)?;
+    let (yard, mut owners, passes) = Yard::new(alloc, workers)?;
+    deal_all(rt, alloc, context, &docks, ready, &mut owners)?;
+    let Ok((table, seat)) = ClaimTable::new(alloc, context.batch().len()) else {
+        return Err(Shortage::Memory);
+    };
+    let work = in_room::<N, Brand, R, G>(
+        rt, alloc, context, docks, table, seat, yard, owners, passes, gate,
+    )?;
+    let Work {
+        shifts,
+        done,
+        closing,
+    } = work;
+    let settled = context.gather_done(alloc, done, closing)?;
+    Ok((settled, shifts))
+}
+
+// Settles a batch by workers whose number is within its limits. If a day is named, it is this one.
+fn settle_named<N: Naming + Send + Sync, R: Threads + Wait + Sync, G: Gate>(
+    rt: &R,
+    alloc: Global,
+    book: &Book,
+    rules: &Rules,
+    batch: &Batch,
+    workers: u32,
+    gate: &G,
+) -> Result<(Settled, Vec<Shift<N>>), WorkFault>
+    requires day { IsNamed N.day book.now rules.now batch.now }
+    requires workers { are_workers workers ≡ true }
+    ensures answer { MatchResult result
+        (λ s. (batch.now.base + 1 ≡ book.now.next) × IfSome N.day (λ d. s.0 ≡ settled_day d))
+        (IsWorkFault workers book.now batch.now) }
+    ensures of_book { IfOk result (λ s. IsOfBook book.now s.0) }
+    ensures shifts { IfOk result (λ s. AreShifts workers (length batch.now.instructions) s.1.items) }
+{
+    let context = Context::<N>::of(alloc, book, rules, batch)?;
+    Ok(settle_context(rt, alloc, &context, workers, gate)?)
+}
+
+/// Settles a batch by workers that each have a deque of tasks. A worker takes the first task of its own deque, or else of
+/// another worker's, in rising number. It claims the task's place, calls the gate, runs the task, hands on what the
+/// instruction left to the instructions that wait for it, puts each task that is complete with that into its own deque,
+/// and finishes the place. It leaves after it saw that all places are finished, or that the workers are to leave. The book
+/// is not changed.
+///
+/// The settled day is that of `settle_plain`, whatever the number of workers and the order in which they work. There is a
+/// shift for each worker, from worker 0 on, and each place from 1 to the number of instructions is in one shift, once.
+///
+/// # Errors
+/// The first of these that applies. `Workers` if the number of workers is not 1 to 8. `WrongBase` if the first record number
+/// of the batch is not the book's next record number. `NoThread` if a thread could not be started. `NoMemory` if memory ran
+/// out. All threads have ended then.
+pub fn settle_with<R: Threads + Wait + Sync, G: Gate>(
+    rt: &R,
+    alloc: Global,
+    book: &Book,
+    rules: &Rules,
+    batch: &Batch,
+    workers: u32,
+    gate: &G,
+) -> Result<(Settled, Vec<Shift<Brand>>), WorkFault>
+    ensures settled { MatchResult result
+        (λ s. (are_workers workers ≡ true) × (batch.now.base + 1 ≡ book.now.next) × (s.0 ≡ settled_day (day_of book.now rules.now batch.now)))
+        (IsWorkFault workers book.now batch.now) }
+    ensures of_book { IfOk result (λ s. IsOfBook book.now s.0) }
+    ensures shifts { IfOk result (λ s. AreShifts workers (length batch.now.instructions) s.1.items) }
+{
+    if !is_allowed(workers) {
+        return Err(WorkFault::Workers);
+    }
+    settle_named::<Brand, R, G>(rt, alloc, book, rules, batch, workers, gate)
+}

@@ -1,0 +1,195 @@
+//! What a worker has, and what it does in one turn.
+
+ghost use Rattle.std.specs.Prelude.{◌≡◌, []};
+ghost use Rattle.reg_claim.specs.Seats.{known, seat_table};
+ghost use Rattle.reg_tasks.specs.Gathering.{places_of};
+ghost use Rattle.reg_deques.specs.Yards.{deques_of_pass};
+ghost use Rattle.reg_work.specs.Shifts.{places_ran};
+
+use crate::gate::Gate;
+use crate::room::{Board, Room};
+use crate::turn::Turn;
+use reg_base::NoMemory;
+use reg_claim::Seat;
+use reg_schedules::MOST_WORKERS;
+use reg_tasks::{Done, Naming, Parcel, Ran, Task};
+use reg_yard::{Owner, Pass};
+use std::alloc::Global;
+use std::marker::PhantomData;
+use std::sync::Wait;
+
+/// What a worker has: its deque, what it knows of the others, its seat, and what it did.
+#[derive(Drop)]
+pub(crate) struct Post<N: Naming, B: Room> {
+    pub(crate) owner: Owner<N>,
+    pub(crate) pass: Pass<N>,
+    pub(crate) seat: Seat,
+    pub(crate) ran: Vec<Ran<N>>,
+    pub(crate) done: Vec<Done<N>>,
+    pub(crate) closing: Vec<Parcel<N>>,
+    pub(crate) of: PhantomData<B>,
+    pub(crate) ghost table_is: { seat_table seat ≡ B.table },
+    pub(crate) ghost one_part: { (known seat).share ≡ 1 },
+    pub(crate) ghost finished: { places_ran ran.items ≡ (known seat).finished },
+    pub(crate) ghost rows: { places_of done.items ≡ (known seat).finished },
+    pub(crate) ghost deques_are: { deques_of_pass pass ≡ B.deques },
+}
+
+impl<N: Naming, B: Room> Post<N, B> {
+    ghost use Rattle.std.specs.Prelude.{true, IfOk, IfSome, OnOk};
+    ghost use Rattle.reg_work.specs.Ends.{sees_end, IsToFinish};
+
+    pub(crate) fn new(alloc: Global, owner: Owner<N>, pass: Pass<N>, seat: Seat) -> Post<N, B>
+        requires table { seat_table seat ≡ B.table }
+        requires part { (known seat).share ≡ 1 }
+        requires fresh { (known seat).finished ≡ [] }
+        requires deques { deques_of_pass pass ≡ B.deques }
+        ensures same { known result.seat ≡ known seat }
+    {
+        Post {
+            owner,
+            pass,
+            seat,
+            ran: Vec::new(alloc),
+            done: Vec::new(alloc),
+            closing: Vec::new(alloc),
+            of: PhantomData,
+        }
+    }
+
+    /// Whether all places are finished, or the workers are to leave.
+    pub(crate) fn is_over(&mut self, board: &Board<'_, N, B>) -> bool
+        ensures { result ≡ sees_end B.count (known self.new.seat) }
+    {
+        let look = board.table.look(&mut self.seat);
+        look.stopped || look.done >= board.context.batch().len()
+    }
+
+    /// Tells all workers to leave.
+    pub(crate) fn stop(&mut self, board: &Board<'_, N, B>)
+        ensures { sees_end B.count (known self.new.seat) ≡ true }
+    {
+        board.table.stop(&mut self.seat);
+    }
+
+    /// The first task of its own deque, or else one of another worker, in rising number.
+    pub(crate) fn find(&mut self, board: &Board<'_, N, B>) -> Option<Task<N>> {
+        if let Some(task) = self.owner.take_own() {
+            return Some(task);
+        }
+        let own = self.pass.worker();
+        let workers = board.yard.workers();
+        for from in 0..MOST_WORKERS {
+            if from != own && (from as usize) < workers {
+                let stolen = board.yard.steal(&mut self.pass, from);
+                if stolen.is_some() {
+                    return stolen;
+                }
+            }
+        }
+        None
+    }
+
+    /// Claims the place of a task, passes the gate and runs the task. If the place is claimed already, the task is not
+    /// run, and there is no turn.
+    ///
+    /// # Errors
+    /// `NoMemory` if memory ran out. If no day is named, also if the task is of another context.
+    pub(crate) fn run<G: Gate>(
+        &mut self,
+        alloc: Global,
+        board: &Board<'_, N, B>,
+        gate: &G,
+        worker: u32,
+        task: Task<N>,
+    ) -> Result<Option<Turn<N>>, NoMemory>
+        ensures turn { IfOk result (λ turn. IfSome turn (λ t. IsToFinish t.ran.place (known self.new.seat))) }
+    {
+        let place = task.place();
+        if place == 0 || place > board.context.batch().len() {
+            return Err(NoMemory);
+        }
+        if !board.table.claim(&mut self.seat, place) {
+            return Ok(None);
+        }
+        gate.enter(worker, &task);
+        let Ok(outcome) = task.run(alloc, board.context) else {
+            return Err(NoMemory);
+        };
+        let (ran, done, left) = outcome.into_done();
+        Ok(Some(Turn { ran, done, left }))
+    }
+
+    /// Hands on what an instruction left: to the dock of the instruction that waits for it, and each task that is complete
+    /// with it into the worker's own deque. What no other instruction needs is kept.
+    ///
+    /// # Errors
+    /// `NoMemory` if memory ran out. If no day is named, also if a parcel is of another context.
+    pub(crate) fn hand_on<R: Wait>(
+        &mut self,
+        rt: &R,
+        board: &Board<'_, N, B>,
+        turn: &mut Turn<N>,
+    ) -> Result<(), NoMemory>
+        ensures seat { self.new.seat ≡ self.old.seat }
+        ensures ran { turn.new.ran ≡ turn.old.ran }
+        ensures all { OnOk result (turn.new.left.items ≡ []) }
+    {
+        while let Some(parcel) = turn.left.pop() {
+            self.hand_on_one(rt, board, turn.ran.place(), parcel)?;
+        }
+        Ok(())
+    }
+
+    // Hands on one parcel that the instruction at a place left.
+    fn hand_on_one<R: Wait>(
+        &mut self,
+        rt: &R,
+        board: &Board<'_, N, B>,
+        place: u32,
+        parcel: Parcel<N>,
+    ) -> Result<(), NoMemory>
+        ensures seat { self.new.seat ≡ self.old.seat }
+    {
+        if !leads_on(board, place, &parcel) {
+            self.closing.push(parcel)?;
+            return Ok(());
+        }
+        let Ok(complete) = board.docks.deliver(rt, parcel) else {
+            return Err(NoMemory);
+        };
+        let Some(task) = complete else {
+            return Ok(());
+        };
+        if self.owner.put(task).is_err() {
+            return Err(NoMemory);
+        }
+        Ok(())
+    }
+
+    /// Counts the place of a turn as finished, and keeps its row. All that it left was handed on.
+    ///
+    /// # Errors
+    /// `NoMemory` if memory ran out.
+    pub(crate) fn finish(&mut self, board: &Board<'_, N, B>, turn: Turn<N>) -> Result<(), NoMemory>
+        requires claimed { IsToFinish turn.ran.place (known self.old.seat) }
+        requires handed { turn.left.items ≡ [] }
+    {
+        self.ran.reserve(1)?;
+        self.done.reserve(1)?;
+        let Turn { ran, done, .. } = turn;
+        board.table.finish(&mut self.seat, ran.place());
+        self.ran.push_reserved(ran);
+        self.done.push_reserved(done);
+        Ok(())
+    }
+}
+
+// Whether another instruction needs a parcel that the instruction at a place left.
+fn leads_on<N: Naming, B: Room>(board: &Board<'_, N, B>, place: u32, parcel: &Parcel<N>) -> bool {
+    let context = board.context;
+    if place == 0 || place > context.batch().len() {
+        return false;
+    }
+    context.leads_on(place, parcel.account())
+}

@@ -1,0 +1,49 @@
+//! What the workers of one call share.
+
+ghost use Rattle.std.specs.Prelude.{◌≡◌, length};
+ghost use Rattle.reg_claim.specs.Seats.{table_id, places};
+ghost use Rattle.reg_deques.specs.Yards.{deques};
+
+use reg_claim::ClaimTable;
+use reg_tasks::{Context, Naming};
+use reg_yard::{Docks, Yard};
+use std::marker::{Brand, PhantomData};
+
+/// Which claim table and which deques they are, and how many places there are. A room has no code. What a thread gives
+/// back is known by its type alone, so its type names the room.
+pub(crate) trait Room {
+    ghost use Rattle.std.specs.Prelude.{ℕ, List};
+    ghost use Rattle.atomic_table.specs.Seated.{TableId};
+    ghost use Rattle.reg_deques.specs.Passes.{DequeId};
+
+    ghost count: { ℕ };
+
+    ghost table: { TableId };
+
+    ghost deques: { List DequeId };
+}
+
+/// The room that a caller picks from its own arguments.
+impl Room for Brand {
+    ghost use Rattle.std.specs.Prelude.{[]};
+
+    ghost count = { 0 };
+
+    ghost table = { record { words = 0; slots = 0; views_name = 0; atom = 0; block = 0; offset = 0; slot_names = [] } };
+
+    ghost deques = { [] };
+}
+
+/// The day, its docks, who claimed what, and the deques of all workers.
+#[derive(Drop)]
+pub(crate) struct Board<'c, N: Naming, B: Room> {
+    pub(crate) context: &'c Context<'c, N>,
+    pub(crate) docks: Docks<'c, 'c, N>,
+    pub(crate) table: ClaimTable,
+    pub(crate) yard: Yard<N>,
+    pub(crate) of: PhantomData<B>,
+    pub(crate) ghost counted: { length context.now.batch.now.instructions ≡ B.count },
+    pub(crate) ghost table_is: { table_id table ≡ B.table },
+    pub(crate) ghost places_are: { places table ≡ B.count },
+    pub(crate) ghost deques_are: { deques yard ≡ B.deques },
+}

@@ -1,0 +1,98 @@
+//! Counting up what the workers did.
+
+ghost use Rattle.std.specs.Prelude.{◌≡◌, ◌+◌, ◌<◌, [], vec_len, IfOk};
+ghost use Rattle.reg_claim.specs.Seats.{known, seat_table, table_id, places};
+ghost use Rattle.reg_work.specs.Shifts.{AreShifts, workers_of, times_in};
+ghost use Rattle.reg_work.specs.Stints.{stint_workers};
+ghost use Rattle.reg_work.specs.Shifts.{numbers_below};
+
+use crate::post::Post;
+use crate::room::Room;
+use crate::shift::Shift;
+use crate::worker::Stint;
+use reg_base::NoMemory;
+use reg_claim::{ClaimTable, Seat};
+use reg_tasks::{Done, Naming, Parcel, Ran};
+use std::alloc::Global;
+
+/// What all workers did: who ran what, the rows, and the values that no other instruction needs.
+#[derive(Drop)]
+pub(crate) struct Work<N: Naming> {
+    pub(crate) shifts: Vec<Shift<N>>,
+    pub(crate) done: Vec<Done<N>>,
+    pub(crate) closing: Vec<Parcel<N>>,
+}
+
+impl<N: Naming> Work<N> {
+    ghost use Rattle.std.specs.Prelude.{ℕ, ◌++◌, ◌∷◌, OnOk};
+    ghost use Rattle.reg_counting.specs.Counting.{times};
+    ghost use Rattle.reg_work.specs.Shifts.{places_ran};
+
+    // Nobody did anything yet.
+    fn new(alloc: Global) -> Work<N>
+        ensures { result.shifts.items ≡ [] }
+    {
+        Work {
+            shifts: Vec::new(alloc),
+            done: Vec::new(alloc),
+            closing: Vec::new(alloc),
+        }
+    }
+
+    // Adds what a worker did.
+    fn add(
+        &mut self,
+        worker: u32,
+        ran: Vec<Ran<N>>,
+        done: Vec<Done<N>>,
+        closing: Vec<Parcel<N>>,
+    ) -> Result<(), NoMemory>
+        ensures workers { OnOk result (workers_of self.new.shifts.items ≡ workers_of self.old.shifts.items ++ worker ∷ []) }
+        ensures times { OnOk result ((p : ℕ) → times_in p self.new.shifts.items ≡ times_in p self.old.shifts.items + times p (places_ran ran.items)) }
+    {
+        let mut done = done;
+        let mut closing = closing;
+        self.done.append(&mut done)?;
+        self.closing.append(&mut closing)?;
+        self.shifts.push(Shift { worker, ran })?;
+        Ok(())
+    }
+}
+
+/// Joins the seats of all workers and closes the table. Without a stop each place is in one shift, once.
+///
+/// # Errors
+/// `NoMemory` if memory ran out, also if that made the workers leave early.
+pub(crate) fn count_up<N: Naming, B: Room>(
+    alloc: Global,
+    table: ClaimTable,
+    seat: Seat,
+    stints: Vec<Stint<N, B>>,
+) -> Result<Work<N>, NoMemory>
+    requires table { (table_id table ≡ B.table) × (places table ≡ B.count) × (seat_table seat ≡ B.table) }
+    requires share { (known seat).share + vec_len stints ≡ 16 }
+    requires fresh { ((known seat).finished ≡ []) × ((known seat).seen ≡ 0) }
+    requires some { 0 < vec_len stints }
+    requires workers { stint_workers stints.items ≡ numbers_below (vec_len stints) }
+    ensures shifts { IfOk result (λ w. AreShifts (vec_len stints) B.count w.shifts.items) }
+{
+    let mut rest = seat;
+    let mut work: Work<N> = Work::new(alloc);
+    for stint in stints {
+        let Stint { worker, post, .. } = stint;
+        let Post {
+            seat: theirs,
+            ran,
+            done,
+            closing,
+            ..
+        } = post;
+        rest = table.join(rest, theirs);
+        work.add(worker, ran, done, closing)?;
+    }
+    let tally = table.close(rest);
+    if tally.stopped {
+        return Err(NoMemory);
+    }
+    Ok(work)
+}

@@ -1,0 +1,15 @@
+//! One turn of a worker: an instruction that it claimed and ran.
+
+ghost use Rattle.std.specs.Prelude.{◌≡◌};
+
+use reg_tasks::{Done, Naming, Parcel, Ran};
+
+/// An instruction that a worker claimed and ran, and the parcels that it has still to hand on. It is finished only after
+/// all are handed on: so what an instruction waits for has come to its dock before it counts as done.
+#[derive(Drop)]
+pub(crate) struct Turn<N: Naming> {
+    pub(crate) ran: Ran<N>,
+    pub(crate) done: Done<N>,
+    pub(crate) left: Vec<Parcel<N>>,
+    pub(crate) ghost same: { done.place ≡ ran.place },
+}

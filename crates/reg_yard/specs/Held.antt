@@ -1,0 +1,39 @@
+-- What a dock holds, and what becomes of a parcel that is delivered to it. While parcels wait in a dock, it is seen as their
+-- list; once its task has gone out, nothing is in it any more, since all that the place awaits has come.
+use Rattle.std.specs.Prelude.{◌≡◌, ℕ, ◌+◌, ◌≤◌, Bool, true, List, length, Option, Some, None, is_some, vec_capacity, if◌then◌else◌}
+use Rattle.std.specs.declared.vec.Vec.{Vec}
+use Rattle.std.proofs.Common.{Global}
+use Rattle.reg_plan.specs.Plans.{PlanValue}
+use Rattle.reg_book.specs.Day.{Day}
+use Rattle.reg_schedules.specs.Pool.{footprint_at}
+use Rattle.reg_schedules.specs.Docks.{ParcelValue, TaskValue, still_awaited, is_not_awaited, received}
+use Rattle.reg_tasks.specs.declared.naming.Naming.{Ghosts}
+use Rattle.reg_tasks.specs.declared.parcel.Parcel.{Parcel}
+use Rattle.reg_tasks.specs.Parcels.{parcels_of}
+
+-- the parcel is not awaited, or has come already
+abbrev pub is_refused : Day → PlanValue → ℕ → Option (List ParcelValue) → ParcelValue → Bool
+is_refused day plan place None p = true
+is_refused day plan place (Some came) p = is_not_awaited day plan place came p
+
+-- what stays in a dock of what came, and the task that goes out
+abbrev pub left_of : List ParcelValue × Option TaskValue → Option (List ParcelValue) × Option TaskValue
+left_of (came, task) = (if is_some task then None else Some came, task)
+
+-- the same after one parcel more
+abbrev pub delivered : Day → PlanValue → ℕ → Option (List ParcelValue) → ParcelValue → Option (List ParcelValue) × Option TaskValue
+delivered day plan place None p = (None, None)
+delivered day plan place (Some came) p = left_of (received day plan place came p)
+
+-- those that came and those that are still awaited are no more than the accounts that the place's instruction touches
+abbrev pub AreFew : Day → PlanValue → ℕ → List ParcelValue → Type 0
+AreFew day plan place came = length came + length (still_awaited day plan place came) ≤ length (footprint_at day place)
+
+module _ {N : Type 0} {b : Ghosts N} where
+  -- if parcels wait, they are that few
+  abbrev pub FewWait : Day → PlanValue → ℕ → Option (Vec (Parcel N b) Global) → Type 0
+  FewWait day plan place waiting = (parcels : Vec (Parcel N b) Global) → waiting ≡ Some parcels → AreFew day plan place (parcels_of parcels.items)
+
+  -- if parcels wait, there is room for one of each account that the place's instruction touches
+  abbrev pub HaveRoom : Day → ℕ → Option (Vec (Parcel N b) Global) → Type 0
+  HaveRoom day place waiting = (parcels : Vec (Parcel N b) Global) → waiting ≡ Some parcels → vec_capacity parcels ≡ length (footprint_at day place)

@@ -1,0 +1,4 @@
+pub mod Parcels
+pub mod Held
+pub mod AtOnce
+pub mod Dock

@@ -1,0 +1,34 @@
+//! The task of a place, if its parcels are there.
+
+ghost use Rattle.std.specs.Prelude.{◌≡◌, ◌≤◌, length, IfSome, IsPermutation, vec_capacity};
+ghost use Rattle.std.specs.Option.{option_map};
+ghost use Rattle.reg_schedules.specs.Pool.{footprint_at};
+ghost use Rattle.reg_schedules.specs.Docks.{complete};
+ghost use Rattle.reg_tasks.specs.Contexts.{the_day};
+ghost use Rattle.reg_tasks.specs.Parcels.{parcels_of};
+ghost use Rattle.reg_tasks.specs.Tasks.{task_of};
+ghost use Rattle.reg_yard.specs.Held.{left_of, AreFew, FewWait, HaveRoom};
+
+use reg_tasks::{Context, Naming, Parcel, Task};
+
+/// The task of a place, if these parcels are all that it awaits, and otherwise the parcels. The place is counted from 1.
+pub(crate) fn try_assemble<N: Naming>(
+    context: &Context<N>,
+    place: u32,
+    parcels: Vec<Parcel<N>>,
+) -> (Option<Vec<Parcel<N>>>, Option<Task<N>>)
+    requires from_one { 1 ≤ place }
+    requires within { place ≤ length context.now.batch.now.instructions }
+    requires few { AreFew (the_day context.now) context.now.plan place (parcels_of parcels.items) }
+    requires room { vec_capacity parcels ≡ length (footprint_at (the_day context.now) place) }
+    ensures left { (option_map (λ waiting. parcels_of waiting.items) result.0, option_map task_of result.1) ≡ left_of (parcels_of parcels.items, complete (the_day context.now) context.now.plan place (parcels_of parcels.items)) }
+    ensures few { FewWait (the_day context.now) context.now.plan place result.0 }
+    ensures room { HaveRoom (the_day context.now) place result.0 }
+    ensures place { IfSome result.1 (λ t. t.place ≡ place) }
+    ensures parcels { IfSome result.1 (λ t. IsPermutation parcels.items t.parcels.items) }
+{
+    match Task::assemble(context, place, parcels) {
+        Ok(task) => (None, Some(task)),
+        Err(parcels) => (Some(parcels), None),
+    }
+}

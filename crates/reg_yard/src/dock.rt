@@ -1,0 +1,120 @@
+//! Where the parcels of an instruction come together.
+
+ghost use Rattle.std.specs.Prelude.{◌≡◌, ◌≤◌, length};
+ghost use Rattle.reg_tasks.specs.Contexts.{the_day};
+ghost use Rattle.reg_yard.specs.Held.{FewWait, HaveRoom};
+
+use crate::assemble::try_assemble;
+use crate::awaited::{awaited_accounts, is_awaited};
+use reg_base::NoMemory;
+use reg_tasks::{Context, Naming, Parcel, Task};
+use std::alloc::Global;
+
+/// Where the parcels that an instruction needs wait for each other. The task goes out with the last of them, and from then
+/// on nothing is awaited.
+#[derive(Drop)]
+pub struct Dock<'c, 'a, N: Naming> {
+    context: &'c Context<'a, N>,
+    place: u32,
+    waiting: Option<Vec<Parcel<N>>>,
+    pub ghost from_one: { 1 ≤ place },
+    pub ghost within: { place ≤ length context.now.batch.now.instructions },
+    pub ghost few: { FewWait (the_day context.now) context.now.plan place waiting },
+    pub ghost room: { HaveRoom (the_day context.now) place waiting },
+}
+
+impl<'c, 'a, N: Naming> Dock<'c, 'a, N> {
+    ghost use Rattle.std.specs.Prelude.{[], true, not, is_some, is_err, IfOk, IfErr, IfSome, OnErr, Contains};
+    ghost use Rattle.std.specs.Option.{option_map};
+    ghost use Rattle.reg_schedules.specs.Docks.{complete};
+    ghost use Rattle.reg_tasks.specs.Tasks.{task_of};
+    ghost use Rattle.reg_yard.specs.AtOnce.{task_at_once};
+    ghost use Rattle.reg_yard.specs.Parcels.{parcel_of};
+    ghost use Rattle.reg_yard.specs.Held.{is_refused, left_of, delivered};
+    ghost use Rattle.reg_yard.specs.Dock.{came_to};
+
+    /// The dock of a place, to which nothing has come yet, and its task, exactly if the instruction touches no account.
+    /// The place is counted from 1.
+    ///
+    /// # Errors
+    /// `NoMemory` if memory ran out.
+    pub fn new(
+        alloc: Global,
+        context: &'c Context<'a, N>,
+        place: u32,
+    ) -> Result<(Dock<'c, 'a, N>, Option<Task<N>>), NoMemory>
+        requires from_one { 1 ≤ place }
+        requires within { place ≤ length context.now.batch.now.instructions }
+        ensures context { IfOk result (λ r. r.0.context.now ≡ context.now) }
+        ensures place { IfOk result (λ r. r.0.place ≡ place) }
+        ensures left { IfOk result (λ r. (came_to r.0, option_map task_of r.1) ≡ left_of ([], complete (the_day context.now) context.now.plan place [])) }
+        ensures at_once { IfOk result (λ r. option_map task_of r.1 ≡ task_at_once (the_day context.now) place) }
+    {
+        let none = Vec::with_capacity(alloc, awaited_accounts(context, place).len())?;
+        let (waiting, task) = try_assemble(context, place, none);
+        let dock = Dock {
+            context,
+            place,
+            waiting,
+        };
+        Ok((dock, task))
+    }
+
+    /// The place of its instruction, counted from 1.
+    pub fn place(&self) -> u32
+        ensures { result ≡ self.now.place }
+    {
+        self.place
+    }
+
+    // Whether the parcel is still awaited. Then there is room for it.
+    fn awaits(&self, parcel: &Parcel<N>) -> bool
+        ensures awaits { result ≡ not (is_refused (the_day self.now.context.now) self.now.context.now.plan self.now.place (came_to self.now) (parcel_of parcel.now)) }
+        ensures open { result ≡ true → is_some self.now.waiting ≡ true }
+    {
+        match &self.waiting {
+            Some(waiting) => is_awaited(self.context, self.place, waiting, parcel),
+            None => false,
+        }
+    }
+
+    /// A parcel comes. Answers the task if the parcel is the last that was awaited. Takes no memory.
+    ///
+    /// # Errors
+    /// The parcel, if it is not awaited or has come already.
+    pub fn deliver(&mut self, parcel: Parcel<N>) -> Result<Option<Task<N>>, Parcel<N>>
+        ensures context { self.new.context.now ≡ self.old.context.now }
+        ensures place { self.new.place ≡ self.old.place }
+        ensures refused { is_err result ≡ is_refused (the_day self.old.context.now) self.old.context.now.plan self.old.place (came_to self.old) (parcel_of parcel) }
+        ensures delivered { IfOk result (λ task. (came_to self.new, option_map task_of task) ≡ delivered (the_day self.old.context.now) self.old.context.now.plan self.old.place (came_to self.old) (parcel_of parcel)) }
+        ensures at { IfOk result (λ task. IfSome task (λ t. t.place ≡ self.old.place)) }
+        ensures has { IfOk result (λ task. IfSome task (λ t. Contains t.parcels.items parcel)) }
+        ensures back { IfErr result (λ p. p ≡ parcel) }
+        ensures unchanged { OnErr result (self.new ≡ self.old) }
+    {
+        if !self.awaits(&parcel) {
+            return Err(parcel);
+        }
+        let mut parcels = self.waiting.take().unwrap();
+        parcels.push_reserved(parcel);
+        let (waiting, task) = try_assemble(self.context, self.place, parcels);
+        self.waiting = waiting;
+        Ok(task)
+    }
+
+    // A parcel for this place comes, if this is the dock of the place.
+    pub(crate) fn deliver_at(
+        &mut self,
+        place: u32,
+        parcel: Parcel<N>,
+    ) -> Result<Option<Task<N>>, Parcel<N>>
+        ensures at { IfOk result (λ task. IfSome task (λ t. t.place ≡ place)) }
+        ensures has { IfOk result (λ task. IfSome task (λ t. Contains t.parcels.items parcel)) }
+        ensures back { IfErr result (λ p. p ≡ parcel) }
+    {
+        if self.place != place {
+            return Err(parcel);
+        }
+        self.deliver(parcel)
+    }
+}

@@ -1,0 +1,160 @@
+//! Settlement by workers that steal: what only running threads show.
+
+use crate::fixtures::worked;
+use crate::levels::{BACK, Meeting, TURNS, UNKNOWN, full_batch};
+use crate::orders::{APART, TWICE, settled, told};
+use crossbeam_utils::Backoff;
+use reg_tasks::{Naming, Task};
+use reg_text::DayInput;
+use reg_work::{Gate, OpenGate, Shift, WorkFault, settle_with};
+use std::alloc::Global;
+use std::process::Abort;
+use std::sync::Wait;
+use std::sync::atomic::{AtomicU32, Ordering};
+use std::thread::Threads;
+
+// A transfer, and two instructions that wait for it and share no account: both become complete in one worker's deque.
+const AFTER_ONE: &str = "\
+do,2025-03-31,101,102,transfer,1,2,general,10
+do,2025-03-31,101,102,surrender,1,general,10
+do,2025-03-31,201,202,untrust,2,1
+";
+
+// A gate that holds the tasks of places 2 and 3 until both have entered, and counts those that waited in vain.
+#[derive(Drop)]
+struct Pair {
+    second: AtomicU32,
+    third: AtomicU32,
+    missed: AtomicU32,
+}
+
+impl Pair {
+    fn wait_for(&self, other: &AtomicU32) {
+        let backoff = Backoff::new();
+        for _ in 0..TURNS {
+            if other.load(Ordering::SeqCst) != 0 {
+                return;
+            }
+            backoff.snooze();
+        }
+        self.missed.fetch_add(1, Ordering::SeqCst);
+    }
+}
+
+impl Gate for Pair {
+    fn enter<N: Naming>(&self, _worker: u32, task: &Task<N>) {
+        match task.place() {
+            2 => {
+                self.second.store(1, Ordering::SeqCst);
+                self.wait_for(&self.third);
+            }
+            3 => {
+                self.third.store(1, Ordering::SeqCst);
+                self.wait_for(&self.second);
+            }
+            _ => {}
+        }
+    }
+}
+
+// How many places each worker ran.
+fn lengths<N: Naming>(rt: &impl Abort, alloc: Global, shifts: &[Shift<N>]) -> String {
+    let mut told = String::new(alloc);
+    for shift in shifts {
+        let one = format!(in alloc; "{}:{} ", shift.worker, shift.ran.len()).expect(rt, "memory");
+        told.push_str(one.as_str()).expect(rt, "memory");
+    }
+    told
+}
+
+// How many places each of so many workers ran of these instructions, which leave what they leave one after another.
+fn shifts<R: Abort + Threads + Wait + Sync, G: Gate>(
+    rt: &R,
+    alloc: Global,
+    instructions: &str,
+    workers: u32,
+    gate: &G,
+) -> String {
+    let DayInput { rules, book, batch } = worked(rt, alloc, instructions);
+    let done = settle_with(rt, alloc, &book, &rules, &batch, workers, gate);
+    let (left, shifts) = done.expect(rt, "memory and threads");
+    assert!(rt; told(rt, alloc, &left) == settled(rt, alloc, instructions));
+    lengths(rt, alloc, shifts.as_slice())
+}
+
+// Of so many workers who each wait until so many have entered: how many places each ran. None waits in vain.
+fn met<R: Abort + Threads + Wait + Sync>(
+    rt: &R,
+    alloc: Global,
+    instructions: &str,
+    workers: u32,
+) -> String {
+    let gate = Meeting::of(workers);
+    let told = shifts(rt, alloc, instructions, workers, &gate);
+    assert!(rt; gate.missed.load(Ordering::SeqCst) == 0);
+    told
+}
+
+// Why so many workers do not settle a day.
+fn refused<R: Abort + Threads + Wait + Sync>(
+    rt: &R,
+    alloc: Global,
+    workers: u32,
+) -> Option<WorkFault> {
+    let DayInput { rules, book, batch } = worked(rt, alloc, BACK);
+    settle_with(rt, alloc, &book, &rules, &batch, workers, &OpenGate).err()
+}
+
+#[test]
+fn two_workers_run_at_once(rt: HostRuntime) {
+    let told = met(&rt, rt.alloc(), APART, 2);
+    assert_eq!(rt; told.as_str(), "0:1 1:1 ");
+}
+
+#[test]
+fn eight_workers_run_at_once(rt: HostRuntime) {
+    let each = "0:1 1:1 2:1 3:1 4:1 5:1 6:1 7:1 ";
+    let told = met(&rt, rt.alloc(), UNKNOWN, 8);
+    assert_eq!(rt; told.as_str(), each);
+}
+
+#[test]
+fn a_worker_steals_what_is_complete_in_another_ones_deque(rt: HostRuntime) {
+    let gate = Pair {
+        second: AtomicU32::new(0),
+        third: AtomicU32::new(0),
+        missed: AtomicU32::new(0),
+    };
+    shifts(&rt, rt.alloc(), AFTER_ONE, 2, &gate);
+    assert_eq!(rt; gate.missed.load(Ordering::SeqCst), 0);
+}
+
+#[test]
+fn workers_leave_what_one_instruction_after_another_leaves(rt: HostRuntime) {
+    for instructions in [BACK, TWICE, UNKNOWN] {
+        for workers in [1, 2, 8] {
+            shifts(&rt, rt.alloc(), instructions, workers, &OpenGate);
+        }
+    }
+}
+
+#[test]
+fn eight_workers_find_nothing_to_do(rt: HostRuntime) {
+    let none = "0:0 1:0 2:0 3:0 4:0 5:0 6:0 7:0 ";
+    let told = shifts(&rt, rt.alloc(), "", 8, &OpenGate);
+    assert_eq!(rt; told.as_str(), none);
+}
+
+#[test]
+fn eight_workers_settle_a_full_batch(rt: HostRuntime) {
+    let instructions = full_batch(&rt, rt.alloc());
+    shifts(&rt, rt.alloc(), instructions.as_str(), 8, &OpenGate);
+}
+
+#[test]
+fn there_are_one_to_eight_workers(rt: HostRuntime) {
+    for workers in [0, 9] {
+        let fault = refused(&rt, rt.alloc(), workers);
+        assert_eq!(rt; fault, Some(WorkFault::Workers), "{workers} workers");
+    }
+}
