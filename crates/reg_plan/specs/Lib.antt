@@ -3,3 +3,4 @@ pub mod TouchList
 pub mod Plans
 pub mod Orders
 pub mod Laws
+pub mod Ends

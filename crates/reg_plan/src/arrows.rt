@@ -3,7 +3,7 @@
 ghost use Rattle.std.specs.Prelude.{◌≡◌, ℕ, IfOk};
 ghost use Rattle.std.specs.List.Sorted.{IsNonDecreasingBy};
 ghost use Rattle.reg_plan.specs.TouchList.{arrows_of, openings_of, AreSorted};
-ghost use Rattle.reg_plan.specs.Plans.{inward, outward};
+ghost use Rattle.reg_plan.specs.Plans.{outward};
 
 use crate::arrow::{Arrow, Opening, Touch};
 use reg_base::NoMemory;
@@ -26,28 +26,6 @@ pub(crate) fn sorted_by_tail(alloc: Global, arrows: &[Arrow]) -> Result<Vec<Arro
     let mut by_tail = arrows.to_vec(alloc)?;
     by_tail.sort_by_key(|arrow| arrow.from)?;
     Ok(by_tail)
-}
-
-// Those of arrows by head that lead to this place.
-pub(crate) fn with_head(arrows: &[Arrow], place: u32) -> &[Arrow]
-    requires { IsNonDecreasingBy (λ arrow. arrow.to) arrows.now }
-    ensures { result.now ≡ inward arrows.now place }
-{
-    let first = arrows.partition_point(|arrow| arrow.to < place);
-    let rest = &arrows[first..];
-    let count = rest.partition_point(|arrow| arrow.to <= place);
-    &rest[..count]
-}
-
-// Those of arrows by tail that lead from this place.
-pub(crate) fn with_tail(arrows: &[Arrow], place: u32) -> &[Arrow]
-    requires { IsNonDecreasingBy (λ arrow. arrow.from) arrows.now }
-    ensures { result.now ≡ outward arrows.now place }
-{
-    let first = arrows.partition_point(|arrow| arrow.from < place);
-    let rest = &arrows[first..];
-    let count = rest.partition_point(|arrow| arrow.from <= place);
-    &rest[..count]
 }
 
 // From each touch to the next one of the same account.

@@ -7,6 +7,7 @@
 
 mod arrow;
 mod arrows;
+mod index;
 pub mod laws;
 mod levels;
 mod order;

@@ -8,7 +8,7 @@ ghost use Rattle.reg_plan.specs.Plans.{IsBetween};
 ghost use Rattle.reg_plan.specs.Orders.{fault_at, first_fault_after, marked};
 
 use crate::arrow::Arrow;
-use crate::arrows::with_head;
+use crate::index::{End, with_end};
 use thiserror::Error;
 
 /// Why a list of numbers is no legal order: the first of these that applies, the last three position by position.
@@ -42,9 +42,11 @@ pub enum OrderFault {
     },
 }
 
-// Checks an order number by number, and marks each number that has come.
+// Checks an order number by number, and marks each number that has come. `heads` are the likely counts of arrows by their
+// heads.
 pub(crate) fn check_numbers(
     arrows: &[Arrow],
+    heads: &[u32],
     came: &mut [bool],
     order: &[u32],
 ) -> Result<(), OrderFault>
@@ -55,7 +57,7 @@ pub(crate) fn check_numbers(
     ensures { result_err result ≡ first_fault_after arrows.now (length came.old) [] order.now }
 {
     for (index, number) in order.iter().enumerate() {
-        if let Some(fault) = find_fault(arrows, came, index as u32 + 1, *number) {
+        if let Some(fault) = find_fault(arrows, heads, came, index as u32 + 1, *number) {
             return Err(fault);
         }
         came[*number as usize - 1] = true;
@@ -64,7 +66,13 @@ pub(crate) fn check_numbers(
 }
 
 // What is wrong with a number at a position.
-fn find_fault(arrows: &[Arrow], came: &[bool], at: u32, number: u32) -> Option<OrderFault>
+fn find_fault(
+    arrows: &[Arrow],
+    heads: &[u32],
+    came: &[bool],
+    at: u32,
+    number: u32,
+) -> Option<OrderFault>
     requires by_head { IsNonDecreasingBy (λ arrow. arrow.to) arrows.now }
     requires between { All (IsBetween (length came.now)) arrows.now }
     ensures { result ≡ fault_at arrows.now (length came.now) (marked came.now) at number }
@@ -75,7 +83,7 @@ fn find_fault(arrows: &[Arrow], came: &[bool], at: u32, number: u32) -> Option<O
     if came[number as usize - 1] {
         return Some(OrderFault::Repeated { at });
     }
-    let arrow = first_waiting(with_head(arrows, number), came)?;
+    let arrow = first_waiting(with_end(arrows, End::Head, heads, number), came)?;
     Some(OrderFault::Arrow {
         from: arrow.from,
         to: arrow.to,

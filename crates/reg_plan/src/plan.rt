@@ -4,7 +4,8 @@ ghost use Rattle.std.specs.Prelude.{◌≡◌, ◌≤◌, None, IfOk, IfErr, OnO
 ghost use Rattle.reg_base.specs.declared.limits.TheConstants.{MOST_INSTRUCTIONS};
 
 use crate::arrow::{Arrow, Opening};
-use crate::arrows::{find_openings, sorted_arrows, sorted_by_tail, with_head, with_tail};
+use crate::arrows::{find_openings, sorted_arrows, sorted_by_tail};
+use crate::index::{End, likely_counts, with_end};
 use crate::levels::find_levels;
 use crate::order::{OrderFault, check_numbers};
 use crate::touches::sorted_touches;
@@ -20,6 +21,8 @@ pub struct Plan {
     by_tail: Vec<Arrow>,
     openings: Vec<Opening>,
     levels: Vec<u32>,
+    heads: Vec<u32>,
+    tails: Vec<u32>,
 }
 
 impl Model for Plan {
@@ -53,11 +56,15 @@ impl Plan {
         let arrows = sorted_arrows(alloc, &touches)?;
         let by_tail = sorted_by_tail(alloc, &arrows)?;
         let levels = find_levels(alloc, &arrows, places)?;
+        let heads = likely_counts(alloc, End::Head, &arrows, places)?;
+        let tails = likely_counts(alloc, End::Tail, &by_tail, places)?;
         Ok(Plan {
             arrows,
             by_tail,
             openings,
             levels,
+            heads,
+            tails,
         })
     }
 
@@ -70,24 +77,24 @@ impl Plan {
 
     /// The arrows that lead to a place, sorted by `from` and `account`. The place is counted from 1.
     ///
-    /// The time is logarithmic in the arrows.
+    /// The time does not depend on the number of arrows.
     pub fn inward(&self, place: u32) -> &[Arrow]
         requires from_one { 1 ≤ place }
         requires within { place ≤ length self.now.levels }
         ensures { result.now ≡ inward self.now.arrows place }
     {
-        with_head(&self.arrows, place)
+        with_end(&self.arrows, End::Head, &self.heads, place)
     }
 
     /// The arrows that lead from a place, sorted by `to` and `account`. The place is counted from 1.
     ///
-    /// The time is logarithmic in the arrows.
+    /// The time does not depend on the number of arrows.
     pub fn outward(&self, place: u32) -> &[Arrow]
         requires from_one { 1 ≤ place }
         requires within { place ≤ length self.now.levels }
         ensures { result.now ≡ outward self.now.arrows place }
     {
-        with_tail(&self.by_tail, place)
+        with_end(&self.by_tail, End::Tail, &self.tails, place)
     }
 
     /// Each touched account with its first instruction, by rising account.
@@ -130,6 +137,6 @@ impl Plan {
         let Ok(mut came) = vec![in alloc; false; order.len()] else {
             return Err(OrderFault::NoMemory);
         };
-        check_numbers(&self.arrows, &mut came, order)
+        check_numbers(&self.arrows, &self.heads, &mut came, order)
     }
 }
