@@ -1,5 +1,6 @@
 -- Opening values.
-use Rattle.std.proofs.Common.{Bor, IsSome, ◌≡◌, ℕ, true, Option, Some, None, refl, ap, subst, ◌∙◌}
+use Rattle.std.proofs.Common.{Bor, IsSome, ◌≡◌, ℕ, true, List, [], ◌∷◌, length, map, arith, Option, Some, None, refl, ap, subst, ◌∙◌}
+use Rattle.reg_schedules.specs.Docks.{names_needed}
 use Rattle.std.specs.Prelude.{is_some}
 use Rattle.std.specs.Option.{option_copied}
 use Rattle.reg_account.specs.Account.{AccountValue}
@@ -21,3 +22,12 @@ pub opened : (name : Option Day) (book : BookValue) (rules : RulesValue) (batch 
     → IsNamed name book rules batch → account book.accounts a ≡ Some value → IsValue name value 0
 opened name book rules batch a value named found = λ day e.
     subst (λ (d : Day). value_at d value.number 0 ≡ Some value) (named day e) (ap (account book.accounts) (number_found book.accounts a value found) ∙ found)
+
+-- an instruction to which no arrow leads needs opening values
+pub needed_none : (accounts : List ℕ) → names_needed [] accounts ≡ map (λ a. (a, 0)) accounts
+needed_none [] = refl
+needed_none (a ∷ more) = ap (λ ns. (a, 0) ∷ ns) (needed_none more)
+
+pub no_arrows : {X : Type 0} (xs : List X) → length xs ≡ 0 → xs ≡ []
+no_arrows [] e = refl
+no_arrows (x ∷ xs) e = absurd (omega (arith, e))

@@ -10,6 +10,7 @@ ghost use Rattle.reg_tasks.specs.Slots.{name_of, opened_accounts};
 use crate::context::Context;
 use crate::done::Done;
 use crate::naming::Naming;
+use crate::nearby::bring_near;
 use crate::parcel::Parcel;
 use reg_base::NoMemory;
 use reg_rules::LogRow;
@@ -20,15 +21,33 @@ pub(crate) fn sort_done<N: Naming>(rows: &mut [Done<N>])
     ensures same { IsPermutation rows.old rows.new }
     ensures sorted { IsNonDecreasingBy (λ done. done.place) rows.new }
 {
+    bring_near(rows, |done| (done.place() as usize).saturating_sub(1));
     rows.sort_unstable_by_key(|done| done.place());
 }
 
-/// Sorts parcels by the numbers of their accounts.
-pub(crate) fn sort_parcels<N: Naming>(parcels: &mut [Parcel<N>])
+/// Sorts the last parcels of a day by the numbers of their accounts.
+pub(crate) fn sort_parcels<N: Naming>(context: &Context<N>, parcels: &mut [Parcel<N>])
     ensures same { IsPermutation parcels.old parcels.new }
     ensures sorted { IsNonDecreasingBy (λ parcel. parcel.value.number) parcels.new }
 {
+    bring_near(parcels, |parcel| likely_slot(context, parcel));
     parcels.sort_unstable_by_key(|parcel| parcel.account());
+}
+
+// Where the account of a parcel is likely to have its slot, if the instruction after which the parcel stands touches it.
+fn likely_slot<N: Naming>(context: &Context<N>, parcel: &Parcel<N>) -> usize {
+    let place = parcel.after();
+    if place == 0 || place > context.batch().len() {
+        return usize::MAX;
+    }
+    let mut slots = context.likely_slots(place);
+    for account in context.touched_at(place) {
+        let slot = slots.next();
+        if *account == parcel.account() {
+            return slot;
+        }
+    }
+    usize::MAX
 }
 
 // Whether the places are 1, 2 and so on.

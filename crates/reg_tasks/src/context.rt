@@ -1,6 +1,6 @@
 //! A day with its plan.
 
-ghost use Rattle.std.specs.Prelude.{◌≡◌, ◌+◌, ◌≤◌, length, Some, MatchResult, IfOk, IsTrue};
+ghost use Rattle.std.specs.Prelude.{◌≡◌, ◌+◌, ◌≤◌, length, Some, is_some, true, MatchResult, IfOk, IsTrue};
 ghost use Rattle.reg_base.specs.Touches.{is_touched};
 ghost use Rattle.reg_rules.specs.State.{account};
 ghost use Rattle.reg_plan.specs.Plans.{IsPlan, inward, outward};
@@ -166,6 +166,16 @@ impl<'a, N: Naming> Context<'a, N> {
         self.plan.outward(place)
     }
 
+    // The value of an account of the book.
+    pub(crate) fn open(&self, alloc: Global, number: AccountNo) -> Result<Parcel<N>, NoMemory>
+        requires known { is_some (account self.now.book.now.accounts number) ≡ true }
+        ensures value { IfOk result (λ p. account self.now.book.now.accounts number ≡ Some p.value) }
+        ensures after { IfOk result (λ p. p.after ≡ 0) }
+    {
+        let value = self.book.get(number).unwrap().copy(alloc)?;
+        Ok(Parcel::new(value, 0))
+    }
+
     /// The opening value of an account that some instruction touches.
     ///
     /// # Errors
@@ -177,7 +187,6 @@ impl<'a, N: Naming> Context<'a, N> {
     {
         // An account that an instruction touches is in the directory, and so in the book.
         each_footprint_is_sound();
-        let value = self.book.get(number).unwrap().copy(alloc)?;
-        Ok(Parcel::new(value, 0))
+        self.open(alloc, number)
     }
 }

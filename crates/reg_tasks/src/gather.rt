@@ -242,7 +242,7 @@ impl<N: Naming> Context<'_, N> {
         last_toucher_is_last();
         tails_are_last_touchers();
         sort_done(&mut rows);
-        sort_parcels(&mut parcels);
+        sort_parcels(self, &mut parcels);
         settle_sorted(alloc, self, rows, parcels)
     }
 

@@ -7,9 +7,11 @@ ghost use Rattle.reg_tasks.specs.Parcels.{names_of};
 use crate::context::Context;
 use crate::naming::Naming;
 use crate::needs::{are_needed, are_of, put_in_order};
+use crate::opened::open_all;
 use crate::outcome::Outcome;
 use crate::parcel::Parcel;
 use crate::run::{are_behind, carry_out, number_of, pack, pack_after, unpack};
+use reg_base::NoMemory;
 use reg_base::laws::{each_footprint_is_sound, last_toucher_is_last};
 use reg_book::{each_is_a_step, stays_ready, value_is_last_touchers};
 use reg_plan::laws::tails_are_last_touchers;
@@ -26,7 +28,8 @@ pub struct Task<N: Naming> {
 }
 
 impl<N: Naming> Task<N> {
-    ghost use Rattle.std.specs.Prelude.{◌≤◌, true, Some, None, length, is_ok, IfOk, IfErr, MatchResult, IsPermutation};
+    ghost use Rattle.std.specs.Prelude.{◌≤◌, ◌==◌, true, Some, None, length, map, is_ok, is_some, IfOk, IfErr, IfSome, MatchResult, IsPermutation};
+    ghost use Rattle.reg_rules.specs.State.{account};
     ghost use Rattle.reg_plan.specs.Plans.{inward};
     ghost use Rattle.reg_book.specs.Day.{Day};
     ghost use Rattle.reg_tasks.specs.Contexts.{the_day};
@@ -69,6 +72,33 @@ impl<N: Naming> Task<N> {
         tails_are_last_touchers();
         put_in_order(&mut parcels, touched, arrows);
         Ok(Task { place, parcels })
+    }
+
+    /// The task of a place with the opening values of the accounts that its instruction touches, in the order of its
+    /// footprint, exactly if no arrow leads to the place. The place is counted from 1.
+    ///
+    /// # Errors
+    /// `NoMemory` if memory ran out.
+    pub fn open(
+        alloc: Global,
+        context: &Context<N>,
+        place: u32,
+    ) -> Result<Option<Task<N>>, NoMemory>
+        requires from_one { 1 ≤ place }
+        requires within { place ≤ length context.now.batch.now.instructions }
+        ensures waits { IfOk result (λ t. is_some t ≡ (length (inward context.now.plan.arrows place) == 0)) }
+        ensures place { IfOk result (λ t. IfSome t (λ t. t.place ≡ place)) }
+        ensures names { IfOk result (λ t. IfSome t (λ t. names_of t.parcels.items ≡ map (λ a. (a, 0)) (footprint_at (the_day context.now) place))) }
+        ensures values { IfOk result (λ t. IfSome t (λ t. map (λ p. Some p.value) t.parcels.items ≡ map (λ a. account context.now.book.now.accounts a) (footprint_at (the_day context.now) place))) }
+    {
+        if !context.arrows_to(place).is_empty() {
+            return Ok(None);
+        }
+        each_footprint_is_sound();
+        last_toucher_is_last();
+        tails_are_last_touchers();
+        let parcels = open_all(alloc, context, context.touched_at(place))?;
+        Ok(Some(Task { place, parcels }))
     }
 
     /// The place of its instruction, counted from 1.

@@ -1,15 +1,8 @@
-use Rattle.std.proofs.Common.{ap, sym, ◌∙◌, Some}
-use Rattle.std.specs.Option.{option_copied}
 use Rattle.reg_book.specs.Day.{day_of}
 use Rattle.reg_schedules.proofs.Known.{touched_account}
-use Rattle.reg_tasks.proofs.Opening.{some_copied, opened}
 use Rattle.reg_tasks.proofs.context.Context.opening.Goals as goal
 
-pub unwrap-requires : goal.unwrap-requires
-unwrap-requires g c =
-    some_copied _ _ c.get.ensures (touched_account c.each_footprint_is_sound.ensures (day_of c.args.self.now.book.now c.args.self.now.rules.now c.args.self.now.batch.now) c.args.number c.requires.touched)
-
-pub new-requires : goal.new-requires
-new-requires g c =
-    opened g.N.Naming.day c.args.self.now.book.now c.args.self.now.rules.now c.args.self.now.batch.now c.args.number c.in_ok-value.value c.args.self.now.named
-    (sym c.get.ensures ∙ ap option_copied c.unwrap.ensures ∙ ap Some (sym c.in_ok-value.ensures))
+pub open-requires : goal.open-requires
+open-requires g c = record {
+  known = touched_account c.each_footprint_is_sound.ensures (day_of c.args.self.now.book.now c.args.self.now.rules.now c.args.self.now.batch.now) c.args.number c.requires.touched;
+}

@@ -1,0 +1,35 @@
+//! Bringing items near to where they belong, so that sorting them takes one pass.
+
+ghost use Rattle.std.specs.Prelude.{IsPermutation};
+
+// Exchanges the item at a position with the one at its own place, if that one does not belong there. Answers the position
+// that is looked at next.
+fn bring_one<T, F: Fn(&T) -> usize>(items: &mut [T], place_of: &F, at: usize) -> usize
+    requires { F.IsAlwaysCallable place_of.now }
+    ensures { IsPermutation items.old items.new }
+{
+    if at >= items.len() {
+        return at;
+    }
+    let place = place_of(&items[at]);
+    if place == at || place >= items.len() || place_of(&items[place]) == place {
+        return at + 1;
+    }
+    items.swap(at, place);
+    at
+}
+
+/// Brings each item to its likely place, counted from 0, if it has one of its own. Nothing is promised of the order. No item
+/// is moved more often than once to a place that is its own, so the time is linear.
+pub(crate) fn bring_near<T, F: Fn(&T) -> usize>(items: &mut [T], place_of: F)
+    requires { F.IsAlwaysCallable place_of }
+    ensures { IsPermutation items.old items.new }
+{
+    let mut at = 0;
+    for _ in 0..items.len().saturating_mul(2) {
+        if at >= items.len() {
+            return;
+        }
+        at = bring_one(items, &place_of, at);
+    }
+}
