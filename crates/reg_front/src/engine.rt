@@ -32,7 +32,7 @@ use std::thread::Threads;
 /// - `WriteFailed` if the writer fails. A prefix of the text has then been written.
 ///
 /// After all faults except `WriteFailed`, nothing has been written.
-pub fn run<T: Threads + Wait, R: Read, W: Write>(
+pub fn run<T: Threads + Wait + Sync, R: Read, W: Write>(
     rt: &T,
     alloc: Global,
     reader: &mut R,
@@ -50,7 +50,7 @@ pub fn run<T: Threads + Wait, R: Read, W: Write>(
 ///
 /// # Errors
 /// As [`run`].
-pub fn run_without_freeing<T: Threads + Wait, R: Read, W: Write>(
+pub fn run_without_freeing<T: Threads + Wait + Sync, R: Read, W: Write>(
     rt: &T,
     alloc: Global,
     reader: &mut R,
@@ -64,7 +64,7 @@ pub fn run_without_freeing<T: Threads + Wait, R: Read, W: Write>(
 }
 
 // Runs the command, and answers what it has used.
-fn run_and_keep<T: Threads + Wait, R: Read, W: Write>(
+fn run_and_keep<T: Threads + Wait + Sync, R: Read, W: Write>(
     rt: &T,
     alloc: Global,
     reader: &mut R,

@@ -21,7 +21,7 @@ use reg_plan::Plan;
 use reg_text::{
     DayInput, StatementFault, figures_over, plan_text, statement, totals_text, write_report_over,
 };
-use reg_work::{OpenGate, WorkFault, settle_waves};
+use reg_work::{OpenGate, WorkFault, settle_with};
 use std::alloc::Global;
 use std::sync::Wait;
 use std::thread::Threads;
@@ -39,7 +39,7 @@ pub(crate) struct Used {
 /// # Errors
 /// `Workers` if the number of workers is not 1 to 8. `NoAccount` if the account of a statement is not in the book.
 /// Otherwise `NoThread` if a thread could not be started, and `NoMemory` if memory ran out.
-pub(crate) fn make_text<T: Threads + Wait>(
+pub(crate) fn make_text<T: Threads + Wait + Sync>(
     rt: &T,
     alloc: Global,
     day: DayInput,
@@ -61,7 +61,7 @@ pub(crate) fn make_text<T: Threads + Wait>(
 }
 
 // The report of the day, settled by workers, in the place of bytes that are no longer needed.
-fn make_report<T: Threads + Wait>(
+fn make_report<T: Threads + Wait + Sync>(
     rt: &T,
     alloc: Global,
     day: DayInput,
@@ -156,7 +156,7 @@ fn close_day(alloc: Global, day: DayInput) -> Result<Closed, NoMemory>
 }
 
 // Settles the day by workers, and puts the settled day into its book. Answers the book after the day, and the log.
-fn close_by_workers<T: Threads + Wait>(
+fn close_by_workers<T: Threads + Wait + Sync>(
     rt: &T,
     alloc: Global,
     day: DayInput,
@@ -176,7 +176,7 @@ fn close_by_workers<T: Threads + Wait>(
 }
 
 // Settles the day by workers. Its book stays as it is.
-fn settle_by_workers<T: Threads + Wait>(
+fn settle_by_workers<T: Threads + Wait + Sync>(
     rt: &T,
     alloc: Global,
     day: &DayInput,
@@ -188,10 +188,10 @@ fn settle_by_workers<T: Threads + Wait>(
         (IsCommandFault (Settle workers) day.now.book) }
     ensures of_book { IfOk result (λ s. IsOfBook day.now.book s) }
 {
-    match settle_waves(
+    match settle_with(
         rt, alloc, &day.book, &day.rules, &day.batch, workers, &OpenGate,
     ) {
-        Ok(settled) => Ok(settled),
+        Ok((settled, _)) => Ok(settled),
         Err(WorkFault::Workers) => Err(FrontFault::Workers),
         Err(WorkFault::WrongBase { .. }) => unreachable!(),
         Err(WorkFault::NoThread) => Err(FrontFault::NoThread),

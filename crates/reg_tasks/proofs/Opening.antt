@@ -1,5 +1,11 @@
 -- Opening values.
-use Rattle.std.proofs.Common.{Bor, IsSome, ◌≡◌, ℕ, true, List, [], ◌∷◌, length, map, arith, Option, Some, None, refl, ap, subst, ◌∙◌}
+use Rattle.std.proofs.Common.{Bor, IsSome, ◌≡◌, ℕ, true, List, [], ◌∷◌, length, map, arith, Option, Some, None, refl, ap, sym, subst, ◌∙◌}
+use Rattle.std.specs.Prelude.{All}
+use Rattle.std.proofs.lemmas.List.Elements.{All-from_recursion}
+use Rattle.reg_base.specs.Footprint.{EachFootprintIsSound}
+use Rattle.reg_schedules.specs.Pool.{footprint_at}
+use Rattle.reg_schedules.proofs.Known.{footprint_touches, touched_known}
+use Rattle.reg_schedules.proofs.Members.{all_among}
 use Rattle.reg_schedules.specs.Docks.{names_needed}
 use Rattle.std.specs.Prelude.{is_some}
 use Rattle.std.specs.Option.{option_copied}
@@ -31,3 +37,8 @@ needed_none (a ∷ more) = ap (λ ns. (a, 0) ∷ ns) (needed_none more)
 pub no_arrows : {X : Type 0} (xs : List X) → length xs ≡ 0 → xs ≡ []
 no_arrows [] e = refl
 no_arrows (x ∷ xs) e = absurd (omega (arith, e))
+
+-- the accounts that an instruction touches are in the book
+pub all_known : EachFootprintIsSound → (day : Day) (place : ℕ) → All (λ a. is_some (account day.book.accounts a) ≡ true) (footprint_at day place)
+all_known sound day place =
+    All-from_recursion _ _ (all_among (λ a. is_some (account day.book.accounts a) ≡ true) (footprint_at day place) (λ a e. touched_known sound day place a (sym (footprint_touches day place a) ∙ e)))

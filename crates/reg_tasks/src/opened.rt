@@ -1,12 +1,13 @@
 //! The opening values of accounts.
 
-ghost use Rattle.std.specs.Prelude.{◌≡◌, true, All, Some, is_some, map, IfOk};
+ghost use Rattle.std.specs.Prelude.{◌≡◌, ◌==◌, ◌<◌, ◌≤◌, true, not, All, Some, is_some, map, length, slice_index, IfOk, IfSome};
 ghost use Rattle.reg_rules.specs.State.{account};
 ghost use Rattle.reg_tasks.specs.Parcels.{names_of};
 
 use crate::context::Context;
 use crate::naming::Naming;
 use crate::parcel::Parcel;
+use reg_base::laws::each_footprint_is_sound;
 use reg_base::{AccountNo, NoMemory};
 use std::alloc::Global;
 
@@ -26,4 +27,45 @@ pub(crate) fn open_all<N: Naming>(
         parcels.push(parcel)?;
     }
     Ok(parcels)
+}
+
+impl<N: Naming> Context<'_, N> {
+    ghost use Rattle.reg_plan.specs.Plans.{inward};
+    ghost use Rattle.reg_schedules.specs.Pool.{footprint_at, tail_of};
+    ghost use Rattle.reg_tasks.specs.Contexts.{the_day};
+
+    /// Whether the instruction at a place waits for another: an arrow leads there. The place is counted from 1.
+    pub fn waits(&self, place: u32) -> bool
+        requires from_one { 1 ≤ place }
+        requires within { place ≤ length self.now.batch.now.instructions }
+        ensures { result ≡ not (length (inward self.now.plan.arrows place) == 0) }
+    {
+        !self.arrows_to(place).is_empty()
+    }
+
+    /// The opening value of the account that stands at this position of the footprint of a place, exactly if no arrow leads
+    /// to the place at that account. The place is counted from 1, the position from 0.
+    ///
+    /// # Errors
+    /// `NoMemory` if memory ran out.
+    pub fn opening_at(
+        &self,
+        alloc: Global,
+        place: u32,
+        position: usize,
+    ) -> Result<Option<Parcel<N>>, NoMemory>
+        requires from_one { 1 ≤ place }
+        requires within { place ≤ length self.now.batch.now.instructions }
+        requires there { position < length (footprint_at (the_day self.now) place) }
+        ensures first { IfOk result (λ p. is_some p ≡ (tail_of self.now.plan place (slice_index (footprint_at (the_day self.now) place) position) == 0)) }
+        ensures value { IfOk result (λ p. IfSome p (λ p. account self.now.book.now.accounts (slice_index (footprint_at (the_day self.now) place) position) ≡ Some p.value)) }
+        ensures after { IfOk result (λ p. IfSome p (λ p. p.after ≡ 0)) }
+    {
+        each_footprint_is_sound();
+        let account = self.touched_at(place)[position];
+        if self.tail_of(place, account) != 0 {
+            return Ok(None);
+        }
+        Ok(Some(self.open(alloc, account)?))
+    }
 }

@@ -21,58 +21,12 @@ use crate::tally::{Work, count_up};
 use reg_base::{Batch, NoMemory, Rules};
 use reg_book::{Book, Settled};
 use reg_claim::{ClaimTable, Seat};
-use reg_tasks::{Context, Naming, Task};
+use reg_tasks::{Context, Naming};
 use reg_yard::{Docks, Owner, Pass, Yard};
 use std::alloc::Global;
 use std::marker::{Brand, PhantomData};
 use std::sync::Wait;
 use std::thread::Threads;
-
-// Puts a task into the deque of the worker whose turn it is.
-fn deal<N: Naming>(
-    owners: &mut Vec<Owner<N>>,
-    next: usize,
-    task: Task<N>,
-) -> Result<usize, NoMemory>
-    requires { next < vec_len owners.old }
-    ensures same { vec_len owners.new ≡ vec_len owners.old }
-    ensures next { IfOk result (λ n. n < vec_len owners.old) }
-{
-    if owners[next].put(task).is_err() {
-        return Err(NoMemory);
-    }
-    let after = next + 1;
-    Ok(if after == owners.len() { 0 } else { after })
-}
-
-// Deals the tasks that wait for nothing to the deques, by turns, and those that the opening values complete.
-fn deal_all<N: Naming, R: Wait>(
-    rt: &R,
-    alloc: Global,
-    context: &Context<N>,
-    docks: &Docks<'_, '_, N>,
-    ready: Vec<Task<N>>,
-    owners: &mut Vec<Owner<N>>,
-) -> Result<(), NoMemory>
-    requires some { 0 < vec_len owners.old }
-    ensures same { vec_len owners.new ≡ vec_len owners.old }
-{
-    let mut next = 0;
-    for task in ready {
-        next = deal(owners, next, task)?;
-    }
-    let openings = context.plan().openings();
-    for opening in openings {
-        let parcel = context.opening(alloc, opening.account)?;
-        let Ok(complete) = docks.deliver(rt, parcel) else {
-            return Err(NoMemory);
-        };
-        if let Some(task) = complete {
-            next = deal(owners, next, task)?;
-        }
-    }
-    Ok(())
-}
 
 // A post for each worker, with a seat of its own.
 fn make_posts<N: Naming, B: Room>(
@@ -156,9 +110,8 @@ fn settle_context<N: Naming + Send + Sync, R: Threads + Wait + Sync, G: Gate>(
     ensures of_book { IfOk result (λ s. IsOfBook context.now.book.now s.0) }
     ensures shifts { IfOk result (λ s. AreShifts workers (length context.now.batch.now.instructions) s.1.items) }
 {
-    let (docks, ready) = Docks::new(alloc, context)?;
-    let (yard, mut owners, passes) = Yard::new(alloc, workers)?;
-    deal_all(rt, alloc, context, &docks, ready, &mut owners)?;
+    let docks = Docks::of_waiting(alloc, context)?;
+    let (yard, owners, passes) = Yard::new(alloc, workers)?;
     let Ok((table, seat)) = ClaimTable::new(alloc, context.batch().len()) else {
         return Err(Shortage::Memory);
     };
@@ -196,7 +149,8 @@ fn settle_named<N: Naming + Send + Sync, R: Threads + Wait + Sync, G: Gate>(
     Ok(settle_context(rt, alloc, &context, workers, gate)?)
 }
 
-/// Settles a batch by workers that each have a deque of tasks. A worker takes the first task of its own deque, or else of
+/// Settles a batch by workers that each have a deque of tasks. Each opens the instructions that come to it by turns: the tasks
+/// of those that wait for no other go into its deque. Then a worker takes the first task of its own deque, or else of
 /// another worker's, in rising number. It claims the task's place, calls the gate, runs the task, hands on what the
 /// instruction left to the instructions that wait for it, puts each task that is complete with that into its own deque,
 /// and finishes the place. It leaves after it saw that all places are finished, or that the workers are to leave. The book

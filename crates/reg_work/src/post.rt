@@ -1,6 +1,6 @@
 //! What a worker has, and what it does in one turn.
 
-ghost use Rattle.std.specs.Prelude.{◌≡◌, []};
+ghost use Rattle.std.specs.Prelude.{◌≡◌, ◌≤◌, [], length};
 ghost use Rattle.reg_claim.specs.Seats.{known, seat_table};
 ghost use Rattle.reg_tasks.specs.Gathering.{places_of};
 ghost use Rattle.reg_deques.specs.Yards.{deques_of_pass};
@@ -70,6 +70,80 @@ impl<N: Naming, B: Room> Post<N, B> {
         ensures { sees_end B.count (known self.new.seat) ≡ true }
     {
         board.table.stop(&mut self.seat);
+    }
+
+    /// Opens its share of the day: the places that come to it by turns.
+    ///
+    /// # Errors
+    /// `NoMemory` if memory ran out. If no day is named, also if a dock is of another context.
+    pub(crate) fn open_share<R: Wait>(
+        &mut self,
+        rt: &R,
+        alloc: Global,
+        board: &Board<'_, N, B>,
+    ) -> Result<(), NoMemory>
+        ensures seat { self.new.seat ≡ self.old.seat }
+    {
+        let own = self.pass.worker() as usize;
+        let workers = board.yard.workers().max(1);
+        for before in 0..board.context.batch().len() {
+            if before as usize % workers == own {
+                self.open_place(rt, alloc, board, before + 1)?;
+            }
+        }
+        Ok(())
+    }
+
+    // Opens a place: puts its task into the worker's own deque, if the instruction waits for no other, and otherwise
+    // delivers the opening values that it needs.
+    fn open_place<R: Wait>(
+        &mut self,
+        rt: &R,
+        alloc: Global,
+        board: &Board<'_, N, B>,
+        place: u32,
+    ) -> Result<(), NoMemory>
+        requires from_one { 1 ≤ place }
+        requires within { place ≤ length board.now.context.now.batch.now.instructions }
+        ensures seat { self.new.seat ≡ self.old.seat }
+    {
+        if let Some(task) = Task::open(alloc, board.context, place)? {
+            return self.put(task);
+        }
+        for position in 0..board.context.touched_at(place).len() {
+            if let Some(parcel) = board.context.opening_at(alloc, place, position)? {
+                self.deliver(rt, board, parcel)?;
+            }
+        }
+        Ok(())
+    }
+
+    // Puts a task into the worker's own deque.
+    fn put(&mut self, task: Task<N>) -> Result<(), NoMemory>
+        ensures seat { self.new.seat ≡ self.old.seat }
+    {
+        if self.owner.put(task).is_err() {
+            return Err(NoMemory);
+        }
+        Ok(())
+    }
+
+    // Delivers a parcel to the dock that awaits it, and puts the task that is complete with it into the worker's own deque.
+    fn deliver<R: Wait>(
+        &mut self,
+        rt: &R,
+        board: &Board<'_, N, B>,
+        parcel: Parcel<N>,
+    ) -> Result<(), NoMemory>
+        ensures seat { self.new.seat ≡ self.old.seat }
+    {
+        let Ok(complete) = board.docks.deliver(rt, parcel) else {
+            return Err(NoMemory);
+        };
+        let Some(task) = complete else {
+            return Ok(());
+        };
+        self.put(task)
     }
 
     /// The first task of its own deque, or else one of another worker, in rising number.
@@ -155,16 +229,7 @@ impl<N: Naming, B: Room> Post<N, B> {
             self.closing.push(parcel)?;
             return Ok(());
         }
-        let Ok(complete) = board.docks.deliver(rt, parcel) else {
-            return Err(NoMemory);
-        };
-        let Some(task) = complete else {
-            return Ok(());
-        };
-        if self.owner.put(task).is_err() {
-            return Err(NoMemory);
-        }
-        Ok(())
+        self.deliver(rt, board, parcel)
     }
 
     /// Counts the place of a turn as finished, and keeps its row. All that it left was handed on.

@@ -38,7 +38,7 @@ fn take_turn<N: Naming, B: Room, R: Wait, G: Gate>(
     post.finish(board, turn)
 }
 
-/// Runs tasks until all are done, or the workers are to leave. If memory runs out, it tells all workers to leave.
+/// Opens its share of the day, and then runs tasks until all are done, or the workers are to leave. If memory runs out, it tells all workers to leave.
 pub(crate) fn work<N: Naming, B: Room, R: Wait, G: Gate>(
     rt: &R,
     alloc: Global,
@@ -50,6 +50,10 @@ pub(crate) fn work<N: Naming, B: Room, R: Wait, G: Gate>(
     ensures { result.worker ≡ worker }
 {
     let mut post = post;
+    if post.open_share(rt, alloc, board).is_err() {
+        post.stop(board);
+        return Stint { worker, post };
+    }
     let backoff = Backoff::new();
     for _ in rt.forever() {
         match post.find(board) {

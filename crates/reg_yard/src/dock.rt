@@ -60,6 +60,38 @@ impl<'c, 'a, N: Naming> Dock<'c, 'a, N> {
         Ok((dock, task))
     }
 
+    /// The dock of a place whose instruction waits for others, to which nothing has come yet. The place is counted from 1.
+    ///
+    /// # Errors
+    /// `NoMemory` if memory ran out.
+    pub(crate) fn waiting(
+        alloc: Global,
+        context: &'c Context<'a, N>,
+        place: u32,
+    ) -> Result<Dock<'c, 'a, N>, NoMemory>
+        requires from_one { 1 ≤ place }
+        requires within { place ≤ length context.now.batch.now.instructions }
+    {
+        let none = Vec::with_capacity(alloc, awaited_accounts(context, place).len())?;
+        Ok(Dock {
+            context,
+            place,
+            waiting: Some(none),
+        })
+    }
+
+    /// The dock of a place whose task has gone out. The place is counted from 1.
+    pub(crate) fn emptied(context: &'c Context<'a, N>, place: u32) -> Dock<'c, 'a, N>
+        requires from_one { 1 ≤ place }
+        requires within { place ≤ length context.now.batch.now.instructions }
+    {
+        Dock {
+            context,
+            place,
+            waiting: None,
+        }
+    }
+
     /// The place of its instruction, counted from 1.
     pub fn place(&self) -> u32
         ensures { result ≡ self.now.place }

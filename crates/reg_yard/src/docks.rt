@@ -4,7 +4,7 @@ ghost use Rattle.std.specs.Prelude.{◌≡◌, length};
 
 use crate::dock::Dock;
 use crate::places::place_for;
-use crate::start::open_docks;
+use crate::start::{open_docks, waiting_docks};
 use reg_base::NoMemory;
 use reg_tasks::{Context, Naming, Parcel, Task};
 use std::alloc::Global;
@@ -41,6 +41,23 @@ impl<'c, 'a, N: Naming> Docks<'c, 'a, N> {
     {
         let (docks, tasks) = open_docks(alloc, context)?;
         Ok((Docks { context, docks }, tasks))
+    }
+
+    /// A dock for each instruction that waits for another, to which nothing has come yet. The docks of all others are those of
+    /// instructions whose tasks have gone out: whoever makes these docks makes their tasks too, by [`Task::open`].
+    ///
+    /// The time is linear in the instructions.
+    ///
+    /// # Errors
+    /// `NoMemory` if memory ran out.
+    pub fn of_waiting(
+        alloc: Global,
+        context: &'c Context<'a, N>,
+    ) -> Result<Docks<'c, 'a, N>, NoMemory>
+        ensures context { IfOk result (λ docks. docks.context.now ≡ context.now) }
+    {
+        let docks = waiting_docks(alloc, context)?;
+        Ok(Docks { context, docks })
     }
 
     // The dock of a place, counted from 1.

@@ -47,3 +47,35 @@ pub(crate) fn open_docks<'c, 'a, N: Naming>(
     }
     Ok((docks, tasks))
 }
+
+// The dock of a place behind a lock: one that awaits parcels only if the instruction waits for another.
+fn waiting_dock<'c, 'a, N: Naming>(
+    alloc: Global,
+    context: &'c Context<'a, N>,
+    place: u32,
+) -> Result<Locked<'c, 'a, N>, NoMemory>
+    requires from_one { 1 ≤ place }
+    requires within { place ≤ length context.now.batch.now.instructions }
+{
+    if context.waits(place) {
+        let dock = Dock::waiting(alloc, context, place)?;
+        return Ok(Mutex::new(dock));
+    }
+    Ok(Mutex::new(Dock::emptied(context, place)))
+}
+
+/// A dock for each place. Nothing has come yet to those of instructions that wait for others; the tasks of all others have
+/// gone out.
+pub(crate) fn waiting_docks<'c, 'a, N: Naming>(
+    alloc: Global,
+    context: &'c Context<'a, N>,
+) -> Result<Vec<Locked<'c, 'a, N>>, NoMemory>
+    ensures { IfOk result (λ docks. length docks.items ≡ length context.now.batch.now.instructions) }
+{
+    let places = context.batch().len();
+    let mut docks = Vec::with_capacity(alloc, places as usize)?;
+    for before in 0..places {
+        docks.push(waiting_dock(alloc, context, before + 1)?)?;
+    }
+    Ok(docks)
+}

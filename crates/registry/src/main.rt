@@ -30,7 +30,7 @@ use std::{env, io};
 /// written.
 ///
 /// The memory that the command has used is not freed: the program ends with it.
-pub fn serve<T: Threads + Wait, S: AsStr, R: Read, W: Write, F: Write>(
+pub fn serve<T: Threads + Wait + Sync, S: AsStr, R: Read, W: Write, F: Write>(
     rt: &T,
     alloc: Global,
     words: &[S],
@@ -47,7 +47,7 @@ pub fn serve<T: Threads + Wait, S: AsStr, R: Read, W: Write, F: Write>(
 }
 
 // Runs the command, and answers the status.
-fn carry_out<T: Threads + Wait, R: Read, W: Write, F: Write>(
+fn carry_out<T: Threads + Wait + Sync, R: Read, W: Write, F: Write>(
     rt: &T,
     alloc: Global,
     command: Command,

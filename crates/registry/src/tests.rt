@@ -52,7 +52,7 @@ impl Write for Broken {
 }
 
 // The status of these words over a text, what is written, and the line of the fault.
-fn serve_text<T: Threads + Wait>(
+fn serve_text<T: Threads + Wait + Sync>(
     rt: &T,
     alloc: Global,
     words: &[&str],

@@ -88,7 +88,7 @@ fn make_device(alloc: Global, rest: &[u8], call: usize) -> Device<'_> {
 }
 
 // What settling the day answers, and what it writes. The reader and the writer fail at these calls.
-fn settle<T: Threads + Wait>(
+fn settle<T: Threads + Wait + Sync>(
     rt: &T,
     alloc: Global,
     workers: u32,

@@ -1,32 +1,113 @@
-//! A gate that holds up one worker.
+//! A gate that delays workers and notes who entered when.
 
 use crossbeam_utils::Backoff;
 use reg_tasks::{Naming, Task};
-use reg_work::Gate;
+use reg_work::{Gate, Shift};
+use std::alloc::{AllocError, Global};
+use std::sync::atomic::{AtomicU32, Ordering};
 
 // How long a worker is held up before each run, in turns of a pause.
 const TURNS: u32 = 30;
 
-/// Holds up one worker before each run, so that the others steal what lies in its deque.
+// A drawn delay is below this number of turns.
+const MOST_DRAWN: u32 = 16;
+
+/// Whom a gate delays before each run.
 #[derive(Clone, Copy)]
-pub(crate) struct HeldUp {
-    worker: u32,
+pub(crate) struct Delays {
+    /// The worker that is held up each time, counted from 0. The others steal what lies in its deque.
+    pub(crate) held_up: u32,
+    /// From which the delays of all workers are drawn, place by place; 0 for none.
+    pub(crate) seed: u32,
 }
 
-impl HeldUp {
-    /// Holds up the worker with this number, counted from 0.
-    pub(crate) fn of(worker: u32) -> HeldUp {
-        HeldUp { worker }
+impl Delays {
+    // How many turns a worker waits before it runs a place.
+    fn turns(self, worker: u32, place: u32) -> u32 {
+        if worker == self.held_up {
+            return TURNS;
+        }
+        if self.seed == 0 {
+            return 0;
+        }
+        let drawn = (self.seed ^ place).wrapping_mul(2_654_435_761) >> 16;
+        drawn % MOST_DRAWN
     }
 }
 
-impl Gate for HeldUp {
-    fn enter<N: Naming>(&self, worker: u32, _task: &Task<N>) {
-        if worker != self.worker {
-            return;
+/// Notes which worker entered with which place, in the order in which they entered, and delays them.
+#[derive(Drop)]
+pub(crate) struct Noting {
+    delays: Delays,
+    next: AtomicU32,
+    places: Vec<AtomicU32>,
+    workers: Vec<AtomicU32>,
+}
+
+// So many counters at 0.
+fn zeros(alloc: Global, count: u32) -> Result<Vec<AtomicU32>, AllocError> {
+    let mut zeros = Vec::new(alloc);
+    for _ in 0..count {
+        if zeros.push(AtomicU32::new(0)).is_err() {
+            return Err(AllocError);
         }
+    }
+    Ok(zeros)
+}
+
+impl Noting {
+    /// A gate for a day of so many instructions.
+    pub(crate) fn of(alloc: Global, count: u32, delays: Delays) -> Result<Noting, AllocError> {
+        Ok(Noting {
+            delays,
+            next: AtomicU32::new(0),
+            places: zeros(alloc, count)?,
+            workers: zeros(alloc, count)?,
+        })
+    }
+
+    fn note(&self, worker: u32, place: u32) {
+        let at = self.next.fetch_add(1, Ordering::SeqCst) as usize;
+        if let Some(note) = self.places.get(at) {
+            note.store(place, Ordering::SeqCst);
+        }
+        if let Some(note) = self.workers.get(at) {
+            note.store(worker, Ordering::SeqCst);
+        }
+    }
+
+    /// The places in the order in which workers entered with them.
+    pub(crate) fn order(&self, alloc: Global) -> Result<Vec<u32>, AllocError> {
+        let mut order = Vec::new(alloc);
+        for place in self.places.iter() {
+            if order.push(place.load(Ordering::SeqCst)).is_err() {
+                return Err(AllocError);
+            }
+        }
+        Ok(order)
+    }
+
+    /// Whether a worker entered with just the places of its shift, in their order.
+    pub(crate) fn is_followed<N: Naming>(&self, shift: &Shift<N>) -> bool {
+        let mut entered = 0;
+        for (place, worker) in self.places.iter().zip(self.workers.iter()) {
+            if worker.load(Ordering::SeqCst) != shift.worker {
+                continue;
+            }
+            if shift.ran.get(entered).map(|ran| ran.place()) != Some(place.load(Ordering::SeqCst)) {
+                return false;
+            }
+            entered = entered.saturating_add(1);
+        }
+        entered == shift.ran.len()
+    }
+}
+
+impl Gate for Noting {
+    fn enter<N: Naming>(&self, worker: u32, task: &Task<N>) {
+        self.note(worker, task.place());
         let backoff = Backoff::new();
-        for _ in 0..TURNS {
+        for _ in 0..self.delays.turns(worker, task.place()) {
             backoff.snooze();
         }
     }

@@ -3,17 +3,20 @@
 //!
 //! The first word says what is done: `read` reads the text alone, `plain` settles one instruction after another, `order` runs
 //! them in batch order on values of their own, `levels` settles level by level, `crew` by workers that steal. `lanes` writes
-//! which places each worker ran, in order. `try` settles by workers that steal, whose one worker is held up before each run,
-//! and writes `same` if the settled day is that of `plain` and each place was run once.
+//! which places each worker ran, in order. `try` settles by workers that steal and are delayed before each run, and writes
+//! `same` if the settled day is that of `plain`, each place was run once, the order in which workers entered the gate is legal,
+//! and each worker's shift is what it entered with.
 //!
-//! For `levels`, `crew`, `lanes` and `try` the second word is the number of workers, and for `try` the third is the worker
-//! that is held up, counted from 0, and the fourth how often it is tried.
+//! For `levels`, `crew`, `lanes` and `try` the second word is the number of workers. For `try` the third is a worker, counted
+//! from 0, that is held up, or a higher number for none, the fourth a seed from which delays are drawn, or 0 for none, and the
+//! fifth how often it is tried.
 #![tactic(auto)]
 
 mod gates;
 
-use crate::gates::HeldUp;
+use crate::gates::{Delays, Noting};
 use reg_book::{Settled, settle_plain};
+use reg_plan::Plan;
 use reg_tasks::{Context, Naming, Unnamed, run_order};
 use reg_text::{DayInput, read_day};
 use reg_work::{Gate, OpenGate, Shift, WorkFault, settle_waves, settle_with};
@@ -142,29 +145,51 @@ fn told(alloc: Global, settled: &Settled) -> Result<String, Stop> {
     }
 }
 
-// Settles by workers of whom one is held up, and writes whether that gives the plain day.
-fn try_held_up<R: Threads + Wait + Sync, W: Write>(
+// What a run by workers that were noted is like, in a word: `same` if it is as it has to be.
+fn judge<N: Naming>(
+    alloc: Global,
+    day: &DayInput,
+    gate: &Noting,
+    shifts: &[Shift<N>],
+) -> Result<&'static str, Stop> {
+    if !are_whole(alloc, day, shifts)? {
+        return Ok("a place is not run once");
+    }
+    if !shifts.iter().all(|shift| gate.is_followed(shift)) {
+        return Ok("a shift is not what its worker entered with");
+    }
+    let order = gate.order(alloc)?;
+    let Ok(plan) = Plan::of(alloc, &day.batch, day.book.directory()) else {
+        return Err(Stop::Short);
+    };
+    match plan.check_order(alloc, order.as_slice()) {
+        Ok(()) => Ok("same"),
+        Err(_) => Ok("the order of entering is not legal"),
+    }
+}
+
+// Settles by workers that are delayed, and writes whether that is as it has to be.
+fn try_delayed<R: Threads + Wait + Sync, W: Write>(
     rt: &R,
     alloc: Global,
     day: &DayInput,
     workers: u32,
-    gate: &HeldUp,
+    delays: Delays,
     plain: &str,
     writer: &mut W,
 ) -> Result<(), Stop> {
-    let (settled, shifts) = by_crew(rt, alloc, day, workers, gate)?;
+    let gate = Noting::of(alloc, day.batch.len(), delays)?;
+    let (settled, shifts) = by_crew(rt, alloc, day, workers, &gate)?;
     let left = told(alloc, &settled)?;
-    let word = if left.as_str() != plain {
-        "another day"
-    } else if !are_whole(alloc, day, shifts.as_slice())? {
-        "a place is not run once"
+    let word = if left.as_str() == plain {
+        judge(alloc, day, &gate, shifts.as_slice())?
     } else {
-        "same"
+        "another day"
     };
     tell(writer, &word)
 }
 
-// Tries so often to settle by workers of whom one is held up.
+// Tries so often to settle by workers that are delayed, with another seed each time, if delays are drawn.
 fn try_crew<R: Threads + Wait + Sync, W: Write>(
     rt: &R,
     alloc: Global,
@@ -173,13 +198,18 @@ fn try_crew<R: Threads + Wait + Sync, W: Write>(
     writer: &mut W,
 ) -> Result<(), Stop> {
     let workers = number_at(words, 0)?;
-    let gate = HeldUp::of(number_at(words, 1)?);
+    let held_up = number_at(words, 1)?;
+    let mut seed = number_at(words, 2)?;
     let Ok(settled) = settle_plain(alloc, &day.book, &day.rules, &day.batch) else {
         return Err(Stop::Short);
     };
     let plain = told(alloc, &settled)?;
-    for _ in 0..number_at(words, 2)? {
-        try_held_up(rt, alloc, day, workers, &gate, plain.as_str(), writer)?;
+    for _ in 0..number_at(words, 3)? {
+        let delays = Delays { held_up, seed };
+        try_delayed(rt, alloc, day, workers, delays, plain.as_str(), writer)?;
+        if seed != 0 {
+            seed = seed.wrapping_add(1);
+        }
     }
     Ok(())
 }

@@ -3,24 +3,16 @@ use Rattle.std.proofs.lemmas.Bool.{eqb-true}
 use Rattle.reg_plan.specs.Plans.{inward}
 use Rattle.reg_schedules.specs.Docks.{names_needed}
 use Rattle.std.specs.Prelude.{is_some, All}
-use Rattle.std.proofs.lemmas.List.Elements.{All-from_recursion}
 use Rattle.reg_rules.specs.State.{account}
 use Rattle.reg_book.specs.Day.{day_of}
-use Rattle.reg_schedules.specs.Pool.{footprint_at}
-use Rattle.reg_schedules.proofs.Known.{footprint_touches, touched_known}
-use Rattle.reg_schedules.proofs.Members.{all_among}
 use Rattle.reg_tasks.proofs.Complete.{complete_from}
-use Rattle.reg_tasks.proofs.Opening.{needed_none, no_arrows}
+use Rattle.reg_tasks.proofs.Opening.{all_known, needed_none, no_arrows}
 use Rattle.reg_tasks.proofs.task.Task.open.Goals as goal
 
 pub open_all-requires : goal.open_all-requires
 open_all-requires g c =
     let day = day_of c.args.context.now.book.now c.args.context.now.rules.now c.args.context.now.batch.now in
-    record {
-      known = subst (All (λ a. is_some (account c.args.context.now.book.now.accounts a) ≡ true)) (sym c.touched_at.ensures.value)
-          (All-from_recursion _ _ (all_among (λ a. is_some (account c.args.context.now.book.now.accounts a) ≡ true) (footprint_at day c.args.place)
-          (λ a e. touched_known c.each_footprint_is_sound.ensures day c.args.place a (sym (footprint_touches day c.args.place a) ∙ e))));
-    }
+    record { known = subst (All (λ a. is_some (account c.args.context.now.book.now.accounts a) ≡ true)) (sym c.touched_at.ensures.value) (all_known c.each_footprint_is_sound.ensures day c.args.place) }
 
 pub invariant_of-result : goal.invariant_of-result
 invariant_of-result g c =

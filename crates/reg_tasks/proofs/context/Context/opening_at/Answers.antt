@@ -1,0 +1,15 @@
+use Rattle.std.proofs.Common.{◌≡◌, true, get_or, sym, ap, subst, ◌∙◌}
+use Rattle.std.specs.Prelude.{is_some}
+use Rattle.reg_rules.specs.State.{account}
+use Rattle.reg_tasks.specs.Contexts.{the_day}
+use Rattle.reg_tasks.proofs.Opening.{all_known}
+use Rattle.reg_tasks.proofs.context.Context.opening_at.Goals as goal
+
+pub open-requires : goal.open-requires
+open-requires g c =
+    let position = c.args.position in
+    let a = c.index-touched_at-position.result in
+    record {
+      known = subst (λ b. is_some (account c.args.self.now.book.now.accounts b) ≡ true) (ap (λ touched. get_or touched position a) (sym c.touched_at.ensures.value) ∙ sym c.index-touched_at-position.is)
+          (all_known c.each_footprint_is_sound.ensures (the_day c.args.self.now) c.args.place position a c.requires.there);
+    }
