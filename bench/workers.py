@@ -1,14 +1,15 @@
 #!/usr/bin/env -S python3 -B
 """Tries workers that steal on drawn batches, and measures all ways of settling a day beside each other.
 
-usage: workers.py [--repeat N] [--samples N] [--seed N]
+usage: workers.py [--repeat N] [--samples N] [--processors N] [--seed N]
 
 It starts crates/registry_workers/out/registry_workers, which `cd crates/registry_workers && rt run` builds.
 
 Tries
-  - batches of one to sixty drawn transfers by one to eight workers, of whom one is held up before each run, each
-    batch several times: each run must give the day that settling one instruction after another gives, and have each
-    instruction in one shift, once.
+  - batches of one to sixty drawn transfers by one to eight workers, each batch ten times with one worker held up before
+    each run, and ten times with delays of all workers that are drawn: each run must give the day that settling one
+    instruction after another gives, have each instruction in one shift, once, and let the workers enter the gate in a
+    legal order, each with the places of its shift. With --processors N the program has that many processors.
 Measures, for 16,384 transfers that are wide (no two share an account), chained (each touches an account of the one
 before it) and mixed (random pairs of 2,000 accounts), the milliseconds of processor time and of the clock, least of
 all repeats, without those of reading the text: of settling plainly, in batch order on values of their own, level by
@@ -27,6 +28,8 @@ import days
 TOP = os.path.dirname(os.path.dirname(os.path.abspath(__file__)))
 PROGRAM = os.path.join(TOP, "crates", "registry_workers", "out", "registry_workers")
 WORKERS = range(1, 9)
+# No worker has this number, so none is held up.
+NOBODY = 9
 
 
 def program(data, *words):
@@ -41,18 +44,20 @@ def program(data, *words):
 
 
 def try_samples(samples, chance):
-    """Drawn batches by workers of whom one is held up."""
+    """Drawn batches by workers that are delayed."""
     tried = 0
     for _ in range(samples):
         accounts = chance.randint(2, 12)
         transfers = [chance.sample(range(1, accounts + 2), 2) for _ in range(chance.randint(1, 60))]
+        data = days.of_transfers(accounts, transfers)
         workers = chance.choice(WORKERS)
-        held_up = chance.randrange(workers)
-        lines, _, _ = program(days.of_transfers(accounts, transfers), "try", workers, held_up, 10)
-        if lines != ["same"] * 10:
-            raise SystemExit(f"workers.py: {workers} workers, worker {held_up} held up, {transfers}: {lines}")
-        tried += 10
-    print(f"{tried} runs of {samples} drawn batches gave the plain day, each place in one shift")
+        held_up, seed = chance.randrange(workers), chance.randrange(1, 2**31)
+        for delays in ((held_up, 0), (NOBODY, seed)):
+            lines, _, _ = program(data, "try", workers, *delays, 10)
+            if lines != ["same"] * 10:
+                raise SystemExit(f"workers.py: {workers} workers, delays {delays}, {transfers}: {lines}")
+            tried += 10
+    print(f"{tried} runs of {samples} drawn batches gave the plain day, each place in one shift, in a legal order")
 
 
 def shapes(chance):
@@ -90,11 +95,15 @@ def main():
     parser = argparse.ArgumentParser(description=__doc__, formatter_class=argparse.RawDescriptionHelpFormatter)
     parser.add_argument("--repeat", type=int, default=9)
     parser.add_argument("--samples", type=int, default=100)
+    parser.add_argument("--processors", type=int)
     parser.add_argument("--seed", type=int, default=1)
     words = parser.parse_args()
+    if words.processors:
+        os.sched_setaffinity(0, sorted(os.sched_getaffinity(0))[: words.processors])
     chance = random.Random(words.seed)
     try_samples(words.samples, chance)
-    measure(words.repeat, chance)
+    if words.repeat:
+        measure(words.repeat, chance)
 
 
 main()
