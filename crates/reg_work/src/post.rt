@@ -128,7 +128,8 @@ impl<N: Naming, B: Room> Post<N, B> {
         Ok(())
     }
 
-    // Delivers a parcel to the dock that awaits it, and puts the task that is complete with it into the worker's own deque.
+    // Delivers an opening value to the dock that awaits it, and puts the task that is complete with it into the worker's own
+    // deque.
     fn deliver<R: Wait>(
         &mut self,
         rt: &R,
@@ -137,13 +138,20 @@ impl<N: Naming, B: Room> Post<N, B> {
     ) -> Result<(), NoMemory>
         ensures seat { self.new.seat ≡ self.old.seat }
     {
-        let Ok(complete) = board.docks.deliver(rt, parcel) else {
-            return Err(NoMemory);
-        };
-        let Some(task) = complete else {
-            return Ok(());
-        };
-        self.put(task)
+        match board.docks.deliver(rt, parcel) {
+            Ok(complete) => self.put_complete(complete),
+            Err(_) => Err(NoMemory),
+        }
+    }
+
+    // Puts a task that a dock gave out, if it did, into the worker's own deque.
+    fn put_complete(&mut self, complete: Option<Task<N>>) -> Result<(), NoMemory>
+        ensures seat { self.new.seat ≡ self.old.seat }
+    {
+        match complete {
+            Some(task) => self.put(task),
+            None => Ok(()),
+        }
     }
 
     /// The first task of its own deque, or else one of another worker, in rising number.
@@ -215,7 +223,8 @@ impl<N: Naming, B: Room> Post<N, B> {
         Ok(())
     }
 
-    // Hands on one parcel that the instruction at a place left.
+    // Hands on one parcel that the instruction at a place left. Most parcels are awaited, so their docks are asked first; one
+    // that comes back is kept, if no other instruction needs it.
     fn hand_on_one<R: Wait>(
         &mut self,
         rt: &R,
@@ -225,11 +234,26 @@ impl<N: Naming, B: Room> Post<N, B> {
     ) -> Result<(), NoMemory>
         ensures seat { self.new.seat ≡ self.old.seat }
     {
-        if !leads_on(board, place, &parcel) {
-            self.closing.push(parcel)?;
-            return Ok(());
+        match board.docks.deliver(rt, parcel) {
+            Ok(complete) => self.put_complete(complete),
+            Err(back) => self.keep(board, place, back),
         }
-        self.deliver(rt, board, parcel)
+    }
+
+    // Keeps a parcel that no dock awaits.
+    fn keep(
+        &mut self,
+        board: &Board<'_, N, B>,
+        place: u32,
+        parcel: Parcel<N>,
+    ) -> Result<(), NoMemory>
+        ensures seat { self.new.seat ≡ self.old.seat }
+    {
+        if leads_on(board, place, &parcel) {
+            return Err(NoMemory);
+        }
+        self.closing.push(parcel)?;
+        Ok(())
     }
 
     /// Counts the place of a turn as finished, and keeps its row. All that it left was handed on.

@@ -50,13 +50,22 @@ impl<N: Naming> Work<N> {
         ensures workers { OnOk result (workers_of self.new.shifts.items ≡ workers_of self.old.shifts.items ++ worker ∷ []) }
         ensures times { OnOk result ((p : ℕ) → times_in p self.new.shifts.items ≡ times_in p self.old.shifts.items + times p (places_ran ran.items)) }
     {
-        let mut done = done;
-        let mut closing = closing;
-        self.done.append(&mut done)?;
-        self.closing.append(&mut closing)?;
+        append_all(&mut self.done, done)?;
+        append_all(&mut self.closing, closing)?;
         self.shifts.push(Shift { worker, ran })?;
         Ok(())
     }
+}
+
+// Puts items behind those that are there. If none are there, no item is moved.
+fn append_all<T: Drop>(items: &mut Vec<T>, more: Vec<T>) -> Result<(), NoMemory> {
+    let mut more = more;
+    if items.is_empty() {
+        *items = more;
+        return Ok(());
+    }
+    items.append(&mut more)?;
+    Ok(())
 }
 
 /// Joins the seats of all workers and closes the table. Without a stop each place is in one shift, once.
