@@ -1,3 +1,5 @@
+pub mod Counting
 pub mod Devices
 pub mod Faults
 pub mod Runs
+pub mod Streams
