@@ -2,6 +2,7 @@
 //! and writes the command's text.
 #![tactic(auto)]
 
+mod calls;
 mod command;
 mod counted;
 mod device;
