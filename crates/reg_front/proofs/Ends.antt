@@ -5,19 +5,35 @@ use Rattle.reg_text.specs.Rows.{rows_of}
 use Rattle.reg_text.specs.Reading.{IsReading}
 use Rattle.reg_front.specs.declared.command.Command.{Command}
 use Rattle.reg_front.specs.declared.fault.FrontFault.TheVariants.{WriteFailed}
-use Rattle.reg_front.specs.Devices.{AppendsFrontOf, IsReadWhole}
-use Rattle.reg_front.specs.Runs.{command_fault, IsTextFor, Fails}
+use Rattle.reg_front.specs.Streams.{Stream}
+use Rattle.reg_front.specs.Devices.{AppendsFrontOf, FailsToWrite, IsReadWhole}
+use Rattle.reg_front.specs.Runs.{command_fault, IsTextFor, IsFault, WritesFront, Fails}
 
 -- what holds of a call that failed
 pub of_failed : {X E : Type 0} {P : Type 0} (r : Result X E) → is_err r ≡ true → OnErr r P → P
 of_failed (Ok x) failed p = absurd cc
 of_failed (Err e) failed p = p
 
--- the writer has taken a prefix of the day's text
-pub failed_write : (command : Command) (day : DayValue) (text written : List ℕ) (input rest old new : Option (List ℕ))
-    → IfSome input (λ bytes. IsReading (rows_of bytes) day) → IsReadWhole input rest
+-- why the command could have a text to write
+write_fault : (command : Command) (day : DayValue) (text : List ℕ) (input : Option (List ℕ)) → IfSome input (λ bytes. IsReading (rows_of bytes) day)
+    → command_fault command day.book ≡ None → IsTextFor command day text → IfSome input (λ bytes. IsFault command bytes WriteFailed)
+write_fault command day text None reading fine made = _
+write_fault command day text (Some bytes) reading fine made = (text, (day, reading, fine, made))
+
+-- the prefix of what was written is one of the text
+front_written : (command : Command) (day : DayValue) (text written : List ℕ) (input old new : Option (List ℕ))
+    → IfSome input (λ bytes. IsReading (rows_of bytes) day) → command_fault command day.book ≡ None → IsTextFor command day text
+    → written ≡ text → AppendsFrontOf written old new → WritesFront command input old new
+front_written command day text written None old new reading fine made same took = _
+front_written command day text written (Some bytes) old new reading fine made same took = (text, (day, reading, fine, made), rw same at took)
+
+-- the writer has failed after it took a prefix of the day's text
+pub failed_write : (command : Command) (day : DayValue) (text written : List ℕ) (input rest old new : Stream)
+    → IfSome input.bytes (λ bytes. IsReading (rows_of bytes) day) → IsReadWhole input rest
     → command_fault command day.book ≡ None → IsTextFor command day text
-    → written ≡ text → AppendsFrontOf written old new → Fails command WriteFailed input rest old new
-failed_write command day text written None rest old new reading read fine made same took = record { why = _; read = read; left = _ }
-failed_write command day text written (Some bytes) rest old new reading read fine made same took =
-    record { why = (text, (day, reading, fine, made)); read = read; left = (text, (day, reading, fine, made), rw same at took) }
+    → written ≡ text → FailsToWrite written old new → Fails command WriteFailed input rest old new
+failed_write command day text written input rest old new reading read fine made same took = record {
+  why = write_fault command day text input.bytes reading fine made;
+  read = read;
+  left = (took.failed, front_written command day text written input.bytes old.bytes new.bytes reading fine made same took.bytes);
+}

@@ -1,12 +1,12 @@
--- The engine's fault for each fault of its parts.
-use Rattle.std.specs.Prelude.{ℕ, ◌<◌, List, length, Option, IfSome, ⊤}
+-- The faults of the engine's parts.
 use Rattle.reg_text.specs.declared.cause.DayFault.{DayFault}
 use Rattle.reg_text.specs.declared.cause.DayFault.TheVariants as day
 use Rattle.reg_front.specs.declared.device.ReadFault.{ReadFault}
 use Rattle.reg_front.specs.declared.device.ReadFault.TheVariants as read
 use Rattle.reg_front.specs.declared.fault.FrontFault.{FrontFault}
 use Rattle.reg_front.specs.declared.fault.FrontFault.TheVariants as front
-use Rattle.reg_front.specs.Devices.{most_input}
+use Rattle.reg_front.specs.Streams.{Stream}
+use Rattle.reg_front.specs.Devices.{FailsToRead, IsReadInPart, IsTooLong}
 
 -- the fault of `run` for each fault of the reader
 abbrev pub fault_of_read : ReadFault → FrontFault
@@ -14,11 +14,11 @@ fault_of_read read.Failed = front.Read
 fault_of_read read.TooLong = front.Read
 fault_of_read read.NoMemory = front.NoMemory
 
--- an input is too long only if it has more bytes than the limit
-abbrev pub IsReadFault : Option (List ℕ) → ReadFault → Type 0
-IsReadFault input read.Failed = ⊤
-IsReadFault input read.TooLong = IfSome input (λ bytes. most_input < length bytes)
-IsReadFault input read.NoMemory = ⊤
+-- why an input was not read to its end, and what was read of it
+abbrev pub IsReadFault : Stream → Stream → ReadFault → Type 0
+IsReadFault input rest read.Failed = FailsToRead input rest
+IsReadFault input rest read.TooLong = IsReadInPart input rest × IsTooLong input
+IsReadFault input rest read.NoMemory = IsReadInPart input rest
 
 -- the fault of `run` for each fault of the text
 abbrev pub fault_of_day : DayFault → FrontFault

@@ -1,3 +1,6 @@
+pub mod Counting
 pub mod Devices
+pub mod Faulting
 pub mod Faults
 pub mod Runs
+pub mod Streams

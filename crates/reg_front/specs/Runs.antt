@@ -1,6 +1,6 @@
 -- What a command makes of an input: the text that it writes, or the fault that it answers.
-use Rattle.std.specs.Prelude.{◌≡◌, ℕ, List, Option, Some, None, Err, ⊤, IfSome, if◌then◌else◌}
-use Rattle.std.specs.Io.KnownBytes.{Keeps, Appends}
+use Rattle.std.specs.Prelude.{◌≡◌, ℕ, List, Option, Some, None, Err, ⊤, ◌⊎◌, IfSome, if◌then◌else◌}
+use Rattle.std.specs.Io.KnownBytes.{Appends}
 use Rattle.reg_plan.specs.Plans.{PlanValue, IsPlan}
 use Rattle.reg_book.specs.Book.{BookValue, directory_of}
 use Rattle.reg_book.specs.Settled.{committed}
@@ -19,7 +19,8 @@ use Rattle.reg_front.specs.declared.command.Command.{Command}
 use Rattle.reg_front.specs.declared.command.Command.TheVariants.{Settle, Plan, Statement, Figures, Totals}
 use Rattle.reg_front.specs.declared.fault.FrontFault.{FrontFault}
 use Rattle.reg_front.specs.declared.fault.FrontFault.TheVariants.{Row, Read, Workers, NoAccount, NoThread, NoMemory, WriteFailed}
-use Rattle.reg_front.specs.Devices.{AppendsFrontOf, ConsumesFront, IsReadWhole}
+use Rattle.reg_front.specs.Streams.{Stream, IsGood, HasFailed}
+use Rattle.reg_front.specs.Devices.{AppendsFrontOf, FailsToRead, IsReadInPart, IsReadWhole, IsTooLong, IsUntouched}
 
 -- why the command is refused for a day with this book, if it is
 abbrev pub command_fault : Command → BookValue → Option FrontFault
@@ -62,7 +63,7 @@ abbrev pub StartsThreads : Command → Type 0
 StartsThreads command = (workers : ℕ) × (command ≡ Settle workers)
 
 -- the command may answer this fault for this input; a lack of threads can occur with every day text that is to be settled by
--- workers, a lack of memory and a failed reader with every input
+-- workers, a lack of memory with every input; when an input is not read, the reader tells (`Reads`)
 abbrev pub IsFault : Command → List ℕ → FrontFault → Type 0
 IsFault command input (Row row cause) = day_of_rows (rows_of input) ≡ Err (row, cause)
 IsFault command input Workers = IsRefused command input Workers
@@ -76,42 +77,48 @@ IsFault command input NoMemory = ⊤
 abbrev pub WritesText : Command → Option (List ℕ) → Option (List ℕ) → Option (List ℕ) → Type 0
 WritesText command input old new = IfSome input (λ bytes. (text : List ℕ) × IsText command bytes text × Appends old new text)
 
--- what the writer holds after a fault: a failed writer may have taken a prefix of the text; after all other faults it
--- holds what it held before
-abbrev pub Leaves : Command → Option (List ℕ) → FrontFault → Option (List ℕ) → Option (List ℕ) → Type 0
-Leaves command input (Row row cause) old new = Keeps old new
-Leaves command input Workers old new = Keeps old new
-Leaves command input NoAccount old new = Keeps old new
-Leaves command input WriteFailed old new = IfSome input (λ bytes. (text : List ℕ) × IsText command bytes text × AppendsFrontOf text old new)
-Leaves command input NoThread old new = Keeps old new
-Leaves command input Read old new = Keeps old new
-Leaves command input NoMemory old new = Keeps old new
+-- if the input is known, the command has written a prefix of its text
+abbrev pub WritesFront : Command → Option (List ℕ) → Option (List ℕ) → Option (List ℕ) → Type 0
+WritesFront command input old new = IfSome input (λ bytes. (text : List ℕ) × IsText command bytes text × AppendsFrontOf text old new)
 
--- what was read of the input by the time of a fault: a prefix of it, if the reader failed or memory ran out; before all
--- other faults the whole input
-abbrev pub Reads : FrontFault → Option (List ℕ) → Option (List ℕ) → Type 0
+-- what became of the writer by the time of a fault: if the fault is that the writer failed, one of its calls failed, and it
+-- may have taken a prefix of the text; after all other faults no call of it failed, and it holds what it held before
+abbrev pub Leaves : Command → Option (List ℕ) → FrontFault → Stream → Stream → Type 0
+Leaves command input (Row row cause) old new = IsUntouched old new
+Leaves command input Workers old new = IsUntouched old new
+Leaves command input NoAccount old new = IsUntouched old new
+Leaves command input WriteFailed old new = HasFailed old new × WritesFront command input old.bytes new.bytes
+Leaves command input NoThread old new = IsUntouched old new
+Leaves command input Read old new = IsUntouched old new
+Leaves command input NoMemory old new = IsUntouched old new
+
+-- what became of the reader by the time of a fault: if the fault is that the input was not read, one call of the reader
+-- failed, or none failed and the input is too long; before all other faults no call failed, and all of the input was read,
+-- or if memory ran out a part of it
+abbrev pub Reads : FrontFault → Stream → Stream → Type 0
 Reads (Row row cause) input rest = IsReadWhole input rest
 Reads Workers input rest = IsReadWhole input rest
 Reads NoAccount input rest = IsReadWhole input rest
 Reads NoThread input rest = IsReadWhole input rest
 Reads WriteFailed input rest = IsReadWhole input rest
-Reads Read input rest = ConsumesFront input rest
-Reads NoMemory input rest = ConsumesFront input rest
+Reads Read input rest = FailsToRead input rest ⊎ (IsReadInPart input rest × IsTooLong input)
+Reads NoMemory input rest = IsReadInPart input rest
 
--- the command has read the whole input and written its text
-pub record IsDone (command : Command) (input rest old new : Option (List ℕ)) : Type 0 where
+-- the command has read the whole input and written its text, and no call of the reader or the writer has failed
+pub record IsDone (command : Command) (input rest old new : Stream) : Type 0 where
   pub read : IsReadWhole input rest
-  pub wrote : WritesText command input old new
+  pub good : IsGood old new
+  pub wrote : WritesText command input.bytes old.bytes new.bytes
 
--- the command has answered this fault: why, what it has read, and what the writer holds
-pub record Fails (command : Command) (fault : FrontFault) (input rest old new : Option (List ℕ)) : Type 0 where
-  pub why : IfSome input (λ bytes. IsFault command bytes fault)
+-- the command has answered this fault: why, and what became of the reader and of the writer
+pub record Fails (command : Command) (fault : FrontFault) (input rest old new : Stream) : Type 0 where
+  pub why : IfSome input.bytes (λ bytes. IsFault command bytes fault)
   pub read : Reads fault input rest
-  pub left : Leaves command input fault old new
+  pub left : Leaves command input.bytes fault old new
 
--- the command is carried out, with a fault or without: the reader had `input` left and then `rest`, the writer held `old`
--- and then `new`
-abbrev pub CarriesOut : Command → Option FrontFault → Option (List ℕ) → Option (List ℕ) → Option (List ℕ) → Option (List ℕ) → Type 0
+-- the command is carried out, with a fault or without: the reader was as `input` and is then as `rest`, the writer was as
+-- `old` and is then as `new`
+abbrev pub CarriesOut : Command → Option FrontFault → Stream → Stream → Stream → Stream → Type 0
 CarriesOut command None input rest old new = IsDone command input rest old new
 CarriesOut command (Some fault) input rest old new = Fails command fault input rest old new
 

@@ -1,12 +1,12 @@
 //! Reading a whole input and writing a whole text.
 
 ghost use Rattle.std.specs.Prelude.{◌≡◌, ◌≤◌, IfErr, IfOk, IfSome, OnOk, OnErr, vec_len};
-ghost use Rattle.std.specs.Io.KnownBytes.{Appends};
-ghost use Rattle.reg_front.specs.Devices.{AppendsFrontOf, ConsumesFront, IsReadWhole, most_input};
+ghost use Rattle.reg_front.specs.Streams.{CanFail};
+ghost use Rattle.reg_front.specs.Devices.{FailsToWrite, IsReadWhole, Writes, most_input};
 ghost use Rattle.reg_front.specs.Faults.{IsReadFault};
 
+use crate::stream::{CallFailed, Sink, Source};
 use std::alloc::Global;
-use std::io::{Read, Write};
 
 /// The most bytes of an input: 2^30.
 pub(crate) const MOST_INPUT: usize = 1 << 30;
@@ -29,21 +29,17 @@ pub(crate) enum ReadFault {
     NoMemory,
 }
 
-/// A write or a flush failed, or a write took no byte although some were left.
-#[derive(Clone, Copy, Debug, PartialEq, Eq)]
-pub(crate) struct WriteFailed;
-
 /// All bytes that the reader has left, up to its end.
 ///
 /// # Errors
 /// `Failed` if a call of `read` fails; there is no second try. `TooLong` if the input has more than [`MOST_INPUT`]
 /// bytes. `NoMemory` if memory ran out. In each case the bytes read so far are lost.
-pub(crate) fn read_all<R: Read>(alloc: Global, reader: &mut R) -> Result<Vec<u8>, ReadFault>
-    ensures text { IfOk result (λ text. IfSome (R.remaining reader.old) (λ bytes. text.items ≡ bytes)) }
-    ensures whole { OnOk result (IsReadWhole (R.remaining reader.old) (R.remaining reader.new)) }
+pub(crate) fn read_all<R: Source>(alloc: Global, reader: &mut R) -> Result<Vec<u8>, ReadFault>
+    requires { CanFail (R.stream reader.old) }
+    ensures text { IfOk result (λ text. IfSome (R.stream reader.old).bytes (λ bytes. text.items ≡ bytes)) }
+    ensures whole { OnOk result (IsReadWhole (R.stream reader.old) (R.stream reader.new)) }
     ensures limit { IfOk result (λ text. vec_len text ≤ most_input) }
-    ensures err { OnErr result (ConsumesFront (R.remaining reader.old) (R.remaining reader.new)) }
-    ensures fault { IfErr result (IsReadFault (R.remaining reader.old)) }
+    ensures fault { IfErr result (IsReadFault (R.stream reader.old) (R.stream reader.new)) }
 {
     let mut text = Vec::new(alloc);
     let mut piece = [0; PIECE];
@@ -67,21 +63,17 @@ pub(crate) fn read_all<R: Read>(alloc: Global, reader: &mut R) -> Result<Vec<u8>
 /// Writes the whole text and flushes the writer.
 ///
 /// # Errors
-/// [`WriteFailed`] if a call of `write` or `flush` fails, or a `write` takes no byte; there is no second try. The
-/// writer has then taken a prefix of the text, possibly all of it.
-pub(crate) fn write_all<W: Write>(writer: &mut W, text: &[u8]) -> Result<(), WriteFailed>
-    ensures ok { OnOk result (Appends (W.contents writer.old) (W.contents writer.new) text.now) }
-    ensures err { OnErr result (AppendsFrontOf text.now (W.contents writer.old) (W.contents writer.new)) }
+/// [`CallFailed`] if a call of `write` or `flush` fails; there is no second try. The writer has then taken a prefix of
+/// the text, possibly all of it.
+pub(crate) fn write_all<W: Sink>(writer: &mut W, text: &[u8]) -> Result<(), CallFailed>
+    requires { CanFail (W.stream writer.old) }
+    ensures ok { OnOk result (Writes text.now (W.stream writer.old) (W.stream writer.new)) }
+    ensures err { OnErr result (FailsToWrite text.now (W.stream writer.old) (W.stream writer.new)) }
 {
     let mut rest = text;
     while !rest.is_empty() {
-        match writer.write(rest) {
-            Ok(0) | Err(_) => return Err(WriteFailed),
-            Ok(count) => rest = &rest[count..],
-        }
+        let count = writer.write(rest)?;
+        rest = &rest[count..];
     }
-    match writer.flush() {
-        Ok(()) => Ok(()),
-        Err(_) => Err(WriteFailed),
-    }
+    writer.flush()
 }

@@ -5,16 +5,17 @@ ghost use Rattle.std.specs.Result.{result_err};
 ghost use Rattle.reg_text.specs.Rows.{rows_of};
 ghost use Rattle.reg_text.specs.Reading.{IsReading};
 ghost use Rattle.reg_text.specs.Inputs.{day_of_input};
+ghost use Rattle.reg_front.specs.Streams.{CanFail};
 ghost use Rattle.reg_front.specs.Devices.{IsReadWhole};
 ghost use Rattle.reg_front.specs.Runs.{CarriesOut, IsReadingFault, Reads};
 
 use crate::command::Command;
 use crate::device::{read_all, write_all};
 use crate::fault::FrontFault;
+use crate::stream::{Sink, Source};
 use crate::texts::{Used, make_text};
 use reg_text::{DayInput, read_day};
 use std::alloc::Global;
-use std::io::{Read, Write};
 use std::mem;
 use std::sync::Wait;
 use std::thread::Threads;
@@ -23,23 +24,26 @@ use std::thread::Threads;
 /// whole text is made before its first byte is written.
 ///
 /// # Errors
-/// - `Read` if the reader fails, or the input has more than 2^30 bytes.
+/// - `Read` if a call of the reader fails, or the input has more than 2^30 bytes.
 /// - `Row` if the input is not a day text, with the first faulty row and the first cause that applies to it.
 /// - `Workers` if the input is a day text and the number of workers is not 1 to 8.
 /// - `NoAccount` if the input is a day text and the account of a statement is not in its book.
 /// - `NoThread` if the input is a day text to be settled and a thread could not be started.
 /// - `NoMemory` if memory ran out.
-/// - `WriteFailed` if the writer fails. A prefix of the text has then been written.
+/// - `WriteFailed` if a call of the writer fails, the last one among them, which flushes it. A prefix of the text has then been
+///   written.
 ///
-/// After all faults except `WriteFailed`, nothing has been written.
-pub fn run<T: Threads + Wait + Sync, R: Read, W: Write>(
+/// A failed call is not tried again. After all faults except `WriteFailed`, nothing has been written.
+pub fn run<T: Threads + Wait + Sync, R: Source, W: Sink>(
     rt: &T,
     alloc: Global,
     reader: &mut R,
     writer: &mut W,
     command: Command,
 ) -> Result<(), FrontFault>
-    ensures { CarriesOut command (result_err result) (R.remaining reader.old) (R.remaining reader.new) (W.contents writer.old) (W.contents writer.new) }
+    requires reader { CanFail (R.stream reader.old) }
+    requires writer { CanFail (W.stream writer.old) }
+    ensures { CarriesOut command (result_err result) (R.stream reader.old) (R.stream reader.new) (W.stream writer.old) (W.stream writer.new) }
 {
     run_and_keep(rt, alloc, reader, writer, command)?;
     Ok(())
@@ -50,28 +54,32 @@ pub fn run<T: Threads + Wait + Sync, R: Read, W: Write>(
 ///
 /// # Errors
 /// As [`run`].
-pub fn run_without_freeing<T: Threads + Wait + Sync, R: Read, W: Write>(
+pub fn run_without_freeing<T: Threads + Wait + Sync, R: Source, W: Sink>(
     rt: &T,
     alloc: Global,
     reader: &mut R,
     writer: &mut W,
     command: Command,
 ) -> Result<(), FrontFault>
-    ensures { CarriesOut command (result_err result) (R.remaining reader.old) (R.remaining reader.new) (W.contents writer.old) (W.contents writer.new) }
+    requires reader { CanFail (R.stream reader.old) }
+    requires writer { CanFail (W.stream writer.old) }
+    ensures { CarriesOut command (result_err result) (R.stream reader.old) (R.stream reader.new) (W.stream writer.old) (W.stream writer.new) }
 {
     mem::forget(run_and_keep(rt, alloc, reader, writer, command)?);
     Ok(())
 }
 
 // Runs the command, and answers what it has used.
-fn run_and_keep<T: Threads + Wait + Sync, R: Read, W: Write>(
+fn run_and_keep<T: Threads + Wait + Sync, R: Source, W: Sink>(
     rt: &T,
     alloc: Global,
     reader: &mut R,
     writer: &mut W,
     command: Command,
 ) -> Result<Used, FrontFault>
-    ensures { CarriesOut command (result_err result) (R.remaining reader.old) (R.remaining reader.new) (W.contents writer.old) (W.contents writer.new) }
+    requires reader { CanFail (R.stream reader.old) }
+    requires writer { CanFail (W.stream writer.old) }
+    ensures { CarriesOut command (result_err result) (R.stream reader.old) (R.stream reader.new) (W.stream writer.old) (W.stream writer.new) }
 {
     let (day, input) = read_input(alloc, reader)?;
     let used = make_text(rt, alloc, day, input, &command)?;
@@ -82,12 +90,13 @@ fn run_and_keep<T: Threads + Wait + Sync, R: Read, W: Write>(
 }
 
 // The day that the whole input describes, and the bytes of the input, whose memory is used again for the output.
-fn read_input<R: Read>(alloc: Global, reader: &mut R) -> Result<(DayInput, Vec<u8>), FrontFault>
-    ensures ok { IfOk result (λ read. IfSome (R.remaining reader.old) (λ input. IsReading (rows_of input) (day_of_input read.0))) }
-    ensures whole { OnOk result (IsReadWhole (R.remaining reader.old) (R.remaining reader.new)) }
+fn read_input<R: Source>(alloc: Global, reader: &mut R) -> Result<(DayInput, Vec<u8>), FrontFault>
+    requires { CanFail (R.stream reader.old) }
+    ensures ok { IfOk result (λ read. IfSome (R.stream reader.old).bytes (λ input. IsReading (rows_of input) (day_of_input read.0))) }
+    ensures whole { OnOk result (IsReadWhole (R.stream reader.old) (R.stream reader.new)) }
     ensures follows { IfOk result (λ read. read.0.batch.base + 1 ≡ read.0.book.next) }
-    ensures err { IfErr result (IsReadingFault (R.remaining reader.old)) }
-    ensures read { IfErr result (λ fault. Reads fault (R.remaining reader.old) (R.remaining reader.new)) }
+    ensures err { IfErr result (IsReadingFault (R.stream reader.old).bytes) }
+    ensures read { IfErr result (λ fault. Reads fault (R.stream reader.old) (R.stream reader.new)) }
 {
     let input = read_all(alloc, reader)?;
     let day = read_day(alloc, input.as_slice())?;

@@ -46,7 +46,8 @@ impl From<ReadFault> for FrontFault {
 
     fn from(fault: ReadFault) -> FrontFault {
         match fault {
-            ReadFault::Failed | ReadFault::TooLong => FrontFault::Read,
+            ReadFault::Failed => FrontFault::Read,
+            ReadFault::TooLong => FrontFault::Read,
             ReadFault::NoMemory => FrontFault::NoMemory,
         }
     }

@@ -2,12 +2,19 @@
 //! and writes the command's text.
 #![tactic(auto)]
 
+mod calls;
 mod command;
+mod counted;
 mod device;
 mod engine;
 mod fault;
+mod faulty;
+mod stream;
 mod texts;
 
 pub use command::Command;
+pub use counted::Counted;
 pub use engine::{run, run_without_freeing};
 pub use fault::FrontFault;
+pub use faulty::Faulty;
+pub use stream::{CallFailed, Sink, Source};

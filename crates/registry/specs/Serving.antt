@@ -2,6 +2,7 @@
 use Rattle.std.specs.Prelude.{◌≡◌, ◌≢◌, ◌⊎◌, ℕ, List, [], ◌∷◌, Option, Some, None, Contains}
 use Rattle.reg_front.specs.declared.command.Command.{Command}
 use Rattle.reg_front.specs.declared.fault.FrontFault.{FrontFault}
+use Rattle.reg_front.specs.Streams.{Stream}
 use Rattle.reg_front.specs.Runs.{CarriesOut}
 use Rattle.registry.specs.Statuses.{status_of}
 
@@ -11,7 +12,7 @@ status_after None = 0
 status_after (Some fault) = status_of fault
 
 -- the command is carried out, and the status is that of its end
-pub record Obeys (command : Command) (status : ℕ) (input rest old new : Option (List ℕ)) : Type 0 where
+pub record Obeys (command : Command) (status : ℕ) (input rest old new : Stream) : Type 0 where
   pub fault : Option FrontFault
   pub carried_out : CarriesOut command fault input rest old new
   pub answered : status ≡ status_after fault
@@ -23,5 +24,5 @@ pub record IsShown (status : ℕ) (old new : Option (List ℕ)) : Type 0 where
   pub kept : status ≢ 0 → new ≡ old
 
 -- the words gave a command, which is obeyed; or they gave none, and no input is read
-abbrev pub Serves : ℕ → Option (List ℕ) → Option (List ℕ) → Option (List ℕ) → Option (List ℕ) → Type 0
-Serves status input rest old new = ((command : Command) × Obeys command status input rest old new) ⊎ (IsShown status old new × (rest ≡ input))
+abbrev pub Serves : ℕ → Stream → Stream → Stream → Stream → Type 0
+Serves status input rest old new = ((command : Command) × Obeys command status input rest old new) ⊎ (IsShown status old.bytes new.bytes × (rest ≡ input))

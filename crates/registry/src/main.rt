@@ -3,6 +3,7 @@
 #![tactic(auto)]
 
 ghost use Rattle.std.specs.Prelude.{◌≡◌};
+ghost use Rattle.reg_front.specs.Streams.{CanFail};
 ghost use Rattle.registry.specs.Serving.{IsShown, Obeys, Serves};
 ghost use Rattle.registry.specs.Statuses.{status_of};
 
@@ -12,7 +13,7 @@ mod words;
 use crate::input::Input;
 use crate::words::read_words;
 use clap::error::ErrorKind;
-use reg_front::{Command, FrontFault, run_without_freeing};
+use reg_front::{Command, Counted, FrontFault, Sink, Source, run_without_freeing};
 use std::alloc::{AllocError, Global};
 use std::convert::AsStr;
 use std::io::{Read, Write};
@@ -37,8 +38,24 @@ pub fn serve<T: Threads + Wait + Sync, S: AsStr, R: Read, W: Write, F: Write>(
     reader: &mut R,
     writer: &mut W,
     faults: &mut F,
+) -> u8 {
+    let mut reader = Counted::new(reader);
+    let mut writer = Counted::new(writer);
+    serve_counted(rt, alloc, words, &mut reader, &mut writer, faults)
+}
+
+// The same, on streams that count their failed calls.
+fn serve_counted<T: Threads + Wait + Sync, S: AsStr, R: Read, W: Write, F: Write>(
+    rt: &T,
+    alloc: Global,
+    words: &[S],
+    reader: &mut Counted<R>,
+    writer: &mut Counted<W>,
+    faults: &mut F,
 ) -> u8
-    ensures { Serves result (R.remaining reader.old) (R.remaining reader.new) (W.contents writer.old) (W.contents writer.new) }
+    requires reader { CanFail (⟦<Counted<R> as Source>⟧.stream reader.old) }
+    requires writer { CanFail (⟦<Counted<W> as Sink>⟧.stream writer.old) }
+    ensures { Serves result (⟦<Counted<R> as Source>⟧.stream reader.old) (⟦<Counted<R> as Source>⟧.stream reader.new) (⟦<Counted<W> as Sink>⟧.stream writer.old) (⟦<Counted<W> as Sink>⟧.stream writer.new) }
 {
     match read_words(alloc, words) {
         Ok(command) => carry_out(rt, alloc, command, reader, writer, faults),
@@ -47,7 +64,7 @@ pub fn serve<T: Threads + Wait + Sync, S: AsStr, R: Read, W: Write, F: Write>(
 }
 
 // Runs the command, and answers the status.
-fn carry_out<T: Threads + Wait + Sync, R: Read, W: Write, F: Write>(
+fn carry_out<T: Threads + Wait + Sync, R: Source, W: Sink, F: Write>(
     rt: &T,
     alloc: Global,
     command: Command,
@@ -55,7 +72,9 @@ fn carry_out<T: Threads + Wait + Sync, R: Read, W: Write, F: Write>(
     writer: &mut W,
     faults: &mut F,
 ) -> u8
-    ensures { Obeys command result (R.remaining reader.old) (R.remaining reader.new) (W.contents writer.old) (W.contents writer.new) }
+    requires reader { CanFail (R.stream reader.old) }
+    requires writer { CanFail (W.stream writer.old) }
+    ensures { Obeys command result (R.stream reader.old) (R.stream reader.new) (W.stream writer.old) (W.stream writer.new) }
 {
     match run_without_freeing(rt, alloc, reader, writer, command) {
         Ok(()) => 0,

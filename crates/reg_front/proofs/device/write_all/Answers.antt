@@ -11,7 +11,8 @@ moved_front all done rest n e =
 
 pub loop-rest-preserved : goal.loop-rest-preserved
 loop-rest-preserved g c =
-    let (done, split, appended) = c.loop-rest.invariant in
+    let (done, split, appended) = c.loop-rest.invariant.done in
     let rest = c.loop-rest.rest.now in
-    let n = c.in-Ok.count in
-    (done ++ take n rest, moved_front _ done rest n split, Appends-trans _ _ _ _ _ appended c.in-Ok.ensures.bytes)
+    let n = c.in_ok-count.count in
+    let ensured = c.in_ok-count.ensures in
+    record { good = ensured.good ∙ c.loop-rest.invariant.good; done = (done ++ take n rest, moved_front _ done rest n split, Appends-trans _ _ _ _ _ appended ensured.bytes) }

@@ -1,0 +1,77 @@
+//! A reader or a writer of the standard library whose failed calls are counted.
+
+ghost use Rattle.std.specs.Prelude.{◌≡◌, ◌<◌, ◌+◌, ◌-◌, ◌^◌};
+ghost use Rattle.reg_front.specs.Counting.{counted_inner, counted_failures};
+
+use crate::stream::{CallFailed, Sink, Source};
+use std::io;
+use std::io::{Read, Write};
+
+/// Any reader or writer, with the number of its calls that have failed.
+#[derive(Drop)]
+pub struct Counted<T> {
+    inner: T,
+    failures: u64,
+}
+
+impl<T> Counted<T> {
+    /// No call has failed so far.
+    pub fn new(inner: T) -> Counted<T>
+        ensures inner { counted_inner result ≡ inner }
+        ensures failures { counted_failures result ≡ 0 }
+    {
+        Counted { inner, failures: 0 }
+    }
+
+    // Counts a failed call.
+    fn fail(&mut self) -> CallFailed
+        requires { counted_failures self.old < 2 ^ 64 - 1 }
+        ensures inner { counted_inner self.new ≡ counted_inner self.old }
+        ensures failures { counted_failures self.new ≡ counted_failures self.old + 1 }
+    {
+        self.failures += 1;
+        CallFailed
+    }
+}
+
+impl<R: Read> Source for Counted<R> {
+    ghost stream = { λ counted. record { bytes = R.remaining counted.inner; failures = counted.failures } };
+
+    fn read(&mut self, buf: &mut [u8]) -> Result<usize, CallFailed> {
+        match self.inner.read(buf) {
+            Ok(count) => Ok(count),
+            Err(_) => Err(self.fail()),
+        }
+    }
+}
+
+impl<W: Write> Sink for Counted<W> {
+    ghost stream = { λ counted. record { bytes = W.contents counted.inner; failures = counted.failures } };
+
+    fn write(&mut self, buf: &[u8]) -> Result<usize, CallFailed> {
+        match self.inner.write(buf) {
+            Ok(count) if count > 0 || buf.is_empty() => Ok(count),
+            Ok(_) | Err(_) => Err(self.fail()),
+        }
+    }
+
+    fn flush(&mut self) -> Result<(), CallFailed> {
+        match self.inner.flush() {
+            Ok(()) => Ok(()),
+            Err(_) => Err(self.fail()),
+        }
+    }
+}
+
+// For text whose failed calls need no count, as a help text.
+impl<W: Write> Write for Counted<W> {
+    ghost contents = { λ counted. W.contents counted.inner };
+
+    fn write(&mut self, buf: &[u8]) -> io::Result<usize> {
+        self.inner.write(buf)
+    }
+
+    fn flush(&mut self) -> io::Result<()> {
+        self.inner.flush()
+    }
+}

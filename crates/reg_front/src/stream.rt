@@ -1,0 +1,58 @@
+//! What a command reads from and writes to.
+
+ghost use Rattle.std.specs.Prelude.{◌<◌, length, IfOk, OnErr, OnOk};
+ghost use Rattle.std.specs.Io.{ReadsAtMost, WritesAtMost};
+ghost use Rattle.std.specs.Io.KnownBytes.{Keeps, ReadConsumes, WriteAppends};
+ghost use Rattle.reg_front.specs.Streams.{CanFail, HasFailed, IsGood, Stream};
+
+use thiserror::Error;
+
+/// A call of a [`Source`] or a [`Sink`] failed, and was counted.
+#[derive(Clone, Copy, Debug, PartialEq, Eq, Error)]
+#[error("the call failed")]
+pub struct CallFailed;
+
+/// A reader that tells its bytes and counts its failed calls. Both are for proofs alone.
+pub trait Source {
+    // The bytes that it has left, if they are known, and how many of its calls have failed.
+    ghost stream: { Self → Stream };
+
+    /// Puts bytes into the front of `buf`, and answers how many. It gives none only at its end, or if `buf` is empty.
+    ///
+    /// # Errors
+    /// [`CallFailed`] if the call failed. It has given no byte then.
+    fn read(&mut self, buf: &mut [u8]) -> Result<usize, CallFailed>
+        requires { CanFail (stream self.old) }
+        ensures bound { ReadsAtMost result buf.new }
+        ensures bytes { ReadConsumes (stream self.old).bytes (stream self.new).bytes result buf.new }
+        ensures good { OnOk result (IsGood (stream self.old) (stream self.new)) }
+        ensures failed { OnErr result (HasFailed (stream self.old) (stream self.new)) };
+}
+
+/// A writer that tells its bytes and counts its failed calls. Both are for proofs alone.
+pub trait Sink {
+    // The bytes that it holds, if they are known, and how many of its calls have failed.
+    ghost stream: { Self → Stream };
+
+    /// Takes bytes from the front of `buf`, and answers how many. To take none of some is a failed call.
+    ///
+    /// # Errors
+    /// [`CallFailed`] if the call failed. It has taken no byte then.
+    fn write(&mut self, buf: &[u8]) -> Result<usize, CallFailed>
+        requires { CanFail (stream self.old) }
+        ensures bound { WritesAtMost result buf.now }
+        ensures some { 0 < length buf.now → IfOk result (λ count. 0 < count) }
+        ensures bytes { WriteAppends (stream self.old).bytes (stream self.new).bytes result buf.now }
+        ensures good { OnOk result (IsGood (stream self.old) (stream self.new)) }
+        ensures failed { OnErr result (HasFailed (stream self.old) (stream self.new)) };
+
+    /// Hands on what it holds.
+    ///
+    /// # Errors
+    /// [`CallFailed`] if the call failed.
+    fn flush(&mut self) -> Result<(), CallFailed>
+        requires { CanFail (stream self.old) }
+        ensures bytes { Keeps (stream self.old).bytes (stream self.new).bytes }
+        ensures good { OnOk result (IsGood (stream self.old) (stream self.new)) }
+        ensures failed { OnErr result (HasFailed (stream self.old) (stream self.new)) };
+}
