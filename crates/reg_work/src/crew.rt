@@ -88,6 +88,13 @@ fn join_all<N: Naming, B: Room, R: Threads>(
     }
 }
 
+// Joins all threads that were started, which were told to leave. What they leave is dropped.
+fn join_and_drop<N: Naming, B: Room, R: Threads>(rt: &R, handles: Vec<Handle<N, B>>) {
+    for handle in handles {
+        handle.join(rt);
+    }
+}
+
 /// Runs the workers: each in a thread of its own, but for the last, which is the calling thread. All threads are joined.
 ///
 /// # Errors
@@ -124,6 +131,8 @@ pub(crate) fn work_all<
             let mut stints = Vec::with_capacity(alloc, count + 1)?;
             let Ok(()) = start_all(scope, rt, alloc, board, gate, posts, &mut handles) else {
                 last.stop(board);
+                // A thread that is not joined may run on, and what it leaves is never dropped.
+                join_and_drop(rt, handles);
                 return Err(Shortage::Thread);
             };
             let stint = work(rt, alloc, board, gate, count as u32, last);

@@ -112,9 +112,10 @@ pub(crate) fn try_docks<W: Write>(
     writer: &mut W,
 ) -> Result<(), Stop> {
     let context = context_of(alloc, day)?;
+    let docks: Option<Docks<'_, '_, Unnamed>> = None;
     let mut call = OpeningAll {
         context: &context,
-        docks: None,
+        docks,
         tasks: Vec::new(alloc),
     };
     let wanted = rehearse(alloc, &mut call)?;

@@ -170,19 +170,14 @@ fn copies(alloc: Global, day: &DayInput, instruction: &Instruction) -> Result<Ve
 }
 
 // The first instruction of a day, and its record number.
-fn setting_of(day: &DayInput) -> Result<Setting<'_>, Stop> {
+fn first_of(day: &DayInput) -> Result<(Instruction, RecordNo), Stop> {
     let Some(instruction) = day.batch.instructions().first() else {
         return Err(Stop::Input);
     };
     let Some(number) = RecordNo::new(day.book.next_record()) else {
         return Err(Stop::Input);
     };
-    Ok(Setting {
-        day,
-        directory: day.book.directory(),
-        instruction: *instruction,
-        number,
-    })
+    Ok((*instruction, number))
 }
 
 // Executes the instruction on these accounts, if they are those that it touches.
@@ -226,7 +221,13 @@ pub(crate) fn try_execute<W: Write>(
     let Ok(settled) = settle_plain(alloc, &day.book, &day.rules, &day.batch) else {
         return Err(Stop::Short);
     };
-    let setting = setting_of(day)?;
+    let (instruction, number) = first_of(day)?;
+    let setting = Setting {
+        day,
+        directory: day.book.directory(),
+        instruction,
+        number,
+    };
     let mut accounts = copies(alloc, day, &setting.instruction)?;
     let row = execute_checked(alloc, &setting, &mut accounts, writer)?;
     let word = if are_of(alloc, row, &accounts, &settled)? {
