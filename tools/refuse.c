@@ -7,6 +7,7 @@
  *
  *   REFUSE_CALL   the number of the call that is refused; none if it is 0 or there is none
  *   REFUSE_REST   if set, all calls after that one are refused too, until `end`
+ *   REFUSE_OF     `own`: only the calls of the thread that wrote `begin` are numbered; `others`: only those of all others
  *   REFUSE_TELL   the file to which the findings are written when the program ends, one `NAME VALUE` a line:
  *                   calls     how many calls were counted
  *                   refused   how many of them were refused
@@ -38,10 +39,10 @@ struct block {
   size_t bytes;
 };
 
-static atomic_long calls, refused, started, joined, detached, lost;
+static atomic_long calls, numbered, refused, started, joined, detached, lost;
 static atomic_int watching;
 static long wanted;
-static int rest, all;
+static int rest, all, skips_own, skips_others;
 
 static _Thread_local int is_own, inside_start;
 static long own_calls, own_refused;
@@ -95,13 +96,20 @@ static void find(void) {
   finding = 0;
 }
 
+/* Whether the next call of this thread is one that is to be refused. */
+static int is_wanted(void) {
+  long number;
+  if (is_own ? skips_own : skips_others) return 0;
+  number = atomic_fetch_add(&numbered, 1) + 1;
+  return wanted > 0 && (number == wanted || (rest && number > wanted));
+}
+
 /* Counts a call, and answers whether it is refused. */
 static int is_refused(char kind) {
-  long number;
   int is;
   if (!atomic_load(&watching)) return 0;
-  number = atomic_fetch_add(&calls, 1) + 1;
-  is = wanted > 0 && (number == wanted || (rest && number > wanted));
+  atomic_fetch_add(&calls, 1);
+  is = is_wanted();
   if (is_own) {
     if (own_calls < MOST_OWN) own[own_calls] = inside_start ? 'i' : kind;
     own_calls++;
@@ -243,6 +251,11 @@ ssize_t write(int to, const void *text, size_t bytes) {
   return answer;
 }
 
+static int is_set_to(const char *name, const char *value) {
+  const char *text = getenv(name);
+  return text != NULL && strcmp(text, value) == 0;
+}
+
 static long number_in(const char *name) {
   const char *text = getenv(name);
   return text ? atol(text) : 0;
@@ -253,6 +266,8 @@ __attribute__((constructor)) static void begin(void) {
   wanted = number_in("REFUSE_CALL");
   rest = getenv("REFUSE_REST") != NULL;
   all = getenv("REFUSE_ALL") != NULL;
+  skips_own = is_set_to("REFUSE_OF", "others");
+  skips_others = is_set_to("REFUSE_OF", "own");
   blocks = real_calloc(MOST_BLOCKS, sizeof *blocks);
   if (all) {
     is_own = 1;

@@ -244,11 +244,11 @@ impl Call for Running<'_> {
 
     fn lent(&mut self, alloc: Global) -> Result<String, Stop> {
         let book = shown(alloc, self.context.book())?;
-        let place = match &self.task {
-            Some(task) => task.place(),
-            None => 0,
+        let task = match &self.task {
+            Some(task) => (task.place(), task.parcel_count()),
+            None => (0, 0),
         };
-        shown(alloc, &(book, place))
+        shown(alloc, &(book, task))
     }
 
     // The day that is gathered from its outcome and those of the others.
