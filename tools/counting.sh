@@ -45,6 +45,14 @@ try_cases() {
   [ "$failed" != "$failed_before" ] || mv -- "$work/cases-begun" "$cases_passed"
 }
 
+# The program that makes each call that takes memory.
+refusals=crates/registry_refusals/out/registry_refusals
+
+# Refuses each allocation and each start of a thread, of every call and of this program.
+try_refusals() {
+  count_part "cases/run-refusals" cases/run-refusals "$refusals" "$1"
+}
+
 # Whether all cases have passed on this program since it was built, and as they are now.
 have_cases_passed() {
   [ -e "$cases_passed" ] && [ ! "$1" -nt "$cases_passed" ] &&

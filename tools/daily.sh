@@ -102,6 +102,18 @@ try_program() {
   fi
 }
 
+# Builds the program that makes the calls which take memory, and refuses each of their allocations. That needs the
+# program, too.
+try_refusals_if_built() {
+  if [ ! -x "$program" ]; then
+    refusals_left_out="the refusals, since there is no program"
+  elif try_rt registry_refusals "building the program" run; then
+    try_refusals "$program"
+  else
+    refusals_left_out="the refusals, since registry_refusals was not built"
+  fi
+}
+
 # Says what a whole check does beside.
 say_what_was_left_out() {
   local others
@@ -110,11 +122,12 @@ say_what_was_left_out() {
   echo "check: this was not the whole check. Left out:"
   [ -z "$others" ] || echo "  the crates $others"
   [ -z "$left_out" ] || echo "  $left_out"
+  [ -z "$refusals_left_out" ] || echo "  $refusals_left_out"
   echo "  proofs from nothing, the layout of the files, and what else only rt ci looks at"
 }
 
 check_some() {
-  local crates left_out=
+  local crates left_out= refusals_left_out=
   crates=$(tools/crates above "$@") || exit 2
   need_rt || {
     failed=1
@@ -131,6 +144,11 @@ check_some() {
     left_out="the cases, since the program uses none of these crates"
   else
     try_program
+  fi
+  if [[ " ${proved[*]-} " == *" registry_refusals "* ]]; then
+    try_refusals_if_built
+  else
+    refusals_left_out="the refusals, since registry_refusals is not one of these crates, or was not proved"
   fi
   say_what_was_left_out "${crates[@]}"
 }

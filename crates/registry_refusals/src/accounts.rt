@@ -1,0 +1,231 @@
+//! An account: its copy, and the changes that take memory.
+
+ghost use Rattle.std.specs.Prelude.{◌≡◌, ◌≤◌, IsTrue, nat_lt};
+ghost use Rattle.std.specs.List.{list_all};
+ghost use Rattle.reg_base.specs.declared.limits.TheConstants.{MOST_HELD};
+ghost use Rattle.reg_account.specs.Account.{CanRetire, retired_by};
+ghost use Rattle.reg_rules.specs.Effect.{IsBehind};
+
+use crate::call::{Call, Ended, rehearse, shown, try_call};
+use crate::stop::Stop;
+use reg_account::{Account, Retirement, RetirementRow};
+use reg_base::{
+    AccountNo, AllowanceKind, Day, MOST_HELD, MOST_ROWS, MOST_TRUSTED, NoMemory, RecordNo, Year,
+};
+use reg_text::DayInput;
+use std::alloc::Global;
+use std::io::Write;
+
+// `Account::copy`.
+#[derive(Drop)]
+struct Copying<'d> {
+    account: &'d Account,
+    copy: Option<Account>,
+}
+
+impl Call for Copying<'_> {
+    fn make(&mut self, alloc: Global) -> Ended {
+        match self.account.copy(alloc) {
+            Ok(copy) => {
+                self.copy = Some(copy);
+                Ended::Done
+            }
+            Err(NoMemory) => Ended::NoMemory,
+        }
+    }
+
+    fn lent(&mut self, alloc: Global) -> Result<String, Stop> {
+        shown(alloc, self.account)
+    }
+
+    fn left(&mut self, alloc: Global) -> Result<String, Stop> {
+        shown(alloc, &self.copy)
+    }
+}
+
+// The first account of a day.
+fn first_account(day: &DayInput) -> Result<&Account, Stop> {
+    match day.book.accounts().first() {
+        Some(account) => Ok(account),
+        None => Err(Stop::Input),
+    }
+}
+
+/// Tries `Account::copy` of the first account.
+pub(crate) fn try_copy<W: Write>(
+    alloc: Global,
+    day: &DayInput,
+    writer: &mut W,
+) -> Result<(), Stop> {
+    let account = first_account(day)?;
+    let mut call = Copying {
+        account,
+        copy: None,
+    };
+    let wanted = rehearse(alloc, &mut call)?;
+    call.copy = None;
+    try_call(alloc, &mut call, wanted.as_str(), writer)
+}
+
+/// A change of an account that takes memory.
+#[derive(Clone, Copy)]
+pub(crate) enum Change {
+    /// Surrenders 50 general allowances under the next record number.
+    Retire,
+    /// Trusts the account with the number 3 from the settlement day on.
+    Trust,
+    /// Enters 60 tonnes for 2021.
+    SetEmissions,
+    /// Determines -15 tonnes for 2022.
+    Determine,
+}
+
+// How a call ended that answers nothing but that memory ran out.
+fn ended(answer: Result<(), NoMemory>) -> Ended {
+    match answer {
+        Ok(()) => Ended::Done,
+        Err(NoMemory) => Ended::NoMemory,
+    }
+}
+
+// How much of this kind the account has surrendered, or deleted, as the row does.
+fn retired(account: &Account, row: &RetirementRow) -> u64
+    ensures value { result ≡ retired_by account.now row.now.retirement row.now.kind }
+    ensures limit { result ≤ MOST_HELD }
+{
+    match row.retirement {
+        Retirement::Surrendered => account.surrendered(row.kind),
+        Retirement::Deleted => account.deleted(row.kind),
+    }
+}
+
+/// Whether each surrender and each deletion of the account has a number below this one.
+pub(crate) fn has_rows_below(account: &Account, number: RecordNo) -> bool
+    ensures { result ≡ list_all (λ row. nat_lt row.number number) account.now.rows }
+{
+    account.rows().iter().all(|row| row.number < number)
+}
+
+// Whether this number comes after those of all surrenders and deletions of the account.
+fn is_later(account: &Account, number: RecordNo) -> bool
+    ensures { IsTrue result → IsBehind number account.now }
+{
+    has_rows_below(account, number)
+}
+
+// Whether the row can be the account's next one.
+fn can_retire(account: &Account, row: &RetirementRow) -> bool
+    ensures { IsTrue result → CanRetire account.now row.now }
+{
+    if row.reversed {
+        return false;
+    }
+    if row.amount < 1 {
+        return false;
+    }
+    if !is_later(account, row.number) {
+        return false;
+    }
+    if account.rows().len() >= MOST_ROWS {
+        return false;
+    }
+    if row.amount > account.held(row.kind) {
+        return false;
+    }
+    row.amount <= MOST_HELD - retired(account, row)
+}
+
+fn retire(account: &mut Account, number: RecordNo, day: Day) -> Ended {
+    let row = RetirementRow {
+        number,
+        retirement: Retirement::Surrendered,
+        kind: AllowanceKind::General,
+        amount: 50,
+        day,
+        reversed: false,
+    };
+    if !can_retire(account, &row) {
+        return Ended::Otherwise;
+    }
+    ended(account.retire(row))
+}
+
+fn trust(account: &mut Account, day: Day) -> Ended {
+    let Some(other) = AccountNo::new(3) else {
+        return Ended::Otherwise;
+    };
+    if account.trusted_entries().len() >= MOST_TRUSTED {
+        return Ended::Otherwise;
+    }
+    ended(account.trust(other, day))
+}
+
+fn set_emissions(account: &mut Account) -> Ended {
+    let Some(year) = Year::new(2021) else {
+        return Ended::Otherwise;
+    };
+    ended(account.set_emissions(year, 60))
+}
+
+fn determine(account: &mut Account) -> Ended {
+    let Some(year) = Year::new(2022) else {
+        return Ended::Otherwise;
+    };
+    ended(account.determine(year, -15))
+}
+
+// A change of an account.
+#[derive(Drop)]
+struct Changing {
+    account: Account,
+    change: Change,
+    number: RecordNo,
+    day: Day,
+}
+
+impl Call for Changing {
+    fn make(&mut self, _alloc: Global) -> Ended {
+        match self.change {
+            Change::Retire => retire(&mut self.account, self.number, self.day),
+            Change::Trust => trust(&mut self.account, self.day),
+            Change::SetEmissions => set_emissions(&mut self.account),
+            Change::Determine => determine(&mut self.account),
+        }
+    }
+
+    fn lent(&mut self, alloc: Global) -> Result<String, Stop> {
+        shown(alloc, &self.account)
+    }
+
+    fn left(&mut self, alloc: Global) -> Result<String, Stop> {
+        shown(alloc, &self.account)
+    }
+}
+
+// A change of a copy of the first account.
+fn make_changing(alloc: Global, day: &DayInput, change: Change) -> Result<Changing, Stop> {
+    let Ok(account) = first_account(day)?.copy(alloc) else {
+        return Err(Stop::Short);
+    };
+    let Some(number) = RecordNo::new(day.book.next_record()) else {
+        return Err(Stop::Input);
+    };
+    Ok(Changing {
+        account,
+        change,
+        number,
+        day: day.batch.day(),
+    })
+}
+
+/// Tries a change of a copy of the first account.
+pub(crate) fn try_change<W: Write>(
+    alloc: Global,
+    day: &DayInput,
+    change: Change,
+    writer: &mut W,
+) -> Result<(), Stop> {
+    let wanted = rehearse(alloc, &mut make_changing(alloc, day, change)?)?;
+    let mut call = make_changing(alloc, day, change)?;
+    try_call(alloc, &mut call, wanted.as_str(), writer)
+}
