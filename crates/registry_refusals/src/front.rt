@@ -2,7 +2,7 @@
 
 use crate::call::{Call, Ended, rehearse, shown, try_call};
 use crate::stop::Stop;
-use reg_front::{Command, FrontFault, run};
+use reg_front::{Command, Counted, FrontFault, run};
 use std::alloc::Global;
 use std::io::Write;
 use std::sync::Wait;
@@ -21,12 +21,14 @@ struct Running<'r, R> {
     command: Command,
 }
 
-impl<R: Threads + Wait> Call for Running<'_, R> {
+impl<R: Threads + Wait + Sync> Call for Running<'_, R> {
     fn make(&mut self, alloc: Global) -> Ended {
         let mut rest = self.text;
         let mut place = self.place.as_mut_slice();
         let all = place.len();
-        let answer = run(self.rt, alloc, &mut rest, &mut place, self.command);
+        let mut reader = Counted::new(&mut rest);
+        let mut writer = Counted::new(&mut place);
+        let answer = run(self.rt, alloc, &mut reader, &mut writer, self.command);
         self.written = all.saturating_sub(place.len());
         match answer {
             Ok(()) => Ended::Done,
@@ -48,7 +50,7 @@ impl<R: Threads + Wait> Call for Running<'_, R> {
     }
 }
 
-fn make_running<'r, R: Threads + Wait>(
+fn make_running<'r, R: Threads + Wait + Sync>(
     rt: &'r R,
     alloc: Global,
     text: &'r [u8],
@@ -64,7 +66,7 @@ fn make_running<'r, R: Threads + Wait>(
 }
 
 /// Tries `run` with a command.
-pub(crate) fn try_command<R: Threads + Wait, W: Write>(
+pub(crate) fn try_command<R: Threads + Wait + Sync, W: Write>(
     rt: &R,
     alloc: Global,
     text: &[u8],
@@ -77,7 +79,7 @@ pub(crate) fn try_command<R: Threads + Wait, W: Write>(
 }
 
 /// Tries `run` that settles by so many workers. What it writes is wanted as one worker writes it, who starts no thread.
-pub(crate) fn try_settle<R: Threads + Wait, W: Write>(
+pub(crate) fn try_settle<R: Threads + Wait + Sync, W: Write>(
     rt: &R,
     alloc: Global,
     text: &[u8],

@@ -56,7 +56,7 @@ pub(crate) fn try_word<R: Threads + Wait + Sync, W: Write>(
 }
 
 // Tries `run` with the command of this name.
-fn try_run_of<R: Threads + Wait, W: Write>(
+fn try_run_of<R: Threads + Wait + Sync, W: Write>(
     rt: &R,
     alloc: Global,
     name: &str,
@@ -74,7 +74,7 @@ fn try_run_of<R: Threads + Wait, W: Write>(
     }
 }
 
-fn try_run_of_statement<R: Threads + Wait, W: Write>(
+fn try_run_of_statement<R: Threads + Wait + Sync, W: Write>(
     rt: &R,
     alloc: Global,
     number: u32,
