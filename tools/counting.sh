@@ -53,6 +53,14 @@ try_refusals() {
   count_part "cases/run-refusals" cases/run-refusals "$refusals" "$1"
 }
 
+# The program that settles a day by workers that steal, and looks at who executed what.
+workers=crates/registry_workers/out/registry_workers
+
+# Settles the days of all cases by one to eight workers that are delayed at random.
+try_workers() {
+  count_part "cases/run-workers" cases/run-workers "$workers"
+}
+
 # Whether all cases have passed on this program since it was built, and as they are now.
 have_cases_passed() {
   [ -e "$cases_passed" ] && [ ! "$1" -nt "$cases_passed" ] &&

@@ -114,6 +114,15 @@ try_refusals_if_built() {
   fi
 }
 
+# Builds the program that looks at who executed what, and tries it on the days of all cases.
+try_workers_if_built() {
+  if try_rt registry_workers "building the program" run; then
+    try_workers
+  else
+    workers_left_out="workers that are delayed, since registry_workers was not built"
+  fi
+}
+
 # Says what a whole check does beside.
 say_what_was_left_out() {
   local others
@@ -123,11 +132,12 @@ say_what_was_left_out() {
   [ -z "$others" ] || echo "  the crates $others"
   [ -z "$left_out" ] || echo "  $left_out"
   [ -z "$refusals_left_out" ] || echo "  $refusals_left_out"
+  [ -z "$workers_left_out" ] || echo "  $workers_left_out"
   echo "  proofs from nothing, the layout of the files, and what else only rt ci looks at"
 }
 
 check_some() {
-  local crates left_out= refusals_left_out=
+  local crates left_out= refusals_left_out= workers_left_out=
   crates=$(tools/crates above "$@") || exit 2
   need_rt || {
     failed=1
@@ -149,6 +159,11 @@ check_some() {
     try_refusals_if_built
   else
     refusals_left_out="the refusals, since registry_refusals is not one of these crates, or was not proved"
+  fi
+  if [[ " ${proved[*]-} " == *" registry_workers "* ]]; then
+    try_workers_if_built
+  else
+    workers_left_out="workers that are delayed, since registry_workers is not one of these crates, or was not proved"
   fi
   say_what_was_left_out "${crates[@]}"
 }
