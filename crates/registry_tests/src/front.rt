@@ -1,24 +1,43 @@
 //! The engine on devices that move one byte a call and fail at a call, which no run of the program can show for each call.
 
-use reg_front::{Command, FrontFault, run};
+ghost use Rattle.reg_front.specs.Faulting.{sink_of, source_of};
+ghost use Rattle.reg_front.specs.Streams.{CanFail};
+
+use reg_front::{Command, Faulty, FrontFault, run};
 use std::alloc::Global;
-use std::io;
-use std::io::{ErrorKind, Read, Write};
+use std::process::Abort;
 use std::sync::Wait;
 use std::thread::Threads;
 
-// A first day: one transfer, which is done.
+// A day of five accounts, of which the first transfers 40 allowances to the second.
 const DAY: &str = "\
 format,1
 day,2025-03-31,1
 period,2021,2030
 lags,0,1,1,2
+surrender,operator,general
+surrender,aircraft,general
+surrender,aircraft,aviation
+admin,901
+admin,902
 work,2025-03-31
+work,2025-04-01
+work,2025-04-02
+work,2025-04-03
+work,2025-04-04
 account,1,operator,11,open,no,no,0,100,0
 user,101,propose
 user,102,approve
-trusted,2,2025-03-31
+trusted,2,2025-03-03
 account,2,trading,12,open,no,no,0,0,0
+user,201,both
+user,202,both
+trusted,1,2025-03-03
+account,3,aircraft,13,open,no,no,0,0,50
+user,301,propose
+user,302,approve
+account,8,allocation,1,open,no,no,0,0,0
+account,9,total,1,open,no,no,0,0,0
 do,2025-03-31,101,102,transfer,1,2,general,40
 end
 ";
@@ -30,84 +49,54 @@ book,2
 account,1,operator,11,open,no,no,0,60,0
 user,101,propose
 user,102,approve
-trusted,2,2025-03-31
+trusted,2,2025-03-03
 account,2,trading,12,open,no,no,0,40,0
+user,201,both
+user,202,both
+trusted,1,2025-03-03
+account,3,aircraft,13,open,no,no,0,0,50
+user,301,propose
+user,302,approve
+account,8,allocation,1,open,no,no,0,0,0
+account,9,total,1,open,no,no,0,0,0
 totals,general,100,0,0
-totals,aviation,0,0,0
+totals,aviation,50,0,0
 end
 ";
 
-// Moves one byte a call, and fails at a call that it counts down to; at 0 it never fails.
-#[derive(Drop)]
-struct Device<'a> {
-    rest: &'a [u8],
-    written: Vec<u8>,
-    calls_until_failure: usize,
+// A device that has these bytes to read, moves one byte in a call, and fails at this call, or at 0 never.
+fn make_device<A: Abort>(rt: &A, alloc: Global, text: &str, call: usize) -> Faulty
+    ensures reader { CanFail (source_of result) }
+    ensures writer { CanFail (sink_of result) }
+{
+    let mut bytes = Vec::new(alloc);
+    bytes
+        .extend_from_slice(text.as_bytes())
+        .expect(rt, "memory for a text");
+    Faulty::new(alloc, bytes, 1, call)
 }
 
-impl Device<'_> {
-    // Counts a call, which may be the one that fails.
-    fn count_call(&mut self) -> io::Result<()> {
-        if self.calls_until_failure == 0 {
-            return Ok(());
-        }
-        self.calls_until_failure -= 1;
-        if self.calls_until_failure == 0 {
-            return Err(io::Error::from(ErrorKind::Other));
-        }
-        Ok(())
-    }
-}
-
-impl Read for Device<'_> {
-    fn read(&mut self, buf: &mut [u8]) -> io::Result<usize> {
-        self.count_call()?;
-        let most = buf.len().min(1);
-        self.rest.read(&mut buf[..most])
-    }
-}
-
-impl Write for Device<'_> {
-    fn write(&mut self, buf: &[u8]) -> io::Result<usize> {
-        self.count_call()?;
-        self.written.write(&buf[..buf.len().min(1)])
-    }
-
-    fn flush(&mut self) -> io::Result<()> {
-        self.count_call()
-    }
-}
-
-// A device that gives these bytes and fails at this call.
-fn make_device(alloc: Global, rest: &[u8], call: usize) -> Device<'_> {
-    Device {
-        rest,
-        written: Vec::new(alloc),
-        calls_until_failure: call,
-    }
-}
-
-// What settling the day answers, and what it writes. The reader and the writer fail at these calls.
-fn settle<T: Threads + Wait + Sync>(
+// What settling the day answers, and the writer. The reader and the writer fail at these calls.
+fn settle<T: Threads + Wait + Sync + Abort>(
     rt: &T,
     alloc: Global,
     workers: u32,
     calls: [usize; 2],
-) -> (Result<(), FrontFault>, Vec<u8>) {
+) -> (Result<(), FrontFault>, Faulty) {
     let [read_call, write_call] = calls;
-    let mut reader = make_device(alloc, DAY.as_bytes(), read_call);
-    let mut writer = make_device(alloc, b"", write_call);
+    let mut reader = make_device(rt, alloc, DAY, read_call);
+    let mut writer = make_device(rt, alloc, "", write_call);
     let command = Command::Settle { workers };
     let answer = run(rt, alloc, &mut reader, &mut writer, command);
-    (answer, writer.written)
+    (answer, writer)
 }
 
 #[test]
 fn moves_a_text_byte_by_byte_for_each_number_of_workers(rt: HostRuntime) {
     for workers in 1..9 {
-        let (answer, written) = settle(&rt, rt.alloc(), workers, [0, 0]);
+        let (answer, writer) = settle(&rt, rt.alloc(), workers, [0, 0]);
         assert_eq!(rt; answer, Ok(()), "{workers} workers");
-        assert_eq!(rt; written.as_slice(), REPORT.as_bytes(), "{workers} workers");
+        assert_eq!(rt; writer.written(), REPORT.as_bytes(), "{workers} workers");
     }
 }
 
@@ -115,9 +104,9 @@ fn moves_a_text_byte_by_byte_for_each_number_of_workers(rt: HostRuntime) {
 #[test]
 fn reports_each_failed_read(rt: HostRuntime) {
     for call in 1..DAY.len() + 2 {
-        let (answer, written) = settle(&rt, rt.alloc(), 4, [call, 0]);
+        let (answer, writer) = settle(&rt, rt.alloc(), 4, [call, 0]);
         assert_eq!(rt; answer, Err(FrontFault::Read), "at call {call}");
-        assert!(rt; written.is_empty(), "at call {call}");
+        assert!(rt; writer.written().is_empty(), "at call {call}");
     }
 }
 
@@ -125,8 +114,8 @@ fn reports_each_failed_read(rt: HostRuntime) {
 #[test]
 fn reports_each_failed_write(rt: HostRuntime) {
     for call in 1..REPORT.len() + 2 {
-        let (answer, written) = settle(&rt, rt.alloc(), 4, [0, call]);
+        let (answer, writer) = settle(&rt, rt.alloc(), 4, [0, call]);
         assert_eq!(rt; answer, Err(FrontFault::WriteFailed), "at call {call}");
-        assert_eq!(rt; written.as_slice(), &REPORT.as_bytes()[..call - 1]);
+        assert_eq!(rt; writer.written(), &REPORT.as_bytes()[..call - 1]);
     }
 }
