@@ -26,6 +26,7 @@ use reg_yard::{Docks, Owner, Pass, Yard};
 use std::alloc::Global;
 use std::marker::{Brand, PhantomData};
 use std::sync::Wait;
+use std::sync::atomic::AtomicU32;
 use std::thread::Threads;
 
 // A post for each worker, with a seat of its own.
@@ -90,6 +91,7 @@ fn in_room<'c, N: Naming + Send + Sync, B: Room + Send + Sync, R: Threads + Wait
         docks,
         table,
         yard,
+        opened: AtomicU32::new(0),
         of: PhantomData,
     };
     let stints = work_all(rt, alloc, &board, gate, posts, last)?;
@@ -149,9 +151,9 @@ fn settle_named<N: Naming + Send + Sync, R: Threads + Wait + Sync, G: Gate>(
     Ok(settle_context(rt, alloc, &context, workers, gate)?)
 }
 
-/// Settles a batch by workers that each have a deque of tasks. Each opens the instructions that come to it by turns: the tasks
-/// of those that wait for no other go into its deque. Then a worker takes the first task of its own deque, or else of
-/// another worker's, in rising number. It claims the task's place, calls the gate, runs the task, hands on what the
+/// Settles a batch by workers that each have a deque of tasks. A worker takes the first task of its own deque. If there is none,
+/// it opens the next instructions of the day, and puts the tasks of those that wait for no other into its deque. If all are
+/// opened, it steals the first task of another worker's deque, in rising number. It claims the task's place, calls the gate, runs the task, hands on what the
 /// instruction left to the instructions that wait for it, puts each task that is complete with that into its own deque,
 /// and finishes the place. It leaves after it saw that all places are finished, or that the workers are to leave. The book
 /// is not changed.

@@ -17,6 +17,10 @@ use reg_yard::{Owner, Pass};
 use std::alloc::Global;
 use std::marker::PhantomData;
 use std::sync::Wait;
+use std::sync::atomic::Ordering;
+
+// How many places a worker opens at once. The values of so many instructions are still near the processor when it runs them.
+const OPENED_AT_ONCE: u32 = 32;
 
 /// What a worker has: its deque, what it knows of the others, its seat, and what it did.
 #[derive(Drop)]
@@ -72,26 +76,27 @@ impl<N: Naming, B: Room> Post<N, B> {
         board.table.stop(&mut self.seat);
     }
 
-    /// Opens its share of the day: the places that come to it by turns.
+    /// Opens the next places of the day that no worker has opened. Answers whether there may be more.
     ///
     /// # Errors
     /// `NoMemory` if memory ran out. If no day is named, also if a dock is of another context.
-    pub(crate) fn open_share<R: Wait>(
+    pub(crate) fn open_next<R: Wait>(
         &mut self,
         rt: &R,
         alloc: Global,
         board: &Board<'_, N, B>,
-    ) -> Result<(), NoMemory>
+    ) -> Result<bool, NoMemory>
         ensures seat { self.new.seat ≡ self.old.seat }
     {
-        let own = self.pass.worker() as usize;
-        let workers = board.yard.workers().max(1);
-        for before in 0..board.context.batch().len() {
-            if before as usize % workers == own {
-                self.open_place(rt, alloc, board, before + 1)?;
-            }
+        let count = board.context.batch().len();
+        if board.opened.load(Ordering::SeqCst) >= count {
+            return Ok(false);
         }
-        Ok(())
+        let first = board.opened.fetch_add(OPENED_AT_ONCE, Ordering::SeqCst);
+        for before in first..first.saturating_add(OPENED_AT_ONCE).min(count) {
+            self.open_place(rt, alloc, board, before + 1)?;
+        }
+        Ok(true)
     }
 
     // Opens a place: puts its task into the worker's own deque, if the instruction waits for no other, and otherwise
@@ -154,11 +159,15 @@ impl<N: Naming, B: Room> Post<N, B> {
         }
     }
 
-    /// The first task of its own deque, or else one of another worker, in rising number.
-    pub(crate) fn find(&mut self, board: &Board<'_, N, B>) -> Option<Task<N>> {
-        if let Some(task) = self.owner.take_own() {
-            return Some(task);
-        }
+    /// The first task of its own deque.
+    pub(crate) fn take_own(&mut self) -> Option<Task<N>>
+        ensures seat { self.new.seat ≡ self.old.seat }
+    {
+        self.owner.take_own()
+    }
+
+    /// The first task of another worker's deque, in rising number.
+    pub(crate) fn steal(&mut self, board: &Board<'_, N, B>) -> Option<Task<N>> {
         let own = self.pass.worker();
         let workers = board.yard.workers();
         for from in 0..MOST_WORKERS {

@@ -8,6 +8,7 @@ use reg_claim::ClaimTable;
 use reg_tasks::{Context, Naming};
 use reg_yard::{Docks, Yard};
 use std::marker::{Brand, PhantomData};
+use std::sync::atomic::AtomicU32;
 
 /// Which claim table and which deques they are, and how many places there are. A room has no code. What a thread gives
 /// back is known by its type alone, so its type names the room.
@@ -34,13 +35,14 @@ impl Room for Brand {
     ghost deques = { [] };
 }
 
-/// The day, its docks, who claimed what, and the deques of all workers.
+/// The day, its docks, who claimed what, the deques of all workers, and how many places of the day were opened.
 #[derive(Drop)]
 pub(crate) struct Board<'c, N: Naming, B: Room> {
     pub(crate) context: &'c Context<'c, N>,
     pub(crate) docks: Docks<'c, 'c, N>,
     pub(crate) table: ClaimTable,
     pub(crate) yard: Yard<N>,
+    pub(crate) opened: AtomicU32,
     pub(crate) of: PhantomData<B>,
     pub(crate) ghost counted: { length context.now.batch.now.instructions ≡ B.count },
     pub(crate) ghost table_is: { table_id table ≡ B.table },

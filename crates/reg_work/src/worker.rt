@@ -38,7 +38,47 @@ fn take_turn<N: Naming, B: Room, R: Wait, G: Gate>(
     post.finish(board, turn)
 }
 
-/// Opens its share of the day, and then runs tasks until all are done, or the workers are to leave. If memory runs out, it tells all workers to leave.
+// The task that a worker runs next, if it finds one: of its own deque, else of the places that it opens, else of another
+// worker's deque.
+fn find<N: Naming, B: Room, R: Wait>(
+    rt: &R,
+    alloc: Global,
+    board: &Board<'_, N, B>,
+    post: &mut Post<N, B>,
+) -> Result<Option<Task<N>>, NoMemory> {
+    let own = post.take_own();
+    if own.is_some() {
+        return Ok(own);
+    }
+    for _ in 0..board.context.batch().len() {
+        if !post.open_next(rt, alloc, board)? {
+            break;
+        }
+        let opened = post.take_own();
+        if opened.is_some() {
+            return Ok(opened);
+        }
+    }
+    Ok(post.steal(board))
+}
+
+// One step of a worker: finds a task and takes its turn with it. Answers whether it found one.
+fn step<N: Naming, B: Room, R: Wait, G: Gate>(
+    rt: &R,
+    alloc: Global,
+    board: &Board<'_, N, B>,
+    gate: &G,
+    worker: u32,
+    post: &mut Post<N, B>,
+) -> Result<bool, NoMemory> {
+    let Some(task) = find(rt, alloc, board, post)? else {
+        return Ok(false);
+    };
+    take_turn(rt, alloc, board, gate, worker, post, task)?;
+    Ok(true)
+}
+
+/// Runs tasks until all are done, or the workers are to leave. If memory runs out, it tells all workers to leave.
 pub(crate) fn work<N: Naming, B: Room, R: Wait, G: Gate>(
     rt: &R,
     alloc: Global,
@@ -50,25 +90,19 @@ pub(crate) fn work<N: Naming, B: Room, R: Wait, G: Gate>(
     ensures { result.worker ≡ worker }
 {
     let mut post = post;
-    if post.open_share(rt, alloc, board).is_err() {
-        post.stop(board);
-        return Stint { worker, post };
-    }
     let backoff = Backoff::new();
     for _ in rt.forever() {
-        match post.find(board) {
-            Some(task) => {
-                backoff.reset();
-                if take_turn(rt, alloc, board, gate, worker, &mut post, task).is_err() {
-                    post.stop(board);
-                    return Stint { worker, post };
-                }
-            }
-            None => {
+        match step(rt, alloc, board, gate, worker, &mut post) {
+            Ok(true) => backoff.reset(),
+            Ok(false) => {
                 if post.is_over(board) {
                     return Stint { worker, post };
                 }
                 backoff.snooze();
+            }
+            Err(_) => {
+                post.stop(board);
+                return Stint { worker, post };
             }
         }
     }
