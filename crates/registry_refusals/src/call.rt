@@ -21,8 +21,8 @@ pub(crate) enum Ended {
 }
 
 impl Ended {
-    // The word for it.
-    fn word(self) -> &'static str {
+    /// The word for it.
+    pub(crate) fn word(self) -> &'static str {
         match self {
             Ended::Done => "done",
             Ended::NoMemory => "no memory",
@@ -77,8 +77,32 @@ pub(crate) fn tell<W: Write>(writer: &mut W, line: &impl Display) -> Result<(), 
     Ok(())
 }
 
-/// Makes the call between the lines `begin` and `end`, and writes how it ended.
-pub(crate) fn make_marked<C: Call, W: Write>(
+/// Writes whether what a call was lent is as before.
+pub(crate) fn tell_whether_same<W: Write>(
+    before: &str,
+    after: &str,
+    writer: &mut W,
+) -> Result<(), Stop> {
+    let word = if before == after {
+        "unchanged"
+    } else {
+        "changed"
+    };
+    tell(writer, &word)
+}
+
+/// Writes whether what a call left is what is wanted.
+pub(crate) fn tell_whether_right<W: Write>(
+    left: &str,
+    wanted: &str,
+    writer: &mut W,
+) -> Result<(), Stop> {
+    let word = if left == wanted { "right" } else { "wrong" };
+    tell(writer, &word)
+}
+
+// Makes the call between the lines `begin` and `end`, and writes how it ended.
+fn make_marked<C: Call, W: Write>(
     alloc: Global,
     call: &mut C,
     writer: &mut W,
@@ -98,12 +122,7 @@ fn make_again<C: Call, W: Write>(
     writer: &mut W,
 ) -> Result<(), Stop> {
     let after = call.lent(alloc)?;
-    let word = if after.as_str() == before {
-        "unchanged"
-    } else {
-        "changed"
-    };
-    tell(writer, &word)?;
+    tell_whether_same(before, after.as_str(), writer)?;
     call.prepare(alloc)?;
     tell(writer, &call.make(alloc).word())
 }
@@ -122,12 +141,7 @@ pub(crate) fn try_call<C: Call, W: Write>(
         make_again(alloc, call, before.as_str(), writer)?;
     }
     let left = call.left(alloc)?;
-    let word = if left.as_str() == wanted {
-        "right"
-    } else {
-        "wrong"
-    };
-    tell(writer, &word)
+    tell_whether_right(left.as_str(), wanted, writer)
 }
 
 /// What a call leaves that is refused nothing.

@@ -70,13 +70,13 @@ pub(crate) fn try_dock<W: Write>(
 
 // `Docks::new`.
 #[derive(Drop)]
-struct OpeningAll<'c> {
-    context: &'c Context<'c, Unnamed>,
-    docks: Option<Docks<'c, 'c, Unnamed>>,
+struct OpeningAll<'c, 'a> {
+    context: &'c Context<'a, Unnamed>,
+    docks: Option<Docks<'c, 'a, Unnamed>>,
     tasks: Vec<Task<Unnamed>>,
 }
 
-impl Call for OpeningAll<'_> {
+impl Call for OpeningAll<'_, '_> {
     fn make(&mut self, alloc: Global) -> Ended {
         match Docks::new(alloc, self.context) {
             Ok((docks, tasks)) => {
@@ -105,6 +105,14 @@ impl Call for OpeningAll<'_> {
     }
 }
 
+fn for_all<'c, 'a>(alloc: Global, context: &'c Context<'a, Unnamed>) -> OpeningAll<'c, 'a> {
+    OpeningAll {
+        context,
+        docks: None,
+        tasks: Vec::new(alloc),
+    }
+}
+
 /// Tries `Docks::new`.
 pub(crate) fn try_docks<W: Write>(
     alloc: Global,
@@ -112,12 +120,7 @@ pub(crate) fn try_docks<W: Write>(
     writer: &mut W,
 ) -> Result<(), Stop> {
     let context = context_of(alloc, day)?;
-    let docks: Option<Docks<'_, '_, Unnamed>> = None;
-    let mut call = OpeningAll {
-        context: &context,
-        docks,
-        tasks: Vec::new(alloc),
-    };
+    let mut call = for_all(alloc, &context);
     let wanted = rehearse(alloc, &mut call)?;
     try_call(alloc, &mut call, wanted.as_str(), writer)
 }

@@ -1,6 +1,6 @@
 //! Settling a day, in each way.
 
-use crate::call::{Call, Ended, shown, try_call};
+use crate::call::{Call, Ended, shown, tell, tell_whether_right, tell_whether_same, try_call};
 use crate::stop::Stop;
 use reg_book::{SettleFault, Settled, settle_plain};
 use reg_tasks::{Context, RunFault, Unnamed, run_order};
@@ -190,40 +190,39 @@ pub(crate) fn try_waves<R: Threads + Wait, W: Write>(
     try_call(alloc, &mut call, wanted.as_str(), writer)
 }
 
-// `settle_with`.
-#[derive(Drop)]
-struct ByWorkers<'d, R> {
-    rt: &'d R,
-    day: &'d DayInput,
+// What `settle_with` leaves, or how it ended.
+fn settle_by_workers<R: Threads + Wait + Sync>(
+    rt: &R,
+    alloc: Global,
+    day: &DayInput,
     workers: u32,
-    settled: Option<Settled>,
-}
-
-impl<R: Threads + Wait + Sync> Call for ByWorkers<'_, R> {
-    fn make(&mut self, alloc: Global) -> Ended {
-        let day = self.day;
-        let workers = self.workers;
-        match settle_with(
-            self.rt, alloc, &day.book, &day.rules, &day.batch, workers, &OpenGate,
-        ) {
-            Ok((settled, _)) => {
-                self.settled = Some(settled);
-                Ended::Done
-            }
-            Err(fault) => ended_by(fault),
-        }
-    }
-
-    fn lent(&mut self, alloc: Global) -> Result<String, Stop> {
-        shown(alloc, self.day)
-    }
-
-    fn left(&mut self, alloc: Global) -> Result<String, Stop> {
-        shown(alloc, &self.settled)
+) -> Result<Settled, Ended> {
+    match settle_with(
+        rt, alloc, &day.book, &day.rules, &day.batch, workers, &OpenGate,
+    ) {
+        Ok((settled, _)) => Ok(settled),
+        Err(fault) => Err(ended_by(fault)),
     }
 }
 
-/// Tries `settle_with`.
+// Settles again after a call that ended without a settled day, and writes how both ended.
+fn settle_again<R: Threads + Wait + Sync, W: Write>(
+    rt: &R,
+    alloc: Global,
+    day: &DayInput,
+    workers: u32,
+    before: &str,
+    writer: &mut W,
+) -> Result<Settled, Stop> {
+    let after = shown(alloc, day)?;
+    tell_whether_same(before, after.as_str(), writer)?;
+    let Ok(settled) = settle_by_workers(rt, alloc, day, workers) else {
+        return Err(Stop::Short);
+    };
+    Ok(settled)
+}
+
+/// Tries `settle_with`. It is no [`Call`], since a method of a trait does not know that the threads may share `rt`.
 pub(crate) fn try_workers<R: Threads + Wait + Sync, W: Write>(
     rt: &R,
     alloc: Global,
@@ -232,11 +231,18 @@ pub(crate) fn try_workers<R: Threads + Wait + Sync, W: Write>(
     writer: &mut W,
 ) -> Result<(), Stop> {
     let wanted = plain_day(alloc, day)?;
-    let mut call = ByWorkers {
-        rt,
-        day,
-        workers,
-        settled: None,
+    let before = shown(alloc, day)?;
+    tell(writer, &"begin")?;
+    let answer = settle_by_workers(rt, alloc, day, workers);
+    tell(writer, &"end")?;
+    let settled = match answer {
+        Ok(settled) => settled,
+        Err(ended) => {
+            tell(writer, &ended.word())?;
+            settle_again(rt, alloc, day, workers, before.as_str(), writer)?
+        }
     };
-    try_call(alloc, &mut call, wanted.as_str(), writer)
+    tell(writer, &Ended::Done.word())?;
+    let left = shown(alloc, &Some(settled))?;
+    tell_whether_right(left.as_str(), wanted.as_str(), writer)
 }

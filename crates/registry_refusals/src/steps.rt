@@ -8,7 +8,7 @@ ghost use Rattle.reg_rules.specs.State.{numbers};
 ghost use Rattle.reg_rules.specs.Effect.{IsBehind};
 
 use crate::accounts::has_rows_below;
-use crate::call::{shown, tell};
+use crate::call::{shown, tell, tell_whether_same};
 use crate::stop::Stop;
 use reg_account::Account;
 use reg_base::{AccountNo, Directory, Instruction, NoMemory, RecordNo};
@@ -111,16 +111,6 @@ fn execute_on(
 
 fn shown_all(alloc: Global, accounts: &[Account]) -> Result<String, Stop> {
     shown(alloc, &accounts)
-}
-
-// Writes whether accounts are as before.
-fn tell_whether_same<W: Write>(before: &str, after: &str, writer: &mut W) -> Result<(), Stop> {
-    let word = if before == after {
-        "unchanged"
-    } else {
-        "changed"
-    };
-    tell(writer, &word)
 }
 
 // Executes the instruction between the lines `begin` and `end`, and again if memory was refused.

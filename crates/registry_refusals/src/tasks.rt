@@ -140,7 +140,10 @@ fn openings(
     context: &Context<Unnamed>,
     place: u32,
 ) -> Result<Vec<Parcel<Unnamed>>, Stop> {
-    let Some(instruction) = context.batch().instructions().get(place as usize - 1) else {
+    let Some(before) = place.checked_sub(1) else {
+        return Err(Stop::Input);
+    };
+    let Some(instruction) = context.batch().instructions().get(before as usize) else {
         return Err(Stop::Input);
     };
     let touched = instruction.touches(context.book().directory());

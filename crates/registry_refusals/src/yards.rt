@@ -74,6 +74,9 @@ pub(crate) fn try_yard<W: Write>(alloc: Global, workers: u32, writer: &mut W) ->
     try_call(alloc, &mut call, wanted.as_str(), writer)
 }
 
+// More tasks than this are not taken out of a deque: far more than were put.
+const MOST_TASKS: u32 = 1_000;
+
 // `Owner::put` of a task into a deque.
 #[derive(Drop)]
 struct Putting {
@@ -106,7 +109,10 @@ impl Call for Putting {
     // The places of the tasks that are taken out, until none is left.
     fn left(&mut self, alloc: Global) -> Result<String, Stop> {
         let mut places = Vec::new(alloc);
-        while let Some(task) = self.owner.take_own() {
+        for _ in 0..MOST_TASKS {
+            let Some(task) = self.owner.take_own() else {
+                break;
+            };
             places.push(task.place())?;
         }
         shown(alloc, &places)

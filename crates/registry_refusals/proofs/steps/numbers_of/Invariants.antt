@@ -4,4 +4,4 @@ use Rattle.registry_refusals.proofs.steps.numbers_of.Given as goal
 
 -- the numbers so far have been added
 abbrev pub invariant-loop-account : goal.invariant-loop-account
-invariant-loop-account g l = l.found.items ≡ numbers (take l.account-index l.accounts)
+invariant-loop-account l = l.found.items ≡ numbers (take l.account-index l.accounts)
