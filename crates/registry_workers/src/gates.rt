@@ -12,6 +12,9 @@ const TURNS: u32 = 30;
 // A drawn delay is below this number of turns.
 const MOST_DRAWN: u32 = 16;
 
+/// The number of no worker.
+pub(crate) const NOBODY: u32 = 9;
+
 /// Whom a gate delays before each run.
 #[derive(Clone, Copy)]
 pub(crate) struct Delays {

@@ -7,14 +7,14 @@
 //! `same` if the settled day is that of `plain`, each place was run once, the order in which workers entered the gate is legal,
 //! and each worker's shift is what it entered with.
 //!
-//! For `levels`, `crew`, `lanes` and `try` the second word is the number of workers. For `try` the third is a worker, counted
-//! from 0, that is held up, or a higher number for none, the fourth a seed from which delays are drawn, or 0 for none, and the
-//! fifth how often it is tried.
+//! For `levels`, `crew`, `lanes` and `try` the second word is the number of workers. For `lanes` the third is a seed from which
+//! delays are drawn, or 0 for none. For `try` the third is a worker, counted from 0, that is held up, or a higher number for
+//! none, the fourth a seed, or 0, and the fifth how often it is tried.
 #![tactic(auto)]
 
 mod gates;
 
-use crate::gates::{Delays, Noting};
+use crate::gates::{Delays, NOBODY, Noting};
 use reg_book::{Settled, settle_plain};
 use reg_plan::Plan;
 use reg_tasks::{Context, Naming, Unnamed, run_order};
@@ -214,15 +214,20 @@ fn try_crew<R: Threads + Wait + Sync, W: Write>(
     Ok(())
 }
 
-// Writes which places each worker ran.
+// Writes which places each worker ran, with delays drawn from a seed, or none if it is 0.
 fn tell_lanes<R: Threads + Wait + Sync, W: Write>(
     rt: &R,
     alloc: Global,
     day: &DayInput,
-    workers: u32,
+    words: &[String],
     writer: &mut W,
 ) -> Result<(), Stop> {
-    let (_, shifts) = by_crew(rt, alloc, day, workers, &OpenGate)?;
+    let delays = Delays {
+        held_up: NOBODY,
+        seed: number_at(words, 1)?,
+    };
+    let gate = Noting::of(alloc, day.batch.len(), delays)?;
+    let (_, shifts) = by_crew(rt, alloc, day, number_at(words, 0)?, &gate)?;
     for shift in shifts.iter() {
         tell_lane(writer, shift)?;
     }
@@ -275,7 +280,7 @@ fn carry_out<R: Threads + Wait + Sync, W: Write>(
         "order" => run_batch(alloc, day),
         "levels" => settle_levels(rt, alloc, day, number_at(rest, 0)?),
         "crew" => settle_crew(rt, alloc, day, number_at(rest, 0)?),
-        "lanes" => tell_lanes(rt, alloc, day, number_at(rest, 0)?, writer),
+        "lanes" => tell_lanes(rt, alloc, day, rest, writer),
         "try" => try_crew(rt, alloc, day, rest, writer),
         _ => Err(Stop::Input),
     }
