@@ -96,23 +96,32 @@ sum_of_times() {
     END { print sum }'
 }
 
+# The seconds that the proofs of these crates took together; nothing if one of them was not proved.
+proof_of() {
+  LC_ALL=C awk -v names=" $1 " '
+    BEGIN { wanted = split(names, list, " ") }
+    $2 == "proof" && index(names, " " $1 " ") { sum += $3; found++ }
+    END { if (found == wanted) print sum }' "$work/used" 2>"$work/no-proof" || true
+}
+
 # Prints what each crate cost, and warns if the sum is above so many minutes. How fast the machine is
-# shows in the proof of reg_base, which takes $2 processor minutes on the machine of the bound: the
-# sum is turned into minutes of that machine.
+# shows in the proofs of the crates $2, which take $3 processor minutes on the machine of the bound: the
+# sum is turned into minutes of that machine. One crate alone would not do: a proof that runs beside nothing
+# else is cheaper than one that shares the machine.
 show_costs() {
-  local bound=$1 base=$2 seconds proof
+  local bound=$1 crates=$2 minutes=$3 seconds proof
   times >"$work/times"
   seconds=$(sum_of_times <"$work/times")
-  proof=$(LC_ALL=C awk '$1 == "reg_base" && $2 == "proof" { print $3 }' "$work/used" 2>"$work/no-proof") || proof=
+  proof=$(proof_of "$crates")
   echo
   tools/processor-time table "$work/used" "$seconds" || echo "check: the table of crates could not be made"
-  LC_ALL=C awk -v seconds="$seconds" -v bound="$bound" -v base="$base" -v proof="${proof:-0}" 'BEGIN {
+  LC_ALL=C awk -v seconds="$seconds" -v bound="$bound" -v crates="$crates" -v there="$minutes" -v proof="${proof:-0}" 'BEGIN {
     printf "in all %.1f processor minutes (user and system)\n", seconds / 60
     minutes = seconds / 60
     if (proof > 0) {
-      minutes = minutes * 60 * base / proof
-      printf "the proof of reg_base took %.1f minutes, and takes %s on the machine of the bound: there\n", proof / 60, base
-      printf "the whole takes about %.1f\n", minutes
+      minutes = minutes * 60 * there / proof
+      printf "the proofs of %s took %.1f minutes,\n", crates, proof / 60
+      printf "and take %s on the machine of the bound: there the whole takes about %.1f\n", there, minutes
     }
     if (minutes > bound) {
       printf "WARNING: that is above the bound of %s processor minutes. Make the check cheaper, or raise\n", bound
