@@ -36,7 +36,7 @@ fn run_into<R: Threads + Wait + Sync>(
     rt: &R,
     alloc: Global,
     text: &[u8],
-    command: Command,
+    command: &Command,
     output: &mut Output,
 ) -> Ended {
     let mut rest = text;
@@ -44,7 +44,7 @@ fn run_into<R: Threads + Wait + Sync>(
     let all = place.len();
     let mut reader = Counted::new(&mut rest);
     let mut writer = Counted::new(&mut place);
-    let answer = run(rt, alloc, &mut reader, &mut writer, command);
+    let answer = run(rt, alloc, &mut reader, &mut writer, *command);
     output.written = all.saturating_sub(place.len());
     match answer {
         Ok(()) => Ended::Done,
@@ -59,7 +59,7 @@ fn wanted_of<R: Threads + Wait + Sync>(
     rt: &R,
     alloc: Global,
     text: &[u8],
-    command: Command,
+    command: &Command,
 ) -> Result<String, Stop> {
     let mut output = make_output(alloc)?;
     match run_into(rt, alloc, text, command, &mut output) {
@@ -73,7 +73,7 @@ fn run_again<R: Threads + Wait + Sync, W: Write>(
     rt: &R,
     alloc: Global,
     text: &[u8],
-    command: Command,
+    command: &Command,
     output: &mut Output,
     writer: &mut W,
 ) -> Result<(), Stop> {
@@ -92,7 +92,7 @@ fn try_run<R: Threads + Wait + Sync, W: Write>(
     rt: &R,
     alloc: Global,
     text: &[u8],
-    command: Command,
+    command: &Command,
     wanted: &str,
     writer: &mut W,
 ) -> Result<(), Stop> {
@@ -117,8 +117,8 @@ pub(crate) fn try_command<R: Threads + Wait + Sync, W: Write>(
     command: Command,
     writer: &mut W,
 ) -> Result<(), Stop> {
-    let wanted = wanted_of(rt, alloc, text, command)?;
-    try_run(rt, alloc, text, command, wanted.as_str(), writer)
+    let wanted = wanted_of(rt, alloc, text, &command)?;
+    try_run(rt, alloc, text, &command, wanted.as_str(), writer)
 }
 
 /// Tries `run` that settles by so many workers. What it writes is wanted as one worker writes it, who starts no thread.
@@ -129,7 +129,8 @@ pub(crate) fn try_settle<R: Threads + Wait + Sync, W: Write>(
     workers: u32,
     writer: &mut W,
 ) -> Result<(), Stop> {
-    let wanted = wanted_of(rt, alloc, text, Command::Settle { workers: 1 })?;
+    let alone = Command::Settle { workers: 1 };
+    let wanted = wanted_of(rt, alloc, text, &alone)?;
     let command = Command::Settle { workers };
-    try_run(rt, alloc, text, command, wanted.as_str(), writer)
+    try_run(rt, alloc, text, &command, wanted.as_str(), writer)
 }
