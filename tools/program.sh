@@ -9,7 +9,7 @@ program=$top/out/registry
 build_log=$top/out/build.log
 
 # About how long the first build takes on four cores, fast ones and slow ones.
-minutes_to_build='12 to 35'
+minutes_to_build='15 to 45'
 
 # Says why the program has to be built. Says nothing if it is there, and newer than all that it is
 # made of: folders count too, so that a removed file is noticed.
