@@ -41,6 +41,8 @@ try_cases() {
   count_part "cases/run-large-cases" cases/run-large-cases "$1"
   count_part "cases/run-prefixes" cases/run-prefixes "$1"
   count_part "cases/run-streams" cases/run-streams "$1"
+  count_part "cases/run-documents" cases/run-documents "$1"
+  count_part "cases/run-tools" cases/run-tools
   rm -f -- "$cases_passed"
   [ "$failed" != "$failed_before" ] || mv -- "$work/cases-begun" "$cases_passed"
 }
@@ -64,7 +66,7 @@ try_workers() {
 # Whether all cases have passed on this program since it was built, and as they are now.
 have_cases_passed() {
   [ -e "$cases_passed" ] && [ ! "$1" -nt "$cases_passed" ] &&
-    [ -z "$(find cases examples docs/RULES.md -newer "$cases_passed" -print -quit)" ]
+    [ -z "$(find cases examples docs README.md tools -name __pycache__ -prune -o -newer "$cases_passed" -print -quit)" ]
 }
 
 # Watches from now on which crates the processor time goes to. Nothing but the table is lost if
