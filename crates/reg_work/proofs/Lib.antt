@@ -1,4 +1,4 @@
-pub mod Alone
 pub mod Counting
 pub mod Dividing
 pub mod Ending
+pub mod Ordered

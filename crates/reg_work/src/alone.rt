@@ -1,6 +1,6 @@
 //! Settlement by one worker.
 
-ghost use Rattle.std.specs.Prelude.{◌≡◌, ℕ, ◌≤◌, length, IfOk, IfSome};
+ghost use Rattle.std.specs.Prelude.{◌≡◌, ℕ, ◌≤◌, [], ◌∷◌, ◌++◌, length, IfOk, IfSome, OnOk};
 ghost use Rattle.reg_book.specs.Day.{settled_day};
 ghost use Rattle.reg_book.specs.Settled.{IsOfBook};
 ghost use Rattle.reg_counting.specs.Counting.{times, once};
@@ -9,6 +9,7 @@ ghost use Rattle.reg_work.specs.Shifts.{AreShifts, places_ran};
 use crate::fault::Shortage;
 use crate::gate::Gate;
 use crate::shift::Shift;
+use reg_base::NoMemory;
 use reg_book::Settled;
 use reg_tasks::{Context, Done, Naming, Ran, Slots};
 use std::alloc::Global;
@@ -36,6 +37,14 @@ fn run_place<N: Naming, G: Gate>(
     }
 }
 
+// Puts one more item behind those that are there.
+fn keep<T: Drop>(items: &mut Vec<T>, item: T) -> Result<(), NoMemory>
+    ensures { OnOk result (items.new.items ≡ items.old.items ++ item ∷ []) }
+{
+    items.push(item)?;
+    Ok(())
+}
+
 // Runs the instructions in the order of the batch.
 fn run_in_order<N: Naming, G: Gate>(
     alloc: Global,
@@ -50,8 +59,8 @@ fn run_in_order<N: Naming, G: Gate>(
     let mut done = Vec::with_capacity(alloc, places as usize)?;
     for before in 0..places {
         let (one, row) = run_place(alloc, slots, gate, before + 1)?;
-        ran.push(one)?;
-        done.push(row)?;
+        keep(&mut ran, one)?;
+        keep(&mut done, row)?;
     }
     Ok((ran, done))
 }
@@ -73,7 +82,7 @@ pub(crate) fn settle_alone<N: Naming, G: Gate>(
     let mut slots = Slots::open(alloc, context)?;
     let (ran, done) = run_in_order(alloc, &mut slots, gate)?;
     let mut shifts = Vec::with_capacity(alloc, 1)?;
-    shifts.push(Shift { worker: 0, ran })?;
+    keep(&mut shifts, Shift { worker: 0, ran })?;
     let settled = slots.close(alloc, done)?;
     Ok((settled, shifts))
 }
