@@ -10,6 +10,7 @@ ghost use Rattle.reg_deques.specs.Yards.{deques, deques_of_pass};
 ghost use Rattle.reg_work.specs.Faults.{are_workers, IsWorkFault};
 ghost use Rattle.reg_work.specs.Shifts.{AreShifts};
 
+use crate::alone::settle_alone;
 use crate::crew::work_all;
 use crate::fault::{Shortage, WorkFault};
 use crate::gate::Gate;
@@ -112,6 +113,9 @@ fn settle_context<N: Naming + Send + Sync, R: Threads + Wait + Sync, G: Gate>(
     ensures of_book { IfOk result (λ s. IsOfBook context.now.book.now s.0) }
     ensures shifts { IfOk result (λ s. AreShifts workers (length context.now.batch.now.instructions) s.1.items) }
 {
+    if workers == 1 {
+        return settle_alone(alloc, context, gate);
+    }
     let docks = Docks::of_waiting(alloc, context)?;
     let (yard, owners, passes) = Yard::new(alloc, workers)?;
     let Ok((table, seat)) = ClaimTable::new(alloc, context.batch().len()) else {
@@ -151,12 +155,15 @@ fn settle_named<N: Naming + Send + Sync, R: Threads + Wait + Sync, G: Gate>(
     Ok(settle_context(rt, alloc, &context, workers, gate)?)
 }
 
-/// Settles a batch by workers that each have a deque of tasks. A worker takes the first task of its own deque. If there is none,
-/// it opens the next instructions of the day, and puts the tasks of those that wait for no other into its deque. If all are
+/// Settles a batch by workers. Each of several workers has a deque of tasks. A worker takes the first task of its own deque. If
+/// there is none, it opens the next instructions of the day, and puts the tasks of those that wait for no other into its deque. If all are
 /// opened, it steals the first task of another worker's deque, in rising number. It claims the task's place, calls the gate, runs the task, hands on what the
 /// instruction left to the instructions that wait for it, puts each task that is complete with that into its own deque,
 /// and finishes the place. It leaves after it saw that all places are finished, or that the workers are to leave. The book
 /// is not changed.
+///
+/// A single worker is the calling thread. Nobody waits for it, so it needs no deque, no dock and no claim: it runs the
+/// instructions in the order of the batch, each on what those before it left, and passes the gate before each.
 ///
 /// The settled day is that of `settle_plain`, whatever the number of workers and the order in which they work. There is a
 /// shift for each worker, from worker 0 on, and each place from 1 to the number of instructions is in one shift, once.

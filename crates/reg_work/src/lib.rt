@@ -1,6 +1,7 @@
 //! Workers: the instructions of a day, run level by level in threads.
 #![tactic(auto)]
 
+mod alone;
 mod crew;
 mod crewed;
 mod fault;

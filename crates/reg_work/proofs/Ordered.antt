@@ -1,0 +1,56 @@
+-- What one worker ran: each place, once.
+use Rattle.std.proofs.Common.{arith, ◌≡◌, ℕ, zero, suc, ◌+◌, ◌==◌, ◌≤◌, List, [], ◌∷◌, ◌++◌, map, refl, sym, ap, ◌∙◌}
+use Rattle.std.proofs.lemmas.List.{map-append}
+use mathlib.Core.Logic.{dite}
+use native.Mathlib.Decide.{ℕ_discrete, dec_le}
+use Rattle.reg_counting.specs.Counting.{times, once, one_if}
+use Rattle.reg_claim.proofs.Numbers.{equal-one, apart-none, once-yes, once-past, once-zero}
+use Rattle.reg_tasks.specs.declared.outcome.Ran.{Ran}
+use Rattle.reg_work.specs.declared.shift.Shift.{Shift}
+use Rattle.reg_work.specs.Shifts.{AreShifts, places_ran}
+use Rattle.reg_work.proofs.Counting.{times-append}
+
+-- no number is one of the numbers 1 to 0
+pub once-none : (p : ℕ) → 0 ≡ once 0 p
+once-none zero = refl
+once-none (suc p) = sym (once-past 0 (suc p) (omega arith))
+
+-- the numbers 1 to n, and the next
+once-next : (n p : ℕ) → once n p + one_if ((n + 1) == p) ≡ once (n + 1) p
+once-next n zero =
+    let apart = apart-none (n + 1) 0 (λ same. absurd (omega arith)) in
+    let old = once-zero n in
+    let new = once-zero (n + 1) in
+    omega arith
+once-next n (suc p) = dite (ℕ_discrete (n + 1) (suc p))
+    (λ same.
+    let old = once-past n (suc p) (omega arith) in
+    let one = equal-one (n + 1) (suc p) same in
+    let new = once-yes (n + 1) (suc p) (omega arith) (omega arith) in
+    omega arith)
+    (λ apart.
+    let none = apart-none (n + 1) (suc p) apart in
+    dite (dec_le (suc p) n)
+    (λ within.
+    let old = once-yes n (suc p) (omega arith) within in
+    let new = once-yes (n + 1) (suc p) (omega arith) (omega arith) in
+    omega arith)
+    (λ past.
+    let old = once-past n (suc p) (omega arith) in
+    let new = once-past (n + 1) (suc p) (omega arith) in
+    omega arith))
+
+-- one more place was run
+pub one-ran : {N : Type 0} (n p : ℕ) (all before : List (Ran N)) (r : Ran N) → all ≡ before ++ r ∷ [] → r.place ≡ n + 1 → times p (places_ran before) ≡ once n p → times p (places_ran all) ≡ once (n + 1) p
+one-ran n p all before r items is counted =
+    ap (λ rs. times p (places_ran rs)) items
+    ∙ ap (times p) (map-append (λ x. x.place) before (r ∷ []))
+    ∙ ap (λ k. times p (places_ran before ++ k ∷ [])) is
+    ∙ (let both = times-append p (places_ran before) ((n + 1) ∷ []) in let next = once-next n p in omega arith)
+
+-- the shift of a single worker
+pub shift-alone : {N : Type 0} (n : ℕ) (shifts : List (Shift N)) (s : Shift N) → shifts ≡ s ∷ [] → s.worker ≡ 0 → ((p : ℕ) → times p (places_ran s.ran.items) ≡ once n p) → AreShifts 1 n shifts
+shift-alone n shifts s items worker each = rw items (record {
+  workers_are = ap (λ w. w ∷ []) worker;
+  each_once = λ p. let one = each p in omega arith;
+})

@@ -1,0 +1,21 @@
+use Rattle.std.proofs.Common.{◌≡◌, arith, refl, ap, ◌∙◌}
+use Rattle.reg_counting.specs.Counting.{times}
+use Rattle.reg_work.specs.Shifts.{places_ran}
+use Rattle.reg_work.proofs.Ordered.{once-none, one-ran}
+use Rattle.reg_work.proofs.alone.run_in_order.Goals as goal
+
+pub loop-before-init : goal.loop-before-init
+loop-before-init g c =
+    record {
+      few = omega arith;
+      context = refl;
+      each_once = λ p. ap (λ rs. times p (places_ran rs)) c.in_ok-ran.ensures.items ∙ once-none p;
+    }
+
+pub loop-before-preserved : goal.loop-before-preserved
+loop-before-preserved g c =
+    record {
+      few = omega (arith, c.loop-before-test.true);
+      context = c.run_place.ensures.context ∙ c.loop-before.invariant.context;
+      each_once = λ p. one-ran c.loop-before.before p c.keep.new.items.items c.loop-before.ran.items c.in_ok-one.one c.in_ok-keep.ensures c.in_ok-one.ensures.place (c.loop-before.invariant.each_once p);
+    }

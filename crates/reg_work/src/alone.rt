@@ -1,0 +1,88 @@
+//! Settlement by one worker.
+
+ghost use Rattle.std.specs.Prelude.{◌≡◌, ℕ, ◌≤◌, [], ◌∷◌, ◌++◌, length, IfOk, IfSome, OnOk};
+ghost use Rattle.reg_book.specs.Day.{settled_day};
+ghost use Rattle.reg_book.specs.Settled.{IsOfBook};
+ghost use Rattle.reg_counting.specs.Counting.{times, once};
+ghost use Rattle.reg_work.specs.Shifts.{AreShifts, places_ran};
+
+use crate::fault::Shortage;
+use crate::gate::Gate;
+use crate::shift::Shift;
+use reg_base::NoMemory;
+use reg_book::Settled;
+use reg_tasks::{Context, Done, Naming, Ran, Slots};
+use std::alloc::Global;
+
+// Takes the task of a place, passes the gate, runs the task, and lays back what it leaves.
+fn run_place<N: Naming, G: Gate>(
+    alloc: Global,
+    slots: &mut Slots<'_, '_, N>,
+    gate: &G,
+    place: u32,
+) -> Result<(Ran<N>, Done<N>), Shortage>
+    requires from_one { 1 ≤ place }
+    requires within { place ≤ length slots.old.context.now.batch.now.instructions }
+    ensures context { slots.new.context.now ≡ slots.old.context.now }
+    ensures place { IfOk result (λ kept. kept.0.place ≡ place) }
+{
+    let task = slots.take(alloc, place)?;
+    gate.enter(0, &task);
+    let Ok(outcome) = task.run(alloc, slots.context()) else {
+        return Err(Shortage::Memory);
+    };
+    match slots.lay(outcome) {
+        Ok(kept) => Ok(kept),
+        Err(_) => Err(Shortage::Memory),
+    }
+}
+
+// Puts one more item behind those that are there.
+fn keep<T: Drop>(items: &mut Vec<T>, item: T) -> Result<(), NoMemory>
+    ensures { OnOk result (items.new.items ≡ items.old.items ++ item ∷ []) }
+{
+    items.push(item)?;
+    Ok(())
+}
+
+// Runs the instructions in the order of the batch.
+fn run_in_order<N: Naming, G: Gate>(
+    alloc: Global,
+    slots: &mut Slots<'_, '_, N>,
+    gate: &G,
+) -> Result<(Vec<Ran<N>>, Vec<Done<N>>), Shortage>
+    ensures context { slots.new.context.now ≡ slots.old.context.now }
+    ensures each_once { IfOk result (λ kept. (p : ℕ) → times p (places_ran kept.0.items) ≡ once (length slots.old.context.now.batch.now.instructions) p) }
+{
+    let places = slots.context().batch().len();
+    let mut ran = Vec::with_capacity(alloc, places as usize)?;
+    let mut done = Vec::with_capacity(alloc, places as usize)?;
+    for before in 0..places {
+        let (one, row) = run_place(alloc, slots, gate, before + 1)?;
+        keep(&mut ran, one)?;
+        keep(&mut done, row)?;
+    }
+    Ok((ran, done))
+}
+
+/// Settles the day of a context by one worker, which is the calling thread. Nobody else needs what an instruction leaves, so
+/// it lies in a slot until the next instruction takes it: no dock, no deque and no claim.
+///
+/// # Errors
+/// `Memory` if memory ran out.
+pub(crate) fn settle_alone<N: Naming, G: Gate>(
+    alloc: Global,
+    context: &Context<N>,
+    gate: &G,
+) -> Result<(Settled, Vec<Shift<N>>), Shortage>
+    ensures settled { IfOk result (λ s. IfSome N.day (λ d. s.0 ≡ settled_day d)) }
+    ensures of_book { IfOk result (λ s. IsOfBook context.now.book.now s.0) }
+    ensures shifts { IfOk result (λ s. AreShifts 1 (length context.now.batch.now.instructions) s.1.items) }
+{
+    let mut slots = Slots::open(alloc, context)?;
+    let (ran, done) = run_in_order(alloc, &mut slots, gate)?;
+    let mut shifts = Vec::with_capacity(alloc, 1)?;
+    keep(&mut shifts, Shift { worker: 0, ran })?;
+    let settled = slots.close(alloc, done)?;
+    Ok((settled, shifts))
+}
