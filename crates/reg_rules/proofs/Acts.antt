@@ -7,9 +7,9 @@ use Rattle.reg_base.specs.declared.kinds.AllowanceKind.{AllowanceKind}
 use Rattle.reg_base.specs.declared.act.Act.TheVariants.{Surrender, Delete, Reverse, Create, EnterEmissions, Assess}
 use Rattle.reg_base.specs.declared.instruction.Instruction.{Instruction}
 use Rattle.reg_base.specs.declared.refusals.Refusal.TheVariants.{YearOutsidePeriod, EmissionsMissing}
-use Rattle.reg_base.specs.Rules.{RulesValue}
+use Rattle.reg_base.specs.Rules.{RulesValue, is_in_period}
 use Rattle.reg_base.specs.RisesFrom.{rises_from}
-use Rattle.reg_account.specs.declared.rows.Retirement.TheVariants.{Surrendered, Deleted}
+use Rattle.reg_base.specs.declared.kinds.Retirement.TheVariants.{Surrendered, Deleted}
 use Rattle.reg_account.specs.declared.rows.RetirementRow.{RetirementRow}
 use Rattle.reg_account.specs.declared.years.Emission.{Emission}
 use Rattle.reg_account.specs.declared.years.Figure.{Figure}
@@ -18,7 +18,7 @@ use Rattle.reg_account.specs.Rows.{amount_in, retired_in, row_numbers, row_in}
 use Rattle.reg_account.specs.Trusted.{effective_in}
 use Rattle.reg_account.specs.Years.{emissions_in, figure_in}
 use Rattle.reg_account.specs.Account.{AccountValue, IsAccount, held_by, credited, retired, unretired_row, with_emissions, with_determined, CanRetire, CanUnretireRow}
-use Rattle.reg_account.specs.Figure.{is_in_period, figure_of, figure_by, emitted_unless, first_missing, years_counted}
+use Rattle.reg_account.specs.Figure.{figure_of, figure_by, emitted_unless, first_missing, years_counted}
 use Rattle.reg_account.specs.Laws.{YearLaws}
 use Rattle.reg_rules.specs.State.{State, Setting, account, seen}
 use Rattle.reg_rules.specs.Checks.{is_missing, lacks_emissions, names_year_outside, refusal}

@@ -14,7 +14,7 @@ use Rattle.reg_base.specs.declared.act.Act.TheVariants.{Transfer, Surrender, Del
 use Rattle.reg_base.specs.declared.instruction.Instruction.{Instruction}
 use Rattle.reg_base.specs.declared.refusals.Refusal.TheVariants.{SameAccount, WrongAccountKind}
 use Rattle.reg_base.specs.Acts.{movement_of, first, shares, parties, also_known}
-use Rattle.reg_account.specs.declared.rows.Retirement.TheVariants.{Surrendered, Deleted}
+use Rattle.reg_base.specs.declared.kinds.Retirement.TheVariants.{Surrendered, Deleted}
 use Rattle.reg_account.specs.declared.rows.RetirementRow.{RetirementRow}
 use Rattle.reg_account.specs.declared.figure.FigureFault.{FigureFault}
 use Rattle.reg_account.specs.Rows.{is_same_kind, amount_in, row_in}

@@ -13,18 +13,18 @@ use Rattle.reg_base.specs.declared.act.Act.TheVariants.{Surrender, Delete, Rever
 use Rattle.reg_base.specs.declared.instruction.Instruction.{Instruction}
 use Rattle.reg_base.specs.Acts.{movement_of, amounts, tonnes, years}
 use Rattle.reg_base.specs.Calendar.{due}
-use Rattle.reg_base.specs.Rules.{RulesValue, may_surrender}
+use Rattle.reg_base.specs.Rules.{RulesValue, may_surrender, is_in_period}
 use Rattle.reg_base.specs.Footprint.{must_be_known, all_known}
 use Rattle.reg_base.specs.Refusals.{checks}
-use Rattle.reg_account.specs.declared.rows.Retirement.{Retirement}
-use Rattle.reg_account.specs.declared.rows.Retirement.TheVariants.{Surrendered, Deleted}
+use Rattle.reg_base.specs.declared.kinds.Retirement.{Retirement}
+use Rattle.reg_base.specs.declared.kinds.Retirement.TheVariants.{Surrendered, Deleted}
 use Rattle.reg_account.specs.declared.rows.RetirementRow.{RetirementRow}
 use Rattle.reg_account.specs.declared.years.Figure.{Figure}
 use Rattle.reg_account.specs.declared.figure.FigureFault.{FigureFault}
 use Rattle.reg_account.specs.declared.figure.FigureFault.TheVariants.{YearOutsidePeriod as OutsidePeriod, Missing}
 use Rattle.reg_account.specs.Rows.{row_in}
 use Rattle.reg_account.specs.Account.{AccountValue, held_by, retired_by, unretired}
-use Rattle.reg_account.specs.Figure.{is_in_period, is_row_counted, figure_of}
+use Rattle.reg_account.specs.Figure.{is_row_counted, figure_of}
 use Rattle.reg_rules.specs.declared.rule.KindRule.{KindRule}
 use Rattle.reg_rules.specs.declared.rule.ActRule.{ActRule}
 use Rattle.reg_rules.specs.ActRules.{rule_of, fits_first, fits_receiver, fits_source, fits_first_receiver, is_not_closed}

@@ -6,7 +6,7 @@ use Rattle.reg_base.specs.declared.kinds.AllowanceKind.{AllowanceKind}
 use Rattle.reg_base.specs.declared.act.Act.{Act}
 use Rattle.reg_base.specs.declared.act.Act.TheVariants.{Delete, Reverse, Create}
 use Rattle.reg_base.specs.declared.instruction.Instruction.{Instruction}
-use Rattle.reg_account.specs.declared.rows.Retirement.TheVariants.{Deleted}
+use Rattle.reg_base.specs.declared.kinds.Retirement.TheVariants.{Deleted}
 use Rattle.reg_account.specs.Rows.{amount_in}
 use Rattle.reg_account.specs.Laws.{counted, of_kind}
 use Rattle.reg_rules.specs.State.{State, Setting, row}

@@ -7,7 +7,7 @@ ghost use Rattle.reg_base.specs.declared.limits.TheConstants.{MOST_HELD, MOST_RO
 ghost use Rattle.reg_base.specs.Acts.{movement_of, also_known};
 ghost use Rattle.reg_base.specs.Footprint.{footprint};
 ghost use Rattle.reg_base.specs.Refusals.{checks};
-ghost use Rattle.reg_account.specs.Figure.{is_in_period};
+ghost use Rattle.reg_base.specs.Rules.{is_in_period};
 ghost use Rattle.reg_account.specs.Rows.{row_in};
 ghost use Rattle.reg_account.specs.Laws.{lowered_by};
 ghost use Rattle.reg_rules.specs.ActRules.{fits_receiver, fits_first_receiver, is_not_closed, rule_of};

@@ -8,8 +8,8 @@ pub use Rattle.reg_account.specs.Trusted.{EntryIsInRange}
 pub use Rattle.reg_account.specs.Rows.{AreBelow, RetiredFits, amount_in, retired_in, row_numbers}
 pub use Rattle.reg_account.specs.Years.{FigureFits}
 pub use Rattle.reg_account.specs.declared.rows.RetirementRow.{RetirementRow}
-pub use Rattle.reg_account.specs.declared.rows.Retirement.{Retirement}
-pub use Rattle.reg_account.specs.declared.rows.Retirement.TheVariants.{Deleted, Surrendered}
+pub use Rattle.reg_base.specs.declared.kinds.Retirement.{Retirement}
+pub use Rattle.reg_base.specs.declared.kinds.Retirement.TheVariants.{Deleted, Surrendered}
 pub use Rattle.reg_account.specs.declared.years.Figure.{Figure}
 pub use Rattle.reg_rules.specs.Effect.{IsBehind}
 pub use Rattle.reg_rules.specs.declared.reply.LogRow.{LogRow}
