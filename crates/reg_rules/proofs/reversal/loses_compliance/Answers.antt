@@ -4,7 +4,7 @@ use Rattle.std.specs.Option.{option_map_or}
 use Rattle.reg_account.specs.declared.years.Figure.{Figure}
 use Rattle.reg_base.specs.Rules.{is_in_period}
 use Rattle.reg_rules.specs.Checks.{turns_negative}
-use Rattle.reg_rules.proofs.checks.loses_compliance.Goals as goal
+use Rattle.reg_rules.proofs.reversal.loses_compliance.Goals as goal
 
 pub returns-in-Some : goal.returns-in-Some
 returns-in-Some c =
