@@ -8,9 +8,9 @@ use Rattle.std.proofs.lemmas.List.Sums.{sum_by-cons}
 use Rattle.reg_base.specs.declared.limits.TheConstants.{MOST_EMISSIONS}
 use Rattle.reg_base.specs.declared.kinds.AllowanceKind.{AllowanceKind}
 use Rattle.reg_base.specs.declared.kinds.AllowanceKind.TheVariants.{General, Aviation}
-use Rattle.reg_base.specs.Rules.{RulesValue}
-use Rattle.reg_account.specs.declared.rows.Retirement.{Retirement}
-use Rattle.reg_account.specs.declared.rows.Retirement.TheVariants.{Surrendered, Deleted}
+use Rattle.reg_base.specs.Rules.{RulesValue, is_in_period}
+use Rattle.reg_base.specs.declared.kinds.Retirement.{Retirement}
+use Rattle.reg_base.specs.declared.kinds.Retirement.TheVariants.{Surrendered, Deleted}
 use Rattle.reg_account.specs.declared.rows.RetirementRow.{RetirementRow}
 use Rattle.reg_account.specs.declared.years.Emission.{Emission}
 use Rattle.reg_account.specs.declared.years.Figure.{Figure}
@@ -19,7 +19,7 @@ use Rattle.reg_account.specs.declared.figure.FigureFault.TheVariants.{YearOutsid
 use Rattle.reg_account.specs.Rows.{is_same_kind, is_same_retirement, amount_in, retired_in}
 use Rattle.reg_account.specs.Years.{EmissionFits, emissions_in}
 use Rattle.reg_account.specs.Account.{AccountValue, unretired_row}
-use Rattle.reg_account.specs.Figure.{is_in_period, years_counted, is_row_counted, surrendered_for, emitted_in, emitted_unless, emitted_or_missing, figure_by, figure_of}
+use Rattle.reg_account.specs.Figure.{years_counted, is_row_counted, surrendered_for, emitted_in, emitted_unless, emitted_or_missing, figure_by, figure_of}
 use Rattle.reg_account.specs.Laws.{YearLaws, FigureLaws, lowered_by}
 use Rattle.reg_account.proofs.Keyed.{from_zero, find_put}
 use Rattle.reg_account.proofs.RowFacts.{sum_marked}

@@ -7,7 +7,7 @@ use Rattle.std.proofs.lemmas.Int.{ints}
 use Rattle.std.proofs.lemmas.Bool.{or_parts, or_from, and_from, and_parts, leb-true, le-leb, ltb-false, le-ltb, not_from_true}
 use Rattle.std.proofs.lemmas.List.Elements.{recursion_from_All}
 use Rattle.std.proofs.lemmas.Option.{none-some}
-use Rattle.reg_base.specs.declared.limits.TheConstants.{MOST_HELD, MOST_USERS, MOST_TRUSTED, MOST_ROWS, MOST_CORRECTION, MOST_EMISSIONS, MOST_FIGURE}
+use Rattle.reg_base.specs.declared.limits.TheConstants.{MOST_HELD, MOST_RETIRED, MOST_USERS, MOST_TRUSTED, MOST_ROWS, MOST_CORRECTION, MOST_EMISSIONS, MOST_FIGURE}
 use Rattle.reg_base.specs.declared.kinds.AllowanceKind.{AllowanceKind}
 use Rattle.reg_base.specs.declared.kinds.AllowanceKind.TheVariants.{General, Aviation}
 use Rattle.reg_base.specs.Numbers.{IsAccountNo, IsHolderNo}
@@ -17,8 +17,8 @@ use Rattle.reg_account.specs.declared.parts.AccountFault.{AccountFault}
 use Rattle.reg_account.specs.declared.parts.AccountFault.TheVariants.{Correction, Holding, Users, Trusted, Rows, Retired, Emissions, Figures}
 use Rattle.reg_account.specs.declared.users.Representative.{Representative}
 use Rattle.reg_account.specs.declared.trusted.TrustedEntry.{TrustedEntry}
-use Rattle.reg_account.specs.declared.rows.Retirement.{Retirement}
-use Rattle.reg_account.specs.declared.rows.Retirement.TheVariants.{Surrendered, Deleted}
+use Rattle.reg_base.specs.declared.kinds.Retirement.{Retirement}
+use Rattle.reg_base.specs.declared.kinds.Retirement.TheVariants.{Surrendered, Deleted}
 use Rattle.reg_account.specs.declared.rows.RetirementRow.{RetirementRow}
 use Rattle.reg_account.specs.declared.years.Emission.{Emission}
 use Rattle.reg_account.specs.declared.years.Figure.{Figure}
@@ -67,10 +67,10 @@ at_least a b le = grind (arith, ints)
 
 -- each fault
 fit_row : (row : RetirementRow) → is_row_unfit row ≡ false → RowFits row
-fit_row row not_so = let both = or_parts (ltb row.amount 1) (ltb MOST_HELD row.amount) not_so in record { some = ltb-false row.amount 1 both.0; most = ltb-false MOST_HELD row.amount both.1 }
+fit_row row not_so = let both = or_parts (ltb row.amount 1) (ltb MOST_RETIRED row.amount) not_so in record { some = ltb-false row.amount 1 both.0; most = ltb-false MOST_RETIRED row.amount both.1 }
 
 row_fits : (row : RetirementRow) → RowFits row → is_row_unfit row ≡ false
-row_fits row fit = or_from _ _ (le-ltb row.amount 1 fit.some) (le-ltb MOST_HELD row.amount fit.most)
+row_fits row fit = or_from _ _ (le-ltb row.amount 1 fit.some) (le-ltb MOST_RETIRED row.amount fit.most)
 
 fit_figure : (f : Figure) → is_figure_unfit f ≡ false → FigureFits f.tonnes
 fit_figure f not_so = let both = or_parts (int_lt f.tonnes (pos 0 -ℤ MOST_FIGURE)) (int_lt MOST_FIGURE f.tonnes) not_so in record { low = not_below f.tonnes (pos 0 -ℤ MOST_FIGURE) both.0; high = not_below MOST_FIGURE f.tonnes both.1 }
@@ -107,21 +107,21 @@ rows_fit rows fit =
 fit_retired : (rows : List RetirementRow) → is_too_much_retired rows ≡ false → RetiredFits rows
 fit_retired rows not_so =
     let ways = or_parts (is_too_much rows Surrendered) (is_too_much rows Deleted) not_so in
-    let s = or_parts (ltb MOST_HELD (retired_in Surrendered General rows)) (ltb MOST_HELD (retired_in Surrendered Aviation rows)) ways.0 in
-    let d = or_parts (ltb MOST_HELD (retired_in Deleted General rows)) (ltb MOST_HELD (retired_in Deleted Aviation rows)) ways.1 in
+    let s = or_parts (ltb MOST_RETIRED (retired_in Surrendered General rows)) (ltb MOST_RETIRED (retired_in Surrendered Aviation rows)) ways.0 in
+    let d = or_parts (ltb MOST_RETIRED (retired_in Deleted General rows)) (ltb MOST_RETIRED (retired_in Deleted Aviation rows)) ways.1 in
     record { at = by s.0 s.1 d.0 d.1 } where
-      by : ltb MOST_HELD (retired_in Surrendered General rows) ≡ false → ltb MOST_HELD (retired_in Surrendered Aviation rows) ≡ false
-          → ltb MOST_HELD (retired_in Deleted General rows) ≡ false → ltb MOST_HELD (retired_in Deleted Aviation rows) ≡ false
-          → (way : Retirement) (kind : AllowanceKind) → retired_in way kind rows ≤ MOST_HELD
-      by a b c d Surrendered General = ltb-false MOST_HELD (retired_in Surrendered General rows) a
-      by a b c d Surrendered Aviation = ltb-false MOST_HELD (retired_in Surrendered Aviation rows) b
-      by a b c d Deleted General = ltb-false MOST_HELD (retired_in Deleted General rows) c
-      by a b c d Deleted Aviation = ltb-false MOST_HELD (retired_in Deleted Aviation rows) d
+      by : ltb MOST_RETIRED (retired_in Surrendered General rows) ≡ false → ltb MOST_RETIRED (retired_in Surrendered Aviation rows) ≡ false
+          → ltb MOST_RETIRED (retired_in Deleted General rows) ≡ false → ltb MOST_RETIRED (retired_in Deleted Aviation rows) ≡ false
+          → (way : Retirement) (kind : AllowanceKind) → retired_in way kind rows ≤ MOST_RETIRED
+      by a b c d Surrendered General = ltb-false MOST_RETIRED (retired_in Surrendered General rows) a
+      by a b c d Surrendered Aviation = ltb-false MOST_RETIRED (retired_in Surrendered Aviation rows) b
+      by a b c d Deleted General = ltb-false MOST_RETIRED (retired_in Deleted General rows) c
+      by a b c d Deleted Aviation = ltb-false MOST_RETIRED (retired_in Deleted Aviation rows) d
 
 retired_fit : (rows : List RetirementRow) → RetiredFits rows → is_too_much_retired rows ≡ false
 retired_fit rows fit =
-    or_from _ _ (or_from _ _ (le-ltb MOST_HELD _ (fit.at Surrendered General)) (le-ltb MOST_HELD _ (fit.at Surrendered Aviation)))
-    (or_from _ _ (le-ltb MOST_HELD _ (fit.at Deleted General)) (le-ltb MOST_HELD _ (fit.at Deleted Aviation)))
+    or_from _ _ (or_from _ _ (le-ltb MOST_RETIRED _ (fit.at Surrendered General)) (le-ltb MOST_RETIRED _ (fit.at Surrendered Aviation)))
+    (or_from _ _ (le-ltb MOST_RETIRED _ (fit.at Deleted General)) (le-ltb MOST_RETIRED _ (fit.at Deleted Aviation)))
 
 fit_emissions : (emissions : List Emission) → are_emissions_unfit emissions ≡ false → AllByRecursion EmissionIsInRange emissions → EmissionsFit emissions
 fit_emissions emissions not_so ranged =

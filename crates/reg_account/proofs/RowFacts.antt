@@ -8,13 +8,13 @@ use Rattle.std.proofs.lemmas.Bool.{eq-eqb, eqb-true, ne_eqb}
 use Rattle.std.proofs.lemmas.Option.{same_Some, none-some}
 use Rattle.std.proofs.lemmas.List.{length-map}
 use Rattle.std.proofs.lemmas.List.Sums.{sum_by-append, sum_by-cons}
-use Rattle.reg_base.specs.declared.limits.TheConstants.{MOST_HELD, MOST_ROWS}
+use Rattle.reg_base.specs.declared.limits.TheConstants.{MOST_RETIRED, MOST_ROWS}
 use Rattle.reg_base.specs.declared.kinds.AllowanceKind.{AllowanceKind}
 use Rattle.reg_base.specs.declared.kinds.AllowanceKind.TheVariants.{General, Aviation}
 use Rattle.reg_base.specs.Rising.{IsRising}
 use Rattle.reg_base.specs.RisesFrom.{RisesFrom}
-use Rattle.reg_account.specs.declared.rows.Retirement.{Retirement}
-use Rattle.reg_account.specs.declared.rows.Retirement.TheVariants.{Surrendered, Deleted}
+use Rattle.reg_base.specs.declared.kinds.Retirement.{Retirement}
+use Rattle.reg_base.specs.declared.kinds.Retirement.TheVariants.{Surrendered, Deleted}
 use Rattle.reg_account.specs.declared.rows.RetirementRow.{RetirementRow}
 use Rattle.reg_account.specs.declared.sums.Sums.{Sums}
 use Rattle.reg_account.specs.Places.{StandsAt}
@@ -204,7 +204,7 @@ other_amount way kind row = by way row.retirement kind row.kind row.reversed whe
   by Deleted Deleted Aviation Aviation true = inl refl
   by Deleted Deleted Aviation Aviation false = inr (refl, refl, omega arith)
 
-pub retired_fits_pushed : (rows : List RetirementRow) (row : RetirementRow) → RetiredFits rows → retired_in row.retirement row.kind rows + row.amount ≤ MOST_HELD → RetiredFits (rows ++ row ∷ [])
+pub retired_fits_pushed : (rows : List RetirementRow) (row : RetirementRow) → RetiredFits rows → retired_in row.retirement row.kind rows + row.amount ≤ MOST_RETIRED → RetiredFits (rows ++ row ∷ [])
 retired_fits_pushed rows row fits room = record {
   at = λ way kind. elim (other_amount way kind row) [
     | inl none ↦ let p = retired_pushed way kind rows row in let f = fits.at way kind in omega (arith, p, f, none)

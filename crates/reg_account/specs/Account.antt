@@ -1,7 +1,7 @@
 -- The value of one account, what is read of it, and the changes to it.
 use Rattle.std.specs.Prelude.{◌≡◌, ℕ, ◌+◌, ◌-◌, ◌<◌, ◌≤◌, ℤ, pos, ◌≤ℤ◌, ◌-ℤ◌, Bool, false, ◌==◌, ◌||◌, nat_lt, int_lt, List, [], ◌∷◌, ◌++◌, find, length, Option, None, MatchOption}
 use Rattle.std.specs.Option.{option_map_or}
-use Rattle.reg_base.specs.declared.limits.TheConstants.{MOST_HELD, MOST_CORRECTION, MOST_TRUSTED, MOST_ROWS}
+use Rattle.reg_base.specs.declared.limits.TheConstants.{MOST_HELD, MOST_RETIRED, MOST_CORRECTION, MOST_TRUSTED, MOST_ROWS}
 use Rattle.reg_base.specs.declared.kinds.AccountKind.{AccountKind}
 use Rattle.reg_base.specs.declared.kinds.AllowanceKind.{AllowanceKind}
 use Rattle.reg_base.specs.declared.kinds.AllowanceKind.TheVariants.{General, Aviation}
@@ -13,7 +13,7 @@ use Rattle.reg_account.specs.declared.parts.AccountFault.{AccountFault}
 use Rattle.reg_account.specs.declared.parts.AccountFault.TheVariants.{Correction, Holding, Users, Trusted, Rows, Retired, Emissions, Figures}
 use Rattle.reg_account.specs.declared.users.Representative.{Representative}
 use Rattle.reg_account.specs.declared.trusted.TrustedEntry.{TrustedEntry}
-use Rattle.reg_account.specs.declared.rows.Retirement.{Retirement}
+use Rattle.reg_base.specs.declared.kinds.Retirement.{Retirement}
 use Rattle.reg_account.specs.declared.rows.RetirementRow.{RetirementRow}
 use Rattle.reg_account.specs.declared.years.Emission.{Emission}
 use Rattle.reg_account.specs.declared.years.Figure.{Figure}
@@ -126,7 +126,7 @@ pub record CanRetire (a : AccountValue) (row : RetirementRow) : Type 0 where
   pub later : AreBelow row.number (row_numbers a.rows)
   pub room : length a.rows < MOST_ROWS
   pub enough : row.amount ≤ held_by a row.kind
-  pub fits : retired_by a row.retirement row.kind + row.amount ≤ MOST_HELD
+  pub fits : retired_by a row.retirement row.kind + row.amount ≤ MOST_RETIRED
 
 -- the row can be reversed
 pub record CanUnretireRow (a : AccountValue) (row : RetirementRow) : Type 0 where

@@ -1,20 +1,16 @@
 -- The compliance status figure of a year. Of a period the definitions below say which years count, which rows count
 -- and which correction factor is added. Today there is one period, and all rows belong to it.
-use Rattle.std.specs.Prelude.{ℕ, ◌+◌, ◌-◌, ℤ, pos, ◌+ℤ◌, ◌-ℤ◌, Bool, not, ◌&&◌, nat_le, List, find, Option, Some, None, Result, Ok, Err, unwrap_or, is_none, if◌then◌else◌}
+use Rattle.std.specs.Prelude.{ℕ, ◌+◌, ◌-◌, ℤ, pos, ◌+ℤ◌, ◌-ℤ◌, Bool, not, ◌&&◌, List, find, Option, Some, None, Result, Ok, Err, unwrap_or, is_none, if◌then◌else◌}
 use Rattle.std.specs.List.{sum_by}
-use Rattle.reg_base.specs.Rules.{RulesValue}
+use Rattle.reg_base.specs.Rules.{RulesValue, is_in_period}
 use Rattle.reg_base.specs.Rising.{count_up}
-use Rattle.reg_account.specs.declared.rows.Retirement.TheVariants.{Surrendered}
+use Rattle.reg_base.specs.declared.kinds.Retirement.TheVariants.{Surrendered}
 use Rattle.reg_account.specs.declared.rows.RetirementRow.{RetirementRow}
 use Rattle.reg_account.specs.declared.figure.FigureFault.{FigureFault}
 use Rattle.reg_account.specs.declared.figure.FigureFault.TheVariants.{YearOutsidePeriod, Missing}
 use Rattle.reg_account.specs.Rows.{is_same_retirement}
 use Rattle.reg_account.specs.Years.{emissions_in}
 use Rattle.reg_account.specs.Account.{AccountValue}
-
--- the year is in the period
-abbrev pub is_in_period : RulesValue → ℕ → Bool
-is_in_period rules year = nat_le rules.first_year year && nat_le year rules.last_year
 
 -- which years count for the figure of a year: those of its period up to this one, and this one
 abbrev pub years_counted : RulesValue → ℕ → List ℕ

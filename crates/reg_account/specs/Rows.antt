@@ -1,13 +1,13 @@
 -- Surrenders and deletions, as rows by rising record number.
 use Rattle.std.specs.Prelude.{ℕ, ◌<◌, ◌≤◌, Bool, true, false, not, ◌==◌, ◌&&◌, ◌||◌, nat_lt, List, map, find, length, Option, if◌then◌else◌}
 use Rattle.std.specs.List.{sum_by, list_any, AllByRecursion}
-use Rattle.reg_base.specs.declared.limits.TheConstants.{MOST_HELD, MOST_ROWS}
+use Rattle.reg_base.specs.declared.limits.TheConstants.{MOST_RETIRED, MOST_ROWS}
 use Rattle.reg_base.specs.declared.kinds.AllowanceKind.{AllowanceKind}
 use Rattle.reg_base.specs.declared.kinds.AllowanceKind.TheVariants.{General, Aviation}
 use Rattle.reg_base.specs.Numbers.{IsRecordNo, IsDayNo}
 use Rattle.reg_base.specs.Rising.{IsRising, is_rising_from}
-use Rattle.reg_account.specs.declared.rows.Retirement.{Retirement}
-use Rattle.reg_account.specs.declared.rows.Retirement.TheVariants.{Surrendered, Deleted}
+use Rattle.reg_base.specs.declared.kinds.Retirement.{Retirement}
+use Rattle.reg_base.specs.declared.kinds.Retirement.TheVariants.{Surrendered, Deleted}
 use Rattle.reg_account.specs.declared.rows.RetirementRow.{RetirementRow}
 
 abbrev pub is_same_kind : AllowanceKind → AllowanceKind → Bool
@@ -57,7 +57,7 @@ AreBelow limit numbers = AllByRecursion (λ n. n < limit) numbers
 -- a row's amount is within its limits
 pub record RowFits (row : RetirementRow) : Type 0 where
   pub some : 1 ≤ row.amount
-  pub most : row.amount ≤ MOST_HELD
+  pub most : row.amount ≤ MOST_RETIRED
 
 -- a row's record number and day are in their ranges, as each such number is
 pub record RowIsInRange (row : RetirementRow) : Type 0 where
@@ -73,11 +73,11 @@ pub record RowsFit (rows : List RetirementRow) : Type 0 where
 
 -- each surrendered and each deleted amount is within its limit
 pub record RetiredFits (rows : List RetirementRow) : Type 0 where
-  pub at : (way : Retirement) (kind : AllowanceKind) → retired_in way kind rows ≤ MOST_HELD
+  pub at : (way : Retirement) (kind : AllowanceKind) → retired_in way kind rows ≤ MOST_RETIRED
 
 -- a row's amount is 0 or too large
 abbrev pub is_row_unfit : RetirementRow → Bool
-is_row_unfit row = nat_lt row.amount 1 || nat_lt MOST_HELD row.amount
+is_row_unfit row = nat_lt row.amount 1 || nat_lt MOST_RETIRED row.amount
 
 -- there are too many rows, their numbers don't rise, or an amount is 0 or too large
 abbrev pub are_rows_unfit : List RetirementRow → Bool
@@ -85,7 +85,7 @@ are_rows_unfit rows = nat_lt MOST_ROWS (length rows) || (not (is_rising_from 0 (
 
 -- the surrendered (or deleted) amount of a kind is above its limit
 abbrev pub is_too_much : List RetirementRow → Retirement → Bool
-is_too_much rows way = nat_lt MOST_HELD (retired_in way General rows) || nat_lt MOST_HELD (retired_in way Aviation rows)
+is_too_much rows way = nat_lt MOST_RETIRED (retired_in way General rows) || nat_lt MOST_RETIRED (retired_in way Aviation rows)
 
 -- a surrendered or a deleted amount is above its limit
 abbrev pub is_too_much_retired : List RetirementRow → Bool

@@ -4,19 +4,19 @@ ghost use Rattle.std.specs.Prelude.{◌≡◌, ◌+◌, ◌-◌, ◌≤◌, IfOk
 ghost use Rattle.std.specs.Option.{option_map};
 ghost use Rattle.std.specs.Result.{result_err};
 ghost use Rattle.reg_account.specs.Account.{account_of, amount_of, with_amount, first_account_fault};
-ghost use Rattle.reg_base.specs.declared.limits.TheConstants.{MOST_HELD, MOST_EMISSIONS};
+ghost use Rattle.reg_base.specs.declared.limits.TheConstants.{MOST_HELD, MOST_RETIRED, MOST_EMISSIONS};
 
 use crate::faults::find_fault;
 use crate::figure::{FigureFault, figure_of};
 use crate::parts::{AccountFault, AccountParts, Holdings};
 use crate::ranges::{know_emissions, know_figures, know_row, know_rows};
-use crate::rows::{Retirement, RetirementRow, find_row};
+use crate::rows::{RetirementRow, find_row};
 use crate::trusted::{TrustedEntry, find_effective, is_in_effect, know_entries};
 use crate::users::{Representative, find_right, know_users};
 use crate::years::{Emission, Figure, find_emissions, find_figure};
 use reg_base::{
-    AccountKind, AccountNo, AllowanceKind, Day, HolderNo, MOST_HELD, NoMemory, RecordNo, Right,
-    Rules, Status, UserNo, Year,
+    AccountKind, AccountNo, AllowanceKind, Day, HolderNo, MOST_HELD, NoMemory, RecordNo,
+    Retirement, Right, Rules, Status, UserNo, Year,
 };
 use std::alloc::Global;
 use std::marker::Model;
@@ -39,7 +39,7 @@ impl Model for Account {
 }
 
 impl Account {
-    ghost use Rattle.reg_account.specs.declared.rows.Retirement.TheVariants.{Surrendered, Deleted};
+    ghost use Rattle.reg_base.specs.declared.kinds.Retirement.TheVariants.{Surrendered, Deleted};
     ghost use Rattle.reg_account.specs.Users.{right_in, UsersFit};
     ghost use Rattle.reg_account.specs.Trusted.{effective_in, TrustedFit};
     ghost use Rattle.reg_account.specs.Rows.{row_in, RowsFit};
@@ -238,7 +238,7 @@ impl Account {
     /// How many allowances of this kind it has surrendered, 0 to 10^15. Surrenders that were reversed do not count.
     pub fn surrendered(&self, kind: AllowanceKind) -> u64
         ensures value { result ≡ retired_by self.now Surrendered kind }
-        ensures limit { result ≤ MOST_HELD }
+        ensures limit { result ≤ MOST_RETIRED }
     {
         self.parts.lists.sum(Retirement::Surrendered, kind) as u64
     }
@@ -246,7 +246,7 @@ impl Account {
     /// How many allowances of this kind it has deleted, 0 to 10^15. Deletions that were reversed do not count.
     pub fn deleted(&self, kind: AllowanceKind) -> u64
         ensures value { result ≡ retired_by self.now Deleted kind }
-        ensures limit { result ≤ MOST_HELD }
+        ensures limit { result ≤ MOST_RETIRED }
     {
         self.parts.lists.sum(Retirement::Deleted, kind) as u64
     }

@@ -11,13 +11,13 @@ ghost use Rattle.reg_account.specs.Account.{account_of, account_has, first_accou
 
 use crate::lists::Lists;
 use crate::parts::{AccountFault, AccountParts};
-use crate::rows::{Retirement, RetirementRow};
+use crate::rows::RetirementRow;
 use crate::trusted::TrustedEntry;
 use crate::users::Representative;
 use crate::years::{Emission, Figure};
 use reg_base::{
-    AllowanceKind, MOST_CORRECTION, MOST_EMISSIONS, MOST_FIGURE, MOST_HELD, MOST_ROWS,
-    MOST_TRUSTED, MOST_USERS,
+    AllowanceKind, MOST_CORRECTION, MOST_EMISSIONS, MOST_FIGURE, MOST_HELD, MOST_RETIRED,
+    MOST_ROWS, MOST_TRUSTED, MOST_USERS, Retirement,
 };
 
 // The faults that parts can have, in the order in which they are named.
@@ -130,7 +130,7 @@ fn has_unfit_row(rows: &[RetirementRow]) -> bool
 fn is_row_unfit(row: &RetirementRow) -> bool
     ensures { result ≡ is_row_unfit row.now }
 {
-    row.amount < 1 || MOST_HELD < row.amount
+    row.amount < 1 || MOST_RETIRED < row.amount
 }
 
 fn is_too_much_retired(lists: &Lists) -> bool
@@ -142,8 +142,8 @@ fn is_too_much_retired(lists: &Lists) -> bool
 fn is_too_much(lists: &Lists, way: Retirement) -> bool
     ensures { result ≡ is_too_much lists.now.rows way }
 {
-    u128::from(MOST_HELD) < lists.sum(way, AllowanceKind::General)
-        || u128::from(MOST_HELD) < lists.sum(way, AllowanceKind::Aviation)
+    u128::from(MOST_RETIRED) < lists.sum(way, AllowanceKind::General)
+        || u128::from(MOST_RETIRED) < lists.sum(way, AllowanceKind::Aviation)
 }
 
 fn are_emissions_unfit(emissions: &[Emission]) -> bool

@@ -1,10 +1,11 @@
 //! The compliance status figure of a year.
 
 ghost use Rattle.std.specs.Prelude.{◌≡◌, ◌+◌, ◌*◌, ◌≤◌, true, IfOk};
-ghost use Rattle.reg_base.specs.declared.limits.TheConstants.{MOST_HELD, MOST_EMISSIONS};
+ghost use Rattle.reg_base.specs.declared.limits.TheConstants.{MOST_RETIRED, MOST_EMISSIONS};
+ghost use Rattle.reg_base.specs.Rules.{is_in_period};
 ghost use Rattle.reg_account.specs.Account.{CorrectionFits};
 ghost use Rattle.reg_account.specs.Years.{FigureFits};
-ghost use Rattle.reg_account.specs.Figure.{figure_of, is_in_period, years_counted, emitted_or_missing, surrendered_for, correction_added};
+ghost use Rattle.reg_account.specs.Figure.{figure_of, years_counted, emitted_or_missing, surrendered_for, correction_added};
 
 use crate::account::Account;
 use reg_base::{AllowanceKind, Rules, Year};
@@ -26,18 +27,12 @@ pub(crate) fn figure_of(rules: &Rules, account: &Account, year: Year) -> Result<
     ensures value { result ≡ figure_of rules.now account.now year }
     ensures limits { IfOk result FigureFits }
 {
-    if !is_in_period(rules, year) {
+    if !rules.is_in_period(year) {
         return Err(FigureFault::YearOutsidePeriod);
     }
     let emitted = add_emissions(rules, account, year)?;
     let surrendered = surrendered_for(rules, account, year);
     Ok(surrendered as i64 - emitted as i64 + correction_added(rules, account, year))
-}
-
-fn is_in_period(rules: &Rules, year: Year) -> bool
-    ensures { result ≡ is_in_period rules.now year }
-{
-    rules.first_year() <= year && year <= rules.last_year()
 }
 
 // The emissions of the years that count, or the first of them that has none.
@@ -61,7 +56,7 @@ fn add_emissions(rules: &Rules, account: &Account, year: Year) -> Result<u64, Fi
 // The allowances of both kinds that were surrendered for the period of the year.
 fn surrendered_for(_rules: &Rules, account: &Account, _year: Year) -> u64
     ensures value { result ≡ surrendered_for _rules.now account.now _year }
-    ensures limit { result ≤ MOST_HELD + MOST_HELD }
+    ensures limit { result ≤ MOST_RETIRED + MOST_RETIRED }
 {
     account.surrendered(AllowanceKind::General) + account.surrendered(AllowanceKind::Aviation)
 }

@@ -6,10 +6,10 @@ ghost use Rattle.reg_account.specs.Rows.{row_numbers, row_in, retired_in, with_m
 ghost use Rattle.reg_account.specs.Years.{emission_years, figure_years, with_emission, with_figure};
 ghost use Rattle.reg_account.specs.Lists.{RecordsValue, no_records};
 
-use crate::rows::{Retirement, RetirementRow, copy_rows, mark_reversed, place_of};
+use crate::rows::{RetirementRow, copy_rows, mark_reversed, place_of};
 use crate::sums::{Sums, count_row, get_sum, uncount_row};
 use crate::years::{Emission, Figure, put_emission, put_figure};
-use reg_base::{AllowanceKind, NoMemory, RecordNo};
+use reg_base::{AllowanceKind, NoMemory, RecordNo, Retirement};
 use std::alloc::Global;
 use std::marker::Model;
 

@@ -8,11 +8,11 @@ ghost use Rattle.reg_account.specs.Years.{emission_years, figure_years, with_emi
 ghost use Rattle.reg_account.specs.Lists.{ListsValue, no_lists};
 
 use crate::records::Records;
-use crate::rows::{Retirement, RetirementRow};
+use crate::rows::RetirementRow;
 use crate::trusted::{Entries, TrustedEntry, put_entry, remove_entry};
 use crate::users::Representative;
 use crate::years::{Emission, Figure};
-use reg_base::{AccountNo, AllowanceKind, NoMemory, RecordNo};
+use reg_base::{AccountNo, AllowanceKind, NoMemory, RecordNo, Retirement};
 use smallvec::SmallVec;
 use std::alloc::Global;
 use std::marker::Model;

@@ -7,9 +7,9 @@ ghost use Rattle.reg_account.specs.Years.{emission_years, figure_years, emission
 ghost use Rattle.reg_account.specs.Lists.{RecordsValue, no_records};
 
 use crate::kept::Kept;
-use crate::rows::{Retirement, RetirementRow};
+use crate::rows::RetirementRow;
 use crate::years::{Emission, Figure};
-use reg_base::{AllowanceKind, NoMemory, RecordNo, Year};
+use reg_base::{AllowanceKind, NoMemory, RecordNo, Retirement, Year};
 use std::alloc::Global;
 use std::marker::Model;
 

@@ -5,17 +5,8 @@ ghost use Rattle.reg_base.specs.Rising.{IsRising};
 ghost use Rattle.reg_account.specs.Rows.{row_numbers, row_in, with_mark};
 ghost use Rattle.reg_account.specs.Places.{StandsAt};
 
-use reg_base::{AllowanceKind, Day, NoMemory, RecordNo};
+use reg_base::{AllowanceKind, Day, NoMemory, RecordNo, Retirement};
 use std::alloc::Global;
-
-/// What became of allowances that left an account for good.
-#[derive(Clone, Copy, Debug, PartialEq, Eq)]
-pub enum Retirement {
-    /// They were surrendered for the emissions of the period.
-    Surrendered,
-    /// They were deleted.
-    Deleted,
-}
 
 /// A surrender or a deletion. The fields stand by their size, so that a row takes 24 bytes.
 #[derive(Clone, Copy, Debug, PartialEq, Eq)]

@@ -2,12 +2,12 @@
 
 ghost use Rattle.std.specs.Prelude.{◌≡◌, ◌+◌, ◌<◌, ◌≤◌, ◌^◌, false};
 ghost use Rattle.reg_base.specs.declared.kinds.AllowanceKind.{AllowanceKind};
-ghost use Rattle.reg_account.specs.declared.rows.Retirement.{Retirement as Way};
+ghost use Rattle.reg_base.specs.declared.kinds.Retirement.{Retirement as Way};
 ghost use Rattle.reg_account.specs.Rows.{amount_in};
 ghost use Rattle.reg_account.specs.Sums.{sum_at};
 
-use crate::rows::{Retirement, RetirementRow};
-use reg_base::AllowanceKind;
+use crate::rows::RetirementRow;
+use reg_base::{AllowanceKind, Retirement};
 
 /// How many allowances of each kind were surrendered and deleted, and not reversed.
 #[derive(Clone, Copy, Debug, PartialEq, Eq)]

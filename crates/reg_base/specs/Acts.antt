@@ -1,89 +1,114 @@
--- The table of acts, as far as it says which accounts and numbers an act names, and which allowances it moves.
-use Rattle.std.specs.Prelude.{ℕ, List, [], ◌∷◌, map, Option, Some, None}
+-- The table of acts: what each act does with its accounts. All that an act names follows from its row.
+use Rattle.std.specs.Prelude.{ℕ, List, [], ◌∷◌, ◌++◌, map, Option, Some, None}
 use Rattle.reg_base.specs.declared.kinds.AllowanceKind.{AllowanceKind}
 use Rattle.reg_base.specs.declared.kinds.AllowanceKind.TheVariants.{General}
+use Rattle.reg_base.specs.declared.kinds.Retirement.{Retirement}
+use Rattle.reg_base.specs.declared.kinds.Retirement.TheVariants.{Surrendered, Deleted}
 use Rattle.reg_base.specs.declared.movement.Share.{Share}
+use Rattle.reg_base.specs.declared.movement.Change.{Change}
+use Rattle.reg_base.specs.declared.movement.Change.TheVariants.{Debit, Credit, Retire, Unretire, SetEmissions, Determine}
+use Rattle.reg_base.specs.declared.movement.Change.TheVariants as change
 use Rattle.reg_base.specs.declared.movement.Movement.{Movement}
 use Rattle.reg_base.specs.declared.act.Act.{Act}
 use Rattle.reg_base.specs.declared.act.Act.TheVariants.{Transfer, Surrender, Delete, ReturnExcess, Reverse, Create, CentralMove, Trust, Untrust, SetStatus, EnterEmissions, Assess}
 
--- allowances leave one account and reach another
-abbrev pub between : ℕ → ℕ → AllowanceKind → ℕ → Movement
-between from to kind amount = record { first = from; kind = kind; leaves = amount; shares = record { to = to; amount = amount } ∷ [] }
+-- allowances pass from one account to another
+abbrev pub passing : ℕ → ℕ → AllowanceKind → ℕ → Movement
+passing from to kind amount = record { first = from; change = Debit kind amount; kind = kind; leaves = amount; shares = record { to = to; amount = amount } ∷ [] }
 
--- allowances leave an account, and no other account receives any
-abbrev pub leaving : ℕ → AllowanceKind → ℕ → Movement
-leaving from kind amount = record { first = from; kind = kind; leaves = amount; shares = [] }
+-- allowances leave an account for good, and no other account receives any
+abbrev pub retiring : ℕ → Retirement → AllowanceKind → ℕ → Movement
+retiring from way kind amount = record { first = from; change = Retire way kind amount; kind = kind; leaves = amount; shares = [] }
 
 -- no allowance leaves the account, so that the kind says nothing
-abbrev pub staying : ℕ → Movement
-staying account = leaving account General 0
+abbrev pub staying : ℕ → Change → Movement
+staying account made = record { first = account; change = made; kind = General; leaves = 0; shares = [] }
 
--- which allowances leave the act's first account, and which other accounts receive some: a row for each act
+-- what becomes of the act's first account, which allowances leave it, and which other accounts receive some: a row for each act
 abbrev pub movement_of : Act → Movement
-movement_of (Transfer from to kind amount) = between from to kind amount
-movement_of (Surrender from kind amount) = leaving from kind amount
-movement_of (Delete from kind amount) = leaving from kind amount
-movement_of (ReturnExcess from to kind amount) = between from to kind amount
-movement_of (Reverse account number) = staying account
-movement_of (Create to kind amount) = staying to
-movement_of (CentralMove from to kind amount) = between from to kind amount
-movement_of (Trust account other) = staying account
-movement_of (Untrust account other) = staying account
-movement_of (SetStatus account status) = staying account
-movement_of (EnterEmissions account year entered) = staying account
-movement_of (Assess account year) = staying account
+movement_of (Transfer from to kind amount) = passing from to kind amount
+movement_of (Surrender from kind amount) = retiring from Surrendered kind amount
+movement_of (Delete from kind amount) = retiring from Deleted kind amount
+movement_of (ReturnExcess from to kind amount) = passing from to kind amount
+movement_of (Reverse account number) = staying account (Unretire number)
+movement_of (Create to kind amount) = staying to (Credit kind amount)
+movement_of (CentralMove from to kind amount) = passing from to kind amount
+movement_of (Trust account other) = staying account (change.Trust other)
+movement_of (Untrust account other) = staying account (change.Untrust other)
+movement_of (SetStatus account status) = staying account (change.SetStatus status)
+movement_of (EnterEmissions account year entered) = staying account (SetEmissions year entered)
+movement_of (Assess account year) = staying account (Determine year)
 
--- the account that gives, or the only one that the act names
+-- the account that gives, or the only one that the act reads or changes
 abbrev pub first : Act → ℕ
 first act = (movement_of act).first
+
+-- what becomes of this account
+abbrev pub change_of : Act → Change
+change_of act = (movement_of act).change
 
 -- the accounts that receive allowances from the first, and how many
 abbrev pub shares : Act → List Share
 shares act = (movement_of act).shares
 
+-- the amounts of allowances that are created, or leave for good
+abbrev pub amounts_named : Change → List ℕ
+amounts_named (Credit kind amount) = amount ∷ []
+amounts_named (Retire way kind amount) = amount ∷ []
+amounts_named made = []
+
 -- the amounts of allowances that the act names
+abbrev pub amounts_of : Movement → List ℕ
+amounts_of m = map (λ share. share.amount) m.shares ++ amounts_named m.change
+
 abbrev pub amounts : Act → List ℕ
-amounts (Transfer from to kind amount) = amount ∷ []
-amounts (Surrender from kind amount) = amount ∷ []
-amounts (Delete from kind amount) = amount ∷ []
-amounts (ReturnExcess from to kind amount) = amount ∷ []
-amounts (Reverse account number) = []
-amounts (Create to kind amount) = amount ∷ []
-amounts (CentralMove from to kind amount) = amount ∷ []
-amounts (Trust account other) = []
-amounts (Untrust account other) = []
-amounts (SetStatus account status) = []
-amounts (EnterEmissions account year entered) = []
-amounts (Assess account year) = []
+amounts act = amounts_of (movement_of act)
 
 -- the emissions that the act names, in tonnes
+abbrev pub tonnes_named : Change → List ℕ
+tonnes_named (SetEmissions year entered) = entered ∷ []
+tonnes_named made = []
+
 abbrev pub tonnes : Act → List ℕ
-tonnes (EnterEmissions account year entered) = entered ∷ []
-tonnes act = []
+tonnes act = tonnes_named (change_of act)
 
 -- the record numbers that the act names
+abbrev pub record_named : Change → List ℕ
+record_named (Unretire number) = number ∷ []
+record_named made = []
+
 abbrev pub record_numbers : Act → List ℕ
-record_numbers (Reverse account number) = number ∷ []
-record_numbers act = []
+record_numbers act = record_named (change_of act)
 
 -- the years that the act names
+abbrev pub years_named : Change → List ℕ
+years_named (SetEmissions year entered) = year ∷ []
+years_named (Determine year) = year ∷ []
+years_named made = []
+
 abbrev pub years : Act → List ℕ
-years (EnterEmissions account year entered) = year ∷ []
-years (Assess account year) = year ∷ []
-years act = []
+years act = years_named (change_of act)
 
 -- the accounts whose values the act reads or changes: the first, and then those that receive
+abbrev pub parties_of : Movement → List ℕ
+parties_of m = m.first ∷ map (λ share. share.to) m.shares
+
 abbrev pub parties : Act → List ℕ
-parties act = first act ∷ map (λ share. share.to) (shares act)
+parties act = parties_of (movement_of act)
 
 -- the accounts that the act names beside these: those that are put on a trusted account list, or taken off it
-abbrev pub others : Act → List ℕ
-others (Trust account other) = other ∷ []
-others (Untrust account other) = other ∷ []
-others act = []
+abbrev pub others_named : Change → List ℕ
+others_named (change.Trust other) = other ∷ []
+others_named (change.Untrust other) = other ∷ []
+others_named made = []
 
--- the account that must be known although the act neither reads nor changes it: the one that is put on a trusted account list
+abbrev pub others : Act → List ℕ
+others act = others_named (change_of act)
+
+-- the account that must be known although it is neither read nor changed: the one that is put on a trusted account list
+abbrev pub other_known : Change → Option ℕ
+other_known (change.Trust other) = Some other
+other_known made = None
+
 abbrev pub also_known : Act → Option ℕ
-also_known (Trust account other) = Some other
-also_known act = None
+also_known act = other_known (change_of act)

@@ -38,42 +38,44 @@ pub record IsSound (directory : DirectoryValue) (act : Act) (accounts : List ℕ
 abbrev pub EachFootprintIsSound : Type 0
 EachFootprintIsSound = (directory : DirectoryValue) (act : Act) → IsSound directory act (footprint directory act)
 
--- in the words of the rules, without the table of movements: an act reads or changes FROM and TO, in this order, or else its
--- one account. The OTHER of an addition to a trusted list or of a removal is not among them
-abbrev pub named : Act → List ℕ
-named (Transfer from to kind amount) = from ∷ to ∷ []
-named (Surrender from kind amount) = from ∷ []
-named (Delete from kind amount) = from ∷ []
-named (ReturnExcess from to kind amount) = from ∷ to ∷ []
-named (Reverse account number) = account ∷ []
-named (Create to kind amount) = to ∷ []
-named (CentralMove from to kind amount) = from ∷ to ∷ []
-named (Trust account other) = account ∷ []
-named (Untrust account other) = account ∷ []
-named (SetStatus account status) = account ∷ []
-named (EnterEmissions account year tonnes) = account ∷ []
-named (Assess account year) = account ∷ []
+-- the accounts that an act reads or changes, and those that check 1 asks for
+pub record NamedAccounts : Type 0 where
+  pub touched : List ℕ
+  pub asked : List ℕ
 
--- the accounts that check 1 asks for: these, and the OTHER of an addition. The OTHER of a removal need not be known
+-- check 1 asks for just the accounts that are read or changed
+abbrev pub alike : List ℕ → NamedAccounts
+alike accounts = record { touched = accounts; asked = accounts }
+
+-- in the words of the rules, without the table of acts: an act reads or changes FROM and TO, in this order, or else its one
+-- account. The OTHER of an addition to a trusted list or of a removal is not among them; check 1 asks for that of an addition
+abbrev pub accounts_named : Act → NamedAccounts
+accounts_named (Transfer from to kind amount) = alike (from ∷ to ∷ [])
+accounts_named (Surrender from kind amount) = alike (from ∷ [])
+accounts_named (Delete from kind amount) = alike (from ∷ [])
+accounts_named (ReturnExcess from to kind amount) = alike (from ∷ to ∷ [])
+accounts_named (Reverse account number) = alike (account ∷ [])
+accounts_named (Create to kind amount) = alike (to ∷ [])
+accounts_named (CentralMove from to kind amount) = alike (from ∷ to ∷ [])
+accounts_named (Trust account other) = record { touched = account ∷ []; asked = account ∷ other ∷ [] }
+accounts_named (Untrust account other) = alike (account ∷ [])
+accounts_named (SetStatus account status) = alike (account ∷ [])
+accounts_named (EnterEmissions account year tonnes) = alike (account ∷ [])
+accounts_named (Assess account year) = alike (account ∷ [])
+
+-- the accounts that the act reads or changes
+abbrev pub touched_by : Act → List ℕ
+touched_by act = (accounts_named act).touched
+
+-- the accounts that check 1 asks for
 abbrev pub asked_for : Act → List ℕ
-asked_for (Transfer from to kind amount) = from ∷ to ∷ []
-asked_for (Surrender from kind amount) = from ∷ []
-asked_for (Delete from kind amount) = from ∷ []
-asked_for (ReturnExcess from to kind amount) = from ∷ to ∷ []
-asked_for (Reverse account number) = account ∷ []
-asked_for (Create to kind amount) = to ∷ []
-asked_for (CentralMove from to kind amount) = from ∷ to ∷ []
-asked_for (Trust account other) = account ∷ other ∷ []
-asked_for (Untrust account other) = account ∷ []
-asked_for (SetStatus account status) = account ∷ []
-asked_for (EnterEmissions account year tonnes) = account ∷ []
-asked_for (Assess account year) = account ∷ []
+asked_for act = (accounts_named act).asked
 
--- law: the table of movements has just these accounts. So a footprint is FROM and TO, once if they are the same account, or
+-- law: the table of acts has just these accounts. So a footprint is FROM and TO, once if they are the same account, or
 -- else the one account; and it is empty if the directory lacks one that check 1 asks for
 pub record ActsNameTheirAccounts : Type 0 where
-  pub table : (act : Act) → parties act ≡ named act
+  pub table : (act : Act) → parties act ≡ touched_by act
   pub known : (act : Act) → must_be_known act ≡ asked_for act
   pub once : (from to : ℕ) → each_once (from ∷ to ∷ []) ≡ (if to == from then from ∷ [] else from ∷ to ∷ [])
   pub touched : (directory : DirectoryValue) (act : Act)
-      → footprint directory act ≡ (if list_all (is_known directory) (asked_for act) then each_once (named act) else [])
+      → footprint directory act ≡ (if list_all (is_known directory) (asked_for act) then each_once (touched_by act) else [])

@@ -1,6 +1,6 @@
 -- The limits of this profile, each as a number.
 use Rattle.std.specs.Prelude.{◌≡◌, pos}
-use Rattle.reg_base.specs.declared.limits.TheConstants.{MOST_ACCOUNTS, MOST_INSTRUCTIONS, MOST_ADMINISTRATORS, MOST_NUMBER, MOST_RECORD, MOST_HELD, MOST_USERS, MOST_TRUSTED, MOST_ROWS, MOST_EMISSIONS, MOST_FIGURE, MOST_CORRECTION, MOST_LAG, FIRST_YEAR, LAST_YEAR, FIRST_DAY, LAST_DAY, MOST_SHARES, MOST_TOUCHED}
+use Rattle.reg_base.specs.declared.limits.TheConstants.{MOST_ACCOUNTS, MOST_INSTRUCTIONS, MOST_ADMINISTRATORS, MOST_NUMBER, MOST_RECORD, MOST_HELD, MOST_RETIRED, MOST_USERS, MOST_TRUSTED, MOST_ROWS, MOST_EMISSIONS, MOST_FIGURE, MOST_CORRECTION, MOST_LAG, FIRST_YEAR, LAST_YEAR, FIRST_DAY, LAST_DAY, MOST_SHARES, MOST_TOUCHED}
 
 -- law: each limit is this number
 pub record LimitsAreTheseNumbers : Type 0 where
@@ -10,6 +10,7 @@ pub record LimitsAreTheseNumbers : Type 0 where
   pub number : MOST_NUMBER ≡ 999999999
   pub record_number : MOST_RECORD ≡ 1000000000000000
   pub held : MOST_HELD ≡ 1000000000000000
+  pub retired : MOST_RETIRED ≡ 1000000000000000
   pub users : MOST_USERS ≡ 64
   pub trusted : MOST_TRUSTED ≡ 256
   pub rows : MOST_ROWS ≡ 4096

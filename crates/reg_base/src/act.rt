@@ -1,12 +1,10 @@
 //! What an instruction is to do.
 
-ghost use Rattle.std.specs.Prelude.{◌≡◌, ◌<◌, ◌^◌, ◌==◌, All};
-ghost use Rattle.std.specs.List.{list_any};
-ghost use Rattle.reg_base.specs.Acts.{between, leaving, staying, movement_of, also_known, amounts, tonnes, record_numbers, years, parties, others};
-ghost use Rattle.reg_base.specs.Numbers.{IsAccountNo, IsRecordNo, IsYearNo};
+ghost use Rattle.std.specs.Prelude.{◌≡◌};
+ghost use Rattle.reg_base.specs.Acts.{passing, retiring, staying, movement_of};
 
-use crate::kinds::{AllowanceKind, Status};
-use crate::movement::{Movement, Shares};
+use crate::kinds::{AllowanceKind, Retirement, Status};
+use crate::movement::{Change, Movement, Shares};
 use crate::numbers::{AccountNo, RecordNo, Year};
 
 /// What an instruction is to do.
@@ -119,7 +117,7 @@ pub enum Act {
 }
 
 impl Act {
-    /// What the act moves, and between which accounts.
+    /// What the act does: a row for each act.
     pub fn movement(&self) -> Movement
         ensures { result ≡ movement_of self.now }
     {
@@ -141,151 +139,67 @@ impl Act {
                 to,
                 kind,
                 amount,
-            } => between(from, to, kind, amount),
-            Act::Surrender { from, kind, amount } | Act::Delete { from, kind, amount } => {
-                leaving(from, kind, amount)
+            } => passing(from, to, kind, amount),
+            Act::Surrender { from, kind, amount } => {
+                retiring(from, Retirement::Surrendered, kind, amount)
             }
-            Act::Create { to, .. } => staying(to),
-            Act::Reverse { account, .. }
-            | Act::Trust { account, .. }
-            | Act::Untrust { account, .. }
-            | Act::SetStatus { account, .. }
-            | Act::EnterEmissions { account, .. }
-            | Act::Assess { account, .. } => staying(account),
-        }
-    }
-
-    /// The account that must be in the directory, although the act neither reads nor changes it: the one that is put on
-    /// a trusted account list.
-    pub fn also_known(&self) -> Option<AccountNo>
-        ensures { result ≡ also_known self.now }
-    {
-        match *self {
-            Act::Trust { other, .. } => Some(other),
-            _ => None,
-        }
-    }
-
-    /// Whether an amount of allowances that the act names is 0.
-    pub fn names_zero(&self) -> bool
-        ensures { result ≡ list_any (λ n. n == 0) (amounts self.now) }
-    {
-        match *self {
-            Act::Transfer { amount, .. }
-            | Act::Surrender { amount, .. }
-            | Act::Delete { amount, .. }
-            | Act::ReturnExcess { amount, .. }
-            | Act::Create { amount, .. }
-            | Act::CentralMove { amount, .. } => amount == 0,
-            Act::Reverse { .. }
-            | Act::Trust { .. }
-            | Act::Untrust { .. }
-            | Act::SetStatus { .. }
-            | Act::EnterEmissions { .. }
-            | Act::Assess { .. } => false,
-        }
-    }
-
-    // Reads each number in the act, so that a proof knows its range.
-    pub(crate) fn know_numbers(&self)
-        ensures accounts { All IsAccountNo (parties self.now) }
-        ensures others { All IsAccountNo (others self.now) }
-        ensures amounts { All (λ n. n < 2 ^ 64) (amounts self.now) }
-        ensures emissions { All (λ n. n < 2 ^ 64) (tonnes self.now) }
-        ensures records { All IsRecordNo (record_numbers self.now) }
-        ensures years { All IsYearNo (years self.now) }
-    {
-        self.know_amounts();
-        match *self {
-            Act::Transfer { from, to, .. }
-            | Act::ReturnExcess { from, to, .. }
-            | Act::CentralMove { from, to, .. } => know_accounts(from, to),
-            Act::Surrender { from, .. } | Act::Delete { from, .. } => know_account(from),
-            Act::Create { to, .. } => know_account(to),
-            Act::Reverse { account, number } => {
-                account.get();
-                number.get();
+            Act::Delete { from, kind, amount } => {
+                retiring(from, Retirement::Deleted, kind, amount)
             }
-            Act::Trust { account, other } | Act::Untrust { account, other } => {
-                know_accounts(account, other)
-            }
-            Act::SetStatus { account, .. } => know_account(account),
-            Act::EnterEmissions { account, year, .. } | Act::Assess { account, year } => {
-                account.get();
-                year.get();
-            }
-        }
-    }
-
-    // Reads each amount in the act, and its emissions: any numbers of 64 bits.
-    fn know_amounts(&self)
-        ensures amounts { All (λ n. n < 2 ^ 64) (amounts self.now) }
-        ensures emissions { All (λ n. n < 2 ^ 64) (tonnes self.now) }
-    {
-        match *self {
-            Act::Transfer { amount, .. }
-            | Act::Surrender { amount, .. }
-            | Act::Delete { amount, .. }
-            | Act::ReturnExcess { amount, .. }
-            | Act::Create { amount, .. }
-            | Act::CentralMove { amount, .. } => know_amount(amount),
-            Act::EnterEmissions { tonnes, .. } => know_amount(tonnes),
-            Act::Reverse { .. }
-            | Act::Trust { .. }
-            | Act::Untrust { .. }
-            | Act::SetStatus { .. }
-            | Act::Assess { .. } => (),
+            Act::Reverse { account, number } => staying(account, Change::Unretire { number }),
+            Act::Create { to, kind, amount } => staying(to, Change::Credit { kind, amount }),
+            Act::Trust { account, other } => staying(account, Change::Trust { other }),
+            Act::Untrust { account, other } => staying(account, Change::Untrust { other }),
+            Act::SetStatus { account, status } => staying(account, Change::SetStatus { status }),
+            Act::EnterEmissions {
+                account,
+                year,
+                tonnes,
+            } => staying(account, Change::SetEmissions { year, tonnes }),
+            Act::Assess { account, year } => staying(account, Change::Determine { year }),
         }
     }
 }
 
-// Allowances leave one account and reach another.
-fn between(from: AccountNo, to: AccountNo, kind: AllowanceKind, amount: u64) -> Movement
-    ensures { result ≡ between from to kind amount }
+// Allowances pass from one account to another.
+fn passing(from: AccountNo, to: AccountNo, kind: AllowanceKind, amount: u64) -> Movement
+    ensures { result ≡ passing from to kind amount }
 {
     Movement {
         first: from,
+        change: Change::Debit { kind, amount },
         kind,
         leaves: u128::from(amount),
         shares: Shares::one(to, amount),
     }
 }
 
-// Allowances leave an account, and no other account receives any.
-fn leaving(from: AccountNo, kind: AllowanceKind, amount: u64) -> Movement
-    ensures { result ≡ leaving from kind amount }
+// Allowances leave an account for good, and no other account receives any.
+fn retiring(from: AccountNo, retirement: Retirement, kind: AllowanceKind, amount: u64) -> Movement
+    ensures { result ≡ retiring from retirement kind amount }
 {
     Movement {
         first: from,
+        change: Change::Retire {
+            retirement,
+            kind,
+            amount,
+        },
         kind,
         leaves: u128::from(amount),
         shares: Shares::none(),
     }
 }
 
-// No allowance leaves the account.
-fn staying(account: AccountNo) -> Movement
-    ensures { result ≡ staying account }
+// No allowance leaves the account, so the kind says nothing.
+fn staying(account: AccountNo, change: Change) -> Movement
+    ensures { result ≡ staying account change }
 {
-    leaving(account, AllowanceKind::General, 0)
-}
-
-fn know_accounts(one: AccountNo, other: AccountNo)
-    ensures one { IsAccountNo one }
-    ensures other { IsAccountNo other }
-{
-    know_account(one);
-    know_account(other);
-}
-
-fn know_account(account: AccountNo)
-    ensures { IsAccountNo account }
-{
-    account.get();
-}
-
-fn know_amount(amount: u64)
-    ensures { amount < 2 ^ 64 }
-{
-    let _any = amount;
+    Movement {
+        first: account,
+        change,
+        kind: AllowanceKind::General,
+        leaves: 0,
+        shares: Shares::none(),
+    }
 }

@@ -1,12 +1,10 @@
 //! Due instructions.
 
-ghost use Rattle.std.specs.Prelude.{◌≡◌, ◌≤◌, ◌&&◌, ◌∷◌, true, All, length, map};
+ghost use Rattle.std.specs.Prelude.{◌≡◌, ◌&&◌, true, All};
 ghost use Rattle.std.specs.Option.{option_map_or};
 ghost use Rattle.std.specs.List.{list_all};
 ghost use Rattle.reg_base.specs.Directory.{is_known};
-ghost use Rattle.reg_base.specs.Acts.{parties};
-ghost use Rattle.reg_base.specs.Footprint.{each_once, footprint};
-ghost use Rattle.reg_base.specs.declared.limits.TheConstants.{MOST_SHARES};
+ghost use Rattle.reg_base.specs.Footprint.{footprint};
 ghost use Rattle.reg_base.specs.Instructions.{IsInstruction};
 
 use crate::act::Act;
@@ -30,38 +28,17 @@ pub struct Instruction {
 
 impl Instruction {
     /// The accounts that the instruction reads or changes: its act's first account and those that receive, each
-    /// once. None if one of them is not in the directory, nor if [`Act::also_known`] is not.
+    /// once. None if one of them is not in the directory, nor if [`Movement::also_known`] is not.
     pub fn touches(&self, directory: &Directory) -> Footprint
         ensures { result ≡ footprint directory.now self.now.act }
     {
         let movement = self.act.movement();
-        if knows_all(directory, &movement) && knows_other(directory, self.act.also_known()) {
-            footprint_of(movement.first, movement.shares.as_slice())
+        if knows_all(directory, &movement) && knows_other(directory, movement.also_known()) {
+            movement.parties()
         } else {
             Footprint::none()
         }
     }
-
-    /// The accounts that the instruction reads or changes if they are all there: its act's first account and those that
-    /// receive, each once.
-    pub fn parties(&self) -> Footprint
-        ensures { result ≡ each_once (parties self.now.act) }
-    {
-        let moved = self.act.movement();
-        footprint_of(moved.first, moved.shares.as_slice())
-    }
-}
-
-// The first account and those that receive, each once.
-fn footprint_of(first: AccountNo, shares: &[Share]) -> Footprint
-    requires { length shares.now ≤ MOST_SHARES }
-    ensures { result ≡ each_once (first ∷ map (λ share. share.to) shares.now) }
-{
-    let mut footprint = Footprint::none().with(first);
-    for share in shares {
-        footprint = footprint.with(share.to);
-    }
-    footprint
 }
 
 // Whether each account that has to be in the directory is there.
@@ -106,5 +83,5 @@ fn know_instruction(instruction: &Instruction)
     if let Some(approver) = instruction.approver {
         approver.get();
     }
-    instruction.act.know_numbers();
+    instruction.act.movement().know_numbers();
 }

@@ -25,13 +25,14 @@ pub use calendar::{Calendar, CalendarFault};
 pub use directory::{Directory, NoMemory};
 pub use footprint::Footprint;
 pub use instruction::Instruction;
-pub use kinds::{AccountKind, AllowanceKind, Right, Status};
+pub use kinds::{AccountKind, AllowanceKind, Retirement, Right, Status};
 pub use limits::{
     FIRST_DAY, FIRST_YEAR, LAST_DAY, LAST_YEAR, MOST_ACCOUNTS, MOST_ADMINISTRATORS,
     MOST_CORRECTION, MOST_EMISSIONS, MOST_FIGURE, MOST_HELD, MOST_INSTRUCTIONS, MOST_LAG,
-    MOST_NUMBER, MOST_RECORD, MOST_ROWS, MOST_SHARES, MOST_TOUCHED, MOST_TRUSTED, MOST_USERS,
+    MOST_NUMBER, MOST_RECORD, MOST_RETIRED, MOST_ROWS, MOST_SHARES, MOST_TOUCHED, MOST_TRUSTED,
+    MOST_USERS,
 };
-pub use movement::{Movement, Share, Shares};
+pub use movement::{Change, Movement, Share, Shares};
 pub use numbers::{AccountNo, Day, HolderNo, RecordNo, UserNo, Year};
-pub use refusals::Refusal;
+pub use refusals::{CHECKS, Refusal};
 pub use rules::{Rules, RulesFault, RulesParts};

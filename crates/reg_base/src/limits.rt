@@ -12,6 +12,8 @@ pub const MOST_NUMBER: u32 = 999_999_999;
 pub const MOST_RECORD: u64 = 1_000_000_000_000_000;
 /// The most allowances of one kind that one account holds.
 pub const MOST_HELD: u64 = 1_000_000_000_000_000;
+/// The most allowances of one kind that one account has surrendered, and the most that it has deleted.
+pub const MOST_RETIRED: u64 = 1_000_000_000_000_000;
 /// The most representatives of one account.
 pub const MOST_USERS: usize = 64;
 /// The most entries of one trusted account list.

@@ -8,7 +8,7 @@ use Rattle.reg_base.specs.declared.kinds.AccountKind.{AccountKind}
 use Rattle.reg_base.specs.Rising.{IsRising}
 use Rattle.reg_base.specs.Directory.{DirectoryValue}
 use Rattle.reg_base.specs.Footprint.{is_among}
-use Rattle.reg_account.specs.declared.rows.Retirement.{Retirement}
+use Rattle.reg_base.specs.declared.kinds.Retirement.{Retirement}
 use Rattle.reg_account.specs.Account.{AccountValue, IsAccount, held_by, retired_by}
 use Rattle.reg_rules.specs.State.{account, numbers}
 use Rattle.reg_rules.specs.Effect.{IsBehind}

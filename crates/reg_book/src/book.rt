@@ -4,7 +4,7 @@ ghost use Rattle.std.specs.Prelude.{◌≡◌, ◌≢◌, ◌+◌, ◌-◌, ◌<
 ghost use Rattle.std.specs.Option.{option_copied};
 ghost use Rattle.reg_base.specs.declared.limits.TheConstants.{MOST_ACCOUNTS};
 ghost use Rattle.reg_base.specs.Rising.{IsRising};
-ghost use Rattle.reg_account.specs.declared.rows.Retirement.TheVariants.{Surrendered, Deleted};
+ghost use Rattle.reg_base.specs.declared.kinds.Retirement.TheVariants.{Surrendered, Deleted};
 ghost use Rattle.reg_account.specs.Account.{IsAccount, held_by, retired_by};
 ghost use Rattle.reg_rules.specs.State.{account, numbers};
 ghost use Rattle.reg_book.specs.Book.{overlay, AreHigher};

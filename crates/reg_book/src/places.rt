@@ -27,10 +27,11 @@ pub(crate) fn places_of(accounts: &[Account], instruction: &Instruction) -> Plac
     requires few { length accounts.now ≤ MOST_ACCOUNTS }
     ensures { StandAt (numbers accounts.now) result.items (footprint (directory_of accounts.now) instruction.now.act) }
 {
-    if !is_there(accounts, instruction.act.also_known()) {
+    let movement = instruction.act.movement();
+    if !is_there(accounts, movement.also_known()) {
         return Places::new();
     }
-    let parties = instruction.parties();
+    let parties = movement.parties();
     match find_places(accounts, parties.as_slice()) {
         Some(places) => places,
         None => Places::new(),

@@ -7,9 +7,10 @@ use Rattle.reg_base.specs.declared.kinds.AllowanceKind.{AllowanceKind}
 use Rattle.reg_base.specs.declared.act.Act.TheVariants.{Surrender, Delete, Reverse, Create, EnterEmissions, Assess}
 use Rattle.reg_base.specs.declared.instruction.Instruction.{Instruction}
 use Rattle.reg_base.specs.declared.refusals.Refusal.TheVariants.{YearOutsidePeriod, EmissionsMissing}
-use Rattle.reg_base.specs.Rules.{RulesValue}
+use Rattle.reg_base.specs.Acts.{change_of}
+use Rattle.reg_base.specs.Rules.{RulesValue, is_in_period}
 use Rattle.reg_base.specs.RisesFrom.{rises_from}
-use Rattle.reg_account.specs.declared.rows.Retirement.TheVariants.{Surrendered, Deleted}
+use Rattle.reg_base.specs.declared.kinds.Retirement.TheVariants.{Surrendered, Deleted}
 use Rattle.reg_account.specs.declared.rows.RetirementRow.{RetirementRow}
 use Rattle.reg_account.specs.declared.years.Emission.{Emission}
 use Rattle.reg_account.specs.declared.years.Figure.{Figure}
@@ -18,7 +19,7 @@ use Rattle.reg_account.specs.Rows.{amount_in, retired_in, row_numbers, row_in}
 use Rattle.reg_account.specs.Trusted.{effective_in}
 use Rattle.reg_account.specs.Years.{emissions_in, figure_in}
 use Rattle.reg_account.specs.Account.{AccountValue, IsAccount, held_by, credited, retired, unretired_row, with_emissions, with_determined, CanRetire, CanUnretireRow}
-use Rattle.reg_account.specs.Figure.{is_in_period, figure_of, figure_by, emitted_unless, first_missing, years_counted}
+use Rattle.reg_account.specs.Figure.{figure_of, figure_by, emitted_unless, first_missing, years_counted}
 use Rattle.reg_account.specs.Laws.{YearLaws}
 use Rattle.reg_rules.specs.State.{State, Setting, account, seen}
 use Rattle.reg_rules.specs.Checks.{is_missing, lacks_emissions, names_year_outside, refusal}
@@ -188,10 +189,10 @@ assesses laws c s n i a year is ready none =
     let v = one.0 in
     let at = one.1 in
     let own = found-all IsAccount s a v ready.fit at.was in
-    let inside = not-outside (is_in_period c.rules year) (ap (names_year_outside c.rules) (sym is) ∙ passed c s i YearOutsidePeriod none refl) in
+    let inside = not-outside (is_in_period c.rules year) (ap (λ act. names_year_outside c.rules (change_of act)) (sym is) ∙ passed c s i YearOutsidePeriod none refl) in
     let there : is_missing (figure_of c.rules v year) ≡ false =
-    ap (λ o. lacks_emissions c.rules (Assess a year) (record { first = o; receivers = [] })) (sym at.was)
-    ∙ ap (λ act. lacks_emissions c.rules act (seen s act)) (sym is) ∙ passed c s i EmissionsMissing none refl in
+    ap (λ o. lacks_emissions c.rules (change_of (Assess a year)) (record { first = o; receivers = [] })) (sym at.was)
+    ∙ ap (λ act. lacks_emissions c.rules (change_of act) (seen s act)) (sym is) ∙ passed c s i EmissionsMissing none refl in
     let found = has-figure c.rules v year inside there in
     let figure = found.0 in
     let new : Figure = record { year = year; tonnes = figure } in

@@ -10,7 +10,7 @@ use Rattle.reg_base.specs.declared.movement.Share.{Share}
 use Rattle.reg_base.specs.declared.act.Act.{Act}
 use Rattle.reg_base.specs.declared.instruction.Instruction.{Instruction}
 use Rattle.reg_base.specs.declared.refusals.Refusal.TheVariants.{UnknownAccount, SameAccount, HoldingTooLarge}
-use Rattle.reg_base.specs.Acts.{movement_of, first, shares, parties, also_known}
+use Rattle.reg_base.specs.Acts.{movement_of, change_of, first, shares, parties, also_known}
 use Rattle.reg_base.specs.Footprint.{all_known, each_once, footprint}
 use Rattle.reg_account.specs.Account.{AccountValue, held_by, credited}
 use Rattle.reg_rules.specs.State.{State, Setting, Receiver, numbers, account, seen}
@@ -61,7 +61,7 @@ room-found s kind v found (x ∷ xs) room =
 pub can-receive : (c : Setting) (s : State) (i : Instruction) (v : AccountValue) → refusal c s i ≡ None → account s v.number ≡ Some v → CanReceive (movement_of i.act).kind (shares i.act) v
 can-receive c s i v none found =
     room-found s (movement_of i.act).kind v found (shares i.act)
-    (or-right (overfills_first i.act (seen s i.act)) (overfills_some (movement_of i.act) (seen s i.act)) (passed c s i HoldingTooLarge none refl))
+    (or-right (overfills_first (change_of i.act) (seen s i.act)) (overfills_some (movement_of i.act) (seen s i.act)) (passed c s i HoldingTooLarge none refl))
 
 -- an account of a state in which nothing refuses has what the act needs of it
 pub can-change : (c : Setting) (s : State) (n : ℕ) (i : Instruction) (v : AccountValue) → refusal c s i ≡ None → account s v.number ≡ Some v → IsBehind n v → CanChange c n i.act v

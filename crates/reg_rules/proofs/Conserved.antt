@@ -9,12 +9,14 @@ use Rattle.std.proofs.lemmas.List.Elements.{recursion_from_All}
 use Rattle.std.proofs.lemmas.List.Sums.{sum_by-cons}
 use Rattle.reg_base.specs.declared.kinds.AllowanceKind.{AllowanceKind}
 use Rattle.reg_base.specs.declared.movement.Share.{Share}
+use Rattle.reg_base.specs.declared.movement.Change.{Change}
+use Rattle.reg_base.specs.declared.movement.Change.TheVariants.{Debit, Credit, Retire, Unretire, Trust, Untrust, SetStatus, SetEmissions, Determine}
 use Rattle.reg_base.specs.declared.act.Act.{Act}
-use Rattle.reg_base.specs.declared.act.Act.TheVariants.{Transfer, Surrender, Delete, ReturnExcess, Reverse, Create, CentralMove, Trust, Untrust, SetStatus, EnterEmissions, Assess}
+use Rattle.reg_base.specs.declared.act.Act.TheVariants.{Transfer, ReturnExcess, CentralMove}
 use Rattle.reg_base.specs.declared.instruction.Instruction.{Instruction}
 use Rattle.reg_base.specs.declared.refusals.Refusal.TheVariants.{SameAccount, WrongAccountKind}
-use Rattle.reg_base.specs.Acts.{movement_of, first, shares, parties, also_known}
-use Rattle.reg_account.specs.declared.rows.Retirement.TheVariants.{Surrendered, Deleted}
+use Rattle.reg_base.specs.Acts.{movement_of, change_of, first, shares, parties, also_known}
+use Rattle.reg_base.specs.declared.kinds.Retirement.TheVariants.{Surrendered, Deleted}
 use Rattle.reg_account.specs.declared.rows.RetirementRow.{RetirementRow}
 use Rattle.reg_account.specs.declared.figure.FigureFault.{FigureFault}
 use Rattle.reg_account.specs.Rows.{is_same_kind, amount_in, row_in}
@@ -25,10 +27,10 @@ use Rattle.reg_rules.specs.ActRules.{rule_of, fits_first, fits_receiver}
 use Rattle.reg_rules.specs.State.{State, Setting, Receiver, numbers, account, seen, passes}
 use Rattle.reg_rules.specs.Checks.{has_repeat, receivers_fit, has_right_kinds, refusal}
 use Rattle.reg_rules.specs.Trust.{effective_day}
-use Rattle.reg_rules.specs.Effect.{new_row, listed_from, assessed, first_after, share_of, given, with_changes, changed_by, effect, CanFirst, CanChange, IsBehind}
+use Rattle.reg_rules.specs.Effect.{new_row, listed_from, assessed, made_by, first_after, share_of, given, with_changes, changed_by, effect, CanMake, CanFirst, CanChange, IsBehind}
 use Rattle.reg_rules.specs.Step.{step_by}
 use Rattle.reg_rules.specs.Laws.{IsReady}
-use Rattle.reg_rules.specs.Conservation.{number_of, created_by, deleted_by, undeleted_by, StepConserves}
+use Rattle.reg_rules.specs.Conservation.{number_of, credits, created_by, deletes, deleted_by, undeletes, undeleted_by, StepConserves}
 use Rattle.reg_rules.proofs.Applied.{can-change-each}
 use Rattle.reg_rules.proofs.Firsts.{or-left, or-right}
 use Rattle.reg_rules.proofs.Moves.{there}
@@ -41,9 +43,14 @@ passed_on : AllowanceKind → Act → ℕ
 passed_on kind act = sum_by (λ share. of_kind kind (movement_of act).kind share.amount) (shares act)
 
 -- how many deleted allowances of the kind the reversal brings back to the account
-brought_back : AllowanceKind → Act → AccountValue → ℕ
-brought_back kind (Reverse a number) v = option_map_or (amount_in Deleted kind) (row_in v.rows number) 0
-brought_back kind act v = 0
+brought_back : AllowanceKind → Change → AccountValue → ℕ
+brought_back kind (Unretire number) v = option_map_or (amount_in Deleted kind) (row_in v.rows number) 0
+brought_back kind made v = 0
+
+-- how many allowances of the kind leave the account for others by the change
+debits : AllowanceKind → Change → ℕ
+debits kind (Debit own amount) = of_kind kind own amount
+debits kind made = 0
 
 of-one : (kind own : AllowanceKind) (to amount : ℕ) → sum_by (λ (share : Share). of_kind kind own share.amount) (record { to = to; amount = amount } ∷ []) ≡ of_kind kind own amount
 of-one kind own to amount =
@@ -159,10 +166,18 @@ receivers-there c s i none =
           (there test (account s x.to) parts.0, go test xs parts.1)
 
 -- what a reversal brings back is what the state shows of its row
-back-at : (kind : AllowanceKind) (s : State) (act : Act) (v : AccountValue) → account s (first act) ≡ Some v → brought_back kind act v ≡ undeleted_by kind s act
+back-at : (kind : AllowanceKind) (s : State) (a : ℕ) (made : Change) (v : AccountValue) → account s a ≡ Some v → brought_back kind made v ≡ undeletes kind s a made
 unfolding brought_back
-back-at kind s (Reverse a number) v found = sym (ap (λ o. option_map_or (amount_in Deleted kind) (row_in (option_map_or (λ (u : AccountValue). u.rows) o []) number) 0) found)
-back-at kind s act v found = refl
+back-at kind s a (Unretire number) v found = sym (ap (λ o. option_map_or (amount_in Deleted kind) (row_in (option_map_or (λ (u : AccountValue). u.rows) o []) number) 0) found)
+back-at kind s a made v found = refl
+
+-- what leaves the first account for others is what they receive
+passed-debits : (kind : AllowanceKind) (act : Act) → passed_on kind act ≡ debits kind (change_of act)
+unfolding passed_on debits
+passed-debits kind (Transfer from to own amount) = of-one kind own to amount
+passed-debits kind (ReturnExcess from to own amount) = of-one kind own to amount
+passed-debits kind (CentralMove from to own amount) = of-one kind own to amount
+passed-debits kind act = refl
 
 module _ (laws : NumberLaws) where
   back : (v : AccountValue) (number : ℕ) (kind : AllowanceKind) (o : Option RetirementRow) → row_in v.rows number ≡ o → MatchOption o ⊥ (CanUnretireRow v) → IsAccount v
@@ -170,31 +185,36 @@ module _ (laws : NumberLaws) where
   back v number kind None found can is = absurd can
   back v number kind (Some old) found can is = ap (λ o. counted kind (option_map_or (unretired_row number v) o v)) (sym found) ∙ laws.unretire v number old kind is found can
 
-  -- the balance of the first account
-  first-balance : (c : Setting) (n : ℕ) (act : Act) (v : AccountValue) (kind : AllowanceKind) → CanFirst c n act v → IsAccount v
-      → counted kind (first_after c n act v) + (passed_on kind act + deleted_by kind act) ≡ counted kind v + (created_by kind act + brought_back kind act v)
-  unfolding passed_on brought_back
-  first-balance c n (Transfer from to own amount) v kind can is = let e = laws.debit v own amount kind can in let w = of-one kind own to amount in omega (arith, e, w)
-  first-balance c n (Surrender from own amount) v kind can is = let e = laws.retire v (new_row c n Surrendered own amount) kind can in omega (arith, e)
-  first-balance c n (Delete from own amount) v kind can is =
+  -- the balance of the first account, by its change
+  change-balance : (c : Setting) (n : ℕ) (made : Change) (v : AccountValue) (kind : AllowanceKind) → CanMake c n made v → IsAccount v
+      → counted kind (made_by c n made v) + (debits kind made + deletes kind made) ≡ counted kind v + (credits kind made + brought_back kind made v)
+  unfolding debits brought_back
+  change-balance c n (Debit own amount) v kind can is = let e = laws.debit v own amount kind can in omega (arith, e)
+  change-balance c n (Credit own amount) v kind can is = let e = laws.credit v own amount kind in omega (arith, e)
+  change-balance c n (Retire Surrendered own amount) v kind can is = let e = laws.retire v (new_row c n Surrendered own amount) kind can in omega (arith, e)
+  change-balance c n (Retire Deleted own amount) v kind can is =
       let e = laws.retire v (new_row c n Deleted own amount) kind can in
       let w : amount_in Deleted kind (new_row c n Deleted own amount) ≡ of_kind kind own amount = own-kind (is_same_kind own kind) amount in
       omega (arith, e, w)
-  first-balance c n (ReturnExcess from to own amount) v kind can is = let e = laws.debit v own amount kind can in let w = of-one kind own to amount in omega (arith, e, w)
-  first-balance c n (Reverse a number) v kind can is = let e = back v number kind (row_in v.rows number) refl can is in omega (arith, e)
-  first-balance c n (Create to own amount) v kind can is = let e = laws.credit v own amount kind in omega (arith, e)
-  first-balance c n (CentralMove from to own amount) v kind can is = let e = laws.debit v own amount kind can in let w = of-one kind own to amount in omega (arith, e, w)
-  first-balance c n (Trust a other) v kind can is = by (effective_day c) where
+  change-balance c n (Unretire number) v kind can is = let e = back v number kind (row_in v.rows number) refl can is in omega (arith, e)
+  change-balance c n (Trust other) v kind can is = by (effective_day c) where
     by : (o : Option ℕ) → counted kind (listed_from v other o) + (0 + 0) ≡ counted kind v + (0 + 0)
     by (Some day) = refl
     by None = refl
-  first-balance c n (Untrust a other) v kind can is = omega arith
-  first-balance c n (SetStatus a status) v kind can is = omega arith
-  first-balance c n (EnterEmissions a year tonnes) v kind can is = omega arith
-  first-balance c n (Assess a year) v kind can is = by (figure_of c.rules v year) where
+  change-balance c n (Untrust other) v kind can is = omega arith
+  change-balance c n (SetStatus status) v kind can is = omega arith
+  change-balance c n (SetEmissions year tonnes) v kind can is = omega arith
+  change-balance c n (Determine year) v kind can is = by (figure_of c.rules v year) where
     by : (r : Result ℤ FigureFault) → counted kind (assessed v year r) + (0 + 0) ≡ counted kind v + (0 + 0)
     by (Ok figure) = refl
     by (Err fault) = refl
+
+  first-balance : (c : Setting) (n : ℕ) (act : Act) (v : AccountValue) (kind : AllowanceKind) → CanFirst c n act v → IsAccount v
+      → counted kind (first_after c n act v) + (passed_on kind act + deleted_by kind act) ≡ counted kind v + (created_by kind act + brought_back kind (change_of act) v)
+  first-balance c n act v kind can is =
+      let e = change-balance c n (change_of act) v kind can is in
+      let w = passed-debits kind act in
+      omega (arith, e, w)
 
   -- the balance of an account that receives
   given-balance : (kind own : AllowanceKind) (v : AccountValue) (o : Option Share)
@@ -208,7 +228,7 @@ module _ (laws : NumberLaws) where
     out v = cond (eqb v.number (first act)) (passed_on kind act + deleted_by kind act) 0
 
     into : AccountValue → ℕ
-    into v = cond (eqb v.number (first act)) (created_by kind act + brought_back kind act v) 0
+    into v = cond (eqb v.number (first act)) (created_by kind act + brought_back kind (change_of act) v) 0
 
     share : AccountValue → ℕ
     share v = option_map_or (λ x. of_kind kind (movement_of act).kind x.amount) (share_of (shares act) v.number) 0
@@ -219,7 +239,7 @@ module _ (laws : NumberLaws) where
     one-balance v apart can is = go (eqb v.number (first act)) refl where
       go : (b : Bool) → eqb v.number (first act) ≡ b
           → counted kind (with_changes v (cond b (first_after c n act v) (given (movement_of act).kind (shares act) v))) + cond b (passed_on kind act + deleted_by kind act) 0
-          ≡ counted kind v + (cond b (created_by kind act + brought_back kind act v) 0 + option_map_or (λ x. of_kind kind (movement_of act).kind x.amount) (share_of (shares act) v.number) 0)
+          ≡ counted kind v + (cond b (created_by kind act + brought_back kind (change_of act) v) 0 + option_map_or (λ x. of_kind kind (movement_of act).kind x.amount) (share_of (shares act) v.number) 0)
       go true same =
           let e = first-balance c n act v kind (can.as_first (eqb-true v.number (first act) same)) is in
           let none : option_map_or (λ x. of_kind kind (movement_of act).kind x.amount) (share_of (shares act) v.number) 0 ≡ 0 =
@@ -251,9 +271,9 @@ module _ (laws : NumberLaws) where
       let once = or-right (list_any (λ a. eqb a (first i.act)) (map (λ x. x.to) (shares i.act))) (has_repeat (map (λ x. x.to) (shares i.act))) distinct in
       let balance = all-balance c n i.act kind s apart (can-change-each c s n i none ready.once behind) (recursion_from_All IsAccount s ready.fit) in
       let leaves : sum_by (out c n i.act kind) s ≡ passed_on kind i.act + deleted_by kind i.act = sum-at (λ u. passed_on kind i.act + deleted_by kind i.act) s (first i.act) at.0 ready.once at.1 in
-      let comes : sum_by (into c n i.act kind) s ≡ created_by kind i.act + brought_back kind i.act at.0 = sum-at (λ u. created_by kind i.act + brought_back kind i.act u) s (first i.act) at.0 ready.once at.1 in
+      let comes : sum_by (into c n i.act kind) s ≡ created_by kind i.act + brought_back kind (change_of i.act) at.0 = sum-at (λ u. created_by kind i.act + brought_back kind (change_of i.act) u) s (first i.act) at.0 ready.once at.1 in
       let shared : sum_by (share c n i.act kind) s ≡ passed_on kind i.act = shares-sum kind (movement_of i.act).kind (shares i.act) s ready.once once (receivers-there c s i none) in
-      let back : brought_back kind i.act at.0 ≡ undeleted_by kind s i.act = back-at kind s i.act at.0 at.1 in
+      let back : brought_back kind (change_of i.act) at.0 ≡ undeleted_by kind s i.act = back-at kind s (first i.act) (change_of i.act) at.0 at.1 in
       omega (arith, balance, leaves, comes, shared, back)
 
 pub step-conserves : NumberLaws → StepConserves

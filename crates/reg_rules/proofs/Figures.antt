@@ -10,16 +10,16 @@ use Rattle.reg_base.specs.declared.kinds.AllowanceKind.{AllowanceKind}
 use Rattle.reg_base.specs.declared.kinds.AllowanceKind.TheVariants.{General, Aviation}
 use Rattle.reg_base.specs.Numbers.{IsYearNo}
 use Rattle.reg_base.specs.Rising.{count_up}
-use Rattle.reg_base.specs.Rules.{RulesValue, AreRules}
-use Rattle.reg_account.specs.declared.rows.Retirement.{Retirement}
-use Rattle.reg_account.specs.declared.rows.Retirement.TheVariants.{Surrendered, Deleted}
+use Rattle.reg_base.specs.Rules.{RulesValue, AreRules, is_in_period}
+use Rattle.reg_base.specs.declared.kinds.Retirement.{Retirement}
+use Rattle.reg_base.specs.declared.kinds.Retirement.TheVariants.{Surrendered, Deleted}
 use Rattle.reg_account.specs.declared.rows.RetirementRow.{RetirementRow}
 use Rattle.reg_account.specs.declared.years.Emission.{Emission}
 use Rattle.reg_account.specs.declared.figure.FigureFault.TheVariants.{YearOutsidePeriod}
 use Rattle.reg_account.specs.Rows.{is_same_retirement, is_same_kind, amount_in, retired_in}
 use Rattle.reg_account.specs.Years.{emissions_in, EmissionFits, FigureFits}
 use Rattle.reg_account.specs.Account.{AccountValue, IsAccount, CorrectionFits}
-use Rattle.reg_account.specs.Figure.{is_row_counted, surrendered_for, emitted_in, years_counted, first_missing, is_in_period, figure_with, figure_by, emitted_unless, figure_of}
+use Rattle.reg_account.specs.Figure.{is_row_counted, surrendered_for, emitted_in, years_counted, first_missing, figure_with, figure_by, emitted_unless, figure_of}
 
 -- a row counts for a figure at most as it counts for its kind
 row-counted : (way : Retirement) (kind : AllowanceKind) (reversed : Bool) (amount : ℕ)

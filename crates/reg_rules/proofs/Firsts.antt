@@ -1,22 +1,26 @@
 -- If no check fails, the first account has what its change needs.
-use Rattle.std.proofs.Common.{◌≡◌, ℕ, ◌+◌, ◌<◌, ◌≤◌, Bool, true, false, ◌||◌, eqb, List, length, Option, Some, None, refl, sym, ap, ◌∙◌, arith}
+use Rattle.std.proofs.Common.{◌≡◌, ℕ, ◌+◌, ◌<◌, ◌≤◌, Bool, true, false, ◌||◌, eqb, List, map, length, Option, Some, None, refl, sym, ap, ◌∙◌, arith}
 use Rattle.std.specs.Prelude.{nat_le, nat_lt, is_none, MatchOption}
 use Rattle.std.specs.Option.{option_map_or}
 use Rattle.std.specs.List.{list_any}
 use Rattle.std.proofs.lemmas.Bool.{ltb-false}
-use Rattle.reg_base.specs.declared.limits.TheConstants.{MOST_HELD, MOST_ROWS, MOST_TRUSTED, MOST_EMISSIONS}
+use Rattle.std.proofs.lemmas.List.Folds.{list_any-append}
+use Rattle.reg_base.specs.declared.limits.TheConstants.{MOST_HELD, MOST_RETIRED, MOST_ROWS, MOST_TRUSTED, MOST_EMISSIONS}
+use Rattle.reg_base.specs.declared.movement.Share.{Share}
+use Rattle.reg_base.specs.declared.movement.Change.{Change}
+use Rattle.reg_base.specs.declared.movement.Change.TheVariants.{Debit, Credit, Retire, Unretire, Trust, Untrust, SetStatus, SetEmissions, Determine}
 use Rattle.reg_base.specs.declared.act.Act.{Act}
-use Rattle.reg_base.specs.declared.act.Act.TheVariants.{Transfer, Surrender, Delete, ReturnExcess, Reverse, Create, CentralMove, Trust, Untrust, SetStatus, EnterEmissions, Assess}
+use Rattle.reg_base.specs.declared.act.Act.TheVariants.{Transfer, Surrender, Delete, ReturnExcess, CentralMove}
 use Rattle.reg_base.specs.declared.instruction.Instruction.{Instruction}
 use Rattle.reg_base.specs.declared.refusals.Refusal.TheVariants.{ZeroAmount, UnknownTransaction, AlreadyReversed, NotEnough, HoldingTooLarge, RetiredTooLarge, RowsFull, ListFull, AmountTooLarge}
-use Rattle.reg_base.specs.Acts.{movement_of, first, amounts}
+use Rattle.reg_base.specs.Acts.{movement_of, change_of, first, shares, amounts_named}
 use Rattle.reg_account.specs.declared.rows.RetirementRow.{RetirementRow}
 use Rattle.reg_account.specs.Rows.{row_in}
 use Rattle.reg_account.specs.Account.{AccountValue, held_by, CanUnretireRow}
 use Rattle.reg_rules.specs.State.{State, Setting, Seen, Receiver, account, seen}
 use Rattle.reg_rules.specs.Trust.{is_list_full}
 use Rattle.reg_rules.specs.Checks.{is_unknown_transaction, is_already_reversed, is_short, overfills_first, overfills_some, is_retired_too_large, are_rows_full, enters_too_much, refusal}
-use Rattle.reg_rules.specs.Effect.{CanFirst, IsBehind}
+use Rattle.reg_rules.specs.Effect.{CanMake, CanFirst, IsBehind}
 use Rattle.reg_rules.proofs.Passed.{passed}
 
 pub or-left : (a b : Bool) → (a || b) ≡ false → a ≡ false
@@ -27,17 +31,33 @@ pub or-right : (a b : Bool) → (a || b) ≡ false → b ≡ false
 or-right true b h = absurd (let e : true ≡ false = h in cc)
 or-right false b h = h
 
+-- the account holds fewer allowances than leave it by the change
+short_by : Change → Seen → Bool
+short_by (Debit kind amount) e = nat_lt (option_map_or (λ v. held_by v kind) e.first 0) amount
+short_by (Retire way kind amount) e = nat_lt (option_map_or (λ v. held_by v kind) e.first 0) amount
+short_by made e = false
+
+-- what leaves by the row of an act is what leaves by its change
+short-made : (act : Act) (e : Seen) → is_short (movement_of act) e ≡ false → short_by (change_of act) e ≡ false
+unfolding short_by
+short-made (Transfer from to kind amount) e h = h
+short-made (Surrender from kind amount) e h = h
+short-made (Delete from kind amount) e h = h
+short-made (ReturnExcess from to kind amount) e h = h
+short-made (CentralMove from to kind amount) e h = h
+short-made act e h = refl
+
 -- the checks of amounts and rows that passed at a first account v
-record HasPassed (act : Act) (e : Seen) : Type 0 where
-  some : list_any (λ n. eqb n 0) (amounts act) ≡ false
-  known : is_unknown_transaction act e ≡ false
-  stands : is_already_reversed act e ≡ false
-  enough : is_short (movement_of act) e ≡ false
-  room : overfills_first act e ≡ false
-  retired : is_retired_too_large act e ≡ false
-  rows : are_rows_full act e ≡ false
-  space : is_list_full act e ≡ false
-  entered : enters_too_much act ≡ false
+record HasPassed (made : Change) (e : Seen) : Type 0 where
+  some : list_any (λ n. eqb n 0) (amounts_named made) ≡ false
+  known : is_unknown_transaction made e ≡ false
+  stands : is_already_reversed made e ≡ false
+  enough : short_by made e ≡ false
+  room : overfills_first made e ≡ false
+  retired : is_retired_too_large made e ≡ false
+  rows : are_rows_full made e ≡ false
+  space : is_list_full made e ≡ false
+  entered : enters_too_much made ≡ false
 
 above-zero : (n : ℕ) → (eqb n 0 || false) ≡ false → 1 ≤ n
 above-zero n h = let e : eqb n 0 ≡ false = or-left (eqb n 0) false h in grind (arith, e)
@@ -53,45 +73,37 @@ can-reverse : (v : AccountValue) (o : Option RetirementRow)
 can-reverse v None known stands room = absurd (let h : true ≡ false = known in cc)
 can-reverse v (Some row) known stands room = record { stands = stands; fits = ltb-false MOST_HELD (held_by v row.kind + row.amount) room }
 
-first-can : (c : Setting) (n : ℕ) (act : Act) (v : AccountValue) (rs : List Receiver) → HasPassed act (record { first = Some v; receivers = rs }) → IsBehind n v → CanFirst c n act v
-first-can c n (Transfer from to kind amount) v rs p behind = ltb-false (held_by v kind) amount p.enough
-first-can c n (Surrender from kind amount) v rs p behind = record {
+first-can : (c : Setting) (n : ℕ) (made : Change) (v : AccountValue) (rs : List Receiver) → HasPassed made (record { first = Some v; receivers = rs }) → IsBehind n v → CanMake c n made v
+unfolding short_by
+first-can c n (Debit kind amount) v rs p behind = ltb-false (held_by v kind) amount p.enough
+first-can c n (Credit kind amount) v rs p behind = ltb-false MOST_HELD (held_by v kind + amount) p.room
+first-can c n (Retire way kind amount) v rs p behind = record {
   fresh = refl;
   some = above-zero amount p.some;
   later = behind;
   room = below-full MOST_ROWS (length v.rows) p.rows;
   enough = ltb-false (held_by v kind) amount p.enough;
-  fits = ltb-false MOST_HELD _ p.retired;
+  fits = ltb-false MOST_RETIRED _ p.retired;
 }
-first-can c n (Delete from kind amount) v rs p behind = record {
-  fresh = refl;
-  some = above-zero amount p.some;
-  later = behind;
-  room = below-full MOST_ROWS (length v.rows) p.rows;
-  enough = ltb-false (held_by v kind) amount p.enough;
-  fits = ltb-false MOST_HELD _ p.retired;
-}
-first-can c n (ReturnExcess from to kind amount) v rs p behind = ltb-false (held_by v kind) amount p.enough
-first-can c n (Reverse account number) v rs p behind = can-reverse v (row_in v.rows number) p.known p.stands p.room
-first-can c n (Create to kind amount) v rs p behind = ltb-false MOST_HELD (held_by v kind + amount) p.room
-first-can c n (CentralMove from to kind amount) v rs p behind = ltb-false (held_by v kind) amount p.enough
-first-can c n (Trust account other) v rs p behind = below-full MOST_TRUSTED (length v.trusted) p.space
-first-can c n (Untrust account other) v rs p behind = tt
-first-can c n (SetStatus account status) v rs p behind = tt
-first-can c n (EnterEmissions account year tonnes) v rs p behind = ltb-false MOST_EMISSIONS tonnes (or-left (nat_lt MOST_EMISSIONS tonnes) false p.entered)
-first-can c n (Assess account year) v rs p behind = tt
+first-can c n (Unretire number) v rs p behind = can-reverse v (row_in v.rows number) p.known p.stands p.room
+first-can c n (Trust other) v rs p behind = below-full MOST_TRUSTED (length v.trusted) p.space
+first-can c n (Untrust other) v rs p behind = tt
+first-can c n (SetStatus status) v rs p behind = tt
+first-can c n (SetEmissions year tonnes) v rs p behind = ltb-false MOST_EMISSIONS tonnes (or-left (nat_lt MOST_EMISSIONS tonnes) false p.entered)
+first-can c n (Determine year) v rs p behind = tt
 
 -- the first account of an act that no check refuses
 pub can-first : (c : Setting) (s : State) (n : ℕ) (i : Instruction) (v : AccountValue) → refusal c s i ≡ None → account s (first i.act) ≡ Some v → IsBehind n v → CanFirst c n i.act v
-can-first c s n i v none found behind = first-can c n i.act v (seen s i.act).receivers (record {
-  some = passed c s i ZeroAmount none refl;
-  known = at (λ e. is_unknown_transaction i.act e) (passed c s i UnknownTransaction none refl);
-  stands = at (λ e. is_already_reversed i.act e) (passed c s i AlreadyReversed none refl);
-  enough = at (λ e. is_short (movement_of i.act) e) (passed c s i NotEnough none refl);
-  room = at (λ e. overfills_first i.act e) (or-left (overfills_first i.act (seen s i.act)) (overfills_some (movement_of i.act) (seen s i.act)) (passed c s i HoldingTooLarge none refl));
-  retired = at (λ e. is_retired_too_large i.act e) (passed c s i RetiredTooLarge none refl);
-  rows = at (λ e. are_rows_full i.act e) (passed c s i RowsFull none refl);
-  space = at (λ e. is_list_full i.act e) (passed c s i ListFull none refl);
+can-first c s n i v none found behind = first-can c n (change_of i.act) v (seen s i.act).receivers (record {
+  some = or-right (list_any (λ n. eqb n 0) (map (λ (share : Share). share.amount) (shares i.act))) (list_any (λ n. eqb n 0) (amounts_named (change_of i.act)))
+      (sym (list_any-append (λ n. eqb n 0) (map (λ (share : Share). share.amount) (shares i.act)) (amounts_named (change_of i.act))) ∙ passed c s i ZeroAmount none refl);
+  known = at (λ e. is_unknown_transaction (change_of i.act) e) (passed c s i UnknownTransaction none refl);
+  stands = at (λ e. is_already_reversed (change_of i.act) e) (passed c s i AlreadyReversed none refl);
+  enough = short-made i.act _ (at (λ e. is_short (movement_of i.act) e) (passed c s i NotEnough none refl));
+  room = at (λ e. overfills_first (change_of i.act) e) (or-left (overfills_first (change_of i.act) (seen s i.act)) (overfills_some (movement_of i.act) (seen s i.act)) (passed c s i HoldingTooLarge none refl));
+  retired = at (λ e. is_retired_too_large (change_of i.act) e) (passed c s i RetiredTooLarge none refl);
+  rows = at (λ e. are_rows_full (change_of i.act) e) (passed c s i RowsFull none refl);
+  space = at (λ e. is_list_full (change_of i.act) e) (passed c s i ListFull none refl);
   entered = passed c s i AmountTooLarge none refl;
 }) behind where
   at : (test : Seen → Bool) → test (seen s i.act) ≡ false → test (record { first = Some v; receivers = (seen s i.act).receivers }) ≡ false

@@ -9,14 +9,15 @@ use Rattle.std.proofs.lemmas.List.Elements.{All-from_recursion, recursion_from_A
 use Rattle.reg_base.specs.declared.limits.TheConstants.{MOST_HELD}
 use Rattle.reg_base.specs.declared.kinds.AllowanceKind.{AllowanceKind}
 use Rattle.reg_base.specs.declared.movement.Share.{Share}
+use Rattle.reg_base.specs.declared.movement.Change.{Change}
+use Rattle.reg_base.specs.declared.movement.Change.TheVariants.{Debit, Credit, Retire, Unretire, Trust, Untrust, SetStatus, SetEmissions, Determine}
 use Rattle.reg_base.specs.declared.act.Act.{Act}
-use Rattle.reg_base.specs.declared.act.Act.TheVariants.{Transfer, Surrender, Delete, ReturnExcess, Reverse, Create, CentralMove, Trust, Untrust, SetStatus, EnterEmissions, Assess}
 use Rattle.reg_base.specs.declared.instruction.Instruction.{Instruction}
 use Rattle.reg_base.specs.declared.refusals.Refusal.{Refusal}
 use Rattle.reg_base.specs.Numbers.{IsAccountNo, IsDayNo, IsRecordNo, IsYearNo}
 use Rattle.reg_base.specs.Calendar.{is_due}
 use Rattle.reg_base.specs.Rules.{AreRules}
-use Rattle.reg_base.specs.Acts.{movement_of, first, shares, years, others}
+use Rattle.reg_base.specs.Acts.{movement_of, change_of, first, shares, years, years_named, others, others_named}
 use Rattle.reg_account.specs.declared.rows.RetirementRow.{RetirementRow}
 use Rattle.reg_account.specs.declared.figure.FigureFault.{FigureFault}
 use Rattle.reg_account.specs.Rows.{row_numbers, row_in, with_mark, AreBelow}
@@ -27,7 +28,7 @@ use Rattle.reg_account.specs.Laws.{ChangesKeepLimits}
 use Rattle.reg_rules.specs.State.{State, Setting, account}
 use Rattle.reg_rules.specs.Checks.{refusal}
 use Rattle.reg_rules.specs.Trust.{effective_day}
-use Rattle.reg_rules.specs.Effect.{listed_from, assessed, first_after, share_of, given, by_part, with_changes, changed_by, CanFirst, CanChange, IsBehind}
+use Rattle.reg_rules.specs.Effect.{listed_from, assessed, made_by, first_after, share_of, given, by_part, with_changes, changed_by, CanMake, CanChange, IsBehind}
 use Rattle.reg_rules.specs.Step.{step_by}
 use Rattle.reg_rules.specs.Laws.{IsReady, StaysReady}
 use Rattle.reg_rules.proofs.Applied.{can-change}
@@ -35,10 +36,10 @@ use Rattle.reg_rules.proofs.Effects.{numbers-effect}
 use Rattle.reg_rules.proofs.Figures.{figure-fits}
 use Rattle.reg_rules.proofs.Numbers.{found-by_number}
 
--- the numbers of an act that its effect writes down are in their ranges
-record InRange (act : Act) : Type 0 where
-  years_fit : AllByRecursion IsYearNo (years act)
-  others_fit : AllByRecursion IsAccountNo (others act)
+-- the numbers that a change writes down are in their ranges
+record InRange (made : Change) : Type 0 where
+  years_fit : AllByRecursion IsYearNo (years_named made)
+  others_fit : AllByRecursion IsAccountNo (others_named made)
 
 -- a day that is found in a calendar is a day
 day-found : (days : List ℕ) (test : ℕ → Bool) (day : ℕ) → All IsDayNo days → find test days ≡ Some day → IsDayNo day
@@ -60,33 +61,30 @@ module _ (laws : ChangesKeepLimits) where
   fit-listed v other (Some day) days in_range can is = laws.trust v (record { account = other; effective = day }) is can (record { number = in_range; day = days day refl })
   fit-listed v other None days in_range can is = is
 
-  first-fits : (c : Setting) (n : ℕ) (act : Act) (v : AccountValue) → AreRules c.rules → IsDayNo c.day → IsRecordNo n → InRange act → CanFirst c n act v → IsAccount v → IsAccount (first_after c n act v)
-  first-fits c n (Transfer from to kind amount) v rules day numbered in_range can is = laws.debit v kind amount is
-  first-fits c n (Surrender from kind amount) v rules day numbered in_range can is = laws.retire v _ is can (record { number = numbered; day = day })
-  first-fits c n (Delete from kind amount) v rules day numbered in_range can is = laws.retire v _ is can (record { number = numbered; day = day })
-  first-fits c n (ReturnExcess from to kind amount) v rules day numbered in_range can is = laws.debit v kind amount is
-  first-fits c n (Reverse a number) v rules day numbered in_range can is = laws.unretire v number is can
-  first-fits c n (Create to kind amount) v rules day numbered in_range can is = laws.credit v kind amount is can
-  first-fits c n (CentralMove from to kind amount) v rules day numbered in_range can is = laws.debit v kind amount is
-  first-fits c n (Trust a other) v rules day numbered in_range can is = fit-listed v other (effective_day c) (λ effective due. day-found c.rules.calendar (is_due c.rules.calendar c.day c.rules.list_lag) effective rules.working_days.each_day due) in_range.others_fit.0 can is
-  first-fits c n (Untrust a other) v rules day numbered in_range can is = laws.untrust v other is
-  first-fits c n (SetStatus a status) v rules day numbered in_range can is = laws.set_status v status is
-  first-fits c n (EnterEmissions a year tonnes) v rules day numbered in_range can is = laws.set_emissions v (record { year = year; tonnes = tonnes }) is can in_range.years_fit.0
-  first-fits c n (Assess a year) v rules day numbered in_range can is = fit-assessed v year (figure_of c.rules v year) in_range.years_fit.0 (figure-fits c.rules v year rules in_range.years_fit.0 is) is
+  first-fits : (c : Setting) (n : ℕ) (made : Change) (v : AccountValue) → AreRules c.rules → IsDayNo c.day → IsRecordNo n → InRange made → CanMake c n made v → IsAccount v → IsAccount (made_by c n made v)
+  first-fits c n (Debit kind amount) v rules day numbered in_range can is = laws.debit v kind amount is
+  first-fits c n (Credit kind amount) v rules day numbered in_range can is = laws.credit v kind amount is can
+  first-fits c n (Retire way kind amount) v rules day numbered in_range can is = laws.retire v _ is can (record { number = numbered; day = day })
+  first-fits c n (Unretire number) v rules day numbered in_range can is = laws.unretire v number is can
+  first-fits c n (Trust other) v rules day numbered in_range can is = fit-listed v other (effective_day c) (λ effective due. day-found c.rules.calendar (is_due c.rules.calendar c.day c.rules.list_lag) effective rules.working_days.each_day due) in_range.others_fit.0 can is
+  first-fits c n (Untrust other) v rules day numbered in_range can is = laws.untrust v other is
+  first-fits c n (SetStatus status) v rules day numbered in_range can is = laws.set_status v status is
+  first-fits c n (SetEmissions year tonnes) v rules day numbered in_range can is = laws.set_emissions v (record { year = year; tonnes = tonnes }) is can in_range.years_fit.0
+  first-fits c n (Determine year) v rules day numbered in_range can is = fit-assessed v year (figure_of c.rules v year) in_range.years_fit.0 (figure-fits c.rules v year rules in_range.years_fit.0 is) is
 
   fit-given : (v : AccountValue) (kind : AllowanceKind) (o : Option Share) → MatchOption o (Unit {0}) (λ share. held_by v kind + share.amount ≤ MOST_HELD)
       → IsAccount v → IsAccount (option_map_or (λ share. credited v kind share.amount) o v)
   fit-given v kind None room is = is
   fit-given v kind (Some share) room is = laws.credit v kind share.amount is room
 
-  fit-by_part : (c : Setting) (n : ℕ) (act : Act) (v : AccountValue) → AreRules c.rules → IsDayNo c.day → IsRecordNo n → InRange act → CanChange c n act v → IsAccount v → IsAccount (by_part c n act v)
+  fit-by_part : (c : Setting) (n : ℕ) (act : Act) (v : AccountValue) → AreRules c.rules → IsDayNo c.day → IsRecordNo n → InRange (change_of act) → CanChange c n act v → IsAccount v → IsAccount (by_part c n act v)
   fit-by_part c n act v rules day numbered in_range can is = go (eqb v.number (first act)) refl where
     go : (b : Bool) → eqb v.number (first act) ≡ b → IsAccount (cond b (first_after c n act v) (given (movement_of act).kind (shares act) v))
-    go true same = first-fits c n act v rules day numbered in_range (can.as_first (eqb-true v.number (first act) same)) is
+    go true same = first-fits c n (change_of act) v rules day numbered in_range (can.as_first (eqb-true v.number (first act) same)) is
     go false other = fit-given v (movement_of act).kind (share_of (shares act) v.number) can.room is
 
   -- a state in which nothing refuses stays within its limits
-  limits-after : (c : Setting) (s : State) (n : ℕ) (i : Instruction) → AreRules c.rules → IsDayNo c.day → IsRecordNo n → InRange i.act → refusal c s i ≡ None → (ys : State)
+  limits-after : (c : Setting) (s : State) (n : ℕ) (i : Instruction) → AreRules c.rules → IsDayNo c.day → IsRecordNo n → InRange (change_of i.act) → refusal c s i ≡ None → (ys : State)
       → AllByRecursion (λ v. account s v.number ≡ Some v) ys → AllByRecursion (IsBehind n) ys → AllByRecursion IsAccount ys → AllByRecursion IsAccount (map (changed_by c n i.act) ys)
   limits-after c s n i rules day numbered in_range none [] found behind all = tt
   limits-after c s n i rules day numbered in_range none (y ∷ ys) found behind all =
@@ -134,19 +132,16 @@ behind-listed : (n : ℕ) (v : AccountValue) (other : ℕ) (o : Option ℕ) → 
 behind-listed n v other (Some day) behind = below-next n v.rows behind
 behind-listed n v other None behind = below-next n v.rows behind
 
-behind-first : (c : Setting) (n : ℕ) (act : Act) (v : AccountValue) → IsBehind n v → IsBehind (n + 1) (first_after c n act v)
-behind-first c n (Transfer from to kind amount) v behind = below-next n v.rows behind
-behind-first c n (Surrender from kind amount) v behind = below-added n v.rows _ refl behind
-behind-first c n (Delete from kind amount) v behind = below-added n v.rows _ refl behind
-behind-first c n (ReturnExcess from to kind amount) v behind = below-next n v.rows behind
-behind-first c n (Reverse a number) v behind = behind-unretired n number v (row_in v.rows number) behind
-behind-first c n (Create to kind amount) v behind = below-next n v.rows behind
-behind-first c n (CentralMove from to kind amount) v behind = below-next n v.rows behind
-behind-first c n (Trust a other) v behind = behind-listed n v other (effective_day c) behind
-behind-first c n (Untrust a other) v behind = below-next n v.rows behind
-behind-first c n (SetStatus a status) v behind = below-next n v.rows behind
-behind-first c n (EnterEmissions a year tonnes) v behind = below-next n v.rows behind
-behind-first c n (Assess a year) v behind = behind-assessed n v year (figure_of c.rules v year) behind
+behind-first : (c : Setting) (n : ℕ) (made : Change) (v : AccountValue) → IsBehind n v → IsBehind (n + 1) (made_by c n made v)
+behind-first c n (Debit kind amount) v behind = below-next n v.rows behind
+behind-first c n (Credit kind amount) v behind = below-next n v.rows behind
+behind-first c n (Retire way kind amount) v behind = below-added n v.rows _ refl behind
+behind-first c n (Unretire number) v behind = behind-unretired n number v (row_in v.rows number) behind
+behind-first c n (Trust other) v behind = behind-listed n v other (effective_day c) behind
+behind-first c n (Untrust other) v behind = below-next n v.rows behind
+behind-first c n (SetStatus status) v behind = below-next n v.rows behind
+behind-first c n (SetEmissions year tonnes) v behind = below-next n v.rows behind
+behind-first c n (Determine year) v behind = behind-assessed n v year (figure_of c.rules v year) behind
 
 behind-given : (n : ℕ) (v : AccountValue) (kind : AllowanceKind) (o : Option Share) → IsBehind n v → IsBehind (n + 1) (option_map_or (λ share. credited v kind share.amount) o v)
 behind-given n v kind None behind = below-next n v.rows behind
@@ -155,7 +150,7 @@ behind-given n v kind (Some share) behind = below-next n v.rows behind
 behind-changed : (c : Setting) (n : ℕ) (act : Act) (v : AccountValue) → IsBehind n v → IsBehind (n + 1) (changed_by c n act v)
 behind-changed c n act v behind = go (eqb v.number (first act)) where
   go : (b : Bool) → IsBehind (n + 1) (with_changes v (cond b (first_after c n act v) (given (movement_of act).kind (shares act) v)))
-  go true = behind-first c n act v behind
+  go true = behind-first c n (change_of act) v behind
   go false = behind-given n v (movement_of act).kind (share_of (shares act) v.number) behind
 
 behind-after : (c : Setting) (n : ℕ) (act : Act) (ys : State) → AllByRecursion (IsBehind n) ys → AllByRecursion (IsBehind (n + 1)) (map (changed_by c n act) ys)

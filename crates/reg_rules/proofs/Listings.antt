@@ -4,6 +4,7 @@ use Rattle.std.specs.Prelude.{is_none, is_some}
 use Rattle.std.specs.Option.{option_map, option_map_or}
 use Rattle.reg_base.specs.declared.act.Act.TheVariants.{Trust, Untrust, SetStatus}
 use Rattle.reg_base.specs.declared.refusals.Refusal.TheVariants.{OutsideCalendar, AlreadyTrusted, NotOnList}
+use Rattle.reg_base.specs.Acts.{change_of}
 use Rattle.reg_account.specs.declared.trusted.TrustedEntry.{TrustedEntry}
 use Rattle.reg_account.specs.Trusted.{effective_in}
 use Rattle.reg_account.specs.Years.{emissions_in, figure_in}
@@ -36,10 +37,10 @@ trusts laws c s n i a other is ready none =
     let at = one.1 in
     let own = found-all IsAccount s a v ready.fit at.was in
     let dated = is-there (effective_day c)
-    (ap (has_no_effective_day c) (sym is) ∙ or-right (is_none (due_day c (seen s i.act) i)) (has_no_effective_day c i.act) (passed c s i OutsideCalendar none refl)) in
+    (ap (λ act. has_no_effective_day c (change_of act)) (sym is) ∙ or-right (is_none (due_day c (seen s i.act) i)) (has_no_effective_day c (change_of i.act)) (passed c s i OutsideCalendar none refl)) in
     let missing : effective_in v.trusted other ≡ None = is-absent (effective_in v.trusted other)
-    (ap (λ o. is_already_trusted (Trust a other) (record { first = o; receivers = [] })) (sym at.was)
-    ∙ ap (λ act. is_already_trusted act (seen s act)) (sym is) ∙ passed c s i AlreadyTrusted none refl) in
+    (ap (λ o. is_already_trusted (change_of (Trust a other)) (record { first = o; receivers = [] })) (sym at.was)
+    ∙ ap (λ act. is_already_trusted (change_of act) (seen s act)) (sym is) ∙ passed c s i AlreadyTrusted none refl) in
     let day = dated.0 in
     let new : TrustedEntry = record { account = other; effective = day } in
     let w = with_trusted v new in
@@ -71,8 +72,8 @@ untrusts laws c s n i a other is none =
     let v = one.0 in
     let at = one.1 in
     let found = is-there (effective_in v.trusted other)
-    (ap (λ o. is_not_on_list (Untrust a other) (record { first = o; receivers = [] })) (sym at.was)
-    ∙ ap (λ act. is_not_on_list act (seen s act)) (sym is) ∙ passed c s i NotOnList none refl) in
+    (ap (λ o. is_not_on_list (change_of (Untrust a other)) (record { first = o; receivers = [] })) (sym at.was)
+    ∙ ap (λ act. is_not_on_list (change_of act) (seen s act)) (sym is) ∙ passed c s i NotOnList none refl) in
     let w = without_trusted v other in
     let now : account t a ≡ Some w = at.now in
     record {

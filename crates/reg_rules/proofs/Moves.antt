@@ -9,7 +9,7 @@ use Rattle.reg_base.specs.declared.movement.Share.{Share}
 use Rattle.reg_base.specs.declared.movement.Movement.{Movement}
 use Rattle.reg_base.specs.declared.refusals.Refusal.TheVariants.{SameAccount, WrongAccountKind, NotEnough}
 use Rattle.reg_base.specs.declared.instruction.Instruction.{Instruction}
-use Rattle.reg_base.specs.Acts.{between, movement_of, parties, also_known}
+use Rattle.reg_base.specs.Acts.{passing, movement_of, parties, also_known}
 use Rattle.reg_account.specs.declared.parts.Holdings.{Holdings}
 use Rattle.reg_account.specs.Trusted.{effective_in}
 use Rattle.reg_account.specs.Years.{emissions_in, figure_in}
@@ -136,14 +136,14 @@ module _ (from to : ℕ) (kind : AllowanceKind) (amount : ℕ) where
         ap Some (after-neither v (λ same. not-from (sym number ∙ same)) (λ same. not-to (sym number ∙ same)))
 
 module _ (c : Setting) (s : State) (n : ℕ) (i : Instruction) (from to : ℕ) (kind : AllowanceKind) (amount : ℕ)
-    (is : movement_of i.act ≡ between from to kind amount) (debits : (v : AccountValue) → first_after c n i.act v ≡ debited v kind amount) (none : refusal c s i ≡ None) where
+    (is : movement_of i.act ≡ passing from to kind amount) (debits : (v : AccountValue) → first_after c n i.act v ≡ debited v kind amount) (none : refusal c s i ≡ None) where
   two : from ≢ to
   two = λ same.
       eqb-false to from (or-left (eqb to from) false (or-left (eqb to from || false) false
       (ap (λ (m : Movement). has_repeat (m.first ∷ map (λ share. share.to) m.shares)) (sym is)
       ∙ repeats-none (parties i.act) (option_to_list (also_known i.act)) (passed c s i SameAccount none refl)))) (sym same)
 
-  kinds : has_right_kinds (rule_of i.act) (seen_by (between from to kind amount) s) ≡ true
+  kinds : has_right_kinds (rule_of i.act) (seen_by (passing from to kind amount) s) ≡ true
   kinds =
       ap (λ m. has_right_kinds (rule_of i.act) (seen_by m s)) (sym is)
       ∙ not-false (has_right_kinds (rule_of i.act) (seen_by (movement_of i.act) s)) (passed c s i WrongAccountKind none refl)
@@ -151,10 +151,10 @@ module _ (c : Setting) (s : State) (n : ℕ) (i : Instruction) (from to : ℕ) (
   -- both accounts are there
   both : (giver : AccountValue) × (account s from ≡ Some giver) × ((taker : AccountValue) × (account s to ≡ Some taker))
   both =
-      let giver = there (λ v. fits_first (rule_of i.act).kinds v.kind && receivers_fit (rule_of i.act).kinds v.kind (seen_by (between from to kind amount) s)) (account s from) kinds in
-      let at : (fits_first (rule_of i.act).kinds giver.0.kind && receivers_fit (rule_of i.act).kinds giver.0.kind (seen_by (between from to kind amount) s)) ≡ true =
-      ap (passes (λ v. fits_first (rule_of i.act).kinds v.kind && receivers_fit (rule_of i.act).kinds v.kind (seen_by (between from to kind amount) s))) (sym giver.1) ∙ kinds in
-      let received = (and_parts (fits_first (rule_of i.act).kinds giver.0.kind) (receivers_fit (rule_of i.act).kinds giver.0.kind (seen_by (between from to kind amount) s)) at).1 in
+      let giver = there (λ v. fits_first (rule_of i.act).kinds v.kind && receivers_fit (rule_of i.act).kinds v.kind (seen_by (passing from to kind amount) s)) (account s from) kinds in
+      let at : (fits_first (rule_of i.act).kinds giver.0.kind && receivers_fit (rule_of i.act).kinds giver.0.kind (seen_by (passing from to kind amount) s)) ≡ true =
+      ap (passes (λ v. fits_first (rule_of i.act).kinds v.kind && receivers_fit (rule_of i.act).kinds v.kind (seen_by (passing from to kind amount) s))) (sym giver.1) ∙ kinds in
+      let received = (and_parts (fits_first (rule_of i.act).kinds giver.0.kind) (receivers_fit (rule_of i.act).kinds giver.0.kind (seen_by (passing from to kind amount) s)) at).1 in
       let taker = there (λ v. fits_receiver (rule_of i.act).kinds giver.0.kind v.kind) (account s to)
       (and_parts (passes (λ v. fits_receiver (rule_of i.act).kinds giver.0.kind v.kind) (account s to)) true received).0 in
       (giver.0, giver.1, taker)
@@ -174,6 +174,6 @@ module _ (c : Setting) (s : State) (n : ℕ) (i : Instruction) (from to : ℕ) (
 
 -- an accepted act with such a movement moves its amount
 pub moves : (c : Setting) (s : State) (n : ℕ) (i : Instruction) (from to : ℕ) (kind : AllowanceKind) (amount : ℕ)
-    → movement_of i.act ≡ between from to kind amount → ((v : AccountValue) → first_after c n i.act v ≡ debited v kind amount) → refusal c s i ≡ None → IsMoved s (after_step c s n i) from to kind amount
+    → movement_of i.act ≡ passing from to kind amount → ((v : AccountValue) → first_after c n i.act v ≡ debited v kind amount) → refusal c s i ≡ None → IsMoved s (after_step c s n i) from to kind amount
 moves c s n i from to kind amount is debits none =
     subst (λ (r : State). IsMoved s r from to kind amount) (ap (λ r. (step_by c s n i r).0) (sym none)) (moved-effect c s n i from to kind amount is debits none)

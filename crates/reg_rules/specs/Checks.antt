@@ -2,29 +2,29 @@
 use Rattle.std.specs.Prelude.{ℕ, ◌+◌, ℤ, pos, Bool, true, false, not, ◌==◌, ◌&&◌, ◌||◌, nat_le, nat_lt, int_lt, List, [], ◌∷◌, find, reverse, length, Option, None, is_none, Result, Ok, Err, if◌then◌else◌}
 use Rattle.std.specs.Option.{option_map_or}
 use Rattle.std.specs.List.{list_all, list_any}
-use Rattle.reg_base.specs.declared.limits.TheConstants.{MOST_HELD, MOST_ROWS, MOST_EMISSIONS}
+use Rattle.reg_base.specs.declared.limits.TheConstants.{MOST_HELD, MOST_RETIRED, MOST_ROWS, MOST_EMISSIONS}
 use Rattle.reg_base.specs.declared.kinds.AccountKind.{AccountKind}
 use Rattle.reg_base.specs.declared.kinds.AllowanceKind.{AllowanceKind}
 use Rattle.reg_base.specs.declared.refusals.Refusal.{Refusal}
-use Rattle.reg_base.specs.declared.refusals.Refusal.TheVariants.{UnknownAccount, SameAccount, WrongAccountKind, SourceStatus, DestinationStatus, NotProposer, ApprovalMissing, SameRepresentative, NotApprover, NotTrusted, OutsideCalendar, NotDue, KindNotAllowed, ZeroAmount, UnknownTransaction, AlreadyReversed, WindowClosed, NotEnough, HoldingTooLarge, RetiredTooLarge, RowsFull, WouldBecomeNonCompliant, AlreadyTrusted, NotOnList, ListFull, YearOutsidePeriod, AmountTooLarge, EmissionsMissing}
+use Rattle.reg_base.specs.declared.refusals.Refusal.TheVariants as check
 use Rattle.reg_base.specs.declared.movement.Movement.{Movement}
-use Rattle.reg_base.specs.declared.act.Act.{Act}
-use Rattle.reg_base.specs.declared.act.Act.TheVariants.{Surrender, Delete, Reverse, Create, Assess}
+use Rattle.reg_base.specs.declared.movement.Change.{Change}
+use Rattle.reg_base.specs.declared.movement.Change.TheVariants.{Credit, Retire, Unretire, Determine}
 use Rattle.reg_base.specs.declared.instruction.Instruction.{Instruction}
-use Rattle.reg_base.specs.Acts.{movement_of, amounts, tonnes, years}
+use Rattle.reg_base.specs.Acts.{movement_of, change_of, amounts, tonnes_named, years_named}
 use Rattle.reg_base.specs.Calendar.{due}
-use Rattle.reg_base.specs.Rules.{RulesValue, may_surrender}
+use Rattle.reg_base.specs.Rules.{RulesValue, may_surrender, is_in_period}
 use Rattle.reg_base.specs.Footprint.{must_be_known, all_known}
 use Rattle.reg_base.specs.Refusals.{checks}
-use Rattle.reg_account.specs.declared.rows.Retirement.{Retirement}
-use Rattle.reg_account.specs.declared.rows.Retirement.TheVariants.{Surrendered, Deleted}
+use Rattle.reg_base.specs.declared.kinds.Retirement.{Retirement}
+use Rattle.reg_base.specs.declared.kinds.Retirement.TheVariants.{Surrendered}
 use Rattle.reg_account.specs.declared.rows.RetirementRow.{RetirementRow}
 use Rattle.reg_account.specs.declared.years.Figure.{Figure}
 use Rattle.reg_account.specs.declared.figure.FigureFault.{FigureFault}
 use Rattle.reg_account.specs.declared.figure.FigureFault.TheVariants.{YearOutsidePeriod as OutsidePeriod, Missing}
 use Rattle.reg_account.specs.Rows.{row_in}
 use Rattle.reg_account.specs.Account.{AccountValue, held_by, retired_by, unretired}
-use Rattle.reg_account.specs.Figure.{is_in_period, is_row_counted, figure_of}
+use Rattle.reg_account.specs.Figure.{is_row_counted, figure_of}
 use Rattle.reg_rules.specs.declared.rule.KindRule.{KindRule}
 use Rattle.reg_rules.specs.declared.rule.ActRule.{ActRule}
 use Rattle.reg_rules.specs.ActRules.{rule_of, fits_first, fits_receiver, fits_source, fits_first_receiver, is_not_closed}
@@ -55,35 +55,35 @@ destination_allows rule e =
     passes (λ v. fits_first_receiver rule.status v.status) e.first && list_all (λ r. passes (λ v. is_not_closed v.status) r.account) e.receivers
 
 -- the table of surrenders lacks the first account's kind together with the kind of the allowances
-abbrev pub is_kind_not_allowed : RulesValue → Act → Seen → Bool
-is_kind_not_allowed rules (Surrender from kind amount) e = passes (λ v. not (may_surrender rules v.kind kind)) e.first
-is_kind_not_allowed rules act e = false
+abbrev pub is_kind_not_allowed : RulesValue → Change → Seen → Bool
+is_kind_not_allowed rules (Retire Surrendered kind amount) e = passes (λ v. not (may_surrender rules v.kind kind)) e.first
+is_kind_not_allowed rules made e = false
 
--- the act reverses a surrender or a deletion
-abbrev pub is_reversal : Act → Bool
-is_reversal (Reverse account number) = true
-is_reversal act = false
+-- a surrender or a deletion is to be reversed
+abbrev pub is_reversal : Change → Bool
+is_reversal (Unretire number) = true
+is_reversal made = false
 
 -- the surrender or deletion that is to be reversed, if the first account has it
-abbrev pub row_to_reverse : Act → Seen → Option RetirementRow
-row_to_reverse (Reverse account number) e = option_map_or (λ v. row_in v.rows number) e.first None
-row_to_reverse act e = None
+abbrev pub row_to_reverse : Change → Seen → Option RetirementRow
+row_to_reverse (Unretire number) e = option_map_or (λ v. row_in v.rows number) e.first None
+row_to_reverse made e = None
 
 -- the first account has no surrender or deletion with the record number that is to be reversed
-abbrev pub is_unknown_transaction : Act → Seen → Bool
-is_unknown_transaction act e = is_reversal act && is_none (row_to_reverse act e)
+abbrev pub is_unknown_transaction : Change → Seen → Bool
+is_unknown_transaction made e = is_reversal made && is_none (row_to_reverse made e)
 
 -- what is to be reversed was reversed before
-abbrev pub is_already_reversed : Act → Seen → Bool
-is_already_reversed act e = option_map_or (λ row. row.reversed) (row_to_reverse act e) false
+abbrev pub is_already_reversed : Change → Seen → Bool
+is_already_reversed made e = option_map_or (λ row. row.reversed) (row_to_reverse made e) false
 
 -- the last day on which the row could be reversed is over; without such a day in the calendar, the window stays open
 abbrev pub is_past_window : Setting → RetirementRow → Bool
 is_past_window c row = option_map_or (λ last. nat_lt last c.day) (due c.rules.calendar row.day c.rules.reversal_window) false
 
 -- the window for the reversal is closed
-abbrev pub is_window_closed : Setting → Act → Seen → Bool
-is_window_closed c act e = option_map_or (is_past_window c) (row_to_reverse act e) false
+abbrev pub is_window_closed : Setting → Change → Seen → Bool
+is_window_closed c made e = option_map_or (is_past_window c) (row_to_reverse made e) false
 
 -- the first account holds fewer allowances of the kind than leave it
 abbrev pub is_short : Movement → Seen → Bool
@@ -94,11 +94,11 @@ abbrev pub overfills : AllowanceKind → Receiver → Bool
 overfills kind r = nat_lt MOST_HELD (option_map_or (λ v. held_by v kind) r.account 0 + r.amount)
 
 -- the first account would hold more than it may with what is created on it, or comes back to it
-abbrev pub overfills_first : Act → Seen → Bool
-overfills_first (Create to kind amount) e = overfills kind (record { account = e.first; amount = amount })
-overfills_first (Reverse account number) e =
-    option_map_or (λ row. overfills row.kind (record { account = e.first; amount = row.amount })) (row_to_reverse (Reverse account number) e) false
-overfills_first act e = false
+abbrev pub overfills_first : Change → Seen → Bool
+overfills_first (Credit kind amount) e = overfills kind (record { account = e.first; amount = amount })
+overfills_first (Unretire number) e =
+    option_map_or (λ row. overfills row.kind (record { account = e.first; amount = row.amount })) (row_to_reverse (Unretire number) e) false
+overfills_first made e = false
 
 -- some account that receives would hold more than it may
 abbrev pub overfills_some : Movement → Seen → Bool
@@ -106,23 +106,21 @@ overfills_some m e = list_any (overfills m.kind) e.receivers
 
 -- the account would have surrendered (or deleted) more allowances of the kind than it may
 abbrev pub retires_too_much : Retirement → AllowanceKind → ℕ → Seen → Bool
-retires_too_much way kind amount e = passes (λ v. nat_lt MOST_HELD (retired_by v way kind + amount)) e.first
+retires_too_much way kind amount e = passes (λ v. nat_lt MOST_RETIRED (retired_by v way kind + amount)) e.first
 
 -- more would be surrendered, or deleted, than may be
-abbrev pub is_retired_too_large : Act → Seen → Bool
-is_retired_too_large (Surrender from kind amount) e = retires_too_much Surrendered kind amount e
-is_retired_too_large (Delete from kind amount) e = retires_too_much Deleted kind amount e
-is_retired_too_large act e = false
+abbrev pub is_retired_too_large : Change → Seen → Bool
+is_retired_too_large (Retire way kind amount) e = retires_too_much way kind amount e
+is_retired_too_large made e = false
 
 -- the first account has as many surrenders and deletions as it may have
 abbrev pub has_all_rows : Seen → Bool
 has_all_rows e = passes (λ v. nat_le MOST_ROWS (length v.rows)) e.first
 
--- there is no room for the act's row
-abbrev pub are_rows_full : Act → Seen → Bool
-are_rows_full (Surrender from kind amount) e = has_all_rows e
-are_rows_full (Delete from kind amount) e = has_all_rows e
-are_rows_full act e = false
+-- there is no room for the row of what is surrendered, or deleted
+abbrev pub are_rows_full : Change → Seen → Bool
+are_rows_full (Retire way kind amount) e = has_all_rows e
+are_rows_full made e = false
 
 -- the determined figure of the latest year of the period that has one; the figures of an account rise by year
 abbrev pub latest_determined : RulesValue → AccountValue → Option Figure
@@ -155,17 +153,17 @@ abbrev pub loses_compliance : RulesValue → ℕ → AccountValue → Bool
 loses_compliance rules number v = option_map_or (λ latest. turns_negative rules number v latest.year) (latest_determined rules v) false
 
 -- the reversal would make the first account non-compliant
-abbrev pub would_become_non_compliant : RulesValue → Act → Seen → Bool
-would_become_non_compliant rules (Reverse account number) e = passes (loses_compliance rules number) e.first
-would_become_non_compliant rules act e = false
+abbrev pub would_become_non_compliant : RulesValue → Change → Seen → Bool
+would_become_non_compliant rules (Unretire number) e = passes (loses_compliance rules number) e.first
+would_become_non_compliant rules made e = false
 
 -- a year that the act names is outside the period
-abbrev pub names_year_outside : RulesValue → Act → Bool
-names_year_outside rules act = list_any (λ year. not (is_in_period rules year)) (years act)
+abbrev pub names_year_outside : RulesValue → Change → Bool
+names_year_outside rules made = list_any (λ year. not (is_in_period rules year)) (years_named made)
 
 -- emissions that the act enters are too large
-abbrev pub enters_too_much : Act → Bool
-enters_too_much act = list_any (λ n. nat_lt MOST_EMISSIONS n) (tonnes act)
+abbrev pub enters_too_much : Change → Bool
+enters_too_much made = list_any (λ n. nat_lt MOST_EMISSIONS n) (tonnes_named made)
 
 -- there is no figure because a year has no emissions
 abbrev pub is_missing : Result ℤ FigureFault → Bool
@@ -174,50 +172,50 @@ is_missing (Err OutsidePeriod) = false
 is_missing (Err (Missing year)) = true
 
 -- the figure that is to be determined lacks the emissions of a year
-abbrev pub lacks_emissions : RulesValue → Act → Seen → Bool
-lacks_emissions rules (Assess account year) e = passes (λ v. is_missing (figure_of rules v year)) e.first
-lacks_emissions rules act e = false
+abbrev pub lacks_emissions : RulesValue → Change → Seen → Bool
+lacks_emissions rules (Determine year) e = passes (λ v. is_missing (figure_of rules v year)) e.first
+lacks_emissions rules made e = false
 
 -- the check of this name fails on what the act sees
 abbrev pub fails : Setting → Seen → Instruction → Refusal → Bool
-fails c e i UnknownAccount = not (all_known c.directory i.act)
-fails c e i SameAccount = has_repeat (must_be_known i.act)
-fails c e i WrongAccountKind = not (has_right_kinds (rule_of i.act) e)
-fails c e i SourceStatus = not (source_allows (rule_of i.act) e)
-fails c e i DestinationStatus = not (destination_allows (rule_of i.act) e)
-fails c e i NotProposer = is_not_proposer c.rules i e
-fails c e i ApprovalMissing = lacks_approval c i e
-fails c e i SameRepresentative = is_same_representative i
-fails c e i NotApprover = is_not_approver c.rules i e
-fails c e i NotTrusted = is_not_trusted c i.act e
-fails c e i OutsideCalendar = is_none (due_day c e i) || has_no_effective_day c i.act
-fails c e i NotDue = option_map_or (λ w. nat_lt c.day w) (due_day c e i) false
-fails c e i KindNotAllowed = is_kind_not_allowed c.rules i.act e
-fails c e i ZeroAmount = list_any (λ n. n == 0) (amounts i.act)
-fails c e i UnknownTransaction = is_unknown_transaction i.act e
-fails c e i AlreadyReversed = is_already_reversed i.act e
-fails c e i WindowClosed = is_window_closed c i.act e
-fails c e i NotEnough = is_short (movement_of i.act) e
-fails c e i HoldingTooLarge = overfills_first i.act e || overfills_some (movement_of i.act) e
-fails c e i RetiredTooLarge = is_retired_too_large i.act e
-fails c e i RowsFull = are_rows_full i.act e
-fails c e i WouldBecomeNonCompliant = would_become_non_compliant c.rules i.act e
-fails c e i AlreadyTrusted = is_already_trusted i.act e
-fails c e i NotOnList = is_not_on_list i.act e
-fails c e i ListFull = is_list_full i.act e
-fails c e i YearOutsidePeriod = names_year_outside c.rules i.act
-fails c e i AmountTooLarge = enters_too_much i.act
-fails c e i EmissionsMissing = lacks_emissions c.rules i.act e
+fails c e i check.UnknownAccount = not (all_known c.directory i.act)
+fails c e i check.SameAccount = has_repeat (must_be_known i.act)
+fails c e i check.WrongAccountKind = not (has_right_kinds (rule_of i.act) e)
+fails c e i check.SourceStatus = not (source_allows (rule_of i.act) e)
+fails c e i check.DestinationStatus = not (destination_allows (rule_of i.act) e)
+fails c e i check.NotProposer = is_not_proposer c.rules i e
+fails c e i check.ApprovalMissing = lacks_approval c i e
+fails c e i check.SameRepresentative = is_same_representative i
+fails c e i check.NotApprover = is_not_approver c.rules i e
+fails c e i check.NotTrusted = is_not_trusted c (rule_of i.act).lag e
+fails c e i check.OutsideCalendar = is_none (due_day c e i) || has_no_effective_day c (change_of i.act)
+fails c e i check.NotDue = option_map_or (λ w. nat_lt c.day w) (due_day c e i) false
+fails c e i check.KindNotAllowed = is_kind_not_allowed c.rules (change_of i.act) e
+fails c e i check.ZeroAmount = list_any (λ n. n == 0) (amounts i.act)
+fails c e i check.UnknownTransaction = is_unknown_transaction (change_of i.act) e
+fails c e i check.AlreadyReversed = is_already_reversed (change_of i.act) e
+fails c e i check.WindowClosed = is_window_closed c (change_of i.act) e
+fails c e i check.NotEnough = is_short (movement_of i.act) e
+fails c e i check.HoldingTooLarge = overfills_first (change_of i.act) e || overfills_some (movement_of i.act) e
+fails c e i check.RetiredTooLarge = is_retired_too_large (change_of i.act) e
+fails c e i check.RowsFull = are_rows_full (change_of i.act) e
+fails c e i check.WouldBecomeNonCompliant = would_become_non_compliant c.rules (change_of i.act) e
+fails c e i check.AlreadyTrusted = is_already_trusted (change_of i.act) e
+fails c e i check.NotOnList = is_not_on_list (change_of i.act) e
+fails c e i check.ListFull = is_list_full (change_of i.act) e
+fails c e i check.YearOutsidePeriod = names_year_outside c.rules (change_of i.act)
+fails c e i check.AmountTooLarge = enters_too_much (change_of i.act)
+fails c e i check.EmissionsMissing = lacks_emissions c.rules (change_of i.act) e
 
 -- the check needs only the accounts and their representatives; the checks of this sort come first
 abbrev pub is_of_parties : Refusal → Bool
-is_of_parties UnknownAccount = true
-is_of_parties SameAccount = true
-is_of_parties WrongAccountKind = true
-is_of_parties SourceStatus = true
-is_of_parties DestinationStatus = true
-is_of_parties NotProposer = true
-is_of_parties check = false
+is_of_parties check.UnknownAccount = true
+is_of_parties check.SameAccount = true
+is_of_parties check.WrongAccountKind = true
+is_of_parties check.SourceStatus = true
+is_of_parties check.DestinationStatus = true
+is_of_parties check.NotProposer = true
+is_of_parties later = false
 
 -- the first check that fails, or none
 abbrev pub refusal : Setting → State → Instruction → Option Refusal

@@ -4,9 +4,11 @@ use Rattle.std.specs.Option.{option_map_or}
 use Rattle.std.specs.List.{sum_by}
 use Rattle.reg_base.specs.declared.kinds.AllowanceKind.{AllowanceKind}
 use Rattle.reg_base.specs.declared.act.Act.{Act}
-use Rattle.reg_base.specs.declared.act.Act.TheVariants.{Delete, Reverse, Create}
+use Rattle.reg_base.specs.declared.movement.Change.{Change}
+use Rattle.reg_base.specs.declared.movement.Change.TheVariants.{Credit, Retire, Unretire}
+use Rattle.reg_base.specs.Acts.{first, change_of}
 use Rattle.reg_base.specs.declared.instruction.Instruction.{Instruction}
-use Rattle.reg_account.specs.declared.rows.Retirement.TheVariants.{Deleted}
+use Rattle.reg_base.specs.declared.kinds.Retirement.TheVariants.{Deleted}
 use Rattle.reg_account.specs.Rows.{amount_in}
 use Rattle.reg_account.specs.Laws.{counted, of_kind}
 use Rattle.reg_rules.specs.State.{State, Setting, row}
@@ -17,20 +19,32 @@ use Rattle.reg_rules.specs.Laws.{after_step, IsReady}
 abbrev pub number_of : AllowanceKind → State → ℕ
 number_of kind s = sum_by (counted kind) s
 
+-- how many allowances of the kind the change of an account creates
+abbrev pub credits : AllowanceKind → Change → ℕ
+credits kind (Credit own amount) = of_kind kind own amount
+credits kind made = 0
+
 -- how many allowances of the kind the act creates
 abbrev pub created_by : AllowanceKind → Act → ℕ
-created_by kind (Create to own amount) = of_kind kind own amount
-created_by kind act = 0
+created_by kind act = credits kind (change_of act)
+
+-- how many allowances of the kind the change of an account deletes
+abbrev pub deletes : AllowanceKind → Change → ℕ
+deletes kind (Retire Deleted own amount) = of_kind kind own amount
+deletes kind made = 0
 
 -- how many allowances of the kind the act deletes
 abbrev pub deleted_by : AllowanceKind → Act → ℕ
-deleted_by kind (Delete from own amount) = of_kind kind own amount
-deleted_by kind act = 0
+deleted_by kind act = deletes kind (change_of act)
 
--- how many deleted allowances of the kind the act brings back: the amount of the deletion that it reverses
+-- how many deleted allowances of the kind the change of this account brings back: the amount of the deletion that it reverses
+abbrev pub undeletes : AllowanceKind → State → ℕ → Change → ℕ
+undeletes kind s a (Unretire number) = option_map_or (amount_in Deleted kind) (row s a number) 0
+undeletes kind s a made = 0
+
+-- how many deleted allowances of the kind the act brings back
 abbrev pub undeleted_by : AllowanceKind → State → Act → ℕ
-undeleted_by kind s (Reverse a number) = option_map_or (amount_in Deleted kind) (row s a number) 0
-undeleted_by kind s act = 0
+undeleted_by kind s act = undeletes kind s (first act) (change_of act)
 
 -- law: an accepted instruction changes the number of allowances by what it creates, deletes and brings back, and by nothing else
 abbrev pub StepConserves : Type 0

@@ -4,12 +4,12 @@ use Rattle.std.specs.Option.{option_map_or}
 use Rattle.reg_base.specs.declared.limits.TheConstants.{MOST_HELD, MOST_EMISSIONS}
 use Rattle.reg_base.specs.declared.kinds.AllowanceKind.{AllowanceKind}
 use Rattle.reg_base.specs.declared.movement.Share.{Share}
+use Rattle.reg_base.specs.declared.movement.Change.{Change}
+use Rattle.reg_base.specs.declared.movement.Change.TheVariants.{Debit, Credit, Retire, Unretire, Trust, Untrust, SetStatus, SetEmissions, Determine}
 use Rattle.reg_base.specs.declared.act.Act.{Act}
-use Rattle.reg_base.specs.declared.act.Act.TheVariants.{Transfer, Surrender, Delete, ReturnExcess, Reverse, Create, CentralMove, Trust, Untrust, SetStatus, EnterEmissions, Assess}
 use Rattle.reg_base.specs.declared.instruction.Instruction.{Instruction}
-use Rattle.reg_base.specs.Acts.{movement_of, first, shares}
-use Rattle.reg_account.specs.declared.rows.Retirement.{Retirement}
-use Rattle.reg_account.specs.declared.rows.Retirement.TheVariants.{Surrendered, Deleted}
+use Rattle.reg_base.specs.Acts.{movement_of, change_of, first, shares}
+use Rattle.reg_base.specs.declared.kinds.Retirement.{Retirement}
 use Rattle.reg_account.specs.declared.rows.RetirementRow.{RetirementRow}
 use Rattle.reg_account.specs.declared.figure.FigureFault.{FigureFault}
 use Rattle.reg_account.specs.Rows.{row_numbers, AreBelow}
@@ -32,20 +32,21 @@ abbrev pub listed_from : AccountValue → ℕ → Option ℕ → AccountValue
 listed_from v other (Some day) = with_trusted v (record { account = other; effective = day })
 listed_from v other None = v
 
--- the act's first account after it: a row for each act, which is carried out under this record number
+-- an account after this change, in an act that is carried out under this record number
+abbrev pub made_by : Setting → ℕ → Change → AccountValue → AccountValue
+made_by c number (Debit kind amount) v = debited v kind amount
+made_by c number (Credit kind amount) v = credited v kind amount
+made_by c number (Retire way kind amount) v = retired v (new_row c number way kind amount)
+made_by c number (Unretire reversed) v = unretired v reversed
+made_by c number (Trust other) v = listed_from v other (effective_day c)
+made_by c number (Untrust other) v = without_trusted v other
+made_by c number (SetStatus status) v = with_status v status
+made_by c number (SetEmissions year tonnes) v = with_emissions v (record { year = year; tonnes = tonnes })
+made_by c number (Determine year) v = assessed v year (figure_of c.rules v year)
+
+-- the act's first account after it
 abbrev pub first_after : Setting → ℕ → Act → AccountValue → AccountValue
-first_after c number (Transfer from to kind amount) v = debited v kind amount
-first_after c number (Surrender from kind amount) v = retired v (new_row c number Surrendered kind amount)
-first_after c number (Delete from kind amount) v = retired v (new_row c number Deleted kind amount)
-first_after c number (ReturnExcess from to kind amount) v = debited v kind amount
-first_after c number (Reverse account reversed) v = unretired v reversed
-first_after c number (Create to kind amount) v = credited v kind amount
-first_after c number (CentralMove from to kind amount) v = debited v kind amount
-first_after c number (Trust account other) v = listed_from v other (effective_day c)
-first_after c number (Untrust account other) v = without_trusted v other
-first_after c number (SetStatus account status) v = with_status v status
-first_after c number (EnterEmissions account year tonnes) v = with_emissions v (record { year = year; tonnes = tonnes })
-first_after c number (Assess account year) v = assessed v year (figure_of c.rules v year)
+first_after c number act v = made_by c number (change_of act) v
 
 -- the share of an account, if it has one
 abbrev pub share_of : List Share → ℕ → Option Share
@@ -71,20 +72,21 @@ changed_by c number act v = with_changes v (by_part c number act v)
 abbrev pub effect : Setting → State → ℕ → Instruction → State
 effect c s number i = map (changed_by c number i.act) s
 
--- what the change of the first account needs of it
+-- what this change needs of the account
+abbrev pub CanMake : Setting → ℕ → Change → AccountValue → Type 0
+CanMake c number (Debit kind amount) v = amount ≤ held_by v kind
+CanMake c number (Credit kind amount) v = held_by v kind + amount ≤ MOST_HELD
+CanMake c number (Retire way kind amount) v = CanRetire v (new_row c number way kind amount)
+CanMake c number (Unretire reversed) v = CanUnretire v reversed
+CanMake c number (Trust other) v = CanTrust v
+CanMake c number (Untrust other) v = Unit {0}
+CanMake c number (SetStatus status) v = Unit {0}
+CanMake c number (SetEmissions year tonnes) v = tonnes ≤ MOST_EMISSIONS
+CanMake c number (Determine year) v = Unit {0}
+
+-- what the change of the act's first account needs of it
 abbrev pub CanFirst : Setting → ℕ → Act → AccountValue → Type 0
-CanFirst c number (Transfer from to kind amount) v = amount ≤ held_by v kind
-CanFirst c number (Surrender from kind amount) v = CanRetire v (new_row c number Surrendered kind amount)
-CanFirst c number (Delete from kind amount) v = CanRetire v (new_row c number Deleted kind amount)
-CanFirst c number (ReturnExcess from to kind amount) v = amount ≤ held_by v kind
-CanFirst c number (Reverse account reversed) v = CanUnretire v reversed
-CanFirst c number (Create to kind amount) v = held_by v kind + amount ≤ MOST_HELD
-CanFirst c number (CentralMove from to kind amount) v = amount ≤ held_by v kind
-CanFirst c number (Trust account other) v = CanTrust v
-CanFirst c number (Untrust account other) v = Unit {0}
-CanFirst c number (SetStatus account status) v = Unit {0}
-CanFirst c number (EnterEmissions account year tonnes) v = tonnes ≤ MOST_EMISSIONS
-CanFirst c number (Assess account year) v = Unit {0}
+CanFirst c number act v = CanMake c number (change_of act) v
 
 -- the account has room for its share
 abbrev pub CanReceive : AllowanceKind → List Share → AccountValue → Type 0

@@ -8,7 +8,7 @@ use Rattle.reg_base.specs.declared.movement.Movement.{Movement}
 use Rattle.reg_base.specs.Acts.{movement_of}
 use Rattle.reg_base.specs.Rules.{RulesValue}
 use Rattle.reg_base.specs.Directory.{DirectoryValue}
-use Rattle.reg_account.specs.declared.rows.Retirement.{Retirement}
+use Rattle.reg_base.specs.declared.kinds.Retirement.{Retirement}
 use Rattle.reg_account.specs.declared.rows.RetirementRow.{RetirementRow}
 use Rattle.reg_account.specs.Rows.{row_in, retired_in}
 use Rattle.reg_account.specs.Years.{emissions_in, figure_in}

@@ -6,7 +6,7 @@ ghost use Rattle.reg_account.specs.Users.{right_in};
 ghost use Rattle.reg_rules.specs.State.{account, seen_by};
 ghost use Rattle.reg_rules.specs.Entitlements.{includes, is_entitled, is_not_proposer, is_same_representative, is_not_approver};
 
-use crate::checks::find_account;
+use crate::parties::find_account;
 use crate::rule::{Role, Who, rule_of};
 use reg_account::Account;
 use reg_base::{AccountNo, Instruction, Movement, Right, Rules, UserNo};

@@ -2,10 +2,14 @@
 //! row in the log.
 #![tactic(auto)]
 
+mod amounts;
 mod checks;
+mod compliance;
 mod entitlement;
 mod laws;
+mod parties;
 mod reply;
+mod reversal;
 mod rule;
 mod setting;
 mod step;

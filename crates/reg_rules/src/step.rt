@@ -2,25 +2,26 @@
 
 ghost use Rattle.std.specs.Prelude.{◌≡◌, ◌≤◌, [], None, IfOk, OnOk, OnErr, length, map, nat_eq, All};
 ghost use Rattle.std.specs.List.{AllByRecursion, IsDistinct};
-ghost use Rattle.reg_base.specs.Acts.{parties};
+ghost use Rattle.reg_base.specs.Acts.{movement_of, parties};
 ghost use Rattle.reg_base.specs.Footprint.{footprint};
 ghost use Rattle.reg_account.specs.Figure.{figure_of};
 ghost use Rattle.reg_rules.specs.State.{numbers};
 ghost use Rattle.reg_account.specs.Account.{CanTrust};
 ghost use Rattle.reg_rules.specs.Trust.{effective_day};
 ghost use Rattle.reg_rules.specs.Checks.{refusal};
-ghost use Rattle.reg_rules.specs.Effect.{share_of, given, first_after, with_changes, changed_by, new_row as row_of_today, assessed, listed_from, CanFirst, CanReceive, CanChange, IsBehind};
-ghost use Rattle.reg_rules.specs.Step.{step, holdings_of, figure_now};
+ghost use Rattle.reg_rules.specs.Effect.{share_of, given, made_by, with_changes, changed_by, new_row as row_of_today, assessed, listed_from, CanMake, CanReceive, CanChange, IsBehind};
+ghost use Rattle.reg_rules.specs.Step.{step, holdings_of, figure_made};
 
-use crate::checks::{decide, find_account};
+use crate::checks::first_failing;
+use crate::parties::find_account;
 use crate::reply::{Closing, HeldNow, Holdings, LogRow, Reply};
 use crate::setting::Setting;
 use crate::trust::effective_day;
-use reg_account::{Account, Retirement, RetirementRow};
+use reg_account::{Account, RetirementRow};
 use reg_base::laws::each_footprint_is_sound;
 use reg_base::{
-    AccountNo, Act, AllowanceKind, Day, Directory, Instruction, NoMemory, RecordNo, Rules, Share,
-    Year,
+    AccountNo, Act, AllowanceKind, Change, Day, Directory, Instruction, Movement, NoMemory,
+    RecordNo, Retirement, Rules, Share, Year,
 };
 use std::alloc::Global;
 
@@ -46,21 +47,22 @@ pub fn execute(
     ensures ok { IfOk result (λ reply. (accounts.new, reply) ≡ step (record { rules = rules.now; day = day; directory = directory.now }) accounts.old number instruction.now) }
     ensures err { OnErr result ((accounts.new ≡ accounts.old) × (refusal (record { rules = rules.now; day = day; directory = directory.now }) accounts.old instruction.now ≡ None)) }
 {
-    if let Some(refusal) = decide(rules, day, number, instruction, directory, accounts) {
-        return Ok(Reply::Refused(refusal));
-    }
-    each_footprint_is_sound();
     let setting = Setting {
         rules,
         day,
         directory,
     };
+    let movement = instruction.act.movement();
+    if let Some(refusal) = first_failing(&setting, instruction, &movement, accounts) {
+        return Ok(Reply::Refused(refusal));
+    }
+    each_footprint_is_sound();
     // The room comes first, so that the accounts are as they were if memory runs out.
     let room = Holdings::with_capacity(alloc, accounts.len())?;
-    apply(&setting, number, &instruction.act, accounts)?;
+    apply(&setting, number, &instruction.act, &movement, accounts)?;
     Ok(Reply::Done {
         closing: closing_of(room, accounts),
-        figure: figure_now(&instruction.act, accounts),
+        figure: figure_made(&movement, accounts),
     })
 }
 
@@ -82,66 +84,62 @@ fn apply(
     setting: &Setting,
     number: RecordNo,
     act: &Act,
+    movement: &Movement,
     accounts: &mut [Account],
 ) -> Result<(), NoMemory>
+    requires movement { movement.now ≡ movement_of act.now }
     requires own { numbers accounts.old ≡ parties act.now }
     requires distinct { IsDistinct nat_eq (numbers accounts.old) }
     requires can { AllByRecursion (CanChange setting.now number act.now) accounts.old }
     ensures ok { OnOk result (accounts.new ≡ map (changed_by setting.now number act.now) accounts.old) }
     ensures err { OnErr result (accounts.new ≡ accounts.old) }
 {
-    change_first(setting, number, act, &mut accounts[0])?;
-    let movement = act.movement();
+    let _act = act;
+    change_first(setting, number, &movement.change, &mut accounts[0])?;
     give_shares(movement.kind, movement.shares.as_slice(), accounts);
     Ok(())
 }
 
-// What the act makes of its first account.
+// Makes this change of the first account.
 fn change_first(
     setting: &Setting,
     number: RecordNo,
-    act: &Act,
+    change: &Change,
     account: &mut Account,
 ) -> Result<(), NoMemory>
-    requires { CanFirst setting.now number act.now account.old }
-    ensures ok { OnOk result (account.new ≡ with_changes account.old (first_after setting.now number act.now account.old)) }
+    requires { CanMake setting.now number change.now account.old }
+    ensures ok { OnOk result (account.new ≡ with_changes account.old (made_by setting.now number change.now account.old)) }
     ensures err { OnErr result (account.new ≡ account.old) }
 {
-    match *act {
-        Act::Transfer { kind, amount, .. }
-        | Act::ReturnExcess { kind, amount, .. }
-        | Act::CentralMove { kind, amount, .. } => {
+    match *change {
+        Change::Debit { kind, amount } => {
             account.debit(kind, amount);
             Ok(())
         }
-        Act::Surrender { kind, amount, .. } => {
-            account.retire(new_row(setting, number, Retirement::Surrendered, kind, amount))
-        }
-        Act::Delete { kind, amount, .. } => {
-            account.retire(new_row(setting, number, Retirement::Deleted, kind, amount))
-        }
-        Act::Reverse {
-            number: reversed,
-            ..
-        } => {
-            account.unretire(reversed);
-            Ok(())
-        }
-        Act::Create { kind, amount, .. } => {
+        Change::Credit { kind, amount } => {
             account.credit(kind, amount);
             Ok(())
         }
-        Act::Trust { other, .. } => trust(setting, account, other),
-        Act::Untrust { other, .. } => {
+        Change::Retire {
+            retirement,
+            kind,
+            amount,
+        } => account.retire(new_row(setting, number, retirement, kind, amount)),
+        Change::Unretire { number: reversed } => {
+            account.unretire(reversed);
+            Ok(())
+        }
+        Change::Trust { other } => trust(setting, account, other),
+        Change::Untrust { other } => {
             account.untrust(other);
             Ok(())
         }
-        Act::SetStatus { status, .. } => {
+        Change::SetStatus { status } => {
             account.set_status(status);
             Ok(())
         }
-        Act::EnterEmissions { year, tonnes, .. } => account.set_emissions(year, tonnes),
-        Act::Assess { year, .. } => assess(setting.rules, account, year),
+        Change::SetEmissions { year, tonnes } => account.set_emissions(year, tonnes),
+        Change::Determine { year } => assess(setting.rules, account, year),
     }
 }
 
@@ -215,12 +213,12 @@ fn find_share(shares: &[Share], number: AccountNo) -> Option<Share>
     shares.iter().copied().find(|share| share.to == number)
 }
 
-// The figure that the act determined, as it stands in its account now.
-fn figure_now(act: &Act, accounts: &[Account]) -> Option<i64>
-    ensures { result ≡ figure_now accounts.now act.now }
+// The figure that was determined, as it stands in its account now.
+fn figure_made(movement: &Movement, accounts: &[Account]) -> Option<i64>
+    ensures { result ≡ figure_made accounts.now movement.now.first movement.now.change }
 {
-    match *act {
-        Act::Assess { account, year } => match find_account(accounts, account) {
+    match movement.change {
+        Change::Determine { year } => match find_account(accounts, movement.first) {
             Some(account) => account.determined(year),
             None => None,
         },

@@ -6,14 +6,14 @@ ghost use Rattle.reg_base.specs.declared.limits.TheConstants.{MOST_TRUSTED};
 ghost use Rattle.reg_base.specs.Calendar.{due};
 ghost use Rattle.reg_account.specs.Account.{trusts};
 ghost use Rattle.reg_rules.specs.ActRules.{rule_of};
-ghost use Rattle.reg_rules.specs.State.{account, seen, seen_by, passes};
+ghost use Rattle.reg_rules.specs.State.{account, seen_by, passes};
 ghost use Rattle.reg_rules.specs.Trust.{trusts_receivers, lag_by, is_waived, lacks_approval, is_not_trusted, effective_day, has_no_effective_day, is_already_trusted, is_not_on_list, is_list_full};
 
-use crate::checks::find_account;
+use crate::parties::find_account;
 use crate::rule::{LagRule, rule_of};
 use crate::setting::Setting;
 use reg_account::Account;
-use reg_base::{AccountNo, Act, Day, Instruction, MOST_TRUSTED, Movement, Rules, Share};
+use reg_base::{AccountNo, Change, Day, Instruction, MOST_TRUSTED, Movement, Rules, Share};
 
 /// Whether the first account trusts each that receives on this day.
 pub(crate) fn trusts_receivers(day: Day, movement: &Movement, accounts: &[Account]) -> bool
@@ -78,23 +78,29 @@ pub(crate) fn lacks_approval(
     ensures { result ≡ lacks_approval setting.now instruction.now (seen_by movement.now accounts.now) }
 {
     instruction.approver.is_none()
-        && !is_waived(setting, &instruction.act, movement, trusted, accounts)
+        && !is_waived(
+            setting,
+            rule_of(&instruction.act).lag,
+            movement,
+            trusted,
+            accounts,
+        )
 }
 
 fn is_waived(
     setting: &Setting,
-    act: &Act,
+    lag: LagRule,
     movement: &Movement,
     trusted: bool,
     accounts: &[Account],
 ) -> bool
     requires { trusted ≡ trusts_receivers setting.now.day (seen_by movement.now accounts.now) }
-    ensures { result ≡ is_waived setting.now act.now (seen_by movement.now accounts.now) }
+    ensures { result ≡ is_waived setting.now lag (seen_by movement.now accounts.now) }
 {
     let _day = setting.day;
-    match *act {
-        Act::Transfer { .. } => has_waiver(movement.first, accounts) && trusted,
-        _ => false,
+    match lag {
+        LagRule::ByTrust => has_waiver(movement.first, accounts) && trusted,
+        LagRule::NoLag => false,
     }
 }
 
@@ -104,21 +110,21 @@ fn has_waiver(number: AccountNo, accounts: &[Account]) -> bool
     find_account(accounts, number).is_some_and(|account| account.waiver())
 }
 
-/// Whether the account that receives a transfer is not trusted, although the first account asks for that.
+/// Whether an account that receives is not trusted, although the act depends on it and the first account asks for it.
 pub(crate) fn is_not_trusted(
     setting: &Setting,
-    act: &Act,
+    lag: LagRule,
     movement: &Movement,
     trusted: bool,
     accounts: &[Account],
 ) -> bool
     requires { trusted ≡ trusts_receivers setting.now.day (seen_by movement.now accounts.now) }
-    ensures { result ≡ is_not_trusted setting.now act.now (seen_by movement.now accounts.now) }
+    ensures { result ≡ is_not_trusted setting.now lag (seen_by movement.now accounts.now) }
 {
     let _day = setting.day;
-    match *act {
-        Act::Transfer { .. } => !trusted && !allows_others(movement.first, accounts),
-        _ => false,
+    match lag {
+        LagRule::ByTrust => !trusted && !allows_others(movement.first, accounts),
+        LagRule::NoLag => false,
     }
 }
 
@@ -137,21 +143,21 @@ pub(crate) fn effective_day(setting: &Setting) -> Option<Day>
 }
 
 /// Whether an addition to a trusted list would have no day of effect.
-pub(crate) fn has_no_effective_day(setting: &Setting, act: &Act) -> bool
-    ensures { result ≡ has_no_effective_day setting.now act.now }
+pub(crate) fn has_no_effective_day(setting: &Setting, change: &Change) -> bool
+    ensures { result ≡ has_no_effective_day setting.now change.now }
 {
-    match *act {
-        Act::Trust { .. } => effective_day(setting).is_none(),
+    match *change {
+        Change::Trust { .. } => effective_day(setting).is_none(),
         _ => false,
     }
 }
 
 /// Whether the account that is to be added is on the first account's list, in effect or not.
-pub(crate) fn is_already_trusted(act: &Act, accounts: &[Account]) -> bool
-    ensures { result ≡ is_already_trusted act.now (seen accounts.now act.now) }
+pub(crate) fn is_already_trusted(movement: &Movement, accounts: &[Account]) -> bool
+    ensures { result ≡ is_already_trusted movement.now.change (seen_by movement.now accounts.now) }
 {
-    match *act {
-        Act::Trust { account, other } => match find_account(accounts, account) {
+    match movement.change {
+        Change::Trust { other } => match find_account(accounts, movement.first) {
             Some(account) => account.effective(other).is_some(),
             None => false,
         },
@@ -160,11 +166,11 @@ pub(crate) fn is_already_trusted(act: &Act, accounts: &[Account]) -> bool
 }
 
 /// Whether the account that is to be removed is not on the first account's list.
-pub(crate) fn is_not_on_list(act: &Act, accounts: &[Account]) -> bool
-    ensures { result ≡ is_not_on_list act.now (seen accounts.now act.now) }
+pub(crate) fn is_not_on_list(movement: &Movement, accounts: &[Account]) -> bool
+    ensures { result ≡ is_not_on_list movement.now.change (seen_by movement.now accounts.now) }
 {
-    match *act {
-        Act::Untrust { account, other } => match find_account(accounts, account) {
+    match movement.change {
+        Change::Untrust { other } => match find_account(accounts, movement.first) {
             Some(account) => account.effective(other).is_none(),
             None => false,
         },
@@ -173,11 +179,11 @@ pub(crate) fn is_not_on_list(act: &Act, accounts: &[Account]) -> bool
 }
 
 /// Whether the first account's list has no room for another entry.
-pub(crate) fn is_list_full(act: &Act, accounts: &[Account]) -> bool
-    ensures { result ≡ is_list_full act.now (seen accounts.now act.now) }
+pub(crate) fn is_list_full(movement: &Movement, accounts: &[Account]) -> bool
+    ensures { result ≡ is_list_full movement.now.change (seen_by movement.now accounts.now) }
 {
-    match *act {
-        Act::Trust { account, .. } => has_full_list(account, accounts),
+    match movement.change {
+        Change::Trust { .. } => has_full_list(movement.first, accounts),
         _ => false,
     }
 }

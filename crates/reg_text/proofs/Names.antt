@@ -8,8 +8,8 @@ pub use Rattle.reg_account.specs.Trusted.{EntryIsInRange}
 pub use Rattle.reg_account.specs.Rows.{AreBelow, RetiredFits, amount_in, retired_in, row_numbers}
 pub use Rattle.reg_account.specs.Years.{FigureFits}
 pub use Rattle.reg_account.specs.declared.rows.RetirementRow.{RetirementRow}
-pub use Rattle.reg_account.specs.declared.rows.Retirement.{Retirement}
-pub use Rattle.reg_account.specs.declared.rows.Retirement.TheVariants.{Deleted, Surrendered}
+pub use Rattle.reg_base.specs.declared.kinds.Retirement.{Retirement}
+pub use Rattle.reg_base.specs.declared.kinds.Retirement.TheVariants.{Deleted, Surrendered}
 pub use Rattle.reg_account.specs.declared.years.Figure.{Figure}
 pub use Rattle.reg_rules.specs.Effect.{IsBehind}
 pub use Rattle.reg_rules.specs.declared.reply.LogRow.{LogRow}
@@ -17,7 +17,7 @@ pub use Rattle.reg_book.specs.Book.{BookValue, first_fault, has_row_ahead, total
 pub use Rattle.reg_text.specs.Records.{Record, field}
 pub use Rattle.reg_text.specs.Sections.{AreFew, IsOrdered, IsSection, Item, Section, account_block, account_with, all_rows, each_row, follows, head_of, is_room, item_rows, key, lists_of, most, section_rows}
 pub use Rattle.reg_text.specs.Spelling.{account_row, book_rows, closing, day_sections, day_text, end_row, heading, instruction_fields, lags_in}
-pub use Rattle.reg_text.specs.Log.{answer_fields, closing_fields, figure_field, holding_fields, log_row, refusal_name}
+pub use Rattle.reg_text.specs.Log.{answer_fields, closing_fields, figure_field, holding_fields, log_row}
 pub use Rattle.reg_text.specs.Report.{log_rows, report_rows, text_of, totals_row, written_book}
 pub use Rattle.csv.specs.Writing.{default_writer}
 unfoldable pub use Rattle.csv.specs.Writing.{fields_text, is_blank}
@@ -33,6 +33,7 @@ pub use Rattle.reg_text.specs.Written.{EachBookIsWritten, EachReportIsWritten, E
 pub use Rattle.reg_base.specs.declared.limits.TheConstants.{FIRST_DAY, FIRST_YEAR, LAST_DAY, MOST_ACCOUNTS, MOST_INSTRUCTIONS, MOST_LAG, MOST_NUMBER, MOST_RECORD, MOST_ROWS}
 pub use Rattle.reg_base.specs.Numbers.{IsAccountNo, IsBetween, IsDayNo, IsRecordNo, IsUserNo, IsYearNo}
 pub use Rattle.reg_base.specs.Instructions.{IsInstruction}
+pub use Rattle.reg_base.specs.Refusals.{refusal_name}
 pub use Rattle.reg_base.specs.Rising.{IsRising}
 pub use Rattle.reg_text.specs.declared.reading.account_row.AccountHead.{AccountHead}
 pub use Rattle.reg_text.specs.declared.reading.tag.Tag.{Tag}
@@ -44,7 +45,7 @@ pub use Rattle.reg_text.specs.Reading.{Begins, CanBeSaid, IsFirstFaulty, IsPair,
 pub use Rattle.reg_text.specs.Faults.{AnswersFault, after_rows, at_end, at_row, day_of_rows, drafted, has_room, in_order, is_number_left, is_recorded, is_sum_left, next_draft, next_in, placed, with}
 unfoldable pub use Rattle.reg_text.specs.Faults.{with_row}
 pub use Rattle.reg_text.specs.declared.cause.Cause.{Cause}
-pub use Rattle.reg_text.specs.DraftLimits.{AreLags, AreRecorded, FitsSoFar, IsDraft, StandsAt, TakesFirst, comes_once, stands_at}
+pub use Rattle.reg_text.specs.DraftLimits.{LagsSaidFit, AreRecorded, FitsSoFar, IsDraft, StandsAt, TakesFirst, comes_once, stands_at}
 pub use Rattle.reg_base.specs.declared.instruction.Instruction.{Instruction}
 pub use Rattle.reg_text.specs.Causes.{test, ◌>>=◌}
 pub use Rattle.csv.specs.Reading.{ExplainsRead, ReadRecord, default_config, is_bom, is_flexible, records, records_next, with_flexible, with_names_headers}

@@ -1,8 +1,9 @@
 -- What holds of every draft: its sections are within their limits, and in the order of the grammar.
 use Rattle.std.specs.Prelude.{◌≡◌, ℕ, ◌+◌, ◌<◌, ◌≤◌, Bool, true, false, List, [], ◌∷◌, map, length, Option, Some, None, IfSome, Result, MatchResult}
 use Rattle.std.specs.List.{AllByRecursion}
-use Rattle.reg_base.specs.declared.limits.TheConstants.{MOST_ACCOUNTS, MOST_LAG, MOST_RECORD}
+use Rattle.reg_base.specs.declared.limits.TheConstants.{MOST_ACCOUNTS, MOST_RECORD}
 use Rattle.reg_base.specs.Rising.{IsRising}
+use Rattle.reg_base.specs.Rules.{AreLags}
 use Rattle.reg_account.specs.declared.rows.RetirementRow.{RetirementRow}
 use Rattle.reg_account.specs.Rows.{AreBelow, RetiredFits, row_numbers}
 use Rattle.reg_account.specs.Account.{AccountValue}
@@ -18,12 +19,9 @@ use Rattle.reg_text.specs.Sections.{Section, Item, IsSection}
 use Rattle.reg_text.specs.Drafts.{DraftValue, accounts_in, account_count, sections}
 use Rattle.reg_text.specs.Faults.{next_in, with, after_rows, AnswersFault}
 
--- the lags and the window, each within its limit
-pub record AreLags (lags : Lags) : Type 0 where
-  pub trusted : lags.trusted ≤ MOST_LAG
-  pub other : lags.other ≤ MOST_LAG
-  pub listed : lags.list ≤ MOST_LAG
-  pub reversal : lags.reversal ≤ MOST_LAG
+-- the lags and the window of a row, each within its limit
+abbrev pub LagsSaidFit : Lags → Type 0
+LagsSaidFit lags = AreLags lags.trusted lags.other lags.list lags.reversal
 
 -- where a section stands, whether its row occurs once, and the blocks that are over before the open one
 abbrev pub stands_at : Option Tag → ℕ

@@ -1,6 +1,6 @@
 -- The rows of a text in turn: what each adds, and the first that is wrong, with its cause.
 use Rattle.std.specs.Prelude.{◌≡◌, ℕ, ◌+◌, Bool, true, ◌&&◌, nat_lt, nat_le, List, [], ◌∷◌, ◌++◌, length, Option, Some, None, Result, Ok, Err, if◌then◌else◌}
-use Rattle.reg_base.specs.declared.limits.TheConstants.{MOST_ACCOUNTS, MOST_HELD, MOST_INSTRUCTIONS, MOST_RECORD}
+use Rattle.reg_base.specs.declared.limits.TheConstants.{MOST_ACCOUNTS, MOST_RETIRED, MOST_INSTRUCTIONS, MOST_RECORD}
 use Rattle.reg_account.specs.declared.rows.RetirementRow.{RetirementRow}
 use Rattle.reg_account.specs.Rows.{retired_in}
 use Rattle.reg_text.specs.declared.cause.Cause.{Cause}
@@ -61,7 +61,7 @@ is_recorded (Some next) row = nat_lt row.number next
 
 -- with it, what was surrendered (or deleted) of its kind is within the limit
 abbrev pub is_sum_left : List RetirementRow → RetirementRow → Bool
-is_sum_left rows row = nat_le (retired_in row.retirement row.kind (rows ++ row ∷ [])) MOST_HELD
+is_sum_left rows row = nat_le (retired_in row.retirement row.kind (rows ++ row ∷ [])) MOST_RETIRED
 
 -- its section may have one more row, an instruction has a record number, and a surrender or a deletion is one of before the day, and
 -- not too much

@@ -1,7 +1,7 @@
 -- The rows of a day text: of each tag what its row says, and its fields.
 use Rattle.std.specs.Prelude.{◌≡◌, [], ◌∷◌, ℕ, Bool, true, false, not, nat_le, ◌+◌, Result, codes}
 use Rattle.std.specs.Str.{bytes_eq}
-use Rattle.reg_base.specs.declared.limits.TheConstants.{MOST_EMISSIONS, MOST_HELD, MOST_LAG, MOST_RECORD, FIRST_YEAR, LAST_YEAR}
+use Rattle.reg_base.specs.declared.limits.TheConstants.{MOST_EMISSIONS, MOST_HELD, MOST_RETIRED, MOST_LAG, MOST_RECORD, FIRST_YEAR, LAST_YEAR}
 use Rattle.reg_base.specs.declared.kinds.AccountKind.{AccountKind}
 use Rattle.reg_base.specs.declared.kinds.AccountKind.TheVariants.{Total, Allocation, Operator, Aircraft, Trading}
 use Rattle.reg_base.specs.declared.kinds.AllowanceKind.{AllowanceKind}
@@ -47,7 +47,7 @@ abbrev pub a_record : Codec ℕ
 a_record = within_limits 1 MOST_RECORD
 
 abbrev pub an_amount : Codec ℕ
-an_amount = within_limits 1 MOST_HELD
+an_amount = within_limits 1 MOST_RETIRED
 
 abbrev pub some_tonnes : Codec ℕ
 some_tonnes = within_limits 0 MOST_EMISSIONS

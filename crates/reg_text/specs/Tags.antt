@@ -12,42 +12,39 @@ use Rattle.reg_text.specs.Words.{named}
 abbrev pub all_tags : List Tag
 all_tags = Account ∷ User ∷ Trusted ∷ Retired ∷ Emissions ∷ Figure ∷ Do ∷ Work ∷ Admin ∷ Surrender ∷ Format ∷ Day ∷ Period ∷ Lags ∷ End ∷ []
 
--- the word of a tag
-abbrev pub tag_word : Tag → List ℕ
-tag_word Format = codes "format"
-tag_word Day = codes "day"
-tag_word Period = codes "period"
-tag_word Lags = codes "lags"
-tag_word Surrender = codes "surrender"
-tag_word Admin = codes "admin"
-tag_word Work = codes "work"
-tag_word Account = codes "account"
-tag_word User = codes "user"
-tag_word Trusted = codes "trusted"
-tag_word Retired = codes "retired"
-tag_word Emissions = codes "emissions"
-tag_word Figure = codes "figure"
-tag_word Do = codes "do"
-tag_word End = codes "end"
+-- the word of a tag, and where a row with it is allowed
+pub record TagRow : Type 0 where
+  pub word : List ℕ
+  pub allowed : Rule
 
--- the grammar: the place of a row with this tag, and between which places the row before it stands; places leave gaps for other tags,
--- and 80 to 89 are those of an account's block, behind whose last row another block may begin
+-- the place of a row with the tag, and between which places the row before it stands
+abbrev pub tag_at : ℕ → ℕ → ℕ → List ℕ → TagRow
+tag_at at from to word = record { word = word; allowed = record { place = at; from = from; to = to } }
+
+-- the grammar, a row each; places leave gaps for other tags, and 80 to 89 are those of an account's block, behind whose last row
+-- another block may begin
+abbrev pub tag_row : Tag → TagRow
+tag_row Format = tag_at 10 0 0 (codes "format")
+tag_row Day = tag_at 20 10 10 (codes "day")
+tag_row Period = tag_at 30 20 20 (codes "period")
+tag_row Lags = tag_at 40 30 30 (codes "lags")
+tag_row Surrender = tag_at 50 40 50 (codes "surrender")
+tag_row Admin = tag_at 60 40 60 (codes "admin")
+tag_row Work = tag_at 70 40 70 (codes "work")
+tag_row Account = tag_at 80 40 89 (codes "account")
+tag_row User = tag_at 82 80 82 (codes "user")
+tag_row Trusted = tag_at 83 80 83 (codes "trusted")
+tag_row Retired = tag_at 84 80 84 (codes "retired")
+tag_row Emissions = tag_at 85 80 85 (codes "emissions")
+tag_row Figure = tag_at 86 80 86 (codes "figure")
+tag_row Do = tag_at 90 40 90 (codes "do")
+tag_row End = tag_at 100 40 90 (codes "end")
+
+abbrev pub tag_word : Tag → List ℕ
+tag_word t = (tag_row t).word
+
 abbrev pub rule : Tag → Rule
-rule Format = record { place = 10; from = 0; to = 0 }
-rule Day = record { place = 20; from = 10; to = 10 }
-rule Period = record { place = 30; from = 20; to = 20 }
-rule Lags = record { place = 40; from = 30; to = 30 }
-rule Surrender = record { place = 50; from = 40; to = 50 }
-rule Admin = record { place = 60; from = 40; to = 60 }
-rule Work = record { place = 70; from = 40; to = 70 }
-rule Account = record { place = 80; from = 40; to = 89 }
-rule User = record { place = 82; from = 80; to = 82 }
-rule Trusted = record { place = 83; from = 80; to = 83 }
-rule Retired = record { place = 84; from = 80; to = 84 }
-rule Emissions = record { place = 85; from = 80; to = 85 }
-rule Figure = record { place = 86; from = 80; to = 86 }
-rule Do = record { place = 90; from = 40; to = 90 }
-rule End = record { place = 100; from = 40; to = 90 }
+rule t = (tag_row t).allowed
 
 -- a row with this tag occurs once, because it may not follow itself
 abbrev pub is_once : Tag → Bool

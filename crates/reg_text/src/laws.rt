@@ -6,7 +6,7 @@ ghost use Rattle.reg_base.specs.declared.limits.TheConstants.{FIRST_DAY, LAST_DA
 ghost use Rattle.reg_base.specs.declared.kinds.AccountKind.{AccountKind};
 ghost use Rattle.reg_base.specs.declared.kinds.AllowanceKind.{AllowanceKind};
 ghost use Rattle.reg_base.specs.declared.kinds.Right.{Right};
-ghost use Rattle.reg_account.specs.declared.rows.Retirement.{Retirement};
+ghost use Rattle.reg_base.specs.declared.kinds.Retirement.{Retirement};
 ghost use Rattle.reg_base.specs.declared.kinds.Status.{Status};
 ghost use Rattle.reg_base.specs.Numbers.{IsDayNo};
 ghost use Rattle.reg_account.specs.Account.{CorrectionFits};

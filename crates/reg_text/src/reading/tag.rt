@@ -43,6 +43,53 @@ pub enum Tag {
     End,
 }
 
+// The table of tags, frequent ones first: of each its place among the rows of a text, the lowest and the highest place of
+// the row before it, and its word. The macro that is named first makes something of it. Places leave gaps for other tags.
+// Those of an account's block are 80 to 89, and another block may begin behind each of its rows.
+macro_rules! tags {
+    ($make:ident $($of:tt)?) => {
+        $make! { [$($of)?]
+            Account 80 40 89 b"account",
+            User 82 80 82 b"user",
+            Trusted 83 80 83 b"trusted",
+            Retired 84 80 84 b"retired",
+            Emissions 85 80 85 b"emissions",
+            Figure 86 80 86 b"figure",
+            Do 90 40 90 b"do",
+            Work 70 40 70 b"work",
+            Admin 60 40 60 b"admin",
+            Surrender 50 40 50 b"surrender",
+            Format 10 0 0 b"format",
+            Day 20 10 10 b"day",
+            Period 30 20 20 b"period",
+            Lags 40 30 30 b"lags",
+            End 100 40 90 b"end",
+        }
+    };
+}
+
+macro_rules! words {
+    ([$of:tt] $($tag:ident $place:literal $from:literal $to:literal $word:literal,)*) => {
+        match $of {
+            $(Tag::$tag => $word,)*
+        }
+    };
+}
+
+macro_rules! list {
+    ([] $($tag:ident $place:literal $from:literal $to:literal $word:literal,)*) => {
+        &[$(Tag::$tag),*]
+    };
+}
+
+macro_rules! rules {
+    ([$of:tt] $($tag:ident $place:literal $from:literal $to:literal $word:literal,)*) => {
+        match $of {
+            $(Tag::$tag => Rule::new($place, $from, $to),)*
+        }
+    };
+}
+
 impl Word for Tag {
     ghost use Rattle.reg_text.specs.Tags.{tag_word, all_tags};
 
@@ -51,48 +98,15 @@ impl Word for Tag {
     ghost values = { all_tags };
 
     fn word(self) -> &'static [u8] {
-        match self {
-            Tag::Format => b"format",
-            Tag::Day => b"day",
-            Tag::Period => b"period",
-            Tag::Lags => b"lags",
-            Tag::Surrender => b"surrender",
-            Tag::Admin => b"admin",
-            Tag::Work => b"work",
-            Tag::Account => b"account",
-            Tag::User => b"user",
-            Tag::Trusted => b"trusted",
-            Tag::Retired => b"retired",
-            Tag::Emissions => b"emissions",
-            Tag::Figure => b"figure",
-            Tag::Do => b"do",
-            Tag::End => b"end",
-        }
+        tags!(words self)
     }
 
     fn all() -> &'static [Tag] {
-        &[
-            Tag::Account,
-            Tag::User,
-            Tag::Trusted,
-            Tag::Retired,
-            Tag::Emissions,
-            Tag::Figure,
-            Tag::Do,
-            Tag::Work,
-            Tag::Admin,
-            Tag::Surrender,
-            Tag::Format,
-            Tag::Day,
-            Tag::Period,
-            Tag::Lags,
-            Tag::End,
-        ]
+        tags!(list)
     }
 }
 
-/// Where a row with a tag is allowed. Places leave gaps for other tags. Those of an account's block are 80 to 89, and
-/// another block may begin behind each of its rows.
+/// Where a row with a tag is allowed.
 #[derive(Clone, Copy, Debug, PartialEq, Eq)]
 pub(crate) struct Rule {
     /// Its place among the rows of a text.
@@ -116,23 +130,7 @@ impl Tag {
     pub(crate) fn rule(self) -> Rule
         ensures { result ≡ rule self }
     {
-        match self {
-            Tag::Format => Rule::new(10, 0, 0),
-            Tag::Day => Rule::new(20, 10, 10),
-            Tag::Period => Rule::new(30, 20, 20),
-            Tag::Lags => Rule::new(40, 30, 30),
-            Tag::Surrender => Rule::new(50, 40, 50),
-            Tag::Admin => Rule::new(60, 40, 60),
-            Tag::Work => Rule::new(70, 40, 70),
-            Tag::Account => Rule::new(80, 40, 89),
-            Tag::User => Rule::new(82, 80, 82),
-            Tag::Trusted => Rule::new(83, 80, 83),
-            Tag::Retired => Rule::new(84, 80, 84),
-            Tag::Emissions => Rule::new(85, 80, 85),
-            Tag::Figure => Rule::new(86, 80, 86),
-            Tag::Do => Rule::new(90, 40, 90),
-            Tag::End => Rule::new(100, 40, 90),
-        }
+        tags!(rules self)
     }
 }
 

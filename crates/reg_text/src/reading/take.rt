@@ -1,7 +1,7 @@
 //! What each row after the heading adds to the draft.
 
 ghost use Rattle.std.specs.Prelude.{◌≡◌, ◌+◌, ◌<◌, ◌≤◌, ◌&&◌, nat_lt, nat_le, ◌∷◌, ◌++◌, [], length, map, false, if◌then◌else◌, OnOk, OnErr};
-ghost use Rattle.reg_base.specs.declared.limits.TheConstants.{MOST_ACCOUNTS, MOST_HELD, MOST_INSTRUCTIONS, MOST_RECORD, MOST_ROWS};
+ghost use Rattle.reg_base.specs.declared.limits.TheConstants.{MOST_ACCOUNTS, MOST_RETIRED, MOST_INSTRUCTIONS, MOST_RECORD, MOST_ROWS};
 ghost use Rattle.csv.specs.Records.{fields_of};
 ghost use Rattle.reg_base.specs.Rising.{IsRising};
 ghost use Rattle.reg_account.specs.Rows.{retired_in};
@@ -25,7 +25,7 @@ use crate::reading::tag::{Tag, read_tag};
 use csv::ByteRecord;
 use reg_account::{Account, Lists, RetirementRow};
 use reg_base::{
-    Instruction, MOST_ACCOUNTS, MOST_ADMINISTRATORS, MOST_HELD, MOST_INSTRUCTIONS, MOST_RECORD,
+    Instruction, MOST_ACCOUNTS, MOST_ADMINISTRATORS, MOST_INSTRUCTIONS, MOST_RECORD, MOST_RETIRED,
     MOST_ROWS, MOST_TRUSTED, MOST_USERS, NoMemory,
 };
 use reg_book::{BookDraft, BookFault};
@@ -175,15 +175,15 @@ fn counted(row: RetirementRow) -> u64
 
 // Whether what was surrendered (or deleted) of a kind is within the limit with this row.
 fn is_sum_left(lists: &Lists, row: RetirementRow) -> bool
-    requires { retired_in row.retirement row.kind lists.now.rows ≤ MOST_HELD }
+    requires { retired_in row.retirement row.kind lists.now.rows ≤ MOST_RETIRED }
     ensures { result ≡ is_sum_left lists.now.rows row }
 {
-    lists.sum(row.retirement, row.kind) + u128::from(counted(row)) <= u128::from(MOST_HELD)
+    lists.sum(row.retirement, row.kind) + u128::from(counted(row)) <= u128::from(MOST_RETIRED)
 }
 
 // Whether there is a place for one more row, its number is below the next one, and the sum is within the limit with it.
 fn has_row_room(lists: &Lists, next: u64, row: RetirementRow) -> bool
-    requires { retired_in row.retirement row.kind lists.now.rows ≤ MOST_HELD }
+    requires { retired_in row.retirement row.kind lists.now.rows ≤ MOST_RETIRED }
     ensures { result ≡ (nat_lt (length lists.now.rows) MOST_ROWS && (nat_lt row.number next && is_sum_left lists.now.rows row)) }
 {
     lists.rows().len() < MOST_ROWS && (row.number.get() < next && is_sum_left(lists, row))

@@ -1,6 +1,7 @@
 //! Writing the rows of an account's lists.
 
 use crate::fields::words::Word;
+use crate::reading::tag::Tag;
 use crate::writing::row::RowText;
 use crate::writing::rows::{Rows, Tagged, put_row};
 use crate::writing::text::Text;
@@ -15,7 +16,7 @@ impl Tagged for Representative {
     ghost said = { λ representative. representative };
 
     fn tag_word() -> &'static [u8] {
-        b"user"
+        Tag::User.word()
     }
 
     fn put_fields(&self, row: &mut RowText) {
@@ -43,7 +44,7 @@ impl Tagged for TrustedEntry {
     ghost said = { λ entry. entry };
 
     fn tag_word() -> &'static [u8] {
-        b"trusted"
+        Tag::Trusted.word()
     }
 
     fn put_fields(&self, row: &mut RowText) {
@@ -71,7 +72,7 @@ impl Tagged for RetirementRow {
     ghost said = { λ row. row };
 
     fn tag_word() -> &'static [u8] {
-        b"retired"
+        Tag::Retired.word()
     }
 
     fn put_fields(&self, row: &mut RowText) {
@@ -103,7 +104,7 @@ impl Tagged for Emission {
     ghost said = { λ emission. emission };
 
     fn tag_word() -> &'static [u8] {
-        b"emissions"
+        Tag::Emissions.word()
     }
 
     fn put_fields(&self, row: &mut RowText) {
@@ -131,7 +132,7 @@ impl Tagged for Figure {
     ghost said = { λ figure. figure };
 
     fn tag_word() -> &'static [u8] {
-        b"figure"
+        Tag::Figure.word()
     }
 
     fn put_fields(&self, row: &mut RowText) {

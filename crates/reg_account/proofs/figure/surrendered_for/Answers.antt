@@ -1,6 +1,6 @@
 use Rattle.std.proofs.Common.{◌+◌, sym, ap, ◌∙◌}
 use Rattle.reg_base.specs.declared.kinds.AllowanceKind.TheVariants.{General}
-use Rattle.reg_account.specs.declared.rows.Retirement.TheVariants.{Surrendered}
+use Rattle.reg_base.specs.declared.kinds.Retirement.TheVariants.{Surrendered}
 use Rattle.reg_account.specs.Account.{retired_by}
 use Rattle.reg_account.proofs.Figures.{surrendered_of_both}
 use Rattle.reg_account.proofs.figure.surrendered_for.Goals as goal

@@ -1,6 +1,6 @@
 use Rattle.std.proofs.Common.{◌≡◌, ◌*◌, ◌≤◌, take}
 use Rattle.std.specs.Prelude.{sum_by}
-use Rattle.reg_account.specs.declared.rows.Retirement.TheVariants.{Surrendered, Deleted}
+use Rattle.reg_base.specs.declared.kinds.Retirement.TheVariants.{Surrendered, Deleted}
 use Rattle.reg_account.specs.Account.{held_by, retired_by}
 use Rattle.reg_book.proofs.book.add_up.Given as goal
 

@@ -1,6 +1,6 @@
 use Rattle.std.proofs.Common.{ap, ◌∙◌}
 use Rattle.std.specs.Prelude.{List, sum_by}
-use Rattle.reg_account.specs.declared.rows.Retirement.TheVariants.{Surrendered, Deleted}
+use Rattle.reg_base.specs.declared.kinds.Retirement.TheVariants.{Surrendered, Deleted}
 use Rattle.reg_account.specs.Account.{AccountValue, held_by, retired_by}
 use Rattle.reg_book.specs.Book.{BookValue}
 use Rattle.reg_book.specs.declared.book.Totals.{Totals}

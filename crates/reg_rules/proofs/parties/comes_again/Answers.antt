@@ -3,7 +3,7 @@ use Rattle.std.specs.Option.{option_to_list}
 use Rattle.std.specs.List.{list_any}
 use Rattle.std.proofs.Common.{eqb}
 use Rattle.reg_rules.proofs.Repeats.{again}
-use Rattle.reg_rules.proofs.checks.comes_again.Goals as goal
+use Rattle.reg_rules.proofs.parties.comes_again.Goals as goal
 
 pub returns-then-receives : goal.returns-then-receives
 returns-then-receives c =

@@ -1,6 +1,6 @@
 use Rattle.reg_rules.specs.ActRules.{is_not_closed}
 use Rattle.reg_rules.proofs.Mapped.{all-receivers, second-answer}
-use Rattle.reg_rules.proofs.checks.destination_allows.Goals as goal
+use Rattle.reg_rules.proofs.parties.destination_allows.Goals as goal
 
 pub returns-then-first_may_receive : goal.returns-then-first_may_receive
 returns-then-first_may_receive c =

@@ -1,7 +1,7 @@
 use Rattle.std.proofs.Common.{◌∙◌, ap}
 use Rattle.reg_rules.specs.Checks.{lost_by}
 use Rattle.reg_rules.proofs.Reversals.{turns-answer}
-use Rattle.reg_rules.proofs.checks.turns_negative.Goals as goal
+use Rattle.reg_rules.proofs.reversal.turns_negative.Goals as goal
 
 pub returns : goal.returns
 returns c =

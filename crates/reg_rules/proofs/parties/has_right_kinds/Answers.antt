@@ -1,7 +1,7 @@
 use Rattle.std.proofs.Common.{◌∙◌, ap, sym}
 use Rattle.reg_rules.specs.ActRules.{fits_first}
 use Rattle.reg_rules.proofs.Mapped.{kinds-answer}
-use Rattle.reg_rules.proofs.checks.has_right_kinds.Goals as goal
+use Rattle.reg_rules.proofs.parties.has_right_kinds.Goals as goal
 
 pub returns-then-fits_first : goal.returns-then-fits_first
 returns-then-fits_first c =

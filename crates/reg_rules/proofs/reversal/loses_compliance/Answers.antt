@@ -2,9 +2,9 @@ use Rattle.std.proofs.Common.{List, ◌∙◌, ap, sym, false}
 use Rattle.std.specs.Prelude.{find, reverse}
 use Rattle.std.specs.Option.{option_map_or}
 use Rattle.reg_account.specs.declared.years.Figure.{Figure}
-use Rattle.reg_account.specs.Figure.{is_in_period}
+use Rattle.reg_base.specs.Rules.{is_in_period}
 use Rattle.reg_rules.specs.Checks.{turns_negative}
-use Rattle.reg_rules.proofs.checks.loses_compliance.Goals as goal
+use Rattle.reg_rules.proofs.reversal.loses_compliance.Goals as goal
 
 pub returns-in-Some : goal.returns-in-Some
 returns-in-Some c =

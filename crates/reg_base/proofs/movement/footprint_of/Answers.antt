@@ -1,7 +1,7 @@
 use Rattle.std.proofs.Common.{◌∙◌, ap, arith}
 use Rattle.reg_base.specs.declared.movement.Share.{Share}
 use Rattle.reg_base.proofs.Footprints.{one-more, room-left, with-one}
-use Rattle.reg_base.proofs.instruction.footprint_of.Goals as goal
+use Rattle.reg_base.proofs.movement.footprint_of.Goals as goal
 
 pub with-footprint-requires-in-loop-share : goal.with-footprint-requires-in-loop-share
 with-footprint-requires-in-loop-share c =

@@ -1,0 +1,164 @@
+//! Reversals: the surrender or deletion that is to be reversed, the window for it, and what it makes of the figure.
+
+ghost use Rattle.std.specs.Prelude.{◌≡◌, ◌&&◌, false, nat_lt, find, reverse};
+ghost use Rattle.std.specs.Option.{option_map_or};
+ghost use Rattle.reg_base.specs.Rules.{is_in_period};
+ghost use Rattle.reg_account.specs.Rows.{row_in};
+ghost use Rattle.reg_account.specs.Laws.{lowered_by};
+ghost use Rattle.reg_rules.specs.State.{seen_by};
+ghost use Rattle.reg_rules.specs.Checks.{is_reversal, row_to_reverse, is_past_window, counted_amount, lost_by, is_compliant, is_negative, turns_negative, loses_compliance, would_become_non_compliant};
+
+use crate::parties::find_account;
+use crate::setting::Setting;
+use reg_account::laws::figure_laws;
+use reg_account::{Account, Figure, FigureFault, RetirementRow};
+use reg_base::{Change, Day, Movement, RecordNo, Retirement, Rules, Year};
+
+/// The surrender or deletion that is to be reversed.
+pub(crate) fn row_to_reverse(movement: &Movement, accounts: &[Account]) -> Option<RetirementRow>
+    ensures { result ≡ row_to_reverse movement.now.change (seen_by movement.now accounts.now) }
+{
+    match movement.change {
+        Change::Unretire { number } => match find_account(accounts, movement.first) {
+            Some(account) => account.row(number),
+            None => None,
+        },
+        _ => None,
+    }
+}
+
+/// Whether a surrender or a deletion is to be reversed.
+pub(crate) fn is_reversal(change: &Change) -> bool
+    ensures { result ≡ is_reversal change.now }
+{
+    match *change {
+        Change::Unretire { .. } => true,
+        _ => false,
+    }
+}
+
+/// Whether it was reversed before.
+pub(crate) fn is_reversed(row: Option<RetirementRow>) -> bool
+    ensures { result ≡ option_map_or (λ row. row.reversed) row false }
+{
+    row.is_some_and(|row| row.reversed)
+}
+
+/// Whether the last day for the reversal of the row is over.
+pub(crate) fn is_window_closed(setting: &Setting, row: Option<RetirementRow>) -> bool
+    ensures { result ≡ option_map_or (is_past_window setting.now) row false }
+{
+    match row {
+        Some(row) => is_past_window(setting, row),
+        None => false,
+    }
+}
+
+fn is_past_window(setting: &Setting, row: RetirementRow) -> bool
+    ensures { result ≡ is_past_window setting.now row }
+{
+    let rules = setting.rules;
+    is_before(
+        rules.calendar().due(row.day, rules.reversal_window()),
+        setting.day,
+    )
+}
+
+// Whether there is a last day, and it is earlier than this one.
+fn is_before(last: Option<Day>, day: Day) -> bool
+    ensures { result ≡ option_map_or (λ w. nat_lt w day) last false }
+{
+    last.is_some_and(|last| last < day)
+}
+
+/// Whether the reversal would make the account non-compliant.
+pub(crate) fn would_become_non_compliant(
+    rules: &Rules,
+    movement: &Movement,
+    row: Option<RetirementRow>,
+    accounts: &[Account],
+) -> bool
+    requires { row ≡ row_to_reverse movement.now.change (seen_by movement.now accounts.now) }
+    ensures { result ≡ would_become_non_compliant rules.now movement.now.change (seen_by movement.now accounts.now) }
+{
+    match movement.change {
+        Change::Unretire { number } => match find_account(accounts, movement.first) {
+            Some(account) => loses_compliance(rules, number, row, account),
+            None => false,
+        },
+        _ => false,
+    }
+}
+
+fn loses_compliance(
+    rules: &Rules,
+    number: RecordNo,
+    row: Option<RetirementRow>,
+    account: &Account,
+) -> bool
+    requires { row ≡ row_in account.now.rows number }
+    ensures { result ≡ loses_compliance rules.now number account.now }
+{
+    match latest_determined(rules, account.all_figures()) {
+        Some(latest) => turns_negative(rules, number, row, account, latest.year),
+        None => false,
+    }
+}
+
+// The determined figure of the latest year of the period that has one.
+fn latest_determined(rules: &Rules, figures: &[Figure]) -> Option<Figure>
+    ensures { result ≡ find (λ f. is_in_period rules.now f.year) (reverse figures.now) }
+{
+    figures
+        .iter()
+        .rev()
+        .copied()
+        .find(|figure| rules.is_in_period(figure.year))
+}
+
+// Whether the figure of the year is 0 or more, and would be below 0 after the reversal.
+fn turns_negative(
+    rules: &Rules,
+    _number: RecordNo,
+    row: Option<RetirementRow>,
+    account: &Account,
+    year: Year,
+) -> bool
+    requires { row ≡ row_in account.now.rows _number }
+    ensures { result ≡ turns_negative rules.now _number account.now year }
+{
+    figure_laws();
+    account.is_within_limits();
+    let lost = lost_by(rules, year, row);
+    falls_below_zero(account.figure(rules, year), lost)
+}
+
+// By how much the figure of the year falls if this row is reversed.
+fn lost_by(rules: &Rules, year: Year, row: Option<RetirementRow>) -> u64
+    ensures { result ≡ lost_by rules.now year row }
+{
+    match row {
+        Some(row) => counted_amount(rules, year, row),
+        None => 0,
+    }
+}
+
+// How many allowances of the row count for the figure of the year. Today all rows belong to the one period.
+fn counted_amount(_rules: &Rules, _year: Year, row: RetirementRow) -> u64
+    ensures { result ≡ counted_amount _rules.now _year row }
+{
+    match row.retirement {
+        Retirement::Surrendered => { if row.reversed { 0 } else { row.amount } }
+        Retirement::Deleted => 0,
+    }
+}
+
+// Whether there is a figure of 0 or more that is below 0 without this amount.
+fn falls_below_zero(figure: Result<i64, FigureFault>, lost: u64) -> bool
+    ensures { result ≡ (is_compliant figure && is_negative (lowered_by lost figure)) }
+{
+    match figure {
+        Ok(figure) => 0 <= figure && i128::from(figure) - i128::from(lost) < 0,
+        Err(_) => false,
+    }
+}
