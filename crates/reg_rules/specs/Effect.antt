@@ -3,7 +3,7 @@ use Rattle.std.specs.Prelude.{◌≡◌, ℕ, ◌+◌, ◌≤◌, ℤ, false, �
 use Rattle.std.specs.Option.{option_map_or}
 use Rattle.reg_base.specs.declared.limits.TheConstants.{MOST_HELD, MOST_EMISSIONS}
 use Rattle.reg_base.specs.declared.kinds.AllowanceKind.{AllowanceKind}
-use Rattle.reg_base.specs.declared.movement.Share.{Share}
+use Rattle.reg_base.specs.declared.shares.Share.{Share}
 use Rattle.reg_base.specs.declared.act.Act.{Act}
 use Rattle.reg_base.specs.declared.act.Act.TheVariants.{Transfer, Surrender, Delete, ReturnExcess, Reverse, Create, CentralMove, Trust, Untrust, SetStatus, EnterEmissions, Assess}
 use Rattle.reg_base.specs.declared.instruction.Instruction.{Instruction}
