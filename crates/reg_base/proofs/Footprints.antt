@@ -10,7 +10,7 @@ use Rattle.std.proofs.lemmas.List.Elements.{All-from_recursion}
 use Rattle.reg_base.specs.Directory.{DirectoryValue, is_known}
 use Rattle.reg_base.specs.Footprint.{each_once, is_among, footprint, all_known, IsSound}
 use Rattle.reg_base.specs.declared.act.Act.{Act}
-use Rattle.reg_base.specs.declared.movement.Share.{Share}
+use Rattle.reg_base.specs.declared.shares.Share.{Share}
 use Rattle.reg_base.specs.Acts.{first, shares, parties, also_known}
 
 -- what holds of each element holds of each that a filter keeps

@@ -1,9 +1,10 @@
 -- The accounts of the table of acts are those that the acts name.
 use Rattle.std.proofs.Common.{◌≡◌, ℕ, Bool, true, false, cond, eqb, [], ◌∷◌, refl, ap, ◌∙◌}
+use Rattle.std.proofs.lemmas.List.{append-nil}
 use Rattle.std.specs.Prelude.{not}
 use Rattle.std.specs.List.{list_all}
 use Rattle.reg_base.specs.declared.act.Act.{Act}
-use Rattle.reg_base.specs.declared.act.Act.TheVariants.{Transfer, Trust}
+use Rattle.reg_base.specs.declared.act.Act.TheVariants.{Transfer, Distribute, Trust}
 use Rattle.reg_base.specs.Acts.{parties}
 use Rattle.reg_base.specs.Directory.{is_known}
 use Rattle.reg_base.specs.Footprint.{each_once, must_be_known, touched_by, asked_for, ActsNameTheirAccounts}
@@ -14,6 +15,7 @@ parties-named act = refl
 
 known-asked_for : (act : Act) → must_be_known act ≡ asked_for act
 known-asked_for (Trust account other) = refl
+known-asked_for (Distribute from kind shares) = append-nil (touched_by (Distribute from kind shares))
 known-asked_for act = refl
 
 once-both : (from to : ℕ) → each_once (from ∷ to ∷ []) ≡ cond (eqb to from) (from ∷ []) (from ∷ to ∷ [])

@@ -1,20 +1,29 @@
 -- The table of acts: what each act does with its accounts. All that an act names follows from its row.
 use Rattle.std.specs.Prelude.{ℕ, List, [], ◌∷◌, ◌++◌, map, Option, Some, None}
+use Rattle.std.specs.List.{sum_by}
 use Rattle.reg_base.specs.declared.kinds.AllowanceKind.{AllowanceKind}
 use Rattle.reg_base.specs.declared.kinds.AllowanceKind.TheVariants.{General}
 use Rattle.reg_base.specs.declared.kinds.Retirement.{Retirement}
 use Rattle.reg_base.specs.declared.kinds.Retirement.TheVariants.{Surrendered, Deleted}
-use Rattle.reg_base.specs.declared.movement.Share.{Share}
+use Rattle.reg_base.specs.declared.shares.Share.{Share}
 use Rattle.reg_base.specs.declared.movement.Change.{Change}
 use Rattle.reg_base.specs.declared.movement.Change.TheVariants.{Debit, Credit, Retire, Unretire, SetEmissions, Determine}
 use Rattle.reg_base.specs.declared.movement.Change.TheVariants as change
 use Rattle.reg_base.specs.declared.movement.Movement.{Movement}
 use Rattle.reg_base.specs.declared.act.Act.{Act}
-use Rattle.reg_base.specs.declared.act.Act.TheVariants.{Transfer, Surrender, Delete, ReturnExcess, Reverse, Create, CentralMove, Trust, Untrust, SetStatus, EnterEmissions, Assess}
+use Rattle.reg_base.specs.declared.act.Act.TheVariants.{Transfer, Surrender, Delete, ReturnExcess, Reverse, Create, CentralMove, Distribute, Trust, Untrust, SetStatus, EnterEmissions, Assess}
 
 -- allowances pass from one account to another
 abbrev pub passing : ℕ → ℕ → AllowanceKind → ℕ → Movement
 passing from to kind amount = record { first = from; change = Debit kind amount; kind = kind; leaves = amount; shares = record { to = to; amount = amount } ∷ [] }
+
+-- how many allowances these shares are together
+abbrev pub total_of : List Share → ℕ
+total_of shares = sum_by (λ share. share.amount) shares
+
+-- allowances pass from one account to several others
+abbrev pub distributing : ℕ → AllowanceKind → List Share → Movement
+distributing from kind shares = record { first = from; change = Debit kind (total_of shares); kind = kind; leaves = total_of shares; shares = shares }
 
 -- allowances leave an account for good, and no other account receives any
 abbrev pub retiring : ℕ → Retirement → AllowanceKind → ℕ → Movement
@@ -33,6 +42,7 @@ movement_of (ReturnExcess from to kind amount) = passing from to kind amount
 movement_of (Reverse account number) = staying account (Unretire number)
 movement_of (Create to kind amount) = staying to (Credit kind amount)
 movement_of (CentralMove from to kind amount) = passing from to kind amount
+movement_of (Distribute from kind shares) = distributing from kind shares
 movement_of (Trust account other) = staying account (change.Trust other)
 movement_of (Untrust account other) = staying account (change.Untrust other)
 movement_of (SetStatus account status) = staying account (change.SetStatus status)

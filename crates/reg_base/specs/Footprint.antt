@@ -1,9 +1,9 @@
 -- The accounts that an instruction reads or changes.
-use Rattle.std.specs.Prelude.{◌≡◌, ℕ, ◌+◌, ◌≤◌, Bool, IsTrue, not, ◌==◌, nat_eq, List, [], ◌∷◌, ◌++◌, length, filter, All, if◌then◌else◌}
+use Rattle.std.specs.Prelude.{◌≡◌, ℕ, ◌+◌, ◌≤◌, Bool, IsTrue, not, ◌==◌, nat_eq, List, [], ◌∷◌, ◌++◌, map, length, filter, All, if◌then◌else◌}
 use Rattle.std.specs.Option.{option_to_list}
 use Rattle.std.specs.List.{list_all, list_any, IsDistinct}
 use Rattle.reg_base.specs.declared.act.Act.{Act}
-use Rattle.reg_base.specs.declared.act.Act.TheVariants.{Transfer, Surrender, Delete, ReturnExcess, Reverse, Create, CentralMove, Trust, Untrust, SetStatus, EnterEmissions, Assess}
+use Rattle.reg_base.specs.declared.act.Act.TheVariants.{Transfer, Surrender, Delete, ReturnExcess, Reverse, Create, CentralMove, Distribute, Trust, Untrust, SetStatus, EnterEmissions, Assess}
 use Rattle.reg_base.specs.Acts.{shares, parties, also_known}
 use Rattle.reg_base.specs.Directory.{DirectoryValue, is_known}
 
@@ -57,6 +57,7 @@ accounts_named (ReturnExcess from to kind amount) = alike (from ∷ to ∷ [])
 accounts_named (Reverse account number) = alike (account ∷ [])
 accounts_named (Create to kind amount) = alike (to ∷ [])
 accounts_named (CentralMove from to kind amount) = alike (from ∷ to ∷ [])
+accounts_named (Distribute from kind shares) = alike (from ∷ map (λ share. share.to) shares)
 accounts_named (Trust account other) = record { touched = account ∷ []; asked = account ∷ other ∷ [] }
 accounts_named (Untrust account other) = alike (account ∷ [])
 accounts_named (SetStatus account status) = alike (account ∷ [])

@@ -1,11 +1,12 @@
 //! What an instruction is to do.
 
 ghost use Rattle.std.specs.Prelude.{◌≡◌};
-ghost use Rattle.reg_base.specs.Acts.{passing, retiring, staying, movement_of};
+ghost use Rattle.reg_base.specs.Acts.{passing, retiring, staying, distributing, movement_of};
 
 use crate::kinds::{AllowanceKind, Retirement, Status};
-use crate::movement::{Change, Movement, Shares};
+use crate::movement::{Change, Movement};
 use crate::numbers::{AccountNo, RecordNo, Year};
+use crate::shares::{Receivers, Shares};
 
 /// What an instruction is to do.
 #[derive(Clone, Copy, Debug, PartialEq, Eq)]
@@ -76,6 +77,15 @@ pub enum Act {
         kind: AllowanceKind,
         /// How many allowances: any number. A check refuses 0.
         amount: u64,
+    },
+    /// Allowances move from an allocation account to those to whom they are allocated: all of them, or none.
+    Distribute {
+        /// The allocation account that gives.
+        from: AccountNo,
+        /// The kind of the allowances.
+        kind: AllowanceKind,
+        /// The operators' and aircraft operators' accounts that receive, and how many each.
+        shares: Shares,
     },
     /// An account is put on the trusted account list of another. The entry takes effect after the list lag.
     Trust {
@@ -148,6 +158,7 @@ impl Act {
             }
             Act::Reverse { account, number } => staying(account, Change::Unretire { number }),
             Act::Create { to, kind, amount } => staying(to, Change::Credit { kind, amount }),
+            Act::Distribute { from, kind, shares } => distributing(from, kind, shares),
             Act::Trust { account, other } => staying(account, Change::Trust { other }),
             Act::Untrust { account, other } => staying(account, Change::Untrust { other }),
             Act::SetStatus { account, status } => staying(account, Change::SetStatus { status }),
@@ -167,10 +178,27 @@ fn passing(from: AccountNo, to: AccountNo, kind: AllowanceKind, amount: u64) -> 
 {
     Movement {
         first: from,
-        change: Change::Debit { kind, amount },
+        change: Change::Debit {
+            kind,
+            amount: u128::from(amount),
+        },
         kind,
         leaves: u128::from(amount),
-        shares: Shares::one(to, amount),
+        shares: Receivers::one(to, amount),
+    }
+}
+
+// Allowances pass from one account to several others.
+fn distributing(from: AccountNo, kind: AllowanceKind, shares: Shares) -> Movement
+    ensures { result ≡ distributing from kind shares }
+{
+    let amount = shares.total();
+    Movement {
+        first: from,
+        change: Change::Debit { kind, amount },
+        kind,
+        leaves: amount,
+        shares: shares.receivers(),
     }
 }
 
@@ -187,7 +215,7 @@ fn retiring(from: AccountNo, retirement: Retirement, kind: AllowanceKind, amount
         },
         kind,
         leaves: u128::from(amount),
-        shares: Shares::none(),
+        shares: Receivers::none(),
     }
 }
 
@@ -200,6 +228,6 @@ fn staying(account: AccountNo, change: Change) -> Movement
         change,
         kind: AllowanceKind::General,
         leaves: 0,
-        shares: Shares::none(),
+        shares: Receivers::none(),
     }
 }

@@ -1,8 +1,9 @@
 //! Due instructions.
 
-ghost use Rattle.std.specs.Prelude.{◌≡◌, ◌&&◌, true, All};
-ghost use Rattle.std.specs.Option.{option_map_or};
+ghost use Rattle.std.specs.Prelude.{◌≡◌, ◌&&◌, ◌++◌, true, All};
+ghost use Rattle.std.specs.Option.{option_map_or, option_to_list};
 ghost use Rattle.std.specs.List.{list_all};
+ghost use Rattle.reg_base.specs.Acts.{parties_of, other_known};
 ghost use Rattle.reg_base.specs.Directory.{is_known};
 ghost use Rattle.reg_base.specs.Footprint.{footprint};
 ghost use Rattle.reg_base.specs.Instructions.{IsInstruction};
@@ -10,8 +11,9 @@ ghost use Rattle.reg_base.specs.Instructions.{IsInstruction};
 use crate::act::Act;
 use crate::directory::Directory;
 use crate::footprint::Footprint;
-use crate::movement::{Movement, Share};
+use crate::movement::Movement;
 use crate::numbers::{AccountNo, Day, UserNo};
+use crate::shares::Share;
 
 /// A due instruction: proposed by one representative, and approved by another if it needs that.
 #[derive(Clone, Copy, Debug, PartialEq, Eq)]
@@ -33,7 +35,7 @@ impl Instruction {
         ensures { result ≡ footprint directory.now self.now.act }
     {
         let movement = self.act.movement();
-        if knows_all(directory, &movement) && knows_other(directory, movement.also_known()) {
+        if knows_all(directory, &movement) {
             movement.parties()
         } else {
             Footprint::none()
@@ -43,6 +45,13 @@ impl Instruction {
 
 // Whether each account that has to be in the directory is there.
 fn knows_all(directory: &Directory, movement: &Movement) -> bool
+    ensures { result ≡ list_all (is_known directory.now) (parties_of movement.now ++ option_to_list (other_known movement.now.change)) }
+{
+    knows_parties(directory, movement) && knows_other(directory, movement.also_known())
+}
+
+// Whether the first account is in the directory, and each that receives.
+fn knows_parties(directory: &Directory, movement: &Movement) -> bool
     ensures { result ≡ (is_known directory.now movement.now.first && list_all (λ share. is_known directory.now share.to) movement.now.shares) }
 {
     directory.find(movement.first).is_some() && knows_each(directory, movement.shares.as_slice())

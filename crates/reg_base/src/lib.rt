@@ -18,6 +18,7 @@ mod movement;
 mod numbers;
 mod refusals;
 mod rules;
+mod shares;
 
 pub use act::Act;
 pub use batch::{Batch, BatchFault};
@@ -32,7 +33,8 @@ pub use limits::{
     MOST_NUMBER, MOST_RECORD, MOST_RETIRED, MOST_ROWS, MOST_SHARES, MOST_TOUCHED, MOST_TRUSTED,
     MOST_USERS,
 };
-pub use movement::{Change, Movement, Share, Shares};
+pub use movement::{Change, Movement};
 pub use numbers::{AccountNo, Day, HolderNo, RecordNo, UserNo, Year};
 pub use refusals::{CHECKS, Refusal};
 pub use rules::{Rules, RulesFault, RulesParts};
+pub use shares::{Receivers, Share, Shares};

@@ -6,7 +6,7 @@ use Rattle.std.specs.List.{AllByRecursion, IsDistinct, list_any}
 use Rattle.std.proofs.lemmas.Bool.{eqb-true, eqb-false, eq-eqb, ne_eqb, not-false, ltb-false}
 use Rattle.reg_base.specs.declared.limits.TheConstants.{MOST_HELD}
 use Rattle.reg_base.specs.declared.kinds.AllowanceKind.{AllowanceKind}
-use Rattle.reg_base.specs.declared.movement.Share.{Share}
+use Rattle.reg_base.specs.declared.shares.Share.{Share}
 use Rattle.reg_base.specs.declared.act.Act.{Act}
 use Rattle.reg_base.specs.declared.instruction.Instruction.{Instruction}
 use Rattle.reg_base.specs.declared.refusals.Refusal.TheVariants.{UnknownAccount, SameAccount, HoldingTooLarge}

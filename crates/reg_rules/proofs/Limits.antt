@@ -8,7 +8,7 @@ use Rattle.std.proofs.lemmas.Option.{same_Some, none-some}
 use Rattle.std.proofs.lemmas.List.Elements.{All-from_recursion, recursion_from_All}
 use Rattle.reg_base.specs.declared.limits.TheConstants.{MOST_HELD}
 use Rattle.reg_base.specs.declared.kinds.AllowanceKind.{AllowanceKind}
-use Rattle.reg_base.specs.declared.movement.Share.{Share}
+use Rattle.reg_base.specs.declared.shares.Share.{Share}
 use Rattle.reg_base.specs.declared.movement.Change.{Change}
 use Rattle.reg_base.specs.declared.movement.Change.TheVariants.{Debit, Credit, Retire, Unretire, Trust, Untrust, SetStatus, SetEmissions, Determine}
 use Rattle.reg_base.specs.declared.act.Act.{Act}

@@ -5,7 +5,7 @@ use Rattle.std.specs.Option.{option_map, option_map_or, option_to_list}
 use Rattle.std.proofs.lemmas.Bool.{eq-eqb, ne_eqb, eqb-false, ltb-false, not-false, and_parts}
 use Rattle.reg_base.specs.declared.kinds.AllowanceKind.{AllowanceKind}
 use Rattle.reg_base.specs.declared.kinds.AllowanceKind.TheVariants.{General, Aviation}
-use Rattle.reg_base.specs.declared.movement.Share.{Share}
+use Rattle.reg_base.specs.declared.shares.Share.{Share}
 use Rattle.reg_base.specs.declared.movement.Movement.{Movement}
 use Rattle.reg_base.specs.declared.refusals.Refusal.TheVariants.{SameAccount, WrongAccountKind, NotEnough}
 use Rattle.reg_base.specs.declared.instruction.Instruction.{Instruction}

@@ -3,7 +3,7 @@ use Rattle.std.specs.Prelude.{◌≡◌, ℕ, ◌+◌, ◌≤◌, ℤ, false, �
 use Rattle.std.specs.Option.{option_map_or}
 use Rattle.reg_base.specs.declared.limits.TheConstants.{MOST_HELD, MOST_EMISSIONS}
 use Rattle.reg_base.specs.declared.kinds.AllowanceKind.{AllowanceKind}
-use Rattle.reg_base.specs.declared.movement.Share.{Share}
+use Rattle.reg_base.specs.declared.shares.Share.{Share}
 use Rattle.reg_base.specs.declared.movement.Change.{Change}
 use Rattle.reg_base.specs.declared.movement.Change.TheVariants.{Debit, Credit, Retire, Unretire, Trust, Untrust, SetStatus, SetEmissions, Determine}
 use Rattle.reg_base.specs.declared.act.Act.{Act}

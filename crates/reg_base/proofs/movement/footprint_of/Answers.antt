@@ -1,5 +1,5 @@
 use Rattle.std.proofs.Common.{◌∙◌, ap, arith}
-use Rattle.reg_base.specs.declared.movement.Share.{Share}
+use Rattle.reg_base.specs.declared.shares.Share.{Share}
 use Rattle.reg_base.proofs.Footprints.{one-more, room-left, with-one}
 use Rattle.reg_base.proofs.movement.footprint_of.Goals as goal
 

@@ -1,7 +1,7 @@
 use Rattle.std.proofs.Common.{◌<◌, ◌^◌, arith}
 use Rattle.std.proofs.lemmas.List.Elements.{All-map}
 use Rattle.reg_base.specs.Numbers.{IsAccountNo}
-use Rattle.reg_base.specs.declared.movement.Share.{Share}
+use Rattle.reg_base.specs.declared.shares.Share.{Share}
 use Rattle.reg_base.proofs.movement.know_shares.Goals as goal
 
 pub returns-clause-accounts : goal.returns-clause-accounts

@@ -1,6 +1,6 @@
 use Rattle.std.proofs.Common.{ℕ, ◌<◌, ◌^◌, get_or}
 use Rattle.reg_base.specs.Numbers.{IsAccountNo}
-use Rattle.reg_base.specs.declared.movement.Share.{Share}
+use Rattle.reg_base.specs.declared.shares.Share.{Share}
 use Rattle.reg_base.proofs.movement.know_shares.Given as goal
 
 abbrev pub invariant-loop-share : goal.invariant-loop-share

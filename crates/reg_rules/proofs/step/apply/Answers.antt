@@ -1,7 +1,7 @@
 use Rattle.std.proofs.Common.{List, ap, get_or, map, set, sym, subst, ◌∙◌}
 use Rattle.std.specs.List.{AllByRecursion}
 use Rattle.reg_base.specs.declared.movement.Movement.{Movement}
-use Rattle.reg_base.specs.declared.movement.Share.{Share}
+use Rattle.reg_base.specs.declared.shares.Share.{Share}
 use Rattle.reg_rules.specs.Effect.{given, made_by, with_changes, CanMake, CanReceive}
 use Rattle.reg_rules.proofs.Applied.{first-can, rest-can, parts-whole}
 use Rattle.reg_rules.proofs.step.apply.Goals as goal
