@@ -5,9 +5,9 @@ use Rattle.reg_base.specs.declared.kinds.AccountKind.TheVariants.{Total, Allocat
 use Rattle.reg_base.specs.declared.kinds.Status.{Status}
 use Rattle.reg_base.specs.declared.kinds.Status.TheVariants.{Opened, Blocked, Excluded, Closed}
 use Rattle.reg_base.specs.declared.act.Act.{Act}
-use Rattle.reg_base.specs.declared.act.Act.TheVariants.{Transfer, Surrender, Delete, ReturnExcess, Reverse, Create, CentralMove, Trust, Untrust, SetStatus, EnterEmissions, Assess}
+use Rattle.reg_base.specs.declared.act.Act.TheVariants.{Transfer, Surrender, Delete, ReturnExcess, Reverse, Create, CentralMove, Distribute, Trust, Untrust, SetStatus, EnterEmissions, Assess}
 use Rattle.reg_rules.specs.declared.rule.KindRule.{KindRule}
-use Rattle.reg_rules.specs.declared.rule.KindRule.TheVariants.{HolderToHolder, OperatorToAllocation, Central, OfHolder, OfOperator, OfTotal}
+use Rattle.reg_rules.specs.declared.rule.KindRule.TheVariants.{HolderToHolder, OperatorToAllocation, AllocationToOperator, Central, OfHolder, OfOperator, OfTotal}
 use Rattle.reg_rules.specs.declared.rule.StatusRule.{StatusRule}
 use Rattle.reg_rules.specs.declared.rule.StatusRule.TheVariants.{IsOpened, OpenedOrBlocked, NotClosed, AsReceiver}
 use Rattle.reg_rules.specs.declared.rule.Who.{Who}
@@ -29,6 +29,7 @@ rule_of (ReturnExcess from to kind amount) = row OperatorToAllocation NotClosed 
 rule_of (Reverse account number) = row OfHolder NotClosed Administrators NoLag
 rule_of (Create to kind amount) = row OfTotal AsReceiver Administrators NoLag
 rule_of (CentralMove from to kind amount) = row Central NotClosed Administrators NoLag
+rule_of (Distribute from kind shares) = row AllocationToOperator NotClosed Administrators NoLag
 rule_of (Trust account other) = row OfHolder NotClosed Representatives NoLag
 rule_of (Untrust account other) = row OfHolder NotClosed Representatives NoLag
 rule_of (SetStatus account status) = row OfHolder NotClosed Administrators NoLag
@@ -85,6 +86,7 @@ may_go_central Trading to = false
 abbrev pub fits_first : KindRule → AccountKind → Bool
 fits_first HolderToHolder kind = is_holder_kind kind
 fits_first OperatorToAllocation kind = is_operator_kind kind
+fits_first AllocationToOperator kind = is_allocation_kind kind
 fits_first Central kind = is_central_kind kind
 fits_first OfHolder kind = is_holder_kind kind
 fits_first OfOperator kind = is_operator_kind kind
@@ -94,6 +96,7 @@ fits_first OfTotal kind = is_total_kind kind
 abbrev pub fits_receiver : KindRule → AccountKind → AccountKind → Bool
 fits_receiver HolderToHolder first kind = is_holder_kind kind
 fits_receiver OperatorToAllocation first kind = is_allocation_kind kind
+fits_receiver AllocationToOperator first kind = is_operator_kind kind
 fits_receiver Central first kind = may_go_central first kind
 fits_receiver OfHolder first kind = false
 fits_receiver OfOperator first kind = false

@@ -12,6 +12,8 @@ pub enum KindRule {
     HolderToHolder,
     /// From an operator's or aircraft operator's account to an allocation account.
     OperatorToAllocation,
+    /// From an allocation account to operators' or aircraft operators' accounts.
+    AllocationToOperator,
     /// From the total quantity account to an allocation account, or from an allocation account back, or to an
     /// operator's or aircraft operator's account.
     Central,
@@ -104,6 +106,7 @@ pub(crate) fn rule_of(act: &Act) -> ActRule
         Act::Reverse { .. } => row(OfHolder, NotClosed, Administrators, NoLag),
         Act::Create { .. } => row(OfTotal, AsReceiver, Administrators, NoLag),
         Act::CentralMove { .. } => row(Central, NotClosed, Administrators, NoLag),
+        Act::Distribute { .. } => row(AllocationToOperator, NotClosed, Administrators, NoLag),
         Act::Trust { .. } | Act::Untrust { .. } => row(OfHolder, NotClosed, Representatives, NoLag),
         Act::SetStatus { .. } => row(OfHolder, NotClosed, Administrators, NoLag),
         Act::EnterEmissions { .. } => row(OfOperator, NotClosed, Administrators, NoLag),
@@ -118,6 +121,7 @@ pub(crate) fn fits_first(rule: KindRule, kind: AccountKind) -> bool
     match rule {
         KindRule::HolderToHolder | KindRule::OfHolder => is_holder_kind(kind),
         KindRule::OperatorToAllocation | KindRule::OfOperator => is_operator_kind(kind),
+        KindRule::AllocationToOperator => is_allocation_kind(kind),
         KindRule::Central => is_central_kind(kind),
         KindRule::OfTotal => is_total_kind(kind),
     }
@@ -130,6 +134,7 @@ pub(crate) fn fits_receiver(rule: KindRule, first: AccountKind, kind: AccountKin
     match rule {
         KindRule::HolderToHolder => is_holder_kind(kind),
         KindRule::OperatorToAllocation => is_allocation_kind(kind),
+        KindRule::AllocationToOperator => is_operator_kind(kind),
         KindRule::Central => may_go_central(first, kind),
         KindRule::OfHolder | KindRule::OfOperator | KindRule::OfTotal => false,
     }

@@ -113,7 +113,7 @@ fn change_first(
 {
     match *change {
         Change::Debit { kind, amount } => {
-            account.debit(kind, amount);
+            debit(account, kind, amount);
             Ok(())
         }
         Change::Credit { kind, amount } => {
@@ -141,6 +141,15 @@ fn change_first(
         Change::SetEmissions { year, tonnes } => account.set_emissions(year, tonnes),
         Change::Determine { year } => assess(setting.rules, account, year),
     }
+}
+
+// Takes allowances from an account. It holds them, so their number has 64 bits.
+fn debit(account: &mut Account, kind: AllowanceKind, amount: u128)
+    requires { amount ≤ held_by account.old kind }
+    ensures { account.new ≡ debited account.old kind amount }
+{
+    account.is_within_limits();
+    account.debit(kind, amount as u64);
 }
 
 // The row of a surrender or deletion that is carried out now.
