@@ -12,10 +12,10 @@ use Rattle.reg_base.specs.declared.shares.Share.{Share}
 use Rattle.reg_base.specs.declared.movement.Change.{Change}
 use Rattle.reg_base.specs.declared.movement.Change.TheVariants.{Debit, Credit, Retire, Unretire, Trust, Untrust, SetStatus, SetEmissions, Determine}
 use Rattle.reg_base.specs.declared.act.Act.{Act}
-use Rattle.reg_base.specs.declared.act.Act.TheVariants.{Transfer, ReturnExcess, CentralMove}
+use Rattle.reg_base.specs.declared.act.Act.TheVariants.{Transfer, ReturnExcess, CentralMove, Distribute}
 use Rattle.reg_base.specs.declared.instruction.Instruction.{Instruction}
 use Rattle.reg_base.specs.declared.refusals.Refusal.TheVariants.{SameAccount, WrongAccountKind}
-use Rattle.reg_base.specs.Acts.{movement_of, change_of, first, shares, parties, also_known}
+use Rattle.reg_base.specs.Acts.{total_of, movement_of, change_of, first, shares, parties, also_known}
 use Rattle.reg_base.specs.declared.kinds.Retirement.TheVariants.{Surrendered, Deleted}
 use Rattle.reg_account.specs.declared.rows.RetirementRow.{RetirementRow}
 use Rattle.reg_account.specs.declared.figure.FigureFault.{FigureFault}
@@ -57,12 +57,20 @@ of-one kind own to amount =
     let e : sum_by (λ (share : Share). of_kind kind own share.amount) (record { to = to; amount = amount } ∷ []) ≡ of_kind kind own amount + 0 = sum_by-cons (λ (share : Share). of_kind kind own share.amount) (record { to = to; amount = amount }) [] in
     omega (arith, e)
 
+of-each : (b : Bool) (shared : List Share) → sum_by (λ (share : Share). cond b share.amount 0) shared ≡ cond b (total_of shared) 0
+of-each true shared = refl
+of-each false [] = refl
+of-each false (x ∷ xs) =
+    let all : sum_by (λ (share : Share). 0) (x ∷ xs) ≡ 0 + sum_by (λ (share : Share). 0) xs = sum_by-cons (λ (share : Share). 0) x xs in
+    let more : sum_by (λ (share : Share). 0) xs ≡ 0 = of-each false xs in
+    omega (arith, all, more)
+
 own-kind : (b : Bool) (amount : ℕ) → cond (b && true) amount 0 ≡ cond b amount 0
 own-kind true amount = refl
 own-kind false amount = refl
 
 -- no account has a share if its number is not among those that receive
-no-share : (a : ℕ) (shared : List Share) → list_any (λ b. eqb b a) (map (λ share. share.to) shared) ≡ false → share_of shared a ≡ None
+pub no-share : (a : ℕ) (shared : List Share) → list_any (λ b. eqb b a) (map (λ share. share.to) shared) ≡ false → share_of shared a ≡ None
 no-share a [] none = refl
 no-share a (x ∷ xs) none =
     ap (λ b. cond b (Some x) (share_of xs a)) (or-left (eqb x.to a) (list_any (λ b. eqb b a) (map (λ share. share.to) xs)) none)
@@ -150,7 +158,7 @@ shares-sum kind own (x ∷ xs) s distinct once found =
             omega (arith, rest)
 
 -- each account that receives is there, if no check fails
-receivers-there : (c : Setting) (s : State) (i : Instruction) → refusal c s i ≡ None → AllByRecursion (λ share. (v : AccountValue) × (account s share.to ≡ Some v)) (shares i.act)
+pub receivers-there : (c : Setting) (s : State) (i : Instruction) → refusal c s i ≡ None → AllByRecursion (λ share. (v : AccountValue) × (account s share.to ≡ Some v)) (shares i.act)
 receivers-there c s i none =
     let first-one = first-there c s i none in
     let all : (fits_first (rule_of i.act).kinds first-one.0.kind && receivers_fit (rule_of i.act).kinds first-one.0.kind (seen s i.act)) ≡ true =
@@ -177,6 +185,7 @@ unfolding passed_on debits
 passed-debits kind (Transfer from to own amount) = of-one kind own to amount
 passed-debits kind (ReturnExcess from to own amount) = of-one kind own to amount
 passed-debits kind (CentralMove from to own amount) = of-one kind own to amount
+passed-debits kind (Distribute from own shared) = of-each (is_same_kind own kind) shared
 passed-debits kind act = refl
 
 module _ (laws : NumberLaws) where

@@ -10,7 +10,7 @@ use Rattle.reg_base.specs.declared.shares.Share.{Share}
 use Rattle.reg_base.specs.declared.movement.Change.{Change}
 use Rattle.reg_base.specs.declared.movement.Change.TheVariants.{Debit, Credit, Retire, Unretire, Trust, Untrust, SetStatus, SetEmissions, Determine}
 use Rattle.reg_base.specs.declared.act.Act.{Act}
-use Rattle.reg_base.specs.declared.act.Act.TheVariants.{Transfer, Surrender, Delete, ReturnExcess, CentralMove}
+use Rattle.reg_base.specs.declared.act.Act.TheVariants.{Transfer, Surrender, Delete, ReturnExcess, CentralMove, Distribute}
 use Rattle.reg_base.specs.declared.instruction.Instruction.{Instruction}
 use Rattle.reg_base.specs.declared.refusals.Refusal.TheVariants.{ZeroAmount, UnknownTransaction, AlreadyReversed, NotEnough, HoldingTooLarge, RetiredTooLarge, RowsFull, ListFull, AmountTooLarge}
 use Rattle.reg_base.specs.Acts.{movement_of, change_of, first, shares, amounts_named}
@@ -45,6 +45,7 @@ short-made (Surrender from kind amount) e h = h
 short-made (Delete from kind amount) e h = h
 short-made (ReturnExcess from to kind amount) e h = h
 short-made (CentralMove from to kind amount) e h = h
+short-made (Distribute from kind shares) e h = h
 short-made act e h = refl
 
 -- the checks of amounts and rows that passed at a first account v

@@ -20,3 +20,4 @@ pub mod Acts
 pub mod Listings
 pub mod Conserved
 pub mod ClosedStay
+pub mod Distributed

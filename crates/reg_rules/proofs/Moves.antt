@@ -44,15 +44,15 @@ there test None h = absurd (let e : false ≡ true = h in cc)
 there test (Some v) h = (v, refl)
 
 -- what a change keeps of each account, a number leads to as before
-mapped-or : {Y : Type 0} (m : AccountValue → Y) (d : Y) (f : AccountValue → AccountValue) (o : Option AccountValue) → ((v : AccountValue) → m (f v) ≡ m v) → option_map_or m (option_map f o) d ≡ option_map_or m o d
+pub mapped-or : {Y : Type 0} (m : AccountValue → Y) (d : Y) (f : AccountValue → AccountValue) (o : Option AccountValue) → ((v : AccountValue) → m (f v) ≡ m v) → option_map_or m (option_map f o) d ≡ option_map_or m o d
 mapped-or m d f None same = refl
 mapped-or m d f (Some v) same = same v
 
-aside-mapped : (f : AccountValue → AccountValue) (o : Option AccountValue) → ((v : AccountValue) → set_aside (f v) ≡ set_aside v) → option_map set_aside (option_map f o) ≡ option_map set_aside o
+pub aside-mapped : (f : AccountValue → AccountValue) (o : Option AccountValue) → ((v : AccountValue) → set_aside (f v) ≡ set_aside v) → option_map set_aside (option_map f o) ≡ option_map set_aside o
 aside-mapped f None same = refl
 aside-mapped f (Some v) same = ap Some (same v)
 
-status-mapped : (f : AccountValue → AccountValue) (o : Option AccountValue) → ((v : AccountValue) → (f v).status ≡ v.status) → option_map (λ (v : AccountValue). v.status) (option_map f o) ≡ option_map (λ (v : AccountValue). v.status) o
+pub status-mapped : (f : AccountValue → AccountValue) (o : Option AccountValue) → ((v : AccountValue) → (f v).status ≡ v.status) → option_map (λ (v : AccountValue). v.status) (option_map f o) ≡ option_map (λ (v : AccountValue). v.status) o
 status-mapped f None same = refl
 status-mapped f (Some v) same = ap Some (same v)
 

@@ -1,10 +1,14 @@
 -- What each act makes of the state: which entry of which map changes, and that all else stays.
-use Rattle.std.specs.Prelude.{◌≡◌, ◌≢◌, ℕ, ◌+◌, ◌-◌, ◌≤◌, ℤ, true, false, Some, None, Ok}
+use Rattle.std.specs.Prelude.{◌≡◌, ◌≢◌, ℕ, ◌+◌, ◌-◌, ◌≤◌, ℤ, true, false, List, map, Some, None, Ok}
+use Rattle.std.specs.List.{All}
 use Rattle.reg_base.specs.declared.kinds.AllowanceKind.{AllowanceKind}
 use Rattle.reg_base.specs.declared.kinds.Status.{Status}
 use Rattle.reg_base.specs.declared.act.Act.{Act}
-use Rattle.reg_base.specs.declared.act.Act.TheVariants.{Transfer, Surrender, Delete, ReturnExcess, Reverse, Create, CentralMove, Trust, Untrust, SetStatus, EnterEmissions, Assess}
+use Rattle.reg_base.specs.declared.act.Act.TheVariants.{Transfer, Surrender, Delete, ReturnExcess, Reverse, Create, CentralMove, Distribute, Trust, Untrust, SetStatus, EnterEmissions, Assess}
+use Rattle.reg_base.specs.declared.shares.Share.{Share}
 use Rattle.reg_base.specs.declared.instruction.Instruction.{Instruction}
+use Rattle.reg_base.specs.Acts.{total_of}
+use Rattle.reg_base.specs.Footprint.{is_among}
 use Rattle.reg_base.specs.Calendar.{due}
 use Rattle.reg_base.specs.declared.kinds.Retirement.{Retirement}
 use Rattle.reg_base.specs.declared.kinds.Retirement.TheVariants.{Surrendered, Deleted}
@@ -62,6 +66,25 @@ pub record IsMoved (s t : State) (from to : ℕ) (kind : AllowanceKind) (amount 
 abbrev pub Moves : (ℕ → ℕ → AllowanceKind → ℕ → Act) → Type 0
 Moves act = (c : Setting) (s : State) (number : ℕ) (i : Instruction) (from to : ℕ) (kind : AllowanceKind) (amount : ℕ)
     → i.act ≡ act from to kind amount → refusal c s i ≡ None → IsMoved s (after_step c s number i) from to kind amount
+
+-- the second state is the first, except that each of these accounts has received its share from the first one: all of them
+pub record IsDistributed (s t : State) (from : ℕ) (kind : AllowanceKind) (shares : List Share) : Type 0 where
+  pub enough : total_of shares ≤ held s from kind
+  pub lowered : held t from kind ≡ held s from kind - total_of shares
+  pub raised : All (λ share. held t share.to kind ≡ held s share.to kind + share.amount) shares
+  pub other_kinds : (a : ℕ) (other : AllowanceKind) → other ≢ kind → held t a other ≡ held s a other
+  pub other_accounts : (a : ℕ) → a ≢ from → is_among (map (λ share. share.to) shares) a ≡ false → account t a ≡ account s a
+  pub rows_stay : RowsStay s t
+  pub emissions_stay : EmissionsStay s t
+  pub figures_stay : FiguresStay s t
+  pub lists_stay : ListsStay s t
+  pub statuses_stay : StatusesStay s t
+  pub rest_stays : RestStays s t
+
+-- an accepted distribution gives each account its share, and does nothing else
+abbrev pub Distributes : Type 0
+Distributes = (c : Setting) (s : State) (number : ℕ) (i : Instruction) (from : ℕ) (kind : AllowanceKind) (shares : List Share)
+    → i.act ≡ Distribute from kind shares → refusal c s i ≡ None → IsDistributed s (after_step c s number i) from kind shares
 
 -- the second state is the first, except that this amount was created on the account
 pub record IsCreated (s t : State) (to : ℕ) (kind : AllowanceKind) (amount : ℕ) : Type 0 where
@@ -219,6 +242,7 @@ pub record ActLaws : Type 0 where
   pub reverse : Reverses
   pub create : Creates
   pub central_move : Moves (λ from to kind amount. CentralMove from to kind amount)
+  pub distribute : Distributes
   pub trust : Trusts
   pub untrust : Untrusts
   pub set_status : Sets

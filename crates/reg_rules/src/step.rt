@@ -6,7 +6,7 @@ ghost use Rattle.reg_base.specs.Acts.{movement_of, parties};
 ghost use Rattle.reg_base.specs.Footprint.{footprint};
 ghost use Rattle.reg_account.specs.Figure.{figure_of};
 ghost use Rattle.reg_rules.specs.State.{numbers};
-ghost use Rattle.reg_account.specs.Account.{CanTrust};
+ghost use Rattle.reg_account.specs.Account.{held_by, debited, CanTrust};
 ghost use Rattle.reg_rules.specs.Trust.{effective_day};
 ghost use Rattle.reg_rules.specs.Checks.{refusal};
 ghost use Rattle.reg_rules.specs.Effect.{share_of, given, made_by, with_changes, changed_by, new_row as row_of_today, assessed, listed_from, CanMake, CanReceive, CanChange, IsBehind};

@@ -68,7 +68,7 @@ fn lengths<N: Naming>(rt: &impl Abort, alloc: Global, shifts: &[Shift<N>]) -> St
 }
 
 // How many places each of so many workers ran of these instructions, which leave what they leave one after another.
-fn shifts<R: Abort + Threads + Wait + Sync, G: Gate>(
+pub(crate) fn shifts<R: Abort + Threads + Wait + Sync, G: Gate>(
     rt: &R,
     alloc: Global,
     instructions: &str,

@@ -102,7 +102,7 @@ fn by_workers<R: Abort + Threads + Wait, G: Gate>(
 }
 
 // Whether so many workers leave what the instructions one after another leave.
-fn is_same<R: Abort + Threads + Wait>(
+pub(crate) fn is_same<R: Abort + Threads + Wait>(
     rt: &R,
     alloc: Global,
     instructions: &str,

@@ -14,6 +14,8 @@ mod crew;
 #[cfg(test)]
 mod days;
 #[cfg(test)]
+mod distributions;
+#[cfg(test)]
 mod docks;
 #[cfg(test)]
 mod fixtures;

@@ -1,0 +1,126 @@
+//! Distributions: one account gives to one to eight others, by all ways of settling.
+
+use crate::crew::shifts;
+use crate::fixtures::{account_no, read, worked};
+use crate::levels::is_same;
+use crate::orders::{opening, settled, told};
+use reg_base::{Share, Shares};
+use reg_tasks::{Context, Unnamed, run_order};
+use reg_text::DayInput;
+use reg_work::OpenGate;
+use reg_yard::Dock;
+use std::alloc::Global;
+use std::process::Abort;
+use std::sync::Wait;
+use std::thread::Threads;
+
+// Account 8 has 600 general allowances, and distributes 150 of them.
+const TWO_SHARES: &str = "\
+do,2025-03-31,901,902,create,9,general,1000
+do,2025-03-31,901,902,central,9,8,general,600
+do,2025-03-31,901,902,distribute,8,general,1,100,3,50
+do,2025-03-31,101,102,transfer,1,2,general,150
+";
+
+// The shares together are one more than account 8 holds.
+const ONE_TOO_MANY: &str = "\
+do,2025-03-31,901,902,create,9,general,1000
+do,2025-03-31,901,902,central,9,8,general,600
+do,2025-03-31,901,902,distribute,8,general,1,600,3,1
+do,2025-03-31,101,102,transfer,1,2,general,100
+";
+
+// A distribution that touches no account, since one of its accounts is unknown.
+const TO_NOBODY: &str = "\
+do,2025-03-31,901,902,create,9,general,1000
+do,2025-03-31,901,902,central,9,8,general,600
+do,2025-03-31,901,902,distribute,8,general,1,100,77,1
+do,2025-03-31,901,902,central,8,1,general,1
+";
+
+// A distribution to as many accounts as there may be.
+const EIGHT_SHARES: &str = "\
+format,1
+day,2025-03-31,1
+period,2021,2030
+lags,0,1,1,2
+admin,901
+admin,902
+work,2025-03-31
+account,8,allocation,1,open,no,no,0,600,0
+account,21,operator,21,open,no,no,0,0,0
+account,22,operator,22,open,no,no,0,0,0
+account,23,operator,23,open,no,no,0,0,0
+account,24,operator,24,open,no,no,0,0,0
+account,25,aircraft,25,open,no,no,0,0,0
+account,26,aircraft,26,open,no,no,0,0,0
+account,27,aircraft,27,open,no,no,0,0,0
+account,28,aircraft,28,open,no,no,0,0,0
+do,2025-03-31,901,902,distribute,8,general,28,1,27,2,26,3,25,4,24,5,23,6,22,7,21,8
+end
+";
+
+// What these four instructions leave in the order of the batch, each on its own values.
+fn in_order(rt: &impl Abort, alloc: Global, instructions: &str) -> String {
+    let DayInput { rules, book, batch } = worked(rt, alloc, instructions);
+    let context = Context::<Unnamed>::of(alloc, &book, &rules, &batch).expect(rt, "memory");
+    let settled = run_order(alloc, &context, &[1, 2, 3, 4]).expect(rt, "a legal order");
+    told(rt, alloc, &settled)
+}
+
+// Tells whether all ways leave what the instructions one after another leave.
+fn are_same<R: Abort + Threads + Wait + Sync>(rt: &R, alloc: Global, instructions: &str) -> bool {
+    for workers in 1..9u32 {
+        shifts(rt, alloc, instructions, workers, &OpenGate);
+        if !is_same(rt, alloc, instructions, workers) {
+            return false;
+        }
+    }
+    in_order(rt, alloc, instructions) == settled(rt, alloc, instructions)
+}
+
+// How many opening values the dock of a distribution takes until it gives the task out.
+fn awaited(rt: &impl Abort, alloc: Global, text: &str, accounts: &[u32]) -> usize {
+    let DayInput { rules, book, batch } = read(rt, alloc, text);
+    let context = Context::<Unnamed>::of(alloc, &book, &rules, &batch).expect(rt, "memory");
+    assert!(rt; batch.len() == 1);
+    let (mut dock, task) = Dock::new(alloc, &context, 1).expect(rt, "memory");
+    assert!(rt; task.is_none());
+    let mut came = 0;
+    for account in accounts {
+        came += 1;
+        let Ok(task) = dock.deliver(opening(rt, alloc, &context, *account)) else {
+            panic!(rt; "a value that is not awaited");
+        };
+        if task.is_some() {
+            return came;
+        }
+    }
+    0
+}
+
+#[test]
+fn all_ways_leave_what_one_instruction_after_another_leaves(rt: HostRuntime) {
+    for instructions in [TWO_SHARES, ONE_TOO_MANY, TO_NOBODY] {
+        assert!(rt; are_same(&rt, rt.alloc(), instructions), "{instructions}");
+    }
+}
+
+#[test]
+fn a_dock_gives_the_task_with_the_ninth_of_nine_values(rt: HostRuntime) {
+    let accounts = [24, 8, 21, 28, 22, 27, 23, 26, 25];
+    assert_eq!(rt; awaited(&rt, rt.alloc(), EIGHT_SHARES, &accounts), 9);
+}
+
+#[test]
+fn there_are_one_to_eight_shares(rt: HostRuntime) {
+    let share = Share {
+        to: account_no(&rt, 1),
+        amount: 7,
+    };
+    let nine = [share; 9];
+    for count in 0..10usize {
+        let shares = Shares::new(&nine[..count]);
+        assert_eq!(rt; shares.is_some(), 1 <= count && count <= 8, "{count}");
+    }
+}
