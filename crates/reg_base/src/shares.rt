@@ -3,7 +3,7 @@
 ghost use Rattle.std.specs.Prelude.{◌≡◌, ◌↔◌, ◌+◌, ◌*◌, ◌^◌, ◌<◌, ◌≤◌, [], ◌∷◌, ◌++◌, length, IsSome, IfSome};
 ghost use Rattle.reg_base.specs.declared.limits.TheConstants.{MOST_SHARES};
 ghost use Rattle.reg_base.specs.Acts.{total_of};
-ghost use Rattle.reg_base.specs.Numbers.{IsBetween};
+ghost use Rattle.reg_base.specs.Numbers.{IsWithin};
 
 use crate::limits::MOST_SHARES;
 use crate::numbers::AccountNo;
@@ -112,13 +112,13 @@ impl Model for Shares {
     ghost use Rattle.std.specs.Prelude.{List, length};
     ghost use Rattle.reg_base.specs.declared.limits.TheConstants.{MOST_SHARES};
     ghost use Rattle.reg_base.specs.declared.shares.Share.{Share};
-    ghost use Rattle.reg_base.specs.Numbers.{IsBetween};
+    ghost use Rattle.reg_base.specs.Numbers.{IsWithin};
 
     ghost Value = { List Share };
 
     ghost view = { λ s. s.receivers };
 
-    ghost invariant = { λ s. IsBetween 1 MOST_SHARES (length s.receivers) };
+    ghost invariant = { λ s. IsWithin 1 MOST_SHARES (length s.receivers) };
 
     ghost inverse = { λ xs. record { receivers = xs } };
 }
@@ -126,7 +126,7 @@ impl Model for Shares {
 impl Shares {
     /// The shares of a distribution, or `None` unless there are 1 to 8. Takes no memory.
     pub fn new(shares: &[Share]) -> Option<Self>
-        ensures valid { IsSome result ↔ IsBetween 1 MOST_SHARES (length shares.now) }
+        ensures valid { IsSome result ↔ IsWithin 1 MOST_SHARES (length shares.now) }
         ensures value { IfSome result (λ s. s ≡ shares.now) }
     {
         if 1 <= shares.len() && shares.len() <= MOST_SHARES {
@@ -141,7 +141,7 @@ impl Shares {
     /// The shares, in their order.
     pub fn as_slice(&self) -> &[Share]
         ensures value { result.now ≡ self.now }
-        ensures some { IsBetween 1 MOST_SHARES (length result.now) }
+        ensures some { IsWithin 1 MOST_SHARES (length result.now) }
     {
         self.receivers.as_slice()
     }
