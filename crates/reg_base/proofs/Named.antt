@@ -15,7 +15,7 @@ parties-named act = refl
 
 known-asked_for : (act : Act) → must_be_known act ≡ asked_for act
 known-asked_for (Trust account other) = refl
-known-asked_for (Distribute from kind shares) = append-nil (touched_by (Distribute from kind shares))
+known-asked_for (Distribute from kind shares) = append-nil (touched_accounts (Distribute from kind shares))
 known-asked_for act = refl
 
 once-both : (from to : ℕ) → each_once (from ∷ to ∷ []) ≡ cond (eqb to from) (from ∷ []) (from ∷ to ∷ [])
