@@ -17,8 +17,8 @@ use Rattle.reg_base.specs.declared.kinds.Retirement.{Retirement}
 use Rattle.reg_base.specs.declared.kinds.Retirement.TheVariants.{Surrendered, Deleted}
 use Rattle.reg_account.specs.declared.rows.RetirementRow.{RetirementRow}
 use Rattle.reg_account.specs.declared.sums.Sums.{Sums}
-use Rattle.reg_account.specs.Places.{StandsAt}
-use Rattle.reg_account.specs.Rows.{is_same_kind, is_same_retirement, amount_in, retired_in, row_numbers, row_in, marked, with_mark, AreBelow, RowFits, RowIsInRange, RowsFit, RetiredFits}
+use Rattle.reg_account.specs.Places.{RowStandsAt}
+use Rattle.reg_account.specs.Rows.{is_same_kind, is_same_retirement, amount_in, retired_in, row_numbers, row_in, marked_reversed, with_mark, AreBelow, RowFits, RowIsInRange, RowsFit, RetiredFits}
 use Rattle.reg_account.specs.Sums.{sum_at, SumsAgree}
 use Rattle.reg_account.proofs.Keyed.{low_key, from_zero, is_rising, number_found}
 
@@ -29,7 +29,7 @@ number_at (x ∷ xs) zero d lt = refl
 number_at (x ∷ xs) (suc p) d lt = number_at xs p d (omega arith)
 
 -- the row at a place that a search found
-pub searched_place : (xs : List RetirementRow) (n p : ℕ) → p < length xs → HoldsAt (λ y. nat_cmp y.number n ≡ Equal) xs p → StandsAt xs p n
+pub searched_place : (xs : List RetirementRow) (n p : ℕ) → p < length xs → HoldsAt (λ y. nat_cmp y.number n ≡ Equal) xs p → RowStandsAt xs p n
 searched_place [] n p lt found = absurd (omega arith)
 searched_place (x ∷ xs) n p lt found = record {
   within = lt;
@@ -81,7 +81,7 @@ range_marked n (x ∷ xs) all = (go (eqb x.number n), range_marked n xs all.1) w
 
 pub rows_fit_marked : (rows : List RetirementRow) (n : ℕ) → RowsFit rows → RowsFit (with_mark n rows)
 rows_fit_marked rows n fit = record {
-  few = let l = length-map rows (marked n) in omega (arith, l, fit.few);
+  few = let l = length-map rows (marked_reversed n) in omega (arith, l, fit.few);
   rise = subst IsRising (sym (numbers_marked n rows)) fit.rise;
   each = each_marked n rows fit.each;
   in_range = range_marked n rows fit.in_range;
@@ -165,7 +165,7 @@ sums_marked s t rows n row rises found agree counted = record {
   small = λ way kind.
       let e = counted way kind in
       let a = agree.small way kind in
-      let l = length-map rows (marked n) in
+      let l = length-map rows (marked_reversed n) in
       omega (arith, e, a, l);
 }
 

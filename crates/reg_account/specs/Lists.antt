@@ -29,5 +29,5 @@ abbrev pub no_lists : ListsValue
 no_lists = record { users = []; trusted = []; rows = []; emissions = []; figures = [] }
 
 -- the lists with these records
-abbrev pub lists_of : List Representative → List TrustedEntry → RecordsValue → ListsValue
-lists_of users trusted r = record { users = users; trusted = trusted; rows = r.rows; emissions = r.emissions; figures = r.figures }
+abbrev pub lists_made : List Representative → List TrustedEntry → RecordsValue → ListsValue
+lists_made users trusted r = record { users = users; trusted = trusted; rows = r.rows; emissions = r.emissions; figures = r.figures }

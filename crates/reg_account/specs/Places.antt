@@ -4,6 +4,6 @@ use Rattle.reg_account.specs.declared.rows.RetirementRow.{RetirementRow}
 use Rattle.reg_account.specs.Rows.{row_numbers}
 
 -- the row at this place has this number
-pub record StandsAt (rows : List RetirementRow) (place number : ℕ) : Type 0 where
+pub record RowStandsAt (rows : List RetirementRow) (place number : ℕ) : Type 0 where
   pub within : place < length rows
   pub has_number : slice_index (row_numbers rows) place ≡ number

@@ -43,12 +43,12 @@ abbrev pub row_in : List RetirementRow → ℕ → Option RetirementRow
 row_in rows number = find (λ row. row.number == number) rows
 
 -- a row, marked as reversed if it has this number
-abbrev pub marked : ℕ → RetirementRow → RetirementRow
-marked number row = if row.number == number then record row { reversed = true } else row
+abbrev pub marked_reversed : ℕ → RetirementRow → RetirementRow
+marked_reversed number row = if row.number == number then record row { reversed = true } else row
 
 -- the rows, with the one of this number marked as reversed
 abbrev pub with_mark : ℕ → List RetirementRow → List RetirementRow
-with_mark number rows = map (marked number) rows
+with_mark number rows = map (marked_reversed number) rows
 
 -- each number is below this one
 abbrev pub AreBelow : ℕ → List ℕ → Type 0

@@ -39,11 +39,11 @@ pub struct Lists {
 
 impl Model for Lists {
     ghost use Rattle.std.specs.Option.{option_map_or};
-    ghost use Rattle.reg_account.specs.Lists.{ListsValue, no_lists, lists_of};
+    ghost use Rattle.reg_account.specs.Lists.{ListsValue, no_lists, lists_made};
 
     ghost Value = { ListsValue };
 
-    ghost view = { λ l. option_map_or (λ b. lists_of b.value.users.items b.value.trusted.items b.value.records) l.filled no_lists };
+    ghost view = { λ l. option_map_or (λ b. lists_made b.value.users.items b.value.trusted.items b.value.records) l.filled no_lists };
 }
 
 impl Lists {

@@ -3,7 +3,7 @@
 ghost use Rattle.std.specs.Prelude.{◌≡◌, ◌<◌, Some, None, IfOk, MatchOption, length, slice_index};
 ghost use Rattle.reg_base.specs.Rising.{IsRising};
 ghost use Rattle.reg_account.specs.Rows.{row_numbers, row_in, with_mark};
-ghost use Rattle.reg_account.specs.Places.{StandsAt};
+ghost use Rattle.reg_account.specs.Places.{RowStandsAt};
 
 use reg_base::{AllowanceKind, Day, NoMemory, RecordNo, Retirement};
 use std::alloc::Global;
@@ -28,7 +28,7 @@ pub struct RetirementRow {
 /// The place of the row with this number, counted from 0.
 pub(crate) fn place_of(rows: &[RetirementRow], number: RecordNo) -> Option<usize>
     requires { IsRising (row_numbers rows.now) }
-    ensures { MatchOption result (row_in rows.now number ≡ None) (λ place. StandsAt rows.now place number) }
+    ensures { MatchOption result (row_in rows.now number ≡ None) (λ place. RowStandsAt rows.now place number) }
 {
     match rows.binary_search_by_key(&number, |row| row.number) {
         Ok(place) => Some(place),

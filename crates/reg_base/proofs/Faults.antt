@@ -10,7 +10,7 @@ use Rattle.std.proofs.lemmas.List.Folds.{find-append}
 use Rattle.reg_base.specs.declared.limits.TheConstants.{MOST_ADMINISTRATORS, MOST_LAG}
 use Rattle.reg_base.specs.declared.rules.RulesFault.{RulesFault}
 use Rattle.reg_base.specs.declared.rules.RulesFault.TheVariants.{TooManyAdmins, AdminsNotRising, LagTooLong, PeriodReversed}
-use Rattle.reg_base.specs.Rising.{IsRising, FirstNotRising, count_up, places, is_fall}
+use Rattle.reg_base.specs.Rising.{IsRising, FirstNotRising, count_up, places_from_one, is_fall}
 use Rattle.reg_base.specs.Rules.{RulesValue, rules_have, first_rules_fault, has_long_lag, FitRulesHaveNoFault}
 
 find-map : {X Y : Type 0} (test : Y → Bool) (f : X → Y) (xs : List X) → find test (map f xs) ≡ option_map f (find (λ x. test (f x)) xs)
@@ -57,7 +57,7 @@ falls-here xs place fall =
     and_from _ _ (lt-ltb 1 place (omega (arith, fall.after_the_first)))
     (and_from _ _ (le-leb place (length xs) fall.within) (le-leb (slice_index xs (place - 1)) (slice_index xs (place - 2)) fall.not_above))
 
-pub rising-no_fall : (xs : List ℕ) → IsRising xs → find (is_fall xs) (places xs) ≡ None
+pub rising-no_fall : (xs : List ℕ) → IsRising xs → find (is_fall xs) (places_from_one xs) ≡ None
 rising-no_fall xs rising =
     none-counted (is_fall xs) 1 (length xs) (λ k le lt. rises-here xs k (λ two within. step k two within)) where
       step : (k : ℕ) → 2 ≤ k → k ≤ length xs → slice_index xs (k - 2) < slice_index xs (k - 1)
@@ -66,7 +66,7 @@ rising-no_fall xs rising =
           let up : slice_index xs (k - 2) < slice_index xs ((k - 2) + 1) = rising (k - 2) (omega arith) in
           omega (arith, ap (λ n. slice_index xs n) at)
 
-pub first-fall : (xs : List ℕ) (place : ℕ) → FirstNotRising xs place → find (is_fall xs) (places xs) ≡ Some place
+pub first-fall : (xs : List ℕ) (place : ℕ) → FirstNotRising xs place → find (is_fall xs) (places_from_one xs) ≡ Some place
 first-fall xs place fall =
     first-counted (is_fall xs) 1 (length xs) place (omega (arith, fall.after_the_first)) (omega (arith, fall.within)) (falls-here xs place fall)
     (λ k le lt. rises-here xs k (λ two within. step k two lt)) where
@@ -78,16 +78,16 @@ first-fall xs place fall =
 
 -- the faults of rules in order, as far as those before them are ruled out
 module _ (r : RulesValue) (few : length r.admins ≤ MOST_ADMINISTRATORS) where
-  after-few : first_rules_fault r ≡ find (rules_have r) (map (λ place. AdminsNotRising place) (places r.admins) ++ LagTooLong ∷ PeriodReversed ∷ [])
-  after-few = ap (λ b. cond b (Some TooManyAdmins) (find (rules_have r) (map (λ place. AdminsNotRising place) (places r.admins) ++ LagTooLong ∷ PeriodReversed ∷ []))) (le-ltb MOST_ADMINISTRATORS (length r.admins) few)
+  after-few : first_rules_fault r ≡ find (rules_have r) (map (λ place. AdminsNotRising place) (places_from_one r.admins) ++ LagTooLong ∷ PeriodReversed ∷ [])
+  after-few = ap (λ b. cond b (Some TooManyAdmins) (find (rules_have r) (map (λ place. AdminsNotRising place) (places_from_one r.admins) ++ LagTooLong ∷ PeriodReversed ∷ []))) (le-ltb MOST_ADMINISTRATORS (length r.admins) few)
 
-  by-places : (o : Option ℕ) → find (is_fall r.admins) (places r.admins) ≡ o
+  by-places : (o : Option ℕ) → find (is_fall r.admins) (places_from_one r.admins) ≡ o
       → first_rules_fault r ≡ option_or (option_map (λ place. AdminsNotRising place) o) (find (rules_have r) (LagTooLong ∷ PeriodReversed ∷ []))
   by-places o at =
       after-few
-      ∙ find-append (rules_have r) (map (λ place. AdminsNotRising place) (places r.admins)) (LagTooLong ∷ PeriodReversed ∷ [])
+      ∙ find-append (rules_have r) (map (λ place. AdminsNotRising place) (places_from_one r.admins)) (LagTooLong ∷ PeriodReversed ∷ [])
       ∙ ap (λ p. option_or p (find (rules_have r) (LagTooLong ∷ PeriodReversed ∷ [])))
-      (find-map (rules_have r) (λ place. AdminsNotRising place) (places r.admins) ∙ ap (option_map (λ place. AdminsNotRising place)) at)
+      (find-map (rules_have r) (λ place. AdminsNotRising place) (places_from_one r.admins) ∙ ap (option_map (λ place. AdminsNotRising place)) at)
 
   pub admins-fault : (place : ℕ) → FirstNotRising r.admins place → first_rules_fault r ≡ Some (AdminsNotRising place)
   admins-fault place fall = by-places (Some place) (first-fall r.admins place fall)

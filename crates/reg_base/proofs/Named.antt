@@ -6,9 +6,9 @@ use Rattle.reg_base.specs.declared.act.Act.{Act}
 use Rattle.reg_base.specs.declared.act.Act.TheVariants.{Transfer, Trust}
 use Rattle.reg_base.specs.Acts.{parties}
 use Rattle.reg_base.specs.Directory.{is_known}
-use Rattle.reg_base.specs.Footprint.{each_once, must_be_known, touched_by, asked_for, ActsNameTheirAccounts}
+use Rattle.reg_base.specs.Footprint.{each_once, must_be_known, touched_accounts, asked_for, ActsNameTheirAccounts}
 
-parties-named : (act : Act) → parties act ≡ touched_by act
+parties-named : (act : Act) → parties act ≡ touched_accounts act
 parties-named (Transfer from to kind amount) = refl
 parties-named act = refl
 

@@ -77,8 +77,8 @@ abbrev pub record_named : Change → List ℕ
 record_named (Unretire number) = number ∷ []
 record_named made = []
 
-abbrev pub record_numbers : Act → List ℕ
-record_numbers act = record_named (change_of act)
+abbrev pub reversed_records : Act → List ℕ
+reversed_records act = record_named (change_of act)
 
 -- the years that the act names
 abbrev pub years_named : Change → List ℕ

@@ -64,8 +64,8 @@ accounts_named (EnterEmissions account year tonnes) = alike (account ∷ [])
 accounts_named (Assess account year) = alike (account ∷ [])
 
 -- the accounts that the act reads or changes
-abbrev pub touched_by : Act → List ℕ
-touched_by act = (accounts_named act).touched
+abbrev pub touched_accounts : Act → List ℕ
+touched_accounts act = (accounts_named act).touched
 
 -- the accounts that check 1 asks for
 abbrev pub asked_for : Act → List ℕ
@@ -74,8 +74,8 @@ asked_for act = (accounts_named act).asked
 -- law: the table of acts has just these accounts. So a footprint is FROM and TO, once if they are the same account, or
 -- else the one account; and it is empty if the directory lacks one that check 1 asks for
 pub record ActsNameTheirAccounts : Type 0 where
-  pub table : (act : Act) → parties act ≡ touched_by act
+  pub table : (act : Act) → parties act ≡ touched_accounts act
   pub known : (act : Act) → must_be_known act ≡ asked_for act
   pub once : (from to : ℕ) → each_once (from ∷ to ∷ []) ≡ (if to == from then from ∷ [] else from ∷ to ∷ [])
   pub touched : (directory : DirectoryValue) (act : Act)
-      → footprint directory act ≡ (if list_all (is_known directory) (asked_for act) then each_once (touched_by act) else [])
+      → footprint directory act ≡ (if list_all (is_known directory) (asked_for act) then each_once (touched_accounts act) else [])

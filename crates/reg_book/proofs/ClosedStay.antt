@@ -7,7 +7,7 @@ use Rattle.reg_base.specs.declared.instruction.Instruction.{Instruction}
 use Rattle.reg_account.specs.Account.{AccountValue}
 use Rattle.reg_rules.specs.State.{State, Setting, account, status}
 use Rattle.reg_rules.specs.Step.{step}
-use Rattle.reg_rules.specs.Closed.{ClosedStays as StepKeepsClosed}
+use Rattle.reg_rules.specs.Closed.{ClosedStaysInStep as StepKeepsClosed}
 use Rattle.reg_book.specs.Fold.{state_after}
 use Rattle.reg_book.specs.Day.{setting, state_at, value_at}
 use Rattle.reg_book.specs.Laws.{ClosedStays, ClosedIsNeverLeft}

@@ -8,7 +8,7 @@ use Rattle.reg_base.specs.Rising.{IsRising}
 use Rattle.reg_rules.specs.Effect.{IsBehind}
 use Rattle.reg_rules.specs.State.{State, Setting, numbers}
 use Rattle.reg_rules.specs.Laws.{StepLaws}
-use Rattle.reg_book.specs.Book.{BookValue, IsBook, IsKept, directory_of}
+use Rattle.reg_book.specs.Book.{BookValue, IsBook, IsBookKept, directory_of}
 use Rattle.reg_book.specs.Fold.{state_after}
 use Rattle.reg_book.specs.Settled.{committed}
 use Rattle.reg_book.specs.Day.{Day, IsDay, setting, settled_day}
@@ -40,7 +40,7 @@ module _ (laws : StepLaws) where
 
   -- they are the accounts of a book, with the directory that it had
   pub kept-after_day : (day : Day) (accounts : State) (directory : DirectoryValue) (next count : ℕ) → IsDay day → accounts ≡ after_day day
-      → directory ≡ directory_of day.book.accounts → next ≡ day.book.next → count ≡ length day.batch.instructions → IsKept accounts directory (next + count)
+      → directory ≡ directory_of day.book.accounts → next ≡ day.book.next → count ≡ length day.batch.instructions → IsBookKept accounts directory (next + count)
   kept-after_day day accounts directory next count of closed listed follows counted =
       let is = day.batch.instructions in
       let first = day.batch.base + 1 in
@@ -48,7 +48,7 @@ module _ (laws : StepLaws) where
       let same = numbers-fold laws (setting day) day.book.accounts first is in
       let size : length (after_day day) ≡ length day.book.accounts = sym (length-numbers (after_day day)) ∙ ap length same ∙ length-numbers day.book.accounts in
       let after : first + length is ≡ next + count = omega (arith, of.follows, follows, counted) in
-      subst (λ (s : State). IsKept s directory (next + count)) (sym closed) (record {
+      subst (λ (s : State). IsBookKept s directory (next + count)) (sym closed) (record {
         book = record {
           rising = subst IsRising (sym same) of.book.rising;
           few = omega (arith, size, of.book.few);

@@ -26,7 +26,7 @@ use Rattle.reg_rules.specs.State.{State, account, numbers}
 use Rattle.reg_book.specs.declared.draft.BookFault.{BookFault}
 use Rattle.reg_book.specs.declared.draft.BookFault.TheVariants.{Repeated, RowAhead, Full, NoMemory}
 use Rattle.reg_rules.specs.Effect.{IsBehind}
-use Rattle.reg_book.specs.Book.{BookValue, entry_of, directory_of, IsNext, IsDraft, has_row_ahead, first_fault, IsBookFault}
+use Rattle.reg_book.specs.Book.{BookValue, entry_of, directory_of, IsNext, IsBookDraft, has_row_ahead, first_fault, IsBookFault}
 
 -- the kind and the holder of an account
 abbrev pub listing : AccountValue → AccountKind × ℕ
@@ -178,7 +178,7 @@ distinct_push xs v distinct absent =
     list_any_same (n ∷ ns) = ap (λ b. b || list_any (eqb v.number) ns) (eqb-sym v.number n) ∙ ap (λ b. eqb n v.number || b) (list_any_same ns)
 
 -- a draft of no account
-pub empty_draft : (xs : State) (directory : DirectoryValue) (next : ℕ) → xs ≡ [] → directory ≡ fin.empty → IsNext next → IsDraft xs directory next
+pub empty_draft : (xs : State) (directory : DirectoryValue) (next : ℕ) → xs ≡ [] → directory ≡ fin.empty → IsNext next → IsBookDraft xs directory next
 unfolding IsDistinct
 empty_draft xs directory next none empty fits =
     rw (none, empty) (record {
@@ -291,8 +291,8 @@ fault_of_book b v NoMemory e = absurd (no_memory (is_among (numbers b.accounts) 
     no_memory false false false e = cc
 
 -- a draft of one account more
-pub more_draft : (xs ys : State) (v : AccountValue) (directory new : DirectoryValue) (next : ℕ) → IsDraft xs directory next → ys ≡ xs ++ v ∷ [] → new ≡ directory_of (xs ++ v ∷ [])
-    → first_fault (record { accounts = xs; next = next }) v ≡ None → IsAccount v → IsDraft ys new next
+pub more_draft : (xs ys : State) (v : AccountValue) (directory new : DirectoryValue) (next : ℕ) → IsBookDraft xs directory next → ys ≡ xs ++ v ∷ [] → new ≡ directory_of (xs ++ v ∷ [])
+    → first_fault (record { accounts = xs; next = next }) v ≡ None → IsAccount v → IsBookDraft ys new next
 more_draft xs ys v directory new next draft more listed none fits =
     let can = can_take (record { accounts = xs; next = next }) v none in
     rw more (record {

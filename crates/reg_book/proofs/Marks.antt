@@ -15,7 +15,7 @@ use Rattle.reg_rules.specs.State.{State, account, numbers}
 use Rattle.reg_base.specs.Touches.{is_touched}
 use Rattle.reg_book.specs.Fold.{touched_of}
 use Rattle.reg_book.specs.Places.{StandsAt}
-use Rattle.reg_book.specs.Marks.{marked, touched_marks, picked}
+use Rattle.reg_book.specs.Marks.{marks_after, touched_marks, picked}
 
 -- no account has this number
 abbrev Lacks : State → ℕ → Type 0
@@ -60,23 +60,23 @@ or_yes false c e = e
 head_mark : (m : Bool) (ns : List ℕ) (a n : ℕ) → (m || is_among (ns ++ a ∷ []) n) ≡ ((m || is_among ns n) || eqb a n)
 head_mark m ns a n = ap (λ b. m || b) (among_push ns a n) ∙ or_assoc m (is_among ns n) (eqb a n)
 
-marked_absent : (ms : List Bool) (s : State) (ns : List ℕ) (a : ℕ) → Lacks s a → marked ms s (ns ++ a ∷ []) ≡ marked ms s ns
+marked_absent : (ms : List Bool) (s : State) (ns : List ℕ) (a : ℕ) → Lacks s a → marks_after ms s (ns ++ a ∷ []) ≡ marks_after ms s ns
 marked_absent [] s ns a lacks = refl
 marked_absent (m ∷ ms) [] ns a lacks = refl
 marked_absent (m ∷ ms) (v ∷ vs) ns a lacks =
-    ap (λ b. b ∷ marked ms vs (ns ++ a ∷ [])) (head_mark m ns a v.number ∙ or_no (m || is_among ns v.number) (eqb a v.number) lacks.0)
+    ap (λ b. b ∷ marks_after ms vs (ns ++ a ∷ [])) (head_mark m ns a v.number ∙ or_no (m || is_among ns v.number) (eqb a v.number) lacks.0)
     ∙ ap (λ bs. (m || is_among ns v.number) ∷ bs) (marked_absent ms vs ns a lacks.1)
 
 marked_present : (low : ℕ) (ms : List Bool) (s : State) (ns : List ℕ) (p a : ℕ) → RisesFrom low (numbers s) → length ms ≡ length s → p < length s → get_or (numbers s) p 0 ≡ a
-    → marked ms s (ns ++ a ∷ []) ≡ set (marked ms s ns) p true
+    → marks_after ms s (ns ++ a ∷ []) ≡ set (marks_after ms s ns) p true
 marked_present low ms [] ns p a rises size lt at = absurd (omega arith)
 marked_present low [] (v ∷ vs) ns p a rises size lt at = absurd (omega arith)
 marked_present low (m ∷ ms) (v ∷ vs) ns zero a rises size lt at =
-    ap (λ b. b ∷ marked ms vs (ns ++ a ∷ [])) (head_mark m ns a v.number ∙ or_yes (m || is_among ns v.number) (eqb a v.number) (eq-eqb a v.number (sym at)))
+    ap (λ b. b ∷ marks_after ms vs (ns ++ a ∷ [])) (head_mark m ns a v.number ∙ or_yes (m || is_among ns v.number) (eqb a v.number) (eq-eqb a v.number (sym at)))
     ∙ ap (λ bs. true ∷ bs) (marked_absent ms vs ns a (subst (Lacks vs) at (lacks_above (suc v.number) v.number vs rises.1 (omega arith))))
 marked_present low (m ∷ ms) (v ∷ vs) ns (suc p) a rises size lt at =
     let differs : eqb a v.number ≡ false = ne_eqb a v.number (λ e. below (suc v.number) vs p a rises.1 (omega arith) at (omega (arith, e))) in
-    ap (λ b. b ∷ marked ms vs (ns ++ a ∷ [])) (head_mark m ns a v.number ∙ or_no (m || is_among ns v.number) (eqb a v.number) differs)
+    ap (λ b. b ∷ marks_after ms vs (ns ++ a ∷ [])) (head_mark m ns a v.number ∙ or_no (m || is_among ns v.number) (eqb a v.number) differs)
     ∙ ap (λ bs. (m || is_among ns v.number) ∷ bs) (marked_present (suc v.number) ms vs ns p a rises.1 (omega arith) (omega arith) at)
   where
     below : (low : ℕ) (s : State) (p a : ℕ) → RisesFrom low (numbers s) → p < length s → get_or (numbers s) p 0 ≡ a → a < low → ⊥
@@ -86,27 +86,27 @@ marked_present low (m ∷ ms) (v ∷ vs) ns (suc p) a rises size lt at =
 
 -- a step of marking: the number has no account, or its account is marked
 pub marked_more_none : (ms : List Bool) (s : State) (wanted : List ℕ) (j a : ℕ) → j < length wanted → a ≡ get_or wanted j a → account s a ≡ None
-    → marked ms s (take (j + 1) wanted) ≡ marked ms s (take j wanted)
+    → marks_after ms s (take (j + 1) wanted) ≡ marks_after ms s (take j wanted)
 marked_more_none ms s wanted j a lt at none =
-    ap (marked ms s) (take_more wanted j a lt ∙ ap (λ n. take j wanted ++ n ∷ []) (sym at)) ∙ marked_absent ms s (take j wanted) a (lacks_none s a none)
+    ap (marks_after ms s) (take_more wanted j a lt ∙ ap (λ n. take j wanted ++ n ∷ []) (sym at)) ∙ marked_absent ms s (take j wanted) a (lacks_none s a none)
 
 pub marked_more_some : (ms : List Bool) (s : State) (wanted : List ℕ) (j a p : ℕ) → j < length wanted → a ≡ get_or wanted j a → IsRising (numbers s) → length ms ≡ length s → StandsAt s p a
-    → marked ms s (take (j + 1) wanted) ≡ set (marked ms s (take j wanted)) p true
+    → marks_after ms s (take (j + 1) wanted) ≡ set (marks_after ms s (take j wanted)) p true
 marked_more_some ms s wanted j a p lt at rising size there =
-    ap (marked ms s) (take_more wanted j a lt ∙ ap (λ n. take j wanted ++ n ∷ []) (sym at))
+    ap (marks_after ms s) (take_more wanted j a lt ∙ ap (λ n. take j wanted ++ n ∷ []) (sym at))
     ∙ marked_present 0 ms s (take j wanted) p a (rises_from 0 (numbers s) rising (λ some. omega arith)) size there.within there.has_number
 
-pub marked_none : (ms : List Bool) (s : State) → marked ms s [] ≡ ms
+pub marked_none : (ms : List Bool) (s : State) → marks_after ms s [] ≡ ms
 marked_none [] s = refl
 marked_none (m ∷ ms) [] = refl
-marked_none (m ∷ ms) (v ∷ vs) = ap (λ b. b ∷ marked ms vs []) (or_no m false refl) ∙ ap (λ bs. m ∷ bs) (marked_none ms vs)
+marked_none (m ∷ ms) (v ∷ vs) = ap (λ b. b ∷ marks_after ms vs []) (or_no m false refl) ∙ ap (λ bs. m ∷ bs) (marked_none ms vs)
 
 -- one instruction more
 pub touched_marks_more : (directory : DirectoryValue) (is : List Instruction) (j : ℕ) (i d : Instruction) (s : State) → j < length is → i ≡ get_or is j d
-    → marked (touched_marks directory (take j is) s) s (footprint directory i.act) ≡ touched_marks directory (take (j + 1) is) s
+    → marks_after (touched_marks directory (take j is) s) s (footprint directory i.act) ≡ touched_marks directory (take (j + 1) is) s
 touched_marks_more directory is j i d [] lt at = refl
 touched_marks_more directory is j i d (v ∷ vs) lt at =
-    ap (λ b. b ∷ marked (touched_marks directory (take j is) vs) vs (footprint directory i.act))
+    ap (λ b. b ∷ marks_after (touched_marks directory (take j is) vs) vs (footprint directory i.act))
     (ap (λ (x : Instruction). is_touched directory (take j is) v.number || is_among (footprint directory x.act) v.number) at
     ∙ sym (list_any_more (λ x. is_among (footprint directory x.act) v.number) is j d lt))
     ∙ ap (λ bs. is_touched directory (take (j + 1) is) v.number ∷ bs) (touched_marks_more directory is j i d vs lt at)

@@ -12,7 +12,7 @@ use Rattle.reg_base.specs.Directory.{DirectoryValue}
 use Rattle.reg_account.specs.Account.{AccountValue, IsAccount}
 use Rattle.reg_rules.specs.State.{State, numbers}
 use Rattle.reg_rules.specs.Effect.{IsBehind}
-use Rattle.reg_book.specs.Book.{IsKept, IsDraft}
+use Rattle.reg_book.specs.Book.{IsBookKept, IsBookDraft}
 use Rattle.reg_book.proofs.Directories.{eqb-sym, length-numbers, number_at, directory_of-permutation}
 
 pub le_of : (x y : ℕ) → is_le (nat_cmp x y) ≡ true → x ≤ y
@@ -59,7 +59,7 @@ sorted_rise xs ys distinct same sorted =
     IsStrictlyIncreasing-from_distinct (numbers ys) (sorted_numbers ys sorted) distinct_ys
 
 -- a draft in order is a book
-pub kept : (xs ys : State) (directory : DirectoryValue) (next : ℕ) → IsDraft xs directory next → IsPermutation xs ys → length ys ≡ length xs → IsRising (numbers ys) → IsKept ys directory next
+pub kept : (xs ys : State) (directory : DirectoryValue) (next : ℕ) → IsBookDraft xs directory next → IsPermutation xs ys → length ys ≡ length xs → IsRising (numbers ys) → IsBookKept ys directory next
 kept xs ys directory next draft same len rising = record {
   book = record {
     rising = rising;

@@ -16,7 +16,7 @@ use Rattle.reg_account.specs.Rows.{row_numbers, AreBelow}
 use Rattle.reg_account.specs.Account.{AccountValue, IsAccount}
 use Rattle.reg_rules.specs.Effect.{IsBehind}
 use Rattle.reg_rules.specs.State.{State, account, numbers}
-use Rattle.reg_book.specs.Book.{overlay, entry_of, directory_of, IsNext, IsKept, AreHigher}
+use Rattle.reg_book.specs.Book.{overlay, entry_of, directory_of, IsNext, IsBookKept, AreHigher}
 use Rattle.reg_book.specs.Settled.{SettledValue}
 use Rattle.reg_base.specs.declared.limits.TheConstants.{MOST_RECORD}
 use Rattle.reg_book.proofs.Accounts.{low_number, account_at, ascending}
@@ -152,7 +152,7 @@ behind_overlay next after [] others le all settled = tt
 behind_overlay next after (v ∷ vs) others le all settled =
     (found_behind after v.number others v settled (below_higher next after (row_numbers v.rows) le all.0), behind_overlay next after vs others le all.1 settled)
 
-pub kept_after : (xs ys others : State) (directory : DirectoryValue) (next after : ℕ) → IsKept xs directory next → ys ≡ overlay xs others → All IsAccount ys → StandIn xs others → IsNext after → next ≤ after → AllByRecursion (IsBehind after) others → IsKept ys directory after
+pub kept_after : (xs ys others : State) (directory : DirectoryValue) (next after : ℕ) → IsBookKept xs directory next → ys ≡ overlay xs others → All IsAccount ys → StandIn xs others → IsNext after → next ≤ after → AllByRecursion (IsBehind after) others → IsBookKept ys directory after
 kept_after xs ys others directory next after kept is fit stand fits later settled =
     let rises = rises_from 0 (numbers xs) kept.book.rising (λ some. omega arith) in
     let entries = entries_same xs others xs stand (λ p d lt. account_at 0 xs rises p (get_or xs p d).number d lt refl) in

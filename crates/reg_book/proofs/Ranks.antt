@@ -11,7 +11,7 @@ use Rattle.reg_rules.specs.State.{State, numbers}
 use Rattle.reg_book.specs.Book.{directory_of}
 use Rattle.reg_base.specs.Touches.{is_touched}
 use Rattle.reg_book.specs.Marks.{touched_marks, picked, ranks_from}
-use Rattle.reg_book.specs.Places.{StandsAt, StandAt, AllStandAt, AllRanked, each_at, footprints, lists_of}
+use Rattle.reg_book.specs.Places.{StandsAt, StandAt, AllStandAt, AllRanked, each_at, footprints, places_lists}
 use Rattle.reg_book.proofs.Directories.{known-among, length-numbers}
 use Rattle.reg_book.proofs.Lookups.{all_among, or_true_left, or_true_right}
 use Rattle.reg_book.proofs.Marks.{size-touched_marks}
@@ -52,12 +52,12 @@ all-stand-none directory ns = record { within = tt; are_there = refl }
 -- one instruction more
 pub all-stand-more : (directory : DirectoryValue) (ns : List ℕ) (all more : List (ArrayVec ℕ)) (own : ArrayVec ℕ) (is : List Instruction) (j : ℕ) (i : Instruction)
     → j < length is → i ≡ get_or is j i → more ≡ all ++ own ∷ [] → StandAt ns own.items (footprint directory i.act)
-    → AllStandAt directory ns (lists_of all) (take j is) → AllStandAt directory ns (lists_of more) (take (j + 1) is)
+    → AllStandAt directory ns (places_lists all) (take j is) → AllStandAt directory ns (places_lists more) (take (j + 1) is)
 all-stand-more directory ns all more own is j i lt at grown there so_far =
-    let lists : lists_of more ≡ lists_of all ++ own.items ∷ [] = ap lists_of grown ∙ map-append (λ (p : ArrayVec ℕ). p.items) all (own ∷ []) in
+    let lists : places_lists more ≡ places_lists all ++ own.items ∷ [] = ap places_lists grown ∙ map-append (λ (p : ArrayVec ℕ). p.items) all (own ∷ []) in
     subst (λ ls. AllStandAt directory ns ls (take (j + 1) is)) (sym lists) (record {
-      within = all-more (AllByRecursion (λ p. p < length ns)) (lists_of all) own.items so_far.within there.within;
-      are_there = map-append (each_at ns) (lists_of all) (own.items ∷ [])
+      within = all-more (AllByRecursion (λ p. p < length ns)) (places_lists all) own.items so_far.within there.within;
+      are_there = map-append (each_at ns) (places_lists all) (own.items ∷ [])
           ∙ ap (λ xs. xs ++ each_at ns own.items ∷ []) so_far.are_there
           ∙ ap (λ x. footprints directory (take j is) ++ x ∷ []) (there.are_there ∙ ap (λ (x : Instruction). footprint directory x.act) at)
           ∙ sym (map-append (λ (x : Instruction). footprint directory x.act) (take j is) (get_or is j i ∷ []))
@@ -155,7 +155,7 @@ module _ (directory : DirectoryValue) (all : List Instruction) (s : State) where
 
 -- the places of one instruction
 pub ranked-at : (directory : DirectoryValue) (ns ranks : List ℕ) (vs : List (ArrayVec ℕ)) (is : List Instruction) (j : ℕ) (v : ArrayVec ℕ) (i : Instruction)
-    → AllRanked directory ns ranks (lists_of vs) is → j < length is → v ≡ get_or vs j v → i ≡ get_or is j i
+    → AllRanked directory ns ranks (places_lists vs) is → j < length is → v ≡ get_or vs j v → i ≡ get_or is j i
     → AllByRecursion (λ p. p < length ranks) v.items × StandAt ns (each_at ranks v.items) (footprint directory i.act)
 ranked-at directory ns ranks vs [] j v i all lt at now = absurd (omega arith)
 ranked-at directory ns ranks [] (x ∷ is) j v i all lt at now = absurd (let e = all.stand_at.are_there in cc)
@@ -178,10 +178,10 @@ ranked-at directory ns ranks (w ∷ vs) (x ∷ is) (suc j) v i all lt at now =
     }) (omega arith) at now
 
 -- there is an entry for each instruction
-pub size-ranked : (directory : DirectoryValue) (ns ranks : List ℕ) (vs : List (ArrayVec ℕ)) (is : List Instruction) → AllRanked directory ns ranks (lists_of vs) is → length vs ≡ length is
+pub size-ranked : (directory : DirectoryValue) (ns ranks : List ℕ) (vs : List (ArrayVec ℕ)) (is : List Instruction) → AllRanked directory ns ranks (places_lists vs) is → length vs ≡ length is
 size-ranked directory ns ranks vs is all =
     sym (length-map vs (λ (p : ArrayVec ℕ). p.items))
-    ∙ sym (length-map (lists_of vs) (each_at ranks))
-    ∙ sym (length-map (map (each_at ranks) (lists_of vs)) (each_at ns))
+    ∙ sym (length-map (places_lists vs) (each_at ranks))
+    ∙ sym (length-map (map (each_at ranks) (places_lists vs)) (each_at ns))
     ∙ ap length all.stand_at.are_there
     ∙ length-map is (λ (i : Instruction). footprint directory i.act)

@@ -17,7 +17,7 @@ use Rattle.reg_rules.specs.Effect.{IsBehind}
 use Rattle.reg_rules.specs.Step.{step}
 use Rattle.reg_rules.specs.Laws.{StepLaws}
 use Rattle.reg_book.specs.Places.{StandAt, each_at}
-use Rattle.reg_book.specs.Turns.{AreLeft, IsLeft, renamed}
+use Rattle.reg_book.specs.Turns.{ArePlacesLeft, IsLeft, renamed}
 use Rattle.reg_book.proofs.Directories.{account-permutation}
 use Rattle.reg_book.proofs.StepFacts.{reply-local, after-local, one-state}
 use Rattle.reg_book.proofs.Lookups.{account-append_left, account-append_right, all_among, not_contained}
@@ -223,7 +223,7 @@ renamed-left k n p (q ∷ qs) left others all = (by (eqb q k) refl, renamed-left
         record { behind = omega (arith, all.0.behind, not_k); within = all.0.within }
 
 -- one account more is at the front
-pub left-more : (k : ℕ) (ns ms wanted : List ℕ) (p : ℕ) (qs : List ℕ) → ms ≡ swap ns k p → AreLeft k ns (p ∷ qs) wanted → AreLeft (k + 1) ms (map (renamed k p) qs) wanted
+pub left-more : (k : ℕ) (ns ms wanted : List ℕ) (p : ℕ) (qs : List ℕ) → ms ≡ swap ns k p → ArePlacesLeft k ns (p ∷ qs) wanted → ArePlacesLeft (k + 1) ms (map (renamed k p) qs) wanted
 left-more k ns ms wanted p qs there left =
     let size : length ms ≡ length ns = ap length there ∙ length-swap ns k p in
     let first = left.are_left.0 in
@@ -239,7 +239,7 @@ left-more k ns ms wanted p qs there left =
     }
 
 -- all accounts are at the front
-pub left-none : (k : ℕ) (ns places wanted : List ℕ) → length places ≡ 0 → AreLeft k ns places wanted → take k ns ≡ wanted
+pub left-none : (k : ℕ) (ns places wanted : List ℕ) → length places ≡ 0 → ArePlacesLeft k ns places wanted → take k ns ≡ wanted
 left-none k ns [] wanted none left = sym (append-nil (take k ns)) ∙ left.are_there
 left-none k ns (p ∷ ps) wanted none left = absurd (omega (arith, none))
 
@@ -259,7 +259,7 @@ all-left n [] within = tt
 all-left n (p ∷ ps) within = (record { behind = omega arith; within = within.0 }, all-left n ps within.1)
 
 -- none is at the front yet
-pub left-all : (ns places wanted : List ℕ) → IsDistinct eqb wanted → StandAt ns places wanted → AreLeft 0 ns places wanted
+pub left-all : (ns places wanted : List ℕ) → IsDistinct eqb wanted → StandAt ns places wanted → ArePlacesLeft 0 ns places wanted
 left-all ns places wanted distinct there = record {
   fits = omega arith;
   are_left = all-left (length ns) places there.within;

@@ -42,12 +42,12 @@ pub record IsBook (b : BookValue) : Type 0 where
   pub behind : All (IsBehind b.next) b.accounts
 
 -- what holds of a book and its directory
-pub record IsKept (accounts : List AccountValue) (directory : DirectoryValue) (next : ℕ) : Type 0 where
+pub record IsBookKept (accounts : List AccountValue) (directory : DirectoryValue) (next : ℕ) : Type 0 where
   pub book : IsBook (record { accounts = accounts; next = next })
   pub listed : directory ≡ directory_of accounts
 
 -- what holds of every draft; its accounts are in the order in which they were inserted
-pub record IsDraft (accounts : List AccountValue) (directory : DirectoryValue) (next : ℕ) : Type 0 where
+pub record IsBookDraft (accounts : List AccountValue) (directory : DirectoryValue) (next : ℕ) : Type 0 where
   pub distinct : IsDistinct nat_eq (numbers accounts)
   pub few : length accounts ≤ MOST_ACCOUNTS
   pub within_limits : All IsAccount accounts

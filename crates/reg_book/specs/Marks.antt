@@ -7,10 +7,10 @@ use Rattle.reg_rules.specs.State.{State}
 use Rattle.reg_base.specs.Touches.{is_touched}
 
 -- the marks of the accounts, with each account whose number is in the list marked too
-abbrev pub marked : List Bool → State → List ℕ → List Bool
-marked [] s ns = []
-marked (m ∷ ms) [] ns = m ∷ ms
-marked (m ∷ ms) (v ∷ vs) ns = (m || is_among ns v.number) ∷ marked ms vs ns
+abbrev pub marks_after : List Bool → State → List ℕ → List Bool
+marks_after [] s ns = []
+marks_after (m ∷ ms) [] ns = m ∷ ms
+marks_after (m ∷ ms) (v ∷ vs) ns = (m || is_among ns v.number) ∷ marks_after ms vs ns
 
 -- for each account, whether some instruction touches it
 abbrev pub touched_marks : DirectoryValue → List Instruction → State → List Bool

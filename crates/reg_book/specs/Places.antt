@@ -22,8 +22,8 @@ pub record StandAt (ns places wanted : List ℕ) : Type 0 where
   pub are_there : each_at ns places ≡ wanted
 
 -- the places of each instruction
-abbrev pub lists_of : List (ArrayVec ℕ) → List (List ℕ)
-lists_of places = map (λ p. p.items) places
+abbrev pub places_lists : List (ArrayVec ℕ) → List (List ℕ)
+places_lists places = map (λ p. p.items) places
 
 -- the footprint of each instruction
 abbrev pub footprints : DirectoryValue → List Instruction → List (List ℕ)

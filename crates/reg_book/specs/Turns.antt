@@ -13,7 +13,7 @@ pub record IsLeft (count size place : ℕ) : Type 0 where
   pub within : place < size
 
 -- the first `count` of the wanted numbers are at the front, and the others at these places, which are all different
-pub record AreLeft (count : ℕ) (ns places wanted : List ℕ) : Type 0 where
+pub record ArePlacesLeft (count : ℕ) (ns places wanted : List ℕ) : Type 0 where
   pub fits : count ≤ length ns
   pub are_left : AllByRecursion (IsLeft count (length ns)) places
   pub distinct : IsDistinct nat_eq places

@@ -35,22 +35,22 @@ pub struct Book {
 }
 
 impl Model for Book {
-    ghost use Rattle.reg_book.specs.Book.{BookValue, IsKept};
+    ghost use Rattle.reg_book.specs.Book.{BookValue, IsBookKept};
 
     ghost Value = { BookValue };
 
     ghost view = { λ b. record { accounts = b.accounts.items; next = b.next } };
 
-    ghost invariant = { λ b. IsKept b.accounts.items b.directory b.next };
+    ghost invariant = { λ b. IsBookKept b.accounts.items b.directory b.next };
 }
 
 impl Book {
-    ghost use Rattle.reg_book.specs.Book.{directory_of, IsBook, IsKept, total_held, total_retired};
+    ghost use Rattle.reg_book.specs.Book.{directory_of, IsBook, IsBookKept, total_held, total_retired};
     ghost use Rattle.reg_book.specs.Settled.{IsOfBook, committed};
 
     /// The book of these accounts, which must be in the order of their numbers and in the directory.
     pub(crate) fn from_sorted(accounts: Vec<Account>, directory: Directory, next: u64) -> Self
-        requires { IsKept accounts.items directory next }
+        requires { IsBookKept accounts.items directory next }
         ensures { result ≡ record { accounts = accounts.items; next = next } }
     {
         Book {

@@ -42,13 +42,13 @@ pub struct BookDraft {
 }
 
 impl Model for BookDraft {
-    ghost use Rattle.reg_book.specs.Book.{BookValue, IsDraft};
+    ghost use Rattle.reg_book.specs.Book.{BookValue, IsBookDraft};
 
     ghost Value = { BookValue };
 
     ghost view = { λ d. record { accounts = d.accounts.items; next = d.next } };
 
-    ghost invariant = { λ d. IsDraft d.accounts.items d.directory d.next };
+    ghost invariant = { λ d. IsBookDraft d.accounts.items d.directory d.next };
 }
 
 impl BookDraft {

@@ -8,7 +8,7 @@ ghost use Rattle.reg_book.specs.Fold.{state_after, rows_of};
 ghost use Rattle.reg_book.specs.Settled.{IsOfBook};
 ghost use Rattle.reg_book.specs.Day.{day_of, settled_day};
 ghost use Rattle.reg_book.specs.Settling.{IsSettleFault};
-ghost use Rattle.reg_book.specs.Places.{AllRanked, lists_of};
+ghost use Rattle.reg_book.specs.Places.{AllRanked, places_lists};
 
 use crate::book::Book;
 use crate::places::{Places, ranks_at};
@@ -107,7 +107,7 @@ fn settle_all(
 ) -> Result<Vec<LogRow>, NoMemory>
     requires rules { AreRules setting.now.rules }
     requires ready { IsReady (batch.now.base + 1) accounts.old }
-    requires ranked { AllRanked setting.now.directory (numbers accounts.old) ranks.now (lists_of places.now) batch.now.instructions }
+    requires ranked { AllRanked setting.now.directory (numbers accounts.old) ranks.now (places_lists places.now) batch.now.instructions }
     ensures rows { IfOk result (λ rows. rows.items ≡ rows_of setting.now accounts.old (batch.now.base + 1) batch.now.instructions) }
     ensures accounts { OnOk result (accounts.new ≡ state_after setting.now accounts.old (batch.now.base + 1) batch.now.instructions) }
 {

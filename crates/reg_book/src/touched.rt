@@ -7,8 +7,8 @@ ghost use Rattle.reg_base.specs.Rising.{IsRising};
 ghost use Rattle.reg_rules.specs.State.{numbers};
 ghost use Rattle.reg_book.specs.Book.{directory_of};
 ghost use Rattle.reg_book.specs.Fold.{touched_of};
-ghost use Rattle.reg_book.specs.Places.{StandAt, AllStandAt, AllRanked, lists_of};
-ghost use Rattle.reg_book.specs.Marks.{touched_marks, marked, picked};
+ghost use Rattle.reg_book.specs.Places.{StandAt, AllStandAt, AllRanked, places_lists};
+ghost use Rattle.reg_book.specs.Marks.{touched_marks, marks_after, picked};
 
 use crate::places::{Places, places_of, ranks_of};
 use reg_account::Account;
@@ -38,7 +38,7 @@ pub(crate) fn find_touched(
     requires rising { IsRising (numbers accounts.now) }
     requires few { length accounts.now ≤ MOST_ACCOUNTS }
     ensures accounts { IfOk result (λ t. t.accounts.items ≡ touched_of (directory_of accounts.now) instructions.now accounts.now) }
-    ensures ranked { IfOk result (λ t. AllRanked (directory_of accounts.now) (numbers t.accounts.items) t.ranks.items (lists_of t.places.items) instructions.now) }
+    ensures ranked { IfOk result (λ t. AllRanked (directory_of accounts.now) (numbers t.accounts.items) t.ranks.items (places_lists t.places.items) instructions.now) }
 {
     let mut marks = vec![in alloc; false; accounts.len()]?;
     let places = mark_all(alloc, &mut marks, accounts, instructions)?;
@@ -63,7 +63,7 @@ fn mark_all(
     requires few { length accounts.now ≤ MOST_ACCOUNTS }
     requires none { marks.old ≡ touched_marks (directory_of accounts.now) [] accounts.now }
     ensures marks { OnOk result (marks.new ≡ touched_marks (directory_of accounts.now) instructions.now accounts.now) }
-    ensures places { IfOk result (λ places. AllStandAt (directory_of accounts.now) (numbers accounts.now) (lists_of places.items) instructions.now) }
+    ensures places { IfOk result (λ places. AllStandAt (directory_of accounts.now) (numbers accounts.now) (places_lists places.items) instructions.now) }
 {
     let mut places = Vec::with_capacity(alloc, instructions.len())?;
     for instruction in instructions {
@@ -77,7 +77,7 @@ fn mark(marks: &mut [bool], accounts: &[Account], instruction: &Instruction) -> 
     requires rising { IsRising (numbers accounts.now) }
     requires few { length accounts.now ≤ MOST_ACCOUNTS }
     requires size { length marks.old ≡ length accounts.now }
-    ensures marks { marks.new ≡ marked marks.old accounts.now (footprint (directory_of accounts.now) instruction.now.act) }
+    ensures marks { marks.new ≡ marks_after marks.old accounts.now (footprint (directory_of accounts.now) instruction.now.act) }
     ensures places { StandAt (numbers accounts.now) result.items (footprint (directory_of accounts.now) instruction.now.act) }
 {
     let places = places_of(accounts, instruction);

@@ -7,7 +7,7 @@ ghost use Rattle.reg_rules.specs.State.{numbers};
 ghost use Rattle.reg_rules.specs.Effect.{IsBehind};
 ghost use Rattle.reg_rules.specs.Step.{step};
 ghost use Rattle.reg_book.specs.Places.{StandAt};
-ghost use Rattle.reg_book.specs.Turns.{AreLeft, renamed};
+ghost use Rattle.reg_book.specs.Turns.{ArePlacesLeft, renamed};
 
 use reg_account::Account;
 use reg_base::laws::each_footprint_is_sound;
@@ -52,7 +52,7 @@ fn turn_from(
 ) -> Result<Reply, NoMemory>
     requires distinct { IsDistinct nat_eq (numbers accounts.old) }
     requires behind { All (IsBehind number) accounts.old }
-    requires left { AreLeft count (numbers accounts.old) places.old (footprint setting.now.directory instruction.now.act) }
+    requires left { ArePlacesLeft count (numbers accounts.old) places.old (footprint setting.now.directory instruction.now.act) }
     ensures { IfOk result (λ reply. (accounts.new, reply) ≡ step setting.now accounts.old number instruction.now) }
 {
     step_laws();

@@ -20,7 +20,7 @@ use Rattle.reg_rules.specs.ActRules.{rule_of, fits_source, fits_first_receiver, 
 use Rattle.reg_rules.specs.State.{State, Setting, Receiver, account, seen, passes}
 use Rattle.reg_rules.specs.Checks.{source_allows, destination_allows, refusal}
 use Rattle.reg_rules.specs.Step.{step_by}
-use Rattle.reg_rules.specs.Closed.{NothingIsDoneOnClosed, ClosedStays, ClosedIsNeverLeft}
+use Rattle.reg_rules.specs.Closed.{NothingIsDoneOnClosed, ClosedStaysInStep, ClosedIsNeverLeftInStep}
 use Rattle.reg_rules.proofs.Applied.{footprint-passed}
 use Rattle.reg_rules.proofs.Locality.{other-stays}
 use Rattle.reg_rules.proofs.Passed.{passed}
@@ -68,11 +68,11 @@ done-on_none c s i a none touched closed =
     (subst (AllByRecursion (λ m. is-there_open (account s m) ≡ true)) (sym (footprint-passed c s i none)) (parties-open c s i none)) in
     open-apart (account s a) (All-contains (λ m. is-there_open (account s m) ≡ true) (footprint c.directory i.act) a all touched) closed
 
-pub closed-stays : ClosedStays
+pub closed-stays : ClosedStaysInStep
 closed-stays c s n i a closed = go (refusal c s i) refl where
   go : (r : Option Refusal) → refusal c s i ≡ r → account (step_by c s n i r).0 a ≡ account s a
   go None none = ap (λ r. account (step_by c s n i r).0 a) (sym none) ∙ other-stays c s n i a (λ touched. done-on_none c s i a none touched closed)
   go (Some q) refused = refl
 
-pub closed-never_left : ClosedIsNeverLeft
+pub closed-never_left : ClosedIsNeverLeftInStep
 closed-never_left c s n i a closed = ap (option_map (λ (v : AccountValue). v.status)) (closed-stays c s n i a closed) ∙ closed

@@ -30,7 +30,7 @@ use Rattle.reg_rules.specs.Checks.{refusal}
 use Rattle.reg_rules.specs.Trust.{effective_day}
 use Rattle.reg_rules.specs.Effect.{listed_from, assessed, made_by, first_after, share_of, given, by_part, with_changes, changed_by, CanMake, CanChange, IsBehind}
 use Rattle.reg_rules.specs.Step.{step_by}
-use Rattle.reg_rules.specs.Laws.{IsReady, StaysReady}
+use Rattle.reg_rules.specs.Laws.{IsReady, StaysReadyInStep}
 use Rattle.reg_rules.proofs.Applied.{can-change}
 use Rattle.reg_rules.proofs.Effects.{numbers-effect}
 use Rattle.reg_rules.proofs.Figures.{figure-fits}
@@ -161,7 +161,7 @@ behind-next : (n : ℕ) (ys : State) → AllByRecursion (IsBehind n) ys → AllB
 behind-next n [] all = tt
 behind-next n (y ∷ ys) all = (below-next n y.rows all.0, behind-next n ys all.1)
 
-pub stays-ready : ChangesKeepLimits → StaysReady
+pub stays-ready : ChangesKeepLimits → StaysReadyInStep
 stays-ready laws c s n i rules day numbered fit ready = go (refusal c s i) refl where
   accounts : AllByRecursion IsAccount s
   accounts = recursion_from_All IsAccount s ready.fit

@@ -23,7 +23,7 @@ use Rattle.reg_rules.specs.State.{State, Setting, Seen, Receiver, seen, numbers,
 use Rattle.reg_rules.specs.Checks.{fails, refusal}
 use Rattle.reg_rules.specs.Effect.{first_after, given, with_changes, changed_by, effect}
 use Rattle.reg_rules.specs.Step.{step, step_by, held_now, closing, figure_now}
-use Rattle.reg_rules.specs.Laws.{StepIsLocal, OthersStay, NumbersStay, RefusedChangesNothing}
+use Rattle.reg_rules.specs.Laws.{StepIsLocal, OthersStay, NumbersStayInStep, RefusedChangesNothing}
 use Rattle.reg_rules.proofs.Effects.{account-effect, numbers-effect}
 use Rattle.reg_rules.proofs.Numbers.{account-number}
 use Rattle.reg_rules.proofs.Passed.{passed}
@@ -150,7 +150,7 @@ other-stays c s n i a absent = go (refusal c s i) refl where
       ∙ stays (at-all (λ m. eqb m a ≡ false) (parties i.act) (subst (λ b. AllByRecursion (λ m. eqb m a ≡ false) (cond b (each_once (parties i.act)) [])) known apart)) (account s a) (account-number s a)
   go (Some q) refused = refl
 
-pub numbers-stay : NumbersStay
+pub numbers-stay : NumbersStayInStep
 numbers-stay c s n i = go (refusal c s i) where
   go : (r : Option Refusal) → numbers (step_by c s n i r).0 ≡ numbers s
   go None = numbers-effect c s n i

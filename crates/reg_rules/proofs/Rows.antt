@@ -8,7 +8,7 @@ use Rattle.reg_base.specs.declared.kinds.AllowanceKind.{AllowanceKind}
 use Rattle.reg_base.specs.RisesFrom.{RisesFrom}
 use Rattle.reg_base.specs.declared.kinds.Retirement.{Retirement}
 use Rattle.reg_account.specs.declared.rows.RetirementRow.{RetirementRow}
-use Rattle.reg_account.specs.Rows.{is_same_retirement, is_same_kind, amount_in, retired_in, row_numbers, row_in, marked, with_mark, AreBelow}
+use Rattle.reg_account.specs.Rows.{is_same_retirement, is_same_kind, amount_in, retired_in, row_numbers, row_in, marked_reversed, with_mark, AreBelow}
 
 pub row-number : (rows : List RetirementRow) (number : ℕ) (row : RetirementRow) → row_in rows number ≡ Some row → row.number ≡ number
 row-number [] number row found = absurd (none-some row found)
@@ -37,26 +37,26 @@ sum-added way kind (x ∷ xs) row =
     omega (arith, more, all, own)
 
 -- what is found under a number among marked rows is what was found there, marked
-finds-marked : (rows : List RetirementRow) (number at : ℕ) → row_in (with_mark number rows) at ≡ option_map (marked number) (row_in rows at)
+finds-marked : (rows : List RetirementRow) (number at : ℕ) → row_in (with_mark number rows) at ≡ option_map (marked_reversed number) (row_in rows at)
 finds-marked [] number at = refl
-finds-marked (x ∷ xs) number at = ap (λ n. cond (eqb n at) (Some (marked number x)) (row_in (with_mark number xs) at)) (keeps (eqb x.number number)) ∙ go (eqb x.number at) (finds-marked xs number at) where
+finds-marked (x ∷ xs) number at = ap (λ n. cond (eqb n at) (Some (marked_reversed number x)) (row_in (with_mark number xs) at)) (keeps (eqb x.number number)) ∙ go (eqb x.number at) (finds-marked xs number at) where
   keeps : (b : Bool) → (cond b (record x { reversed = true }) x).number ≡ x.number
   keeps true = refl
   keeps false = refl
 
-  go : (b : Bool) → row_in (with_mark number xs) at ≡ option_map (marked number) (row_in xs at)
-      → cond b (Some (marked number x)) (row_in (with_mark number xs) at) ≡ option_map (marked number) (cond b (Some x) (row_in xs at))
+  go : (b : Bool) → row_in (with_mark number xs) at ≡ option_map (marked_reversed number) (row_in xs at)
+      → cond b (Some (marked_reversed number x)) (row_in (with_mark number xs) at) ≡ option_map (marked_reversed number) (cond b (Some x) (row_in xs at))
   go true more = refl
   go false more = more
 
 pub finds-mark : (rows : List RetirementRow) (number : ℕ) (row : RetirementRow) → row_in rows number ≡ Some row → row_in (with_mark number rows) number ≡ Some (record row { reversed = true })
 finds-mark rows number row found =
-    finds-marked rows number number ∙ ap (option_map (marked number)) found
+    finds-marked rows number number ∙ ap (option_map (marked_reversed number)) found
     ∙ ap (λ b. Some (cond b (record row { reversed = true }) row)) (eq-eqb row.number number (row-number rows number row found))
 
 pub finds-unmarked : (rows : List RetirementRow) (number at : ℕ) → at ≢ number → row_in (with_mark number rows) at ≡ row_in rows at
 finds-unmarked rows number at apart = finds-marked rows number at ∙ go (row_in rows at) refl where
-  go : (o : Option RetirementRow) → row_in rows at ≡ o → option_map (marked number) o ≡ o
+  go : (o : Option RetirementRow) → row_in rows at ≡ o → option_map (marked_reversed number) o ≡ o
   go None found = refl
   go (Some row) found = ap (λ b. Some (cond b (record row { reversed = true }) row)) (ne_eqb row.number number (λ same. apart (sym (row-number rows at row found) ∙ same)))
 

@@ -12,7 +12,7 @@ use Rattle.reg_account.specs.declared.rows.RetirementRow.{RetirementRow}
 use Rattle.reg_account.specs.Rows.{amount_in}
 use Rattle.reg_account.specs.Account.{AccountValue}
 use Rattle.reg_account.specs.Figure.{figure_of}
-use Rattle.reg_rules.specs.State.{State, Setting, account, held, rows, row, retired_at, emitted, determined, status, listed}
+use Rattle.reg_rules.specs.State.{State, Setting, account, held, rows, retirement_row, retired_at, emitted, determined, status, listed}
 use Rattle.reg_rules.specs.Checks.{refusal}
 use Rattle.reg_rules.specs.Laws.{after_step, account_aside, IsReady}
 
@@ -84,8 +84,8 @@ pub record IsRetired (s t : State) (from : ℕ) (new : RetirementRow) : Type 0 w
   pub enough : new.amount ≤ held s from new.kind
   pub lowered : held t from new.kind ≡ held s from new.kind - new.amount
   pub other_kinds : (other : AllowanceKind) → other ≢ new.kind → held t from other ≡ held s from other
-  pub recorded : row t from new.number ≡ Some new
-  pub other_rows : (number : ℕ) → number ≢ new.number → row t from number ≡ row s from number
+  pub recorded : retirement_row t from new.number ≡ Some new
+  pub other_rows : (number : ℕ) → number ≢ new.number → retirement_row t from number ≡ retirement_row s from number
   pub sums : (way : Retirement) (kind : AllowanceKind) → retired_at t from way kind ≡ retired_at s from way kind + amount_in way kind new
   pub other_accounts : (a : ℕ) → a ≢ from → account t a ≡ account s a
   pub emissions_stay : EmissionsStay s t
@@ -102,12 +102,12 @@ Retires way act = (c : Setting) (s : State) (number : ℕ) (i : Instruction) (fr
 
 -- the second state is the first, except that the allowances of this row are back, and the row is marked as reversed
 pub record IsReversed (s t : State) (a : ℕ) (old : RetirementRow) : Type 0 where
-  pub recorded : row s a old.number ≡ Some old
+  pub recorded : retirement_row s a old.number ≡ Some old
   pub stood : old.reversed ≡ false
   pub raised : held t a old.kind ≡ held s a old.kind + old.amount
   pub other_kinds : (other : AllowanceKind) → other ≢ old.kind → held t a other ≡ held s a other
-  pub marked : row t a old.number ≡ Some (record old { reversed = true })
-  pub other_rows : (number : ℕ) → number ≢ old.number → row t a number ≡ row s a number
+  pub marked : retirement_row t a old.number ≡ Some (record old { reversed = true })
+  pub other_rows : (number : ℕ) → number ≢ old.number → retirement_row t a number ≡ retirement_row s a number
   pub sums : (way : Retirement) (kind : AllowanceKind) → retired_at t a way kind + amount_in way kind old ≡ retired_at s a way kind
   pub other_accounts : (b : ℕ) → b ≢ a → account t b ≡ account s b
   pub emissions_stay : EmissionsStay s t
@@ -195,7 +195,7 @@ Untrusts = (c : Setting) (s : State) (number : ℕ) (i : Instruction) (a other :
     → i.act ≡ Untrust a other → refusal c s i ≡ None → IsUnlisted s (after_step c s number i) a other
 
 -- the second state is the first, except that the account has this status
-pub record IsSet (s t : State) (a : ℕ) (new : Status) : Type 0 where
+pub record IsStatusSet (s t : State) (a : ℕ) (new : Status) : Type 0 where
   pub now_set : status t a ≡ Some new
   pub other_accounts : (b : ℕ) → b ≢ a → account t b ≡ account s b
   pub holdings_stay : HoldingsStay s t
@@ -208,7 +208,7 @@ pub record IsSet (s t : State) (a : ℕ) (new : Status) : Type 0 where
 -- an accepted change of status sets the status, and does nothing else
 abbrev pub Sets : Type 0
 Sets = (c : Setting) (s : State) (number : ℕ) (i : Instruction) (a : ℕ) (new : Status)
-    → i.act ≡ SetStatus a new → refusal c s i ≡ None → IsSet s (after_step c s number i) a new
+    → i.act ≡ SetStatus a new → refusal c s i ≡ None → IsStatusSet s (after_step c s number i) a new
 
 -- law: what each act makes of the state
 pub record ActLaws : Type 0 where

@@ -17,23 +17,23 @@ use Rattle.reg_rules.specs.declared.rule.LagRule.TheVariants.{ByTrust, NoLag}
 use Rattle.reg_rules.specs.declared.rule.ActRule.{ActRule}
 
 -- a row: the kinds of the accounts, the status that the first account needs, who proposes and approves, and the lag
-abbrev pub row : KindRule → StatusRule → Who → LagRule → ActRule
-row kinds status who lag = record { kinds = kinds; status = status; who = who; lag = lag }
+abbrev pub act_row : KindRule → StatusRule → Who → LagRule → ActRule
+act_row kinds status who lag = record { kinds = kinds; status = status; who = who; lag = lag }
 
 -- one row for each act
 abbrev pub rule_of : Act → ActRule
-rule_of (Transfer from to kind amount) = row HolderToHolder IsOpened Representatives ByTrust
-rule_of (Surrender from kind amount) = row OfOperator NotClosed Representatives NoLag
-rule_of (Delete from kind amount) = row OfHolder IsOpened Representatives NoLag
-rule_of (ReturnExcess from to kind amount) = row OperatorToAllocation NotClosed Representatives NoLag
-rule_of (Reverse account number) = row OfHolder NotClosed Administrators NoLag
-rule_of (Create to kind amount) = row OfTotal AsReceiver Administrators NoLag
-rule_of (CentralMove from to kind amount) = row Central NotClosed Administrators NoLag
-rule_of (Trust account other) = row OfHolder NotClosed Representatives NoLag
-rule_of (Untrust account other) = row OfHolder NotClosed Representatives NoLag
-rule_of (SetStatus account status) = row OfHolder NotClosed Administrators NoLag
-rule_of (EnterEmissions account year tonnes) = row OfOperator NotClosed Administrators NoLag
-rule_of (Assess account year) = row OfOperator OpenedOrBlocked Administrators NoLag
+rule_of (Transfer from to kind amount) = act_row HolderToHolder IsOpened Representatives ByTrust
+rule_of (Surrender from kind amount) = act_row OfOperator NotClosed Representatives NoLag
+rule_of (Delete from kind amount) = act_row OfHolder IsOpened Representatives NoLag
+rule_of (ReturnExcess from to kind amount) = act_row OperatorToAllocation NotClosed Representatives NoLag
+rule_of (Reverse account number) = act_row OfHolder NotClosed Administrators NoLag
+rule_of (Create to kind amount) = act_row OfTotal AsReceiver Administrators NoLag
+rule_of (CentralMove from to kind amount) = act_row Central NotClosed Administrators NoLag
+rule_of (Trust account other) = act_row OfHolder NotClosed Representatives NoLag
+rule_of (Untrust account other) = act_row OfHolder NotClosed Representatives NoLag
+rule_of (SetStatus account status) = act_row OfHolder NotClosed Administrators NoLag
+rule_of (EnterEmissions account year tonnes) = act_row OfOperator NotClosed Administrators NoLag
+rule_of (Assess account year) = act_row OfOperator OpenedOrBlocked Administrators NoLag
 
 -- the accounts of holders
 abbrev pub is_holder_kind : AccountKind → Bool

@@ -15,11 +15,11 @@ NothingIsDoneOnClosed = (c : Setting) (s : State) (i : Instruction) (a : ℕ)
 
 -- law: an account that is closed before a step is the same after it: nothing goes in or out, and it keeps what it holds,
 -- its lists and everything else
-abbrev pub ClosedStays : Type 0
-ClosedStays = (c : Setting) (s : State) (number : ℕ) (i : Instruction) (a : ℕ)
+abbrev pub ClosedStaysInStep : Type 0
+ClosedStaysInStep = (c : Setting) (s : State) (number : ℕ) (i : Instruction) (a : ℕ)
     → status s a ≡ Some Closed → account (after_step c s number i) a ≡ account s a
 
 -- law: so it stays closed
-abbrev pub ClosedIsNeverLeft : Type 0
-ClosedIsNeverLeft = (c : Setting) (s : State) (number : ℕ) (i : Instruction) (a : ℕ)
+abbrev pub ClosedIsNeverLeftInStep : Type 0
+ClosedIsNeverLeftInStep = (c : Setting) (s : State) (number : ℕ) (i : Instruction) (a : ℕ)
     → status s a ≡ Some Closed → status (after_step c s number i) a ≡ Some Closed

@@ -11,7 +11,7 @@ use Rattle.reg_base.specs.declared.instruction.Instruction.{Instruction}
 use Rattle.reg_base.specs.declared.kinds.Retirement.TheVariants.{Deleted}
 use Rattle.reg_account.specs.Rows.{amount_in}
 use Rattle.reg_account.specs.Laws.{counted, of_kind}
-use Rattle.reg_rules.specs.State.{State, Setting, row}
+use Rattle.reg_rules.specs.State.{State, Setting, retirement_row}
 use Rattle.reg_rules.specs.Checks.{refusal}
 use Rattle.reg_rules.specs.Laws.{after_step, IsReady}
 
@@ -39,7 +39,7 @@ deleted_by kind act = deletes kind (change_of act)
 
 -- how many deleted allowances of the kind the change of this account brings back: the amount of the deletion that it reverses
 abbrev pub undeletes : AllowanceKind → State → ℕ → Change → ℕ
-undeletes kind s a (Unretire number) = option_map_or (amount_in Deleted kind) (row s a number) 0
+undeletes kind s a (Unretire number) = option_map_or (amount_in Deleted kind) (retirement_row s a number) 0
 undeletes kind s a made = 0
 
 -- how many deleted allowances of the kind the act brings back

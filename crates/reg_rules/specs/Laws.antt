@@ -68,8 +68,8 @@ OthersStay = (c : Setting) (s : State) (number : ℕ) (i : Instruction) (a : ℕ
     → (Contains (footprint c.directory i.act) a → ⊥) → account (after_step c s number i) a ≡ account s a
 
 -- no account is added, removed or moved in the list
-abbrev pub NumbersStay : Type 0
-NumbersStay = (c : Setting) (s : State) (number : ℕ) (i : Instruction) → numbers (after_step c s number i) ≡ numbers s
+abbrev pub NumbersStayInStep : Type 0
+NumbersStayInStep = (c : Setting) (s : State) (number : ℕ) (i : Instruction) → numbers (after_step c s number i) ≡ numbers s
 
 -- an account keeps its kind, its holder, its two switches, its correction factor and its representatives
 abbrev pub ConstantsStay : Type 0
@@ -93,8 +93,8 @@ pub record IsReady (number : ℕ) (s : State) : Type 0 where
 
 -- a state that is ready for a record number is after the step ready for the next one: limits are kept (if the rules, the
 -- settlement day and the record number are within theirs)
-abbrev pub StaysReady : Type 0
-StaysReady = (c : Setting) (s : State) (number : ℕ) (i : Instruction)
+abbrev pub StaysReadyInStep : Type 0
+StaysReadyInStep = (c : Setting) (s : State) (number : ℕ) (i : Instruction)
     → AreRules c.rules → IsDayNo c.day → IsRecordNo number → IsInstruction i → IsReady number s → IsReady (number + 1) (after_step c s number i)
 
 -- what holds of every step, whatever its act
@@ -102,8 +102,8 @@ pub record StepLaws : Type 0 where
   pub refusal_local : RefusalIsLocal
   pub local : StepIsLocal
   pub others_stay : OthersStay
-  pub numbers_stay : NumbersStay
+  pub numbers_stay : NumbersStayInStep
   pub constants_stay : ConstantsStay
   pub refused_changes_nothing : RefusedChangesNothing
-  pub stays_ready : StaysReady
+  pub stays_ready : StaysReadyInStep
   pub same_state : SameState

@@ -41,8 +41,8 @@ abbrev pub rows : State → ℕ → List RetirementRow
 rows s a = option_map_or (λ v. v.rows) (account s a) []
 
 -- the surrender or deletion of the account with this record number
-abbrev pub row : State → ℕ → ℕ → Option RetirementRow
-row s a number = row_in (rows s a) number
+abbrev pub retirement_row : State → ℕ → ℕ → Option RetirementRow
+retirement_row s a number = row_in (rows s a) number
 
 -- how many allowances of a kind the account has surrendered (or deleted), without what was reversed
 abbrev pub retired_at : State → ℕ → Retirement → AllowanceKind → ℕ

@@ -2,7 +2,7 @@
 //! calls it.
 
 ghost use Rattle.reg_rules.specs.ActLaws.{ActLaws};
-ghost use Rattle.reg_rules.specs.Closed.{ClosedIsNeverLeft, ClosedStays, NothingIsDoneOnClosed};
+ghost use Rattle.reg_rules.specs.Closed.{ClosedIsNeverLeftInStep, ClosedStaysInStep, NothingIsDoneOnClosed};
 ghost use Rattle.reg_rules.specs.Conservation.{StepConserves};
 ghost use Rattle.reg_rules.specs.Laws.{StepLaws};
 
@@ -40,6 +40,6 @@ pub fn step_conserves()
 /// lists and everything else.
 pub fn step_keeps_closed()
     ensures nothing_done { NothingIsDoneOnClosed }
-    ensures value { ClosedStays }
-    ensures status { ClosedIsNeverLeft }
+    ensures value { ClosedStaysInStep }
+    ensures status { ClosedIsNeverLeftInStep }
 {}

@@ -1,7 +1,7 @@
 -- The row that a fault names is the first with which no day text begins, and its cause is the first of the table's.
 use Rattle.std.proofs.Common.{◌≡◌, ◌⊎◌, inl, inr, ℕ, suc, ◌+◌, ◌-◌, ◌<◌, ◌≤◌, Bool, false, not, true, List, [], ◌∷◌, ◌++◌, length, take, get_or, Option, Some, None, Result, Ok, Err, refl, sym, ap, subst, ◌∙◌, arith, append_assoc}
 use Rattle.std.proofs.lemmas.List.{append-nil}
-use Rattle.reg_text.proofs.Names.{MOST_LAG, FIRST_DAY, FIRST_YEAR, Cause, Tag, Record, Said, row, DraftValue, nothing_read, DayValue, is_over, day_said, IsDraft, IsReading, Begins, IsFirstFaulty, fault_of, with, in_order, has_room, next_draft, drafted, at_row, at_end, after_rows, day_of_rows, IsCauseOf}
+use Rattle.reg_text.proofs.Names.{MOST_LAG, FIRST_DAY, FIRST_YEAR, Cause, Tag, Record, Said, row, DraftValue, nothing_read, DayValue, is_text_over, day_said, IsDraft, IsReading, Begins, IsFirstFaulty, fault_of, with, in_order, has_room, next_draft, drafted, at_row, at_end, after_rows, day_of_rows, IsCauseOf}
 use Rattle.reg_text.specs.declared.cause.Cause.TheVariants as cause
 use Rattle.reg_text.specs.declared.reading.tag.Tag.TheVariants as tag
 use Rattle.reg_text.specs.Grammar.{row_text}
@@ -31,7 +31,7 @@ tag-once last f = once cause.Tag (tag_after last f) (only-bind cause.Tag (named 
 
 -- the first cause of the table that applies to a row
 pub first-fault : (d : DraftValue) (r : Record) → fault_of (next_draft d r) ≡ first_cause (tests_of d r)
-first-fault d r = refused (is_over d.last) cause.End _ _ (λ h.
+first-fault d r = refused (is_text_over d.last) cause.End _ _ (λ h.
     next (tag_after d.last (field r 0)) (λ t. with_row t d r) (when (not (is_ok (tag_after d.last (field r 0)))) cause.Tag ∷ []) (tagged_tests (tag_after d.last (field r 0)) d r) (tag-once d.last (field r 0)) (λ t e.
     row-fault t d r ∙ ap (λ (x : Result Tag Cause). first_cause (tagged_tests x d r)) (sym e)))
 
@@ -46,7 +46,7 @@ with-one t d x h may fits order room more =
     let same = ap (λ (rows : List Record). rows ++ begins.0) g.rows ∙ append_assoc (rows_so_far d) (row_text t x ∷ []) begins.0 in
     (row_text t x ∷ begins.0, begins.1, subst (λ (text : List Record). IsReading text begins.1) same begins.2)
 
-over-begins : (d : DraftValue) → IsDraft d → is_over d.last ≡ true → Begins (rows_so_far d)
+over-begins : (d : DraftValue) → IsDraft d → is_text_over d.last ≡ true → Begins (rows_so_far d)
 over-begins d h over = let c = closes d h.fits over in ([], c.day, subst (λ (text : List Record). IsReading text c.day) (sym (append-nil (rows_so_far d))) c.reading)
 
 from-lags : (d : DraftValue) → IsDraft d → MayFollow d.last tag.End → Begins (rows_so_far d)

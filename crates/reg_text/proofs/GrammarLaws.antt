@@ -5,8 +5,8 @@ use Rattle.std.proofs.lemmas.Bool.{and_parts, ltb-true, leb-true, le-leb}
 use Rattle.std.specs.Str.{bytes_eq}
 use Rattle.std.proofs.lemmas.Slice.Eq.{bytes_eq-Decides}
 use Rattle.reg_text.proofs.Names.{MOST_NUMBER, Act, ActName, Transfer, Tag, IsCodec, AreFields}
-use Rattle.reg_text.proofs.Names.{within_limits, any_number, a_no, factor, a_figure, a_date, an_approver, IsRow, row_of, act_names, act_word, act_name, form, said, an_act_name, act_fields, instruction_fields_of, version}
-use Rattle.reg_text.proofs.Names.{row, Cause, Codec, IsBetween, IsUserNo, CorrectionFits, FigureFits, ◌>>=◌, test, when, first_cause, fault_of, number, signed, number_of, date_of, signed_of, correction_of, figure_of, bounded_of, user_no_of, approver_of, approver_text, number_tests, correction_tests, figure_tests, approver_tests, IsPlain}
+use Rattle.reg_text.proofs.Names.{within_limits, any_number, a_no, factor, a_figure, a_date, an_approver, IsRow, row_with, act_names, act_word, act_name, form, said, an_act_name, act_fields, instruction_fields_of, version}
+use Rattle.reg_text.proofs.Names.{row, Cause, Codec, IsWithin, IsUserNo, CorrectionFits, FigureFits, ◌>>=◌, test, when, first_cause, fault_of, number, signed, number_of, date_of, signed_of, correction_of, signed_figure_of, bounded_of, user_no_of, approver_of, approver_text, number_tests, correction_tests, figure_tests, approver_tests, IsPlain}
 use Rattle.reg_base.specs.declared.act.Act.TheVariants as act
 use Rattle.reg_text.specs.declared.cause.Cause.TheVariants as cause
 use Rattle.reg_text.specs.declared.reading.tag.Tag.TheVariants as tag
@@ -43,12 +43,12 @@ is-limited c holds tests Fits h fit passes fault = record {
   plain = h.plain;
 }
 
-pub ranged : (low high n : ℕ) → (nat_le low n && nat_le n high) ≡ true → IsBetween low high n
+pub ranged : (low high n : ℕ) → (nat_le low n && nat_le n high) ≡ true → IsWithin low high n
 ranged low high n e = let both = and_parts (nat_le low n) (nat_le n high) e in record { low = leb-true _ _ both.0; high = leb-true _ _ both.1 }
 
 pub is-within : (low high : ℕ) → nat_lt high (2 ^ 64) ≡ true → IsCodec (within_limits low high)
 unfolding bounded_of
-is-within low high small = is-limited any_number (λ n. nat_le low n && nat_le n high) (number_tests low high) (IsBetween low high) is-number (ranged low high)
+is-within low high small = is-limited any_number (λ n. nat_le low n && nat_le n high) (number_tests low high) (IsWithin low high) is-number (ranged low high)
     (λ n h. (rw (le-leb low n h.low, le-leb n high h.high) refl, omega (arith, h.high, ltb-true high (2 ^ 64) small))) (λ f. limited cause.Number _ 0 (number_of f) (only-number f))
 
 -- the same of a signed number with at most so many digits
@@ -63,7 +63,7 @@ is-factor = signed-limited 1_000_000_000_000_000 CorrectionFits correction_tests
     (λ f. limited cause.Number _ (pos 0) (signed_of f) (only-signed f))
 
 pub is-figure : IsCodec a_figure
-unfolding figure_of
+unfolding signed_figure_of
 is-figure = signed-limited 4_000_000_000_000_000 FigureFits figure_tests (omega arith) (λ z h. let r = signed-range 4_000_000_000_000_000 z h in record { low = r.0; high = r.1 }) (λ z h. digits-range 4_000_000_000_000_000 z h.low h.high)
     (λ f. limited cause.Number _ (pos 0) (signed_of f) (only-signed f))
 
@@ -140,5 +140,5 @@ are-instructions : AreFields instruction_fields_of
 are-instructions = search (codecs, are-acts) depth 14
 
 pub each-row : (t : Tag) → IsRow (row t)
-each-row tag.Do = is_named_row 4 an_act_name (row_of instruction_fields_of) (λ i. act_name i.act) (is-word act_word act_names own-act_word) (is_row _ are-instructions) (λ tag i fits. (omega arith, refl, tt))
+each-row tag.Do = is_named_row 4 an_act_name (row_with instruction_fields_of) (λ i. act_name i.act) (is-word act_word act_names own-act_word) (is_row _ are-instructions) (λ tag i fits. (omega arith, refl, tt))
 each-row t = search (codecs, is_row) depth 24

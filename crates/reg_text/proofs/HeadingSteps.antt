@@ -1,7 +1,7 @@
 -- The rows of the heading, each of which only one tag may begin.
 use Rattle.std.proofs.Common.{◌≡◌, ℕ, nat_lt, true, false, List, ◌∷◌, Option, Some, None, Result, Ok, Err, refl, sym, ap, ◌∙◌}
 use Rattle.std.specs.Prelude.{IfErr, MatchResult}
-use Rattle.reg_text.proofs.Names.{Cause, Tag, Record, field, tag_after, place, Said, row_read, DraftValue, is_over, with, in_order, has_room, with_row, next_draft, after_rows, AnswersFault, TakesFirst}
+use Rattle.reg_text.proofs.Names.{Cause, Tag, Record, field, tag_after, place, Said, row_read, DraftValue, is_text_over, with, in_order, has_room, with_row, next_draft, after_rows, AnswersFault, TakesFirst}
 use Rattle.reg_text.specs.declared.cause.DayFault.{DayFault}
 use Rattle.reg_text.specs.declared.cause.DayFault.TheVariants as fault
 use Rattle.reg_text.specs.declared.reading.tag.Tag.TheVariants as tag
@@ -14,7 +14,7 @@ AtRow number read result = MatchResult result (λ x. read ≡ Ok x) (λ e. (c : 
 
 -- ---- the next tag
 
-pub tag-fault : (number : ℕ) (last : Option Tag) (left rows : List Record) (r : Record) → is_over last ≡ false → left ≡ r ∷ rows → (result : Result Tag DayFault) → AtRow number (tag_after last (field r 0)) result
+pub tag-fault : (number : ℕ) (last : Option Tag) (left rows : List Record) (r : Record) → is_text_over last ≡ false → left ≡ r ∷ rows → (result : Result Tag DayFault) → AtRow number (tag_after last (field r 0)) result
     → IfErr result (λ e. (d : DraftValue) → d.last ≡ last → AnswersFault e (after_rows number d left))
 tag-fault number last left rows r opened is (Ok t) read = tt
 tag-fault number last left rows r opened is (Err e) read = λ d at. rw (read.2, is, at, opened, read.1) refl
@@ -38,7 +38,7 @@ only last u e may = absurd cc
 -- neither order nor length stand against its row
 pub record IsOnly (last : Option Tag) : Type 0 where
   pub early : nat_lt (place last) 40 ≡ true
-  pub opened : is_over last ≡ false
+  pub opened : is_text_over last ≡ false
   pub order : (d : DraftValue) (x : Said (heading_tag last)) → in_order (heading_tag last) d x ≡ true
   pub room : (d : DraftValue) (x : Said (heading_tag last)) → has_room (heading_tag last) d x ≡ true
 
@@ -49,7 +49,7 @@ is-only last e = record { early = e; opened = refl; order = λ d x. refl; room =
 next-is : (last : Option Tag) (d : DraftValue) (r : Record) (u : Tag) (y : Result DraftValue Cause) → IsOnly last → d.last ≡ last → tag_after last (field r 0) ≡ Ok u → with_row (heading_tag last) d r ≡ y → next_draft d r ≡ y
 next-is last d r u y h l tagged row =
     let same : tag_after d.last (field r 0) ≡ Ok (heading_tag last) = ap (λ (o : Option Tag). tag_after o (field r 0)) l ∙ tagged ∙ ap (λ (v : Tag). Ok v) (only last u h.early (tag-spelled last (field r 0) u tagged).1) in
-    rw (ap is_over l ∙ h.opened, same) row
+    rw (ap is_text_over l ∙ h.opened, same) row
 
 pub heading-row : (number : ℕ) (last : Option Tag) → nat_lt (place last) 40 ≡ true → (left rows : List Record) (r : Record) (u : Tag) → left ≡ r ∷ rows → tag_after last (field r 0) ≡ Ok u
     → (read : Result (Said (heading_tag last)) Cause) → read ≡ row_read (heading_tag last) r → (result : Result (Said (heading_tag last)) DayFault) → AtRow number read result → TakesFirst number (heading_tag last) last result left rows

@@ -15,8 +15,8 @@ pub use Rattle.reg_rules.specs.Effect.{IsBehind}
 pub use Rattle.reg_rules.specs.declared.reply.LogRow.{LogRow}
 pub use Rattle.reg_book.specs.Book.{BookValue, first_fault, has_row_ahead, total_held, total_retired}
 pub use Rattle.reg_text.specs.Records.{Record, field}
-pub use Rattle.reg_text.specs.Sections.{AreFew, IsOrdered, IsSection, Item, Section, account_block, account_with, all_rows, each_row, follows, head_of, is_room, item_rows, key, lists_of, most, section_rows}
-pub use Rattle.reg_text.specs.Spelling.{account_row, book_rows, closing, day_sections, day_text, end_row, heading, instruction_fields, lags_in}
+pub use Rattle.reg_text.specs.Sections.{AreAtMost, IsOrdered, IsSection, Item, Section, account_block, account_with, all_rows, each_row, follows, account_head, is_room, item_rows, key, lists_of, most, section_rows}
+pub use Rattle.reg_text.specs.Spelling.{account_row, book_rows, closing_sections, day_sections, day_text, end_row, heading, instruction_fields, lags_in}
 pub use Rattle.reg_text.specs.Log.{answer_fields, closing_fields, figure_field, holding_fields, log_row}
 pub use Rattle.reg_text.specs.Report.{log_rows, report_rows, text_of, totals_row, written_book}
 pub use Rattle.csv.specs.Writing.{default_writer}
@@ -31,21 +31,21 @@ pub use Rattle.reg_text.specs.Grammar.{Said, row, row_read, version}
 pub use Rattle.reg_text.specs.Plain.{IsPlain, with_commas}
 pub use Rattle.reg_text.specs.Written.{EachBookIsWritten, EachReportIsWritten, EachTextSplits, HasField}
 pub use Rattle.reg_base.specs.declared.limits.TheConstants.{FIRST_DAY, FIRST_YEAR, LAST_DAY, MOST_ACCOUNTS, MOST_INSTRUCTIONS, MOST_LAG, MOST_NUMBER, MOST_RECORD, MOST_ROWS}
-pub use Rattle.reg_base.specs.Numbers.{IsAccountNo, IsBetween, IsDayNo, IsRecordNo, IsUserNo, IsYearNo}
+pub use Rattle.reg_base.specs.Numbers.{IsAccountNo, IsWithin, IsDayNo, IsRecordNo, IsUserNo, IsYearNo}
 pub use Rattle.reg_base.specs.Instructions.{IsInstruction}
 pub use Rattle.reg_base.specs.Refusals.{refusal_name}
 pub use Rattle.reg_base.specs.Rising.{IsRising}
 pub use Rattle.reg_text.specs.declared.reading.account_row.AccountHead.{AccountHead}
 pub use Rattle.reg_text.specs.declared.reading.tag.Tag.{Tag}
 pub use Rattle.reg_text.specs.Tags.{all_tags, may_follow, place, rule, tag_after, tag_word}
-pub use Rattle.reg_text.specs.Lasts.{as_list, is_above, last_of}
-pub use Rattle.reg_text.specs.Drafts.{DraftValue, account_count, accounts_in, closed, draft_of, ended, listed, nothing_read, sections, sections_to}
-pub use Rattle.reg_text.specs.Day.{DayValue, day_said, day_with, is_over}
+pub use Rattle.reg_text.specs.Lasts.{as_list, is_above, last_item}
+pub use Rattle.reg_text.specs.Drafts.{DraftValue, account_count, accounts_in, block_closed, draft_of, ended, items_said, nothing_read, sections, sections_to}
+pub use Rattle.reg_text.specs.Day.{DayValue, day_said, day_with, is_text_over}
 pub use Rattle.reg_text.specs.Reading.{Begins, CanBeSaid, IsFirstFaulty, IsPair, IsReading}
 pub use Rattle.reg_text.specs.Faults.{AnswersFault, after_rows, at_end, at_row, day_of_rows, drafted, has_room, in_order, is_number_left, is_recorded, is_sum_left, next_draft, next_in, placed, with}
 unfoldable pub use Rattle.reg_text.specs.Faults.{with_row}
 pub use Rattle.reg_text.specs.declared.cause.Cause.{Cause}
-pub use Rattle.reg_text.specs.DraftLimits.{LagsSaidFit, AreRecorded, FitsSoFar, IsDraft, StandsAt, TakesFirst, comes_once, stands_at}
+pub use Rattle.reg_text.specs.DraftLimits.{LagsSaidFit, AreRecorded, FitsSoFar, IsDraft, SectionStandsAt, TakesFirst, comes_once, stands_at}
 pub use Rattle.reg_base.specs.declared.instruction.Instruction.{Instruction}
 pub use Rattle.reg_text.specs.Causes.{test, ◌>>=◌}
 pub use Rattle.csv.specs.Reading.{ExplainsRead, ReadRecord, default_config, is_bom, is_flexible, records, records_next, with_flexible, with_names_headers}
@@ -53,13 +53,13 @@ unfoldable pub use Rattle.csv.specs.Reading.{Reached, records_from, strip_bom}
 pub use Rattle.reg_text.specs.Rows.{IsOfMemory, IsOpen, known_rest, records_in, rest_of, rows_left, rows_of}
 pub use Rattle.reg_text.specs.declared.reading.instruction_row.ActName.{ActName}
 pub use Rattle.reg_text.specs.declared.reading.instruction_row.ActName.TheVariants.{Transfer}
-pub use Rattle.reg_text.specs.Codecs.{AreFields, Codec, Fields, IsCodec, IsRow, Row, a_date, a_figure, a_no, a_word, an_approver, any_number, factor, forms, holds_of, last, made, named_row, none, provided, row_of, tests_then, within_limits, ◌▸◌}
+pub use Rattle.reg_text.specs.Codecs.{AreFields, Codec, Fields, IsCodec, IsRow, Row, a_date, a_figure, a_no, a_word, an_approver, any_number, factor, forms, holds_of, last, made, named_row, none, provided, row_with, tests_then, within_limits, ◌▸◌}
 pub use Rattle.reg_text.specs.Acts.{act_fields, act_name, act_names, act_word, an_act_name, form, instruction_fields_of, said}
 pub use Rattle.reg_text.specs.FieldTests.{approver_tests, correction_tests, fault_of, figure_tests, first_cause, number_tests, when}
 pub use Rattle.reg_text.specs.Table.{IsCauseOf, said_tests, tagged_tests, tests_of}
 pub use Rattle.reg_base.specs.declared.act.Act.{Act}
 pub use Rattle.reg_text.specs.Signed.{minus, signed}
-unfoldable pub use Rattle.reg_text.specs.Signed.{correction_of, figure_of, signed_of}
+unfoldable pub use Rattle.reg_text.specs.Signed.{correction_of, signed_figure_of, signed_of}
 pub use Rattle.reg_text.specs.Limits.{approver_text, user_no_of}
 unfoldable pub use Rattle.reg_text.specs.Limits.{approver_of, bounded_of}
 pub use Rattle.csv.specs.Machine.{Read, ends_at_end, field_after, fields_after, is_end, step}

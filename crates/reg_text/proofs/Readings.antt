@@ -6,7 +6,7 @@ use mathlib.Core.List.{map-id}
 use Rattle.std.specs.Prelude.{All}
 use Rattle.std.proofs.lemmas.List.Elements.{All-from_recursion}
 use Rattle.std.specs.List.{AllByRecursion}
-use Rattle.reg_text.proofs.Names.{IsRising, Cause, Tag, Record, place, Said, row, DraftValue, accounts_in, closed, nothing_read, DayValue, day_with, is_over, day_said, day_text, IsUserNo, IsDayNo, IsInstruction, AccountValue, IsAccount, IsBehind, IsPair, CanBeSaid, IsReading, FitsSoFar, IsDraft, next_draft, at_row, at_end, after_rows}
+use Rattle.reg_text.proofs.Names.{IsRising, Cause, Tag, Record, place, Said, row, DraftValue, accounts_in, block_closed, nothing_read, DayValue, day_with, is_text_over, day_said, day_text, IsUserNo, IsDayNo, IsInstruction, AccountValue, IsAccount, IsBehind, IsPair, CanBeSaid, IsReading, FitsSoFar, IsDraft, next_draft, at_row, at_end, after_rows}
 use Rattle.reg_text.proofs.Names.{day_of_rows}
 use Rattle.reg_text.specs.declared.reading.tag.Tag.TheVariants as tag
 use Rattle.reg_text.proofs.ListFacts.{all-weaker}
@@ -16,7 +16,7 @@ use Rattle.reg_text.proofs.Taken.{text-taken}
 
 -- ---- what a closed draft says
 
-over-last : (last : Option Tag) → is_over last ≡ true → last ≡ Some tag.End
+over-last : (last : Option Tag) → is_text_over last ≡ true → last ≡ Some tag.End
 over-last (Some tag.End) e = refl
 over-last last e = absurd cc
 
@@ -31,7 +31,7 @@ record IsHeaded (d : DraftValue) : Type 0 where
   one_period : d.periods ≡ period ∷ []
   one_lags : d.lags ≡ lags ∷ []
 
-headed : (d : DraftValue) → FitsSoFar d → is_over d.last ≡ true → IsHeaded d
+headed : (d : DraftValue) → FitsSoFar d → is_text_over d.last ≡ true → IsHeaded d
 headed d h over =
     let at : place d.last ≡ 100 = ap place (over-last d.last over) in
     let f = h.stand.0.come (omega (arith, at)) refl in
@@ -89,19 +89,19 @@ pub record Closes (d : DraftValue) : Type 0 where
 
 -- what a draft says whose heading is this, and what it stands for
 said-by : (d : DraftValue) (version : ℕ) (day period : ℕ × ℕ) (lags : Said tag.Lags) → d.last ≡ Some tag.End → d.versions ≡ version ∷ [] → d.days ≡ day ∷ [] → d.periods ≡ period ∷ [] → d.lags ≡ lags ∷ []
-    → (day_said d ≡ Some (day_with day period lags (accounts_in d) d)) × (rows_so_far (closed d) ≡ day_text version (day_with day period lags (accounts_in d) d))
+    → (day_said d ≡ Some (day_with day period lags (accounts_in d) d)) × (rows_so_far (block_closed d) ≡ day_text version (day_with day period lags (accounts_in d) d))
 said-by d version day period lags over v a p l = (rw (over, v, a, p, l) refl, rw (over, v, a, p, l) refl)
 
 -- the draft with all blocks over says the same
-pub closed-says : (d : DraftValue) → FitsSoFar d → is_over d.last ≡ true → day_said (closed d) ≡ day_said d
+pub closed-says : (d : DraftValue) → FitsSoFar d → is_text_over d.last ≡ true → day_said (block_closed d) ≡ day_said d
 closed-says d h over =
     let k = headed d h over in
     let last = over-last d.last over in
     let all = ap (λ (l : List AccountValue). Some (day_with k.day k.period k.lags l d)) (append-nil (accounts_in d)) in
-    (said-by (closed d) k.version k.day k.period k.lags last k.one_version k.one_day k.one_period k.one_lags).0 ∙ all
+    (said-by (block_closed d) k.version k.day k.period k.lags last k.one_version k.one_day k.one_period k.one_lags).0 ∙ all
     ∙ sym (said-by d k.version k.day k.period k.lags last k.one_version k.one_day k.one_period k.one_lags).0
 
-pub closes : (d : DraftValue) → FitsSoFar d → is_over d.last ≡ true → Closes d
+pub closes : (d : DraftValue) → FitsSoFar d → is_text_over d.last ≡ true → Closes d
 closes d h over =
     let k = headed d h over in
     let said = said-by d k.version k.day k.period k.lags (over-last d.last over) k.one_version k.one_day k.one_period k.one_lags in
@@ -128,7 +128,7 @@ said_over false o v e = absurd cc
 pub said-of : (rows : List Record) (number : ℕ) (d : DraftValue) (v : DayValue) → IsDraft d → after_rows number d rows ≡ Ok v → IsReading (rows_so_far d ++ rows) v
 said-of [] number d v h e =
     let said = said_at_end number (day_said d) v e in
-    let c = closes d h.fits (said_over (is_over d.last) _ v said) in
+    let c = closes d h.fits (said_over (is_text_over d.last) _ v said) in
     subst (λ (rows : List Record). IsReading rows v) (sym (append-nil (rows_so_far d))) (subst (IsReading (rows_so_far d)) (cc (c.said, said)) c.reading)
 said-of (r ∷ rows) number d v h e =
     let t = taken_row number (next_draft d r) (λ x. after_rows (number + 1) x rows) v e in

@@ -5,7 +5,7 @@ use Rattle.std.specs.List.{AllByRecursion, flat_map}
 use Rattle.std.proofs.lemmas.List.Elements.{recursion_from_All}
 use Rattle.std.proofs.lemmas.Bool.{le-leb, lt-ltb}
 use Rattle.std.proofs.lemmas.List.{append-nil, map-append}
-use Rattle.reg_text.proofs.Names.{MOST_ACCOUNTS, MOST_RECORD, IsUserNo, IsDayNo, IsInstruction, IsRising, AccountValue, IsAccount, IsBehind, AreBelow, RetiredFits, RetirementRow, ListsValue, row_numbers, no_lists, AccountHead, Tag, Record, tag_word, last_of, as_list, Said, row, head_of, lists_of, account_with, account_block, each_row, section_rows, all_rows, key, follows, most, IsSection, DraftValue, listed, accounts_in, account_count, nothing_read, DayValue}
+use Rattle.reg_text.proofs.Names.{MOST_ACCOUNTS, MOST_RECORD, IsUserNo, IsDayNo, IsInstruction, IsRising, AccountValue, IsAccount, IsBehind, AreBelow, RetiredFits, RetirementRow, ListsValue, row_numbers, no_lists, AccountHead, Tag, Record, tag_word, last_item, as_list, Said, row, account_head, lists_of, account_with, account_block, each_row, section_rows, all_rows, key, follows, most, IsSection, DraftValue, items_said, accounts_in, account_count, nothing_read, DayValue}
 use Rattle.reg_text.proofs.Names.{lags_in, day_text, IsPair, CanBeSaid, with, in_order, has_room, with_row, next_in, next_draft, after_rows}
 use Rattle.reg_text.specs.declared.reading.tag.Tag.TheVariants as tag
 use Rattle.reg_text.specs.Grammar.{row_text}
@@ -38,13 +38,13 @@ taken t d x may fits ordered room = rw (goes_on d.last t may, tag-again d.last t
 -- a draft as a function of its last tag and of the section of a tag
 pub record Grown (t : Tag) (state : Option Tag → List (Said t) → DraftValue) : Type 0 where
   pub last : (last : Option Tag) (xs : List (Said t)) → (state last xs).last ≡ last
-  pub list : (last : Option Tag) (xs : List (Said t)) → listed t (state last xs) ≡ xs
+  pub list : (last : Option Tag) (xs : List (Said t)) → items_said t (state last xs) ≡ xs
   pub more : (last : Option Tag) (xs : List (Said t)) (x : Said t) → with t (state last xs) x ≡ state (Some t) (xs ++ x ∷ [])
 
 section-step : (t : Tag) (state : Option Tag → List (Said t) → DraftValue) → Grown t state → (last : Option Tag) (xs : List (Said t)) (x : Said t) (others : List (Said t)) → MayFollow last t → IsSection (Some t, xs ++ x ∷ others)
     → has_room t (state last xs) x ≡ true → next_draft (state last xs) (row_text t x) ≡ Ok (state (Some t) (xs ++ x ∷ []))
 section-step t state g last xs x others may whole room =
-    let order : in_order t (state last xs) x ≡ true = ap (λ (l : List (Said t)). follows (key t) (last_of l) x) (g.list last xs) ∙ ordered-at (key t) xs x others whole.listed.ordered in
+    let order : in_order t (state last xs) x ≡ true = ap (λ (l : List (Said t)). follows (key t) (last_item l) x) (g.list last xs) ∙ ordered-at (key t) xs x others whole.listed.ordered in
     taken t (state last xs) x (subst (λ (l : Option Tag). MayFollow l t) (sym (g.last last xs)) may) (all-rest (row t).Fits xs (x ∷ others) whole.fits).0 order room ∙ ap (λ (d : DraftValue). Ok d) (g.more last xs x)
 
 pub section-taken : (t : Tag) (state : Option Tag → List (Said t) → DraftValue) → Grown t state → MayFollow (Some t) t
@@ -95,7 +95,7 @@ lists-taken d next a rest v is h behind more =
     a.figures last4 [] rest v (later last4 tag.Emissions tag.Figure (omega arith) (omega arith) may4) fit.figures more))))
 
 -- an account that is above the ones before it comes after the open one
-next-account : (accounts : List AccountValue) (head : Option AccountHead) (l : ListsValue) (a : AccountValue) (others : List AccountValue) → IsRising (map account_number ((accounts ++ map (account_with l) (as_list head)) ++ a ∷ others)) → follows (key tag.Account) (last_of (as_list head)) (head_of a) ≡ true
+next-account : (accounts : List AccountValue) (head : Option AccountHead) (l : ListsValue) (a : AccountValue) (others : List AccountValue) → IsRising (map account_number ((accounts ++ map (account_with l) (as_list head)) ++ a ∷ others)) → follows (key tag.Account) (last_item (as_list head)) (account_head a) ≡ true
 next-account accounts None l a others rises = refl
 next-account accounts (Some h) l a others rises =
     let all = rising-above (map account_number (accounts ++ account_with l h ∷ [])) a.number (map account_number others) (rw map-append at rises) in
@@ -114,11 +114,11 @@ blocks-taken d next (a ∷ others) last accounts head l rest v is may fit behind
     let room : account_count now < MOST_ACCOUNTS = omega (arith, few, length-append all (a ∷ others), count-accounts accounts head l) in
     let behind_it : List Record = flat_map account_block others ++ rest in
     let lists : List Record = each_row tag.User a.users ++ (each_row tag.Trusted a.trusted ++ (each_row tag.Retired a.rows ++ (each_row tag.Emissions a.emissions ++ (each_row tag.Figure a.figures ++ behind_it)))) in
-    let split : flat_map account_block (a ∷ others) ++ rest ≡ row_text tag.Account (head_of a) ∷ lists = simp append_assoc in
+    let split : flat_map account_block (a ∷ others) ++ rest ≡ row_text tag.Account (account_head a) ∷ lists = simp append_assoc in
     subst (λ (rs : List Record). Reach now rs v) (sym split)
-    (reach-row now (with tag.Account now (head_of a)) (row_text tag.Account (head_of a)) lists v (taken tag.Account now (head_of a) may (fit-account a fit.0) (next-account accounts head l a others rises) (lt-ltb _ _ room))
-    (lists-taken (record d { accounts = all; head = Some (head_of a) }) next a behind_it v is fit.0 behind.0 (λ last1 may1.
-    blocks-taken d next others last1 all (Some (head_of a)) (lists_of a) rest v is (later last1 tag.Figure tag.Account (omega arith) (omega arith) may1) fit.1 behind.1 (rw same rises) (rw same few) (λ after ones opened m may' equal. more after ones opened m may' (equal ∙ same)))))
+    (reach-row now (with tag.Account now (account_head a)) (row_text tag.Account (account_head a)) lists v (taken tag.Account now (account_head a) may (fit-account a fit.0) (next-account accounts head l a others rises) (lt-ltb _ _ room))
+    (lists-taken (record d { accounts = all; head = Some (account_head a) }) next a behind_it v is fit.0 behind.0 (λ last1 may1.
+    blocks-taken d next others last1 all (Some (account_head a)) (lists_of a) rest v is (later last1 tag.Figure tag.Account (omega arith) (omega arith) may1) fit.1 behind.1 (rw same rises) (rw same few) (λ after ones opened m may' equal. more after ones opened m may' (equal ∙ same)))))
 
 -- ---- the sections of a day
 

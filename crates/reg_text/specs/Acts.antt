@@ -12,7 +12,7 @@ use Rattle.reg_text.specs.declared.reading.instruction_row.ActName.TheVariants.{
 use Rattle.reg_text.specs.Causes.{◌>>=◌}
 use Rattle.reg_text.specs.Records.{Record}
 use Rattle.reg_text.specs.Words.{word_of, kind_word, kind_of, status_word, status_of}
-use Rattle.reg_text.specs.Codecs.{Codec, Fields, within_limits, any_number, a_date, a_no, an_approver, a_word, last, ◌▸◌, made, forms, Row, row_of, named_row}
+use Rattle.reg_text.specs.Codecs.{Codec, Fields, within_limits, any_number, a_date, a_no, an_approver, a_word, last, ◌▸◌, made, forms, Row, row_with, named_row}
 
 -- ---- fields of acts
 
@@ -124,7 +124,7 @@ instruction_fields_of = made
 
 -- the same; the act at place 4 is looked at first
 abbrev pub instruction_row : Row Instruction
-instruction_row = named_row 4 an_act_name (row_of instruction_fields_of)
+instruction_row = named_row 4 an_act_name (row_with instruction_fields_of)
 
 -- what the fields after an act's name say, and whether a row with it has as many as it needs
 abbrev pub act_read : ActName → Record → Result Act Cause

@@ -33,7 +33,7 @@ comes_once None = false
 comes_once (Some t) = is_once t
 
 -- after a row at this place: a section of later rows has not begun, and a row that occurs once has come if its place is not later
-pub record StandsAt (at : ℕ) (s : Section) : Type 0 where
+pub record SectionStandsAt (at : ℕ) (s : Section) : Type 0 where
   pub begun : at < stands_at s.0 → s.1 ≡ []
   pub come : stands_at s.0 ≤ at → comes_once s.0 ≡ true → (x : Item s.0) × (s.1 ≡ x ∷ [])
 
@@ -45,7 +45,7 @@ pub record AreRecorded (accounts : List AccountValue) (rows : List RetirementRow
 -- what was read is within its limits and in the order of the grammar; without an open account there are no lists
 pub record FitsSoFar (d : DraftValue) : Type 0 where
   pub within : AllByRecursion IsSection (sections d)
-  pub stand : AllByRecursion (StandsAt (place d.last)) (sections d)
+  pub stand : AllByRecursion (SectionStandsAt (place d.last)) (sections d)
   pub rising : IsRising (map (λ a. a.number) (accounts_in d))
   pub few : account_count d ≤ MOST_ACCOUNTS
   pub numbered : IfSome (next_in d.days) (λ next. next + length d.instructions ≤ MOST_RECORD + 1)

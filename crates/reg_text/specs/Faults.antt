@@ -11,14 +11,14 @@ use Rattle.reg_text.specs.declared.cause.RowError.{RowError}
 use Rattle.reg_text.specs.declared.cause.RowError.TheVariants as failure
 use Rattle.reg_text.specs.declared.reading.tag.Tag.{Tag}
 use Rattle.reg_text.specs.declared.reading.tag.Tag.TheVariants as tag
-use Rattle.reg_text.specs.Lasts.{last_of}
+use Rattle.reg_text.specs.Lasts.{last_item}
 use Rattle.reg_text.specs.Causes.{◌>>=◌, test}
 use Rattle.reg_text.specs.Records.{Record, field}
 use Rattle.reg_text.specs.Tags.{tag_after}
 use Rattle.reg_text.specs.Grammar.{Said, row}
 use Rattle.reg_text.specs.Sections.{key, follows, most, is_room}
-use Rattle.reg_text.specs.Drafts.{DraftValue, listed, account_count, closed, nothing_read}
-use Rattle.reg_text.specs.Day.{DayValue, is_over, day_said}
+use Rattle.reg_text.specs.Drafts.{DraftValue, items_said, account_count, block_closed, nothing_read}
+use Rattle.reg_text.specs.Day.{DayValue, is_text_over, day_said}
 
 -- ---- one row
 
@@ -31,7 +31,7 @@ with tag.Lags d x = record d { last = Some tag.Lags; lags = d.lags ++ x ∷ [] }
 with tag.Surrender d x = record d { last = Some tag.Surrender; surrender = d.surrender ++ x ∷ [] }
 with tag.Admin d x = record d { last = Some tag.Admin; admins = d.admins ++ x ∷ [] }
 with tag.Work d x = record d { last = Some tag.Work; work = d.work ++ x ∷ [] }
-with tag.Account d x = record (closed d) { last = Some tag.Account; head = Some x }
+with tag.Account d x = record (block_closed d) { last = Some tag.Account; head = Some x }
 with tag.User d x = record d { last = Some tag.User; lists = record d.lists { users = d.lists.users ++ x ∷ [] } }
 with tag.Trusted d x = record d { last = Some tag.Trusted; lists = record d.lists { trusted = d.lists.trusted ++ x ∷ [] } }
 with tag.Retired d x = record d { last = Some tag.Retired; lists = record d.lists { rows = d.lists.rows ++ x ∷ [] } }
@@ -52,7 +52,7 @@ is_number_left (Some next) count = nat_le (next + count) MOST_RECORD
 
 -- it comes after the row before it in its section
 abbrev pub in_order : (t : Tag) → DraftValue → Said t → Bool
-in_order t d x = follows (key t) (last_of (listed t d)) x
+in_order t d x = follows (key t) (last_item (items_said t d)) x
 
 -- a surrender or a deletion is recorded under a number below the next one
 abbrev pub is_recorded : Option ℕ → RetirementRow → Bool
@@ -69,7 +69,7 @@ abbrev pub has_room : (t : Tag) → DraftValue → Said t → Bool
 has_room tag.Account d x = nat_lt (account_count d) MOST_ACCOUNTS
 has_room tag.Retired d x = is_room (most tag.Retired) (length d.lists.rows) && (is_recorded (next_in d.days) x && is_sum_left d.lists.rows x)
 has_room tag.Do d x = nat_lt (length d.instructions) MOST_INSTRUCTIONS && is_number_left (next_in d.days) (length d.instructions)
-has_room t d x = is_room (most t) (length (listed t d))
+has_room t d x = is_room (most t) (length (items_said t d))
 
 -- a value, if two tests pass
 abbrev pub placed : {A : Type 0} → Bool → Bool → A → Result A Cause
@@ -85,7 +85,7 @@ with_row t d r = (row t).read r >>= λ x. adding t d x
 
 -- what the rows say with one more row, or the first cause that applies to it
 abbrev pub next_draft : DraftValue → Record → Result DraftValue Cause
-next_draft d r = if is_over d.last then Err cause.End else (tag_after d.last (field r 0) >>= λ t. with_row t d r)
+next_draft d r = if is_text_over d.last then Err cause.End else (tag_after d.last (field r 0) >>= λ t. with_row t d r)
 
 -- what these rows, each of which is taken, make of a draft
 abbrev pub drafted : DraftValue → List Record → Result DraftValue Cause
@@ -116,13 +116,13 @@ day_of_rows rows = after_rows 1 nothing_read rows
 -- ---- what calls answer
 
 -- what a call that took a row left is what reading gives, unless memory ran out
-abbrev pub Fails : {A : Type 0} → RowError → Result A Cause → Type 0
-Fails failure.NoMemory read = Unit {0}
-Fails (failure.Fault c) read = read ≡ Err c
+abbrev pub IsFailure : {A : Type 0} → RowError → Result A Cause → Type 0
+IsFailure failure.NoMemory read = Unit {0}
+IsFailure (failure.Fault c) read = read ≡ Err c
 
 abbrev pub Takes : {X : Type 0} → DraftValue → Result X RowError → Result DraftValue Cause → Type 0
 Takes new (Ok x) read = read ≡ Ok new
-Takes new (Err e) read = Fails e read
+Takes new (Err e) read = IsFailure e read
 
 -- what a call that read rows answered is what they say, unless memory ran out
 abbrev pub AnswersFault : {Y : Type 0} → DayFault → Result Y (ℕ × Cause) → Type 0

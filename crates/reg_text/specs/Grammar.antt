@@ -23,7 +23,7 @@ use Rattle.reg_text.specs.Words.{kind_word, kind_of, account_kind_word, account_
 use Rattle.reg_text.specs.Tags.{tag_word}
 use Rattle.reg_text.specs.FieldTests.{when}
 use Rattle.reg_text.specs.Acts.{instruction_row}
-use Rattle.reg_text.specs.Codecs.{Codec, Fields, within_limits, a_no, factor, a_figure, a_date, a_word, none, last, ◌▸◌, made, provided, Row, row_of}
+use Rattle.reg_text.specs.Codecs.{Codec, Fields, within_limits, a_no, factor, a_figure, a_date, a_word, none, last, ◌▸◌, made, provided, Row, row_with}
 
 -- ---- fields of one kind of row
 
@@ -69,16 +69,16 @@ lags_fields = made
     (a_lag ▸ a_lag ▸ a_lag ▸ last a_lag)
 
 -- accounts from which allowances may be surrendered at all
-abbrev pub may_surrender : AccountKind → Bool
-may_surrender Total = false
-may_surrender Allocation = false
-may_surrender Operator = true
-may_surrender Aircraft = true
-may_surrender Trading = false
+abbrev pub is_surrender_kind : AccountKind → Bool
+is_surrender_kind Total = false
+is_surrender_kind Allocation = false
+is_surrender_kind Operator = true
+is_surrender_kind Aircraft = true
+is_surrender_kind Trading = false
 
 -- ACCOUNTKIND,KIND: one of four pairs, and any other is a wrong word
 abbrev pub pair_fields : Fields (AccountKind × AllowanceKind)
-pair_fields = provided (λ p. may_surrender p.0) cause.Word (a_word account_kind_word account_kind_of ▸ last (a_word kind_word kind_of))
+pair_fields = provided (λ p. is_surrender_kind p.0) cause.Word (a_word account_kind_word account_kind_of ▸ last (a_word kind_word kind_of))
 
 -- NO,ACCOUNTKIND,HOLDER,STATUS,OUTSIDE,WAIVER,CORRECTION,GENERAL,AVIATION
 abbrev pub account_fields : Fields AccountHead
@@ -132,21 +132,21 @@ Said tag.End = Unit {0}
 
 -- its fields
 abbrev pub row : (t : Tag) → Row (Said t)
-row tag.Format = row_of (last version)
-row tag.Day = row_of (a_date ▸ last a_next)
-row tag.Period = row_of period_fields
-row tag.Lags = row_of lags_fields
-row tag.Surrender = row_of pair_fields
-row tag.Admin = row_of (last a_no)
-row tag.Work = row_of (last a_date)
-row tag.Account = row_of account_fields
-row tag.User = row_of user_fields
-row tag.Trusted = row_of trusted_fields
-row tag.Retired = row_of retired_fields
-row tag.Emissions = row_of emissions_fields
-row tag.Figure = row_of figure_fields
+row tag.Format = row_with (last version)
+row tag.Day = row_with (a_date ▸ last a_next)
+row tag.Period = row_with period_fields
+row tag.Lags = row_with lags_fields
+row tag.Surrender = row_with pair_fields
+row tag.Admin = row_with (last a_no)
+row tag.Work = row_with (last a_date)
+row tag.Account = row_with account_fields
+row tag.User = row_with user_fields
+row tag.Trusted = row_with trusted_fields
+row tag.Retired = row_with retired_fields
+row tag.Emissions = row_with emissions_fields
+row tag.Figure = row_with figure_fields
 row tag.Do = instruction_row
-row tag.End = row_of none
+row tag.End = row_with none
 
 -- the row that says this
 abbrev pub row_text : (t : Tag) → Said t → Record

@@ -19,8 +19,8 @@ use Rattle.reg_text.specs.Grammar.{Said, row, row_text}
 -- ---- an account's block
 
 -- what the row of an account says of it
-abbrev pub head_of : AccountValue → AccountHead
-head_of a = record { number = a.number; kind = a.kind; holder = a.holder; status = a.status; outside = a.outside; waiver = a.waiver; correction = a.correction; held = a.held }
+abbrev pub account_head : AccountValue → AccountHead
+account_head a = record { number = a.number; kind = a.kind; holder = a.holder; status = a.status; outside = a.outside; waiver = a.waiver; correction = a.correction; held = a.held }
 
 -- and what its lists have
 abbrev pub lists_of : AccountValue → ListsValue
@@ -36,7 +36,7 @@ each_row t xs = flat_map (λ x. row_text t x ∷ []) xs
 
 -- the rows of an account: its own, and then those of its lists
 abbrev pub account_block : AccountValue → List Record
-account_block a = row_text tag.Account (head_of a) ∷ each_row tag.User a.users ++ (each_row tag.Trusted a.trusted ++ (each_row tag.Retired a.rows ++ (each_row tag.Emissions a.emissions ++ each_row tag.Figure a.figures)))
+account_block a = row_text tag.Account (account_head a) ∷ each_row tag.User a.users ++ (each_row tag.Trusted a.trusted ++ (each_row tag.Retired a.rows ++ (each_row tag.Emissions a.emissions ++ each_row tag.Figure a.figures)))
 
 -- ---- sections
 
@@ -108,16 +108,16 @@ abbrev pub is_room : Option ℕ → ℕ → Bool
 is_room None count = true
 is_room (Some limit) count = nat_lt count limit
 
-abbrev pub AreFew : Option ℕ → ℕ → Type 0
-AreFew None count = Unit {0}
-AreFew (Some limit) count = count ≤ limit
+abbrev pub AreAtMost : Option ℕ → ℕ → Type 0
+AreAtMost None count = Unit {0}
+AreAtMost (Some limit) count = count ≤ limit
 
 -- ---- what holds of a section
 
 -- rows of one list: each after the one before it, and not too many
 pub record IsList (t : Tag) (xs : List (Said t)) : Type 0 where
   pub ordered : IsOrdered (key t) xs
-  pub few : AreFew (most t) (length xs)
+  pub few : AreAtMost (most t) (length xs)
 
 abbrev pub Fits : (part : Option Tag) → Item part → Type 0
 Fits None a = IsAccount a

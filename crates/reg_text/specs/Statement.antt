@@ -39,8 +39,8 @@ abbrev pub last_told : DirectoryValue → ℕ → List LogRow → Option HeldNow
 last_told directory a rows = last_or None (filter_map (told_by a) (rows_about directory a rows))
 
 -- what the account holds after the day: what the last row about it tells of it, else what it held before
-abbrev pub closing : DirectoryValue → HeldNow → List LogRow → HeldNow
-closing directory opening rows = unwrap_or (last_told directory opening.account rows) opening
+abbrev pub closing_held : DirectoryValue → HeldNow → List LogRow → HeldNow
+closing_held directory opening rows = unwrap_or (last_told directory opening.account rows) opening
 
 -- opening,NO,GENERAL,AVIATION and closing,NO,GENERAL,AVIATION
 abbrev pub opening_row : HeldNow → Record
@@ -52,7 +52,7 @@ closing_row held = codes "closing" ∷ holding_fields held
 -- the statement of an account that held this before the day, and the row end
 abbrev pub statement_rows : DirectoryValue → HeldNow → List LogRow → List Record
 statement_rows directory opening rows =
-    opening_row opening ∷ log_rows (rows_about directory opening.account rows) ++ closing_row (closing directory opening rows) ∷ end_row ∷ []
+    opening_row opening ∷ log_rows (rows_about directory opening.account rows) ++ closing_row (closing_held directory opening rows) ∷ end_row ∷ []
 
 -- the statement of an account of the book before the day
 abbrev pub statement_of : BookValue → List LogRow → ℕ → List Record

@@ -14,7 +14,7 @@ ghost use Rattle.reg_account.specs.Years.{FigureFits};
 ghost use Rattle.reg_text.specs.declared.cause.Cause.{Cause};
 ghost use Rattle.reg_text.specs.declared.cause.Cause.TheVariants as cause;
 ghost use Rattle.reg_text.specs.Numbers.{number, number_of};
-ghost use Rattle.reg_text.specs.Signed.{signed, correction_of, figure_of};
+ghost use Rattle.reg_text.specs.Signed.{signed, correction_of, signed_figure_of};
 ghost use Rattle.reg_text.specs.Dates.{date, date_of};
 ghost use Rattle.reg_text.specs.Limits.{bounded_of};
 ghost use Rattle.reg_text.specs.Words.{kind_word, kind_of, account_kind_word, account_kind_of, status_word, status_of, right_word, right_of, retirement_word, retirement_of, yes_no_word, yes_no_of};
@@ -41,7 +41,7 @@ pub fn one_spelling_of_a_correction()
 /// A field is read as a determined figure exactly if it is the one spelling of that number and the number is within
 /// the limits of a determined figure.
 pub fn one_spelling_of_a_figure()
-    ensures { (f : List ℕ) (z : ℤ) → (figure_of f ≡ Ok z) ↔ ((f ≡ signed z) × FigureFits z) }
+    ensures { (f : List ℕ) (z : ℤ) → (signed_figure_of f ≡ Ok z) ↔ ((f ≡ signed z) × FigureFits z) }
 {}
 
 /// A field is read as a day exactly if it is the date of that day and the day is within the limits.
@@ -95,6 +95,6 @@ pub fn names_the_first_cause()
 pub fn tells_other_texts_from_limits()
     ensures numbers { (low high : ℕ) → TellsFromLimit (bounded_of low high) cause.Number IsNumberText }
     ensures corrections { TellsFromLimit correction_of cause.Number IsSignedText }
-    ensures figures { TellsFromLimit figure_of cause.Number IsSignedText }
+    ensures figures { TellsFromLimit signed_figure_of cause.Number IsSignedText }
     ensures dates { TellsFromLimit date_of cause.Date IsDateText }
 {}

@@ -9,7 +9,7 @@ ghost use Rattle.reg_text.specs.Records.{field};
 ghost use Rattle.reg_text.specs.Rows.{IsOpen, rows_left};
 ghost use Rattle.reg_text.specs.Tags.{tag_after};
 ghost use Rattle.reg_text.specs.Drafts.{DraftValue, headed};
-ghost use Rattle.reg_text.specs.Day.{is_over};
+ghost use Rattle.reg_text.specs.Day.{is_text_over};
 ghost use Rattle.reg_text.specs.DraftLimits.{IsDraft};
 ghost use Rattle.reg_text.specs.Faults.{AnswersFault, after_rows, day_of_rows};
 ghost use Rattle.reg_text.specs.DraftLimits.{TakesFirst};
@@ -42,7 +42,7 @@ fn next_tag(
     last: Option<Tag>,
 ) -> Result<Tag, DayFault>
     requires ready { IsOpen reader.old }
-    requires opened { is_over last ≡ false }
+    requires opened { is_text_over last ≡ false }
     ensures open { IfOk result (λ _. IsOpen reader.new) }
     ensures rows { IfOk result (λ _. rows_left reader.old ≡ fields_of row.new ∷ rows_left reader.new) }
     ensures fewer { IfOk result (λ _. length (rows_left reader.new) ≤ length (rows_left reader.old)) }

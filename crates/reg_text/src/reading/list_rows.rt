@@ -3,7 +3,7 @@
 ghost use Rattle.std.specs.Prelude.{◌≡◌, Some};
 ghost use Rattle.csv.specs.Records.{fields_of};
 ghost use Rattle.reg_text.specs.declared.reading.tag.Tag.TheVariants as tag;
-ghost use Rattle.reg_text.specs.Grammar.{row_read, may_surrender as source};
+ghost use Rattle.reg_text.specs.Grammar.{row_read, is_surrender_kind as source};
 ghost use Rattle.reg_text.specs.Sections.{pair_place as place, follows};
 
 use crate::cause::Cause;

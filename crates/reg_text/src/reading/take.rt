@@ -6,7 +6,7 @@ ghost use Rattle.csv.specs.Records.{fields_of};
 ghost use Rattle.reg_base.specs.Rising.{IsRising};
 ghost use Rattle.reg_account.specs.Rows.{retired_in};
 ghost use Rattle.reg_book.specs.Book.{has_row_ahead, with_account};
-ghost use Rattle.reg_text.specs.Drafts.{draft_of, closed};
+ghost use Rattle.reg_text.specs.Drafts.{draft_of, block_closed};
 ghost use Rattle.reg_text.specs.DraftLimits.{FitsSoFar, IsDraft};
 ghost use Rattle.reg_text.specs.Faults.{Takes, is_sum_left, with_row, next_draft};
 ghost use Rattle.reg_text.specs.declared.reading.tag.Tag.TheVariants as tag;
@@ -98,7 +98,7 @@ fn insert_account(book: &mut BookDraft, account: Account) -> Result<(), NoMemory
 /// Puts the open account, if there is one, among those whose blocks are over.
 pub(crate) fn close_account(draft: &mut Draft) -> Result<(), NoMemory>
     requires { FitsSoFar (draft_of draft.old) }
-    ensures closed { OnOk result (draft_of draft.new ≡ closed (draft_of draft.old)) }
+    ensures closed { OnOk result (draft_of draft.new ≡ block_closed (draft_of draft.old)) }
     ensures count { OnOk result (draft.new.count ≡ draft.old.count) }
 {
     if let Some(head) = draft.head {

@@ -8,7 +8,7 @@ use Rattle.reg_rules.specs.declared.reply.Reply.{Reply}
 use Rattle.reg_rules.specs.State.{State, Setting, numbers}
 use Rattle.reg_rules.specs.Laws.{IsReady}
 use Rattle.reg_rules.specs.Step.{step, row_of}
-use Rattle.reg_book.specs.Places.{StandAt, AllRanked, lists_of}
+use Rattle.reg_book.specs.Places.{StandAt, AllRanked, places_lists}
 use Rattle.reg_book.proofs.Folds.{rows_more, state_more, numbers_more}
 use Rattle.reg_book.proofs.Ranks.{ranked-at}
 use Rattle.reg_book.proofs.settle.settle_all.Goals as goal
@@ -17,14 +17,14 @@ pub ranks_at-own-requires : goal.ranks_at-own-requires
 ranks_at-own-requires c =
     let within : c.loop-place.place < length c.instructions-instructions.result.now = search rules in
     (ranked-at c.args.setting.now.directory (numbers c.args.accounts.now) c.args.ranks.now c.args.places.now c.instructions-instructions.result.now c.loop-place.place c.index-places-place.result c.index-instructions-place.result
-    (subst (AllRanked c.args.setting.now.directory (numbers c.args.accounts.now) c.args.ranks.now (lists_of c.args.places.now)) (sym c.instructions-instructions.ensures) c.requires.ranked)
+    (subst (AllRanked c.args.setting.now.directory (numbers c.args.accounts.now) c.args.ranks.now (places_lists c.args.places.now)) (sym c.instructions-instructions.ensures) c.requires.ranked)
     within c.index-places-place.is c.index-instructions-place.is).0
 
 pub take_turn-requires-clause-there : goal.take_turn-requires-clause-there
 take_turn-requires-clause-there c =
     let within : c.loop-place.place < length c.instructions-instructions.result.now = search rules in
     let own = ranked-at c.args.setting.now.directory (numbers c.args.accounts.now) c.args.ranks.now c.args.places.now c.instructions-instructions.result.now c.loop-place.place c.index-places-place.result c.index-instructions-place.result
-    (subst (AllRanked c.args.setting.now.directory (numbers c.args.accounts.now) c.args.ranks.now (lists_of c.args.places.now)) (sym c.instructions-instructions.ensures) c.requires.ranked)
+    (subst (AllRanked c.args.setting.now.directory (numbers c.args.accounts.now) c.args.ranks.now (places_lists c.args.places.now)) (sym c.instructions-instructions.ensures) c.requires.ranked)
     within c.index-places-place.is c.index-instructions-place.is in
     let wanted = footprint c.args.setting.now.directory c.index-instructions-place.result.act in
     subst (λ ns. StandAt ns c.as_mut_slice.result.now wanted) (sym c.loop-place.invariant.same_numbers)

@@ -4,7 +4,7 @@ use Rattle.reg_rules.specs.Laws.{IsReady}
 use Rattle.reg_book.specs.Book.{directory_of}
 use Rattle.reg_book.specs.Day.{Day, IsDay, day_of}
 use Rattle.reg_book.specs.Fold.{touched_of}
-use Rattle.reg_book.specs.Places.{AllRanked, lists_of}
+use Rattle.reg_book.specs.Places.{AllRanked, places_lists}
 use Rattle.reg_book.specs.Settled.{IsSettled, IsOfBook}
 use Rattle.reg_book.proofs.Days.{day-made, settled-kept, settled-of_book, touched-ready}
 use Rattle.reg_book.proofs.settle.settle_batch.Goals as goal
@@ -31,11 +31,11 @@ settle_all-requires-clause-ready c =
 
 pub settle_all-requires-clause-ranked : goal.settle_all-requires-clause-ranked
 settle_all-requires-clause-ranked c =
-    let listed = subst (λ d. AllRanked d (numbers c.in_ok-accounts.field-0.accounts.items) c.in_ok-accounts.field-0.ranks.items (lists_of c.in_ok-accounts.field-0.places.items) c.instructions.result.now) (ap directory_of c.accounts.ensures.value ∙ sym c.directory-directory.ensures) c.in_ok-accounts.ensures.ranked in
-    let first = subst (AllRanked c.directory-directory.result.now (numbers c.in_ok-accounts.field-0.accounts.items) c.in_ok-accounts.field-0.ranks.items (lists_of c.in_ok-accounts.field-0.places.items)) c.instructions.ensures listed in
-    let second = subst (λ (s : State). AllRanked c.directory-directory.result.now (numbers s) c.in_ok-accounts.field-0.ranks.items (lists_of c.in_ok-accounts.field-0.places.items) c.args.batch.now.instructions) (sym c.deref_mut.ensures.value) first in
-    let third = subst (λ rs. AllRanked c.directory-directory.result.now (numbers c.deref_mut.result.now) rs (lists_of c.in_ok-accounts.field-0.places.items) c.args.batch.now.instructions) (sym c.deref-2.ensures.value) second in
-    subst (λ ps. AllRanked c.directory-directory.result.now (numbers c.deref_mut.result.now) c.deref-2.result.now (lists_of ps) c.args.batch.now.instructions) (sym c.deref.ensures.value) third
+    let listed = subst (λ d. AllRanked d (numbers c.in_ok-accounts.field-0.accounts.items) c.in_ok-accounts.field-0.ranks.items (places_lists c.in_ok-accounts.field-0.places.items) c.instructions.result.now) (ap directory_of c.accounts.ensures.value ∙ sym c.directory-directory.ensures) c.in_ok-accounts.ensures.ranked in
+    let first = subst (AllRanked c.directory-directory.result.now (numbers c.in_ok-accounts.field-0.accounts.items) c.in_ok-accounts.field-0.ranks.items (places_lists c.in_ok-accounts.field-0.places.items)) c.instructions.ensures listed in
+    let second = subst (λ (s : State). AllRanked c.directory-directory.result.now (numbers s) c.in_ok-accounts.field-0.ranks.items (places_lists c.in_ok-accounts.field-0.places.items) c.args.batch.now.instructions) (sym c.deref_mut.ensures.value) first in
+    let third = subst (λ rs. AllRanked c.directory-directory.result.now (numbers c.deref_mut.result.now) rs (places_lists c.in_ok-accounts.field-0.places.items) c.args.batch.now.instructions) (sym c.deref-2.ensures.value) second in
+    subst (λ ps. AllRanked c.directory-directory.result.now (numbers c.deref_mut.result.now) c.deref-2.result.now (places_lists ps) c.args.batch.now.instructions) (sym c.deref.ensures.value) third
 
 pub new-requires : goal.new-requires
 new-requires c =

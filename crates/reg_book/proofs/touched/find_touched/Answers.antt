@@ -2,7 +2,7 @@ use Rattle.std.proofs.Common.{◌≡◌, ◌++◌, [], false, length, take, drop
 use Rattle.reg_rules.specs.State.{State, numbers}
 use Rattle.reg_book.specs.Book.{directory_of}
 use Rattle.reg_book.specs.Marks.{touched_marks, picked, ranks_from}
-use Rattle.reg_book.specs.Places.{AllRanked, lists_of}
+use Rattle.reg_book.specs.Places.{AllRanked, places_lists}
 use Rattle.reg_book.proofs.Marks.{no_marks, picked-touched, size-touched_marks}
 use Rattle.reg_book.proofs.Ranks.{touched-ranked, written_whole}
 use Rattle.reg_book.proofs.touched.find_touched.Goals as goal
@@ -31,6 +31,6 @@ pub returns-clause-ranked : goal.returns-clause-ranked
 returns-clause-ranked c =
     let kept = c.in_ok-accounts.ensures ∙ ap (λ ms. picked ms c.args.accounts.now) (c.deref-2.ensures.value ∙ written c) in
     let ranks = c.in_ok-ranks.ensures ∙ ap (ranks_from 0) (c.deref.ensures.value ∙ written c) in
-    subst (λ (s : State). AllRanked (directory_of c.args.accounts.now) (numbers s) c.in_ok-ranks.ranks.items (lists_of c.in_ok-places.places.items) c.args.instructions.now) (sym kept)
-    (subst (λ rs. AllRanked (directory_of c.args.accounts.now) (numbers (picked (touched_marks (directory_of c.args.accounts.now) c.args.instructions.now c.args.accounts.now) c.args.accounts.now)) rs (lists_of c.in_ok-places.places.items) c.args.instructions.now) (sym ranks)
-    (touched-ranked (directory_of c.args.accounts.now) c.args.instructions.now c.args.accounts.now (lists_of c.in_ok-places.places.items) c.in_ok-places.ensures.places))
+    subst (λ (s : State). AllRanked (directory_of c.args.accounts.now) (numbers s) c.in_ok-ranks.ranks.items (places_lists c.in_ok-places.places.items) c.args.instructions.now) (sym kept)
+    (subst (λ rs. AllRanked (directory_of c.args.accounts.now) (numbers (picked (touched_marks (directory_of c.args.accounts.now) c.args.instructions.now c.args.accounts.now) c.args.accounts.now)) rs (places_lists c.in_ok-places.places.items) c.args.instructions.now) (sym ranks)
+    (touched-ranked (directory_of c.args.accounts.now) c.args.instructions.now c.args.accounts.now (places_lists c.in_ok-places.places.items) c.in_ok-places.ensures.places))

@@ -2,7 +2,7 @@ use Rattle.std.proofs.Common.{◌<◌, length, take, rules, ap, ◌∙◌}
 use Rattle.reg_base.specs.Footprint.{footprint}
 use Rattle.reg_rules.specs.State.{numbers}
 use Rattle.reg_book.specs.Book.{directory_of}
-use Rattle.reg_book.specs.Marks.{marked}
+use Rattle.reg_book.specs.Marks.{marks_after}
 use Rattle.reg_book.proofs.Marks.{touched_marks_more, size-touched_marks}
 use Rattle.reg_book.proofs.Ranks.{all-stand-more}
 use Rattle.reg_book.proofs.touched.mark_all.Goals as goal
@@ -18,7 +18,7 @@ loop-instruction-preserved c =
     let directory = directory_of c.args.accounts.now in
     record {
       marked = c.mark.ensures.marks
-          ∙ ap (λ ms. marked ms c.args.accounts.now (footprint directory c.instruction-item.result.act)) c.loop-instruction.invariant.marked
+          ∙ ap (λ ms. marks_after ms c.args.accounts.now (footprint directory c.instruction-item.result.act)) c.loop-instruction.invariant.marked
           ∙ touched_marks_more directory c.args.instructions.now c.loop-instruction.instruction-index c.instruction-item.result c.instruction-item.result c.args.accounts.now within c.instruction-item.is;
       there = all-stand-more directory (numbers c.args.accounts.now) c.loop-instruction.places.items c.push.new.self.items c.mark.result c.args.instructions.now
           c.loop-instruction.instruction-index c.instruction-item.result within c.instruction-item.is c.in_ok-push.ensures.items c.mark.ensures.places c.loop-instruction.invariant.there;

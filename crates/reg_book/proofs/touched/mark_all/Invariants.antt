@@ -2,11 +2,11 @@ use Rattle.std.proofs.Common.{◌≡◌, take}
 use Rattle.reg_rules.specs.State.{numbers}
 use Rattle.reg_book.specs.Book.{directory_of}
 use Rattle.reg_book.specs.Marks.{touched_marks}
-use Rattle.reg_book.specs.Places.{AllStandAt, lists_of}
+use Rattle.reg_book.specs.Places.{AllStandAt, places_lists}
 use Rattle.reg_book.proofs.touched.mark_all.Given as goal
 
 abbrev pub invariant-loop-instruction : goal.invariant-loop-instruction
 invariant-loop-instruction l = record {
   marked : l.marks ≡ touched_marks (directory_of l.accounts) (take l.instruction-index l.instructions) l.accounts;
-  there : AllStandAt (directory_of l.accounts) (numbers l.accounts) (lists_of l.places.items) (take l.instruction-index l.instructions);
+  there : AllStandAt (directory_of l.accounts) (numbers l.accounts) (places_lists l.places.items) (take l.instruction-index l.instructions);
 }

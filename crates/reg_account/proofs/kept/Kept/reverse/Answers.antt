@@ -4,7 +4,7 @@ use Rattle.reg_account.specs.declared.rows.RetirementRow.{RetirementRow}
 use Rattle.std.specs.Prelude.{MatchOption}
 use Rattle.reg_base.specs.Rising.{IsRising}
 use Rattle.reg_account.specs.Lists.{RecordsValue}
-use Rattle.reg_account.specs.Rows.{row_in, row_numbers, marked, with_mark}
+use Rattle.reg_account.specs.Rows.{row_in, row_numbers, marked_reversed, with_mark}
 use Rattle.reg_account.proofs.RowFacts.{sums_marked, own_counted}
 use Rattle.reg_account.proofs.Changes.{of_found, written_back}
 use Rattle.reg_account.proofs.kept.Kept.reverse.Goals as goal
@@ -42,6 +42,6 @@ invariant_of-self c =
     let marks : c.mark_reversed-row.new.rows ≡ with_mark number rows =
     c.mark_reversed-row.ensures.marked ∙ ap (λ (n : ℕ). with_mark n c.deref_mut.result.now) named ∙ ap (with_mark number) c.deref_mut.ensures.value in
     let size : length c.mark_reversed-row.new.rows ≡ c.self.inside.rows.len =
-    ap length marks ∙ length-map rows (marked number) ∙ sym (ap length c.deref_mut.ensures.value) ∙ c.deref_mut.ensures.len in
+    ap length marks ∙ length-map rows (marked_reversed number) ∙ sym (ap length c.deref_mut.ensures.value) ∙ c.deref_mut.ensures.len in
     let back = written_back c.mark_reversed-row.new.rows (drop (length c.mark_reversed-row.new.rows) rows) c.self.inside.rows.len size in
     rw (back, marks) (sums_marked c.self.inside.sums c.uncount_row.new.sums rows number row (subst (λ (v : RecordsValue). IsRising (row_numbers v.rows)) (sym c.self.view_is) c.requires.rising) found c.self.invariant c.uncount_row.ensures)
