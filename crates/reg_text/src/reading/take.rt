@@ -98,7 +98,7 @@ fn insert_account(book: &mut BookDraft, account: Account) -> Result<(), NoMemory
 /// Puts the open account, if there is one, among those whose blocks are over.
 pub(crate) fn close_account(draft: &mut Draft) -> Result<(), NoMemory>
     requires { FitsSoFar (draft_of draft.old) }
-    ensures block_closed { OnOk result (draft_of draft.new ≡ block_closed (draft_of draft.old)) }
+    ensures closed { OnOk result (draft_of draft.new ≡ block_closed (draft_of draft.old)) }
     ensures count { OnOk result (draft.new.count ≡ draft.old.count) }
 {
     if let Some(head) = draft.head {
