@@ -16,7 +16,7 @@ use Rattle.atomic_table.proofs.Lists.{at_set}
 use Rattle.reg_counting.specs.Counting.{one_if, total, times, once}
 use Rattle.reg_counting.proofs.Totals.{total-set, total-append}
 use Rattle.reg_claim.specs.declared.views.View.{View}
-use Rattle.reg_claim.specs.Views.{fresh, newcomer, spent, with_claimed, with_finished, with_seen, with_less, joined}
+use Rattle.reg_claim.specs.Views.{fresh, newcomer, spent, with_claimed, with_finished, with_seen, with_less, joined_views}
 use Rattle.reg_claim.specs.Claims.{IsClaimTable}
 use Rattle.reg_claim.specs.Steps.{IsLater, Known, ClaimStep, FinishStep, LookStep, StopStep}
 use Rattle.reg_claim.proofs.Numbers.{equal-one, apart-none, contains-times, times-contains, once-yes, length-most}
@@ -344,31 +344,31 @@ either-most a b = dite (dec_le a b) (λ h. inl h) (λ h. inr (omega arith))
 max-odd : (a b c : ℕ) → (a % 2 ≡ 1 → c % 2 ≡ 1) → (b % 2 ≡ 1 → c % 2 ≡ 1) → max a b % 2 ≡ 1 → c % 2 ≡ 1
 max-odd a b c f g h = ⊎_elim (λ le. let e : max a b ≡ b = omega arith in g (rw e at h)) (λ ge. let e : max a b ≡ a = omega arith in f (rw e at h)) (either-most a b)
 
-pub join-allowed : (n id : ℕ) (v : View) (other : ℕ) (w : View) → 0 < v.share → Joins (Holds n) id v other w (joined v w) spent
+pub join-allowed : (n id : ℕ) (v : View) (other : ℕ) (w : View) → 0 < v.share → Joins (Holds n) id v other w (joined_views v w) spent
 join-allowed n id v other w lives s t at two at' =
     let k = counted n s.words s.views t in
     let c : ℕ = get_or s.words 0 0 in
-    let vs : List View = set s.views id (joined v w) in
-    let was : get_elem? s.views other ≡ some w = ⊎_elim (λ x. absurd (two x.0)) (λ x. x.1) (at_set s.views id other (joined v w) w at') in
+    let vs : List View = set s.views id (joined_views v w) in
+    let was : get_elem? s.views other ≡ some w = ⊎_elim (λ x. absurd (two x.0)) (λ x. x.1) (at_set s.views id other (joined_views v w) w at') in
     let own : Knows c v = one-of (Knows c) s.views id v at k.each in
     let theirs : Knows c w = one-of (Knows c) s.views other w was k.each in
     ruled n s.words (set vs other spent) (record {
       wide = k.wide;
       small = k.small;
       claims = λ p. (
-          let x = changed-total (λ u. times p u.claimed) s.views id v (joined v w) at in
+          let x = changed-total (λ u. times p u.claimed) s.views id v (joined_views v w) at in
           let y = changed-total (λ u. times p u.claimed) vs other w spent at' in
           let z = total-append (λ q. one_if (q == p)) v.claimed w.claimed in
           let a = k.claims p in omega arith);
       done = (
-          let x = changed-total (λ u. length u.finished) s.views id v (joined v w) at in
+          let x = changed-total (λ u. length u.finished) s.views id v (joined_views v w) at in
           let y = changed-total (λ u. length u.finished) vs other w spent at' in
           let z = length-append v.finished w.finished in
           let a = k.done in omega arith);
-      shares = (let x = changed-total (λ u. u.share) s.views id v (joined v w) at in let y = changed-total (λ u. u.share) vs other w spent at' in let a = k.shares in omega arith);
+      shares = (let x = changed-total (λ u. u.share) s.views id v (joined_views v w) at in let y = changed-total (λ u. u.share) vs other w spent at' in let a = k.shares in omega arith);
       each = All-set (Knows c) vs other spent
           (record { finished = λ p. omega arith; seen = omega arith; stopped = λ o. absurd (omega arith) })
-          (All-set (Knows c) s.views id (joined v w)
+          (All-set (Knows c) s.views id (joined_views v w)
           (record {
             finished = λ p. (
                 let x = total-append (λ q. one_if (q == p)) v.claimed w.claimed in
@@ -377,7 +377,7 @@ join-allowed n id v other w lives s t at two at' =
             seen = (let a = own.seen in let b = theirs.seen in omega arith);
             stopped = max-odd v.seen w.seen c own.stopped theirs.stopped;
           }) k.each);
-      rest = All-set Rests vs other spent (λ _. refl) (All-set Rests s.views id (joined v w) (λ idle. absurd (omega arith)) k.rest);
+      rest = All-set Rests vs other spent (λ _. refl) (All-set Rests s.views id (joined_views v w) (λ idle. absurd (omega arith)) k.rest);
     })
 
 -- a new table

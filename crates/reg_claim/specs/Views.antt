@@ -3,40 +3,40 @@ use Rattle.std.specs.Prelude.{ℕ, ◌+◌, ◌-◌, ◌%◌, ◌==◌, max, nat
 use Rattle.std.specs.List.{flat_map}
 use Rattle.reg_claim.specs.declared.views.View.{View}
 
-abbrev pub view : ℕ → List ℕ → List ℕ → ℕ → View
-view share claimed finished seen = record { share = share; claimed = claimed; finished = finished; seen = seen }
+abbrev pub seat_view : ℕ → List ℕ → List ℕ → ℕ → View
+seat_view share claimed finished seen = record { share = share; claimed = claimed; finished = finished; seen = seen }
 
 -- the first seat of a table has all 16 parts of the share, and has done and seen nothing
 abbrev pub fresh : View
-fresh = view 16 [] [] 0
+fresh = seat_view 16 [] [] 0
 
 -- a seat that was split off has one part, has done nothing, and has seen what the other saw
 abbrev pub newcomer : ℕ → View
-newcomer seen = view 1 [] [] seen
+newcomer seen = seat_view 1 [] [] seen
 
 -- what is left of a view once its seat was joined with another
 abbrev pub spent : View
-spent = view 0 [] [] 0
+spent = seat_view 0 [] [] 0
 
 -- the view after a place was claimed
 abbrev pub with_claimed : ℕ → View → View
-with_claimed place v = view v.share (v.claimed ++ place ∷ []) v.finished v.seen
+with_claimed place v = seat_view v.share (v.claimed ++ place ∷ []) v.finished v.seen
 
 -- the view after a place was finished
 abbrev pub with_finished : ℕ → View → View
-with_finished place v = view v.share v.claimed (v.finished ++ place ∷ []) v.seen
+with_finished place v = seat_view v.share v.claimed (v.finished ++ place ∷ []) v.seen
 
 -- the view after a count was seen
 abbrev pub with_seen : ℕ → View → View
-with_seen c v = view v.share v.claimed v.finished c
+with_seen c v = seat_view v.share v.claimed v.finished c
 
 -- the view after one part of the share was handed to a new seat
 abbrev pub with_less : View → View
-with_less v = view (v.share - 1) v.claimed v.finished v.seen
+with_less v = seat_view (v.share - 1) v.claimed v.finished v.seen
 
 -- the view of two seats that are one now
-abbrev pub joined : View → View → View
-joined v w = view (v.share + w.share) (v.claimed ++ w.claimed) (v.finished ++ w.finished) (max v.seen w.seen)
+abbrev pub joined_views : View → View → View
+joined_views v w = seat_view (v.share + w.share) (v.claimed ++ w.claimed) (v.finished ++ w.finished) (max v.seen w.seen)
 
 -- a count is odd after a stop
 abbrev pub is_odd : ℕ → Bool

@@ -2,7 +2,7 @@
 
 ghost use Rattle.std.specs.Prelude.{◌≡◌, ◌+◌, ◌/◌, ◌≤◌, ◌<◌, ℕ, true, All, Contains, length, IfOk, MatchBool};
 ghost use Rattle.reg_counting.specs.Counting.{times, once};
-ghost use Rattle.reg_claim.specs.Views.{fresh, newcomer, with_claimed, with_finished, with_seen, with_less, joined, is_odd};
+ghost use Rattle.reg_claim.specs.Views.{fresh, newcomer, with_claimed, with_finished, with_seen, with_less, joined_views, is_odd};
 ghost use Rattle.reg_claim.specs.Claims.{HasNoRepeat};
 ghost use Rattle.reg_claim.specs.Steps.{SeesLater};
 ghost use Rattle.reg_claim.specs.Seats.{known, seat_table, places, IsSeatOf};
@@ -50,7 +50,7 @@ impl ClaimTable {
         requires own { IsSeatOf self.now seat }
         requires other { IsSeatOf self.now other }
         ensures same { seat_table result ≡ seat_table seat }
-        ensures view { known result ≡ joined (known seat) (known other) }
+        ensures view { known result ≡ joined_views (known seat) (known other) }
     {
         let Seat { mut seat } = seat;
         let Seat { seat: theirs } = other;

@@ -80,9 +80,9 @@ impl Split<View> for Parting {
 pub(crate) struct Joining;
 
 impl Join<View> for Joining {
-    ghost use Rattle.reg_claim.specs.Views.{joined, spent};
+    ghost use Rattle.reg_claim.specs.Views.{joined_views, spent};
 
-    ghost both = { λ v w. joined v w };
+    ghost both = { λ v w. joined_views v w };
 
     ghost spent = { spent };
 }

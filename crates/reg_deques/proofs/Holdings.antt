@@ -13,7 +13,7 @@ use Rattle.reg_deques.specs.declared.views.Holding.{Holding}
 use Rattle.reg_deques.specs.declared.views.View.{View}
 use Rattle.reg_deques.specs.Views.{with_taken}
 use Rattle.reg_deques.specs.Deques.{StartsWith}
-use Rattle.reg_deques.specs.Tickets.{holding, owner_of, empty, ticket_of, without_last, joined, IsTight, IsTicket, IsHoldingOf, AreTickets, Covers}
+use Rattle.reg_deques.specs.Tickets.{holding, owner_of, empty_holding, ticket_of, without_last, joined_holdings, IsTight, IsTicket, IsHoldingOf, AreTickets, Covers}
 use Rattle.reg_deques.specs.Steps.{Settles, SettleStep, Steals, Joins}
 use Rattle.reg_deques.proofs.Counts.{total_set, total_has, total_both, total_snoc, times_append, times_snoc, equal_one, apart_none, once_none, once_most, once_more, once_within}
 
@@ -44,7 +44,7 @@ nothing_seen put = (put, refl)
 all_seen : (put : List ℕ) → StartsWith put put
 all_seen put = ([], sym (append-nil put))
 
-empty_known : (owner : ℕ) (put : List ℕ) (port : ℕ) → IsHoldingOf owner put port empty
+empty_known : (owner : ℕ) (put : List ℕ) (port : ℕ) → IsHoldingOf owner put port empty_holding
 empty_known owner put port = record {
   owned = λ yes. absurd (true≢false (sym yes));
   seen = nothing_seen put;
@@ -75,13 +75,13 @@ begins = record {
 }
 
 -- a seat that holds nothing
-pub seats_rule : (views : List Holding) (port : ℕ) (v : Holding) → AreTickets views → get_elem? views port ≡ some v → AreTickets (set views port v ++ empty ∷ [])
+pub seats_rule : (views : List Holding) (port : ℕ) (v : Holding) → AreTickets views → get_elem? views port ≡ some v → AreTickets (set views port v ++ empty_holding ∷ [])
 seats_rule views port v h at =
     let vs : List Holding = set views port v in record {
       owner = h.owner;
       put = h.put;
-      single = λ p. let t = total_snoc (held p) vs empty in let s = total_set (held p) views port v v at in let c = h.single p in omega arith;
-      known = known_snoc h.owner h.put vs empty (empty_known h.owner h.put) (known_set h.owner h.put views port v (h.known port v at) (λ j u _ e. h.known j u e));
+      single = λ p. let t = total_snoc (held p) vs empty_holding in let s = total_set (held p) views port v v at in let c = h.single p in omega arith;
+      known = known_snoc h.owner h.put vs empty_holding (empty_known h.owner h.put) (known_set h.owner h.put views port v (h.known port v at) (λ j u _ e. h.known j u e));
     }
 
 longer : (put seen : List ℕ) (place : ℕ) → StartsWith put seen → StartsWith (put ++ place ∷ []) seen
@@ -157,7 +157,7 @@ short_of put place took seen none (inr some_p) = λ e. let f = ap (λ n. times n
 
 -- the owner takes a ticket back
 pub returns_rule : (views : List Holding) (port other : ℕ) (put : List ℕ) (place : ℕ) → AreTickets views → get_elem? views port ≡ some (owner_of (put ++ place ∷ [])) → other ≢ port
-    → get_elem? views other ≡ some (ticket_of (put ++ place ∷ [])) → AreTickets (set (set views port (owner_of put)) other empty)
+    → get_elem? views other ≡ some (ticket_of (put ++ place ∷ [])) → AreTickets (set (set views port (owner_of put)) other empty_holding)
 returns_rule views port other put place h at apart to =
     let all : List ℕ = put ++ place ∷ [] in
     let v : Holding = owner_of all in
@@ -188,15 +188,15 @@ returns_rule views port other put place h at apart to =
       put = put;
       single = λ p.
           let s = total_set (held p) views port v (owner_of put) at in
-          let t = total_set (held p) mid other w empty there in
+          let t = total_set (held p) mid other w empty_holding there in
           let c = h.single p in
           let m = once_more (length put) p in
           let e : once (length h.put) p ≡ once (suc (length put)) p = ap (λ l. once (length l) p) (sym mine.1) ∙ ap (λ n. once n p) size in
           let g : one_if (length all == p) ≡ one_if (suc (length put) == p) = ap (λ n. one_if (n == p)) size in omega arith;
-      known = λ j u e. ⊎_elim (λ (x : (j ≡ other) × (empty ≡ u)). subst (IsHoldingOf port put j) x.1 (empty_known port put j))
+      known = λ j u e. ⊎_elim (λ (x : (j ≡ other) × (empty_holding ≡ u)). subst (IsHoldingOf port put j) x.1 (empty_known port put j))
           (λ (x : (j ≢ other) × (get_elem? mid j ≡ some u)). ⊎_elim (λ (y : (j ≡ port) × (owner_of put ≡ u)). subst (λ (z : ℕ × Holding). IsHoldingOf port put z.0 z.1) (λ i. (sym y.0 i, y.1 i)) (owner_known port put))
           (λ (y : (j ≢ port) × (get_elem? views j ≡ some u)). others j u y.0 x.0 y.1) (at_set views port j (owner_of put) u x.1))
-          (at_set mid other j empty u e);
+          (at_set mid other j empty_holding u e);
     }
 
 reach : (p : ℕ) (a b : List ℕ) → b ≡ [] → (p ≤ length a) ⊎ (p ≤ length b) → p ≤ length a
@@ -254,9 +254,9 @@ settles_with views port v h at guest list starts tight seen saw one two =
 
 -- two seats become one
 pub joins_rule : (views : List Holding) (port other : ℕ) (v w : Holding) → AreTickets views → get_elem? views port ≡ some v → other ≢ port → get_elem? views other ≡ some w
-    → v.owns ≡ false → w.owns ≡ false → v.also ≡ [] → w.also ≡ [] → AreTickets (set (set views port (joined v w)) other empty)
+    → v.owns ≡ false → w.owns ≡ false → v.also ≡ [] → w.also ≡ [] → AreTickets (set (set views port (joined_holdings v w)) other empty_holding)
 joins_rule views port other v w h at apart to guest stranger plain simple =
-    let both : Holding = joined v w in
+    let both : Holding = joined_holdings v w in
     let mid : List Holding = set views port both in
     let there : get_elem? mid other ≡ some w = set_else views port other both apart ∙ to in
     let mine = h.known port v at in
@@ -267,10 +267,10 @@ joins_rule views port other v w h at apart to guest stranger plain simple =
       put = h.put;
       single = λ p.
           let s = total_set (held p) views port v both at in
-          let t = total_set (held p) mid other w empty there in
+          let t = total_set (held p) mid other w empty_holding there in
           let c = h.single p in
           let l = a p in omega arith;
-      known = known_set h.owner h.put mid other empty (empty_known h.owner h.put other) (λ j u _ e. known_set h.owner h.put views port both
+      known = known_set h.owner h.put mid other empty_holding (empty_known h.owner h.put other) (λ j u _ e. known_set h.owner h.put views port both
           (record {
             owned = λ yes. absurd (true≢false (sym yes ∙ guest));
             seen = mine.seen;
@@ -294,19 +294,19 @@ settles_rule views port v h at guest =
 pub issues : (port place : ℕ) (v : Holding) {put : List ℕ} → v ≡ owner_of put → Splits Holds port v (owner_of (v.seen ++ place ∷ [])) (ticket_of (v.seen ++ place ∷ []))
 issues port place v {put} is s h at = rw is (issues_rule s.views port put place h (at ∙ ap some is))
 
-pub seats : (port : ℕ) (v : Holding) → Splits Holds port v v empty
+pub seats : (port : ℕ) (v : Holding) → Splits Holds port v v empty_holding
 seats port v s h at = seats_rule s.views port v h at
 
 pub returns : (port other place : ℕ) (v w : Holding) (put : List ℕ) → v ≡ owner_of (put ++ place ∷ []) → w ≡ ticket_of (put ++ place ∷ [])
-    → MayJoin Holds port v other w (owner_of (without_last v.seen)) empty
+    → MayJoin Holds port v other w (owner_of (without_last v.seen)) empty_holding
 returns port other place v w put is was s h at apart to =
     let bare : without_last v.seen ≡ put = ap (λ u. without_last u.seen) is ∙ without_last_is put place in
     let there : get_elem? s.views other ≡ some w = sym (set_else s.views port other (owner_of (without_last v.seen)) apart) ∙ to in
     rw bare (returns_rule s.views port other put place h (at ∙ ap some is) apart (there ∙ ap some was))
 
-pub joins : (port other : ℕ) (v w : Holding) → v.owns ≡ false → w.owns ≡ false → v.also ≡ [] → w.also ≡ [] → MayJoin Holds port v other w (joined v w) empty
+pub joins : (port other : ℕ) (v w : Holding) → v.owns ≡ false → w.owns ≡ false → v.also ≡ [] → w.also ≡ [] → MayJoin Holds port v other w (joined_holdings v w) empty_holding
 joins port other v w guest stranger plain simple s h at apart to =
-    joins_rule s.views port other v w h at apart (sym (set_else s.views port other (joined v w) apart) ∙ to) guest stranger plain simple
+    joins_rule s.views port other v w h at apart (sym (set_else s.views port other (joined_holdings v w) apart) ∙ to) guest stranger plain simple
 
 pub settles : (port slots : ℕ) (me : Me (Unit {0}) Holding) → me.0.owns ≡ false → Allows Holds slots port me 0 (λ n. n) (λ n m'. SettleStep me m')
 settles port slots me guest s h _ at _ = let r = settles_rule s.views port me.0 h at guest in (r.0, keeps, tt, r.1, (refl, r.2))

@@ -11,7 +11,7 @@ use Rattle.reg_counting.specs.Counting.{total, times, once}
 use Rattle.reg_tasks.specs.declared.naming.Naming.{Ghosts}
 use Rattle.reg_deques.specs.declared.ticket.Ticketed.{Ticketed}
 use Rattle.reg_deques.specs.declared.views.View.{View}
-use Rattle.reg_deques.specs.Views.{view, fresh, blank, table_of, with_table, with_put, with_taken}
+use Rattle.reg_deques.specs.Views.{view, fresh_view, blank, table_of, with_table, with_put, with_taken}
 use Rattle.reg_deques.specs.Deques.{IsViewOf}
 use Rattle.reg_deques.specs.Queues.{Queued, places_of, queued, queue_of, AreTicketed, IsDeque}
 use Rattle.reg_deques.specs.Steps.{PutStep, TakesOwn, TakeStep, StealStep}
@@ -65,14 +65,14 @@ first_known : (table : List TableId) (port : ℕ) (v : View) → get_elem? (view
 first_known table zero v e = subst (IsViewOf 0 [] 0) (some-injective (view true [] [] [] table) v e) (owner_view table)
 first_known table (suc port) v e = absurd (some-ne-none v (sym e))
 
-pub begins : IsDeque [] (fresh ∷ [])
+pub begins : IsDeque [] (fresh_view ∷ [])
 begins = record {
   owner = 0;
   put = [];
   k = 0;
   table = [];
   order = record { within = omega arith; holds = refl; took = λ p. sym (once_none p); known = first_known [] };
-  same = same_one [] fresh refl;
+  same = same_one [] fresh_view refl;
   ticketed = tt;
   alone = λ e. refl;
 }
@@ -89,11 +89,11 @@ none_left (t ∷ ts) zero e = absurd cc
 none_left (t ∷ ts) (suc k) e = absurd cc
 
 -- the owner of a new deque is told the table of tickets
-pub tells_rule : (tasks : List Queued) (views : List View) (port : ℕ) (table : TableId) → IsDeque tasks views → get_elem? views port ≡ some fresh
-    → IsDeque tasks (set views port (with_table table fresh) ++ blank (table ∷ []) ∷ [])
+pub tells_rule : (tasks : List Queued) (views : List View) (port : ℕ) (table : TableId) → IsDeque tasks views → get_elem? views port ≡ some fresh_view
+    → IsDeque tasks (set views port (with_table table fresh_view) ++ blank (table ∷ []) ∷ [])
 tells_rule tasks views port table h at =
-    let mine = h.order.known port fresh at in
-    let here = single views port fresh (h.alone (sym (h.same port fresh at))) at in
+    let mine = h.order.known port fresh_view at in
+    let here = single views port fresh_view (h.alone (sym (h.same port fresh_view at))) at in
     let bare : h.put ≡ [] = sym (mine.owned refl).1 in
     let none : tasks ≡ [] = none_left tasks h.k (h.order.holds ∙ ap (drop h.k) bare) in
     let now : IsDeque [] (view true [] [] [] (table ∷ []) ∷ blank (table ∷ []) ∷ []) = record {
@@ -254,7 +254,7 @@ module _ {N : Type 0} {b : Ghosts N} where
   abbrev Held : List (Ticketed N b) → List View → Type 0
   Held items views = IsDeque (queue_of items) views
 
-  pub tells_table : (port : ℕ) (v : View) (table : TableId) → v ≡ fresh → Forks Held port v (with_table table v) (blank (table ∷ []))
+  pub tells_table : (port : ℕ) (v : View) (table : TableId) → v ≡ fresh_view → Forks Held port v (with_table table v) (blank (table ∷ []))
   tells_table port v table is items views h at = rw is (tells_rule (queue_of items) views port table h (at ∙ ap some is))
 
   pub parts_deque : (port : ℕ) (v : View) (table : TableId) → table_of v ≡ table ∷ [] → Forks Held port v v (blank (table_of v))

@@ -10,7 +10,7 @@ use Rattle.std.specs.List.{range_with_len}
 use Rattle.atomic_table.specs.Seated.{TableId}
 use Rattle.reg_deques.specs.declared.views.Holding.{Holding}
 use Rattle.reg_deques.specs.declared.views.View.{View}
-use Rattle.reg_deques.specs.Views.{view, fresh, with_table, table_of}
+use Rattle.reg_deques.specs.Views.{view, fresh_view, with_table, table_of}
 use Rattle.reg_deques.specs.Steps.{Joins}
 use Rattle.reg_deques.specs.Yards.{AllJoin, IsNew}
 
@@ -124,7 +124,7 @@ module _ {X : Type 0} (f : X → Holding) (olds others cur new parts : List X) (
       )
 
 -- an owner who was told its table has put and taken nothing
-pub new_owner : (v : View) (table : TableId) → v ≡ with_table table fresh → IsNew v
+pub new_owner : (v : View) (table : TableId) → v ≡ with_table table fresh_view → IsNew v
 new_owner v table e = e ∙ ap (view true [] [] []) (sym (ap table_of e))
 
 pub both_more : {A B C : Type 0} (f : A → C) (g : B → C) (xs : List A) (ys : List B) (a : A) (b : B) → map f xs ≡ map g ys → f a ≡ g b → map f (xs ++ a ∷ []) ≡ map g (ys ++ b ∷ [])

@@ -27,7 +27,7 @@ StealStep v [] w = Unit {0}
 StealStep v (t ∷ ts) w = (q : ℕ) × (times (suc q) v.took ≡ 0) × (w ≡ with_taken (suc q) w.seen v) × (slice_get w.seen q ≡ Some t.place) × (t.position ≡ suc q) × (t.table ∷ [] ≡ table_of v)
 
 -- no position is there twice, and the list that was seen reaches each
-pub record IsSound (w : Holding) : Type 0 where
+pub record IsSoundHolding (w : Holding) : Type 0 where
   pub single : (p : ℕ) → times p w.took ≤ 1
   pub reached : (p : ℕ) → 0 < times p w.took → (1 ≤ p) × (p ≤ length w.seen)
 
@@ -39,7 +39,7 @@ pub record Settles (v w : Holding) : Type 0 where
   pub also : w.also ≡ []
   pub seen : StartsWith w.seen v.seen
   pub saw : StartsWith w.seen v.also
-  pub sound : IsSound w
+  pub sound : IsSoundHolding w
 
 abbrev pub SettleStep : Me (Unit {0}) Holding → Me (Unit {0}) Holding → Type 0
 SettleStep m m' = (m'.1 ≡ m.1) × Settles m.0 m'.0
@@ -52,11 +52,11 @@ pub record Steals (v : Holding) (place : ℕ) (w : Holding) : Type 0 where
   pub took : w.took ≡ v.took ++ position ∷ []
   pub seen : StartsWith w.seen v.seen
   pub stands : slice_get w.seen (position - 1) ≡ Some place
-  pub sound : IsSound w
+  pub sound : IsSoundHolding w
 
 -- what one knows who has two parts: the positions of both, none twice, and a list that begins with what either has seen
 pub record Joins (v u w : Holding) : Type 0 where
   pub took : w.took ≡ v.took ++ u.took
   pub seen : StartsWith w.seen v.seen
   pub saw : StartsWith w.seen u.seen
-  pub sound : IsSound w
+  pub sound : IsSoundHolding w

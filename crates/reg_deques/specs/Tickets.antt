@@ -14,8 +14,8 @@ abbrev pub owner_of : List ℕ → Holding
 owner_of put = holding true [] put []
 
 -- a seat that holds nothing: a new one, or what is left of one that was joined with another
-abbrev pub empty : Holding
-empty = holding false [] [] []
+abbrev pub empty_holding : Holding
+empty_holding = holding false [] [] []
 
 -- the ticket of the last position of a put list
 abbrev pub ticket_of : List ℕ → Holding
@@ -30,8 +30,8 @@ abbrev pub IsTicket : ℕ → Holding → Type 0
 IsTicket place h = (h ≡ ticket_of h.seen) × (h.seen ≡ without_last h.seen ++ place ∷ [])
 
 -- two seats made one
-abbrev pub joined : Holding → Holding → Holding
-joined v w = holding v.owns (v.took ++ w.took) v.seen w.seen
+abbrev pub joined_holdings : Holding → Holding → Holding
+joined_holdings v w = holding v.owns (v.took ++ w.took) v.seen w.seen
 
 -- a seat that is not the owner's saw nothing, or up to a position whose ticket it has
 abbrev pub IsTight : List ℕ → List ℕ → Type 0

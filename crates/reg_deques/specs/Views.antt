@@ -11,8 +11,8 @@ abbrev pub table_of : View → List TableId
 table_of v = v.table.id
 
 -- the owner of a new deque put and took nothing
-abbrev pub fresh : View
-fresh = view true [] [] [] []
+abbrev pub fresh_view : View
+fresh_view = view true [] [] [] []
 
 -- one who begins to steal took and saw nothing
 abbrev pub blank : List TableId → View

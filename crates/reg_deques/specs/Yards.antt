@@ -6,7 +6,7 @@ use Rattle.reg_deques.specs.declared.owner.Owner.{Owner}
 use Rattle.reg_deques.specs.declared.pass.Pass.{Pass}
 use Rattle.reg_deques.specs.declared.yard.Yard.{Yard}
 use Rattle.reg_deques.specs.Views.{view, table_of}
-use Rattle.reg_deques.specs.Tickets.{empty}
+use Rattle.reg_deques.specs.Tickets.{empty_holding}
 use Rattle.reg_deques.specs.Steps.{Steals, Joins}
 use Rattle.reg_deques.specs.Passes.{DequeId, owner_id, desk_id, part_id, owned, known}
 
@@ -45,7 +45,7 @@ module _ {N : Type 0} {b : _} where
 
   -- nothing is known of any deque
   abbrev pub IsBlank : Pass N b → Type 0
-  IsBlank pass = All (λ p. known p ≡ empty) pass.parts.items
+  IsBlank pass = All (λ p. known p ≡ empty_holding) pass.parts.items
 
 -- of each deque, what is known to who has two passes
 abbrev pub AllJoin : List Holding → List Holding → List Holding → Type 0

@@ -3,7 +3,7 @@
 ghost use Rattle.std.specs.Prelude.{◌≡◌, ◌≢◌, ◌<◌, ◌≤◌, ◌∷◌, [], All, Some, slice_get, vec_len, map, set, IfOk, IfSome, IfNone};
 ghost use Rattle.std.specs.List.{range_with_len};
 ghost use Rattle.reg_deques.specs.Passes.{desk_id, part_id, known};
-ghost use Rattle.reg_deques.specs.Tickets.{empty};
+ghost use Rattle.reg_deques.specs.Tickets.{empty_holding};
 ghost use Rattle.reg_deques.specs.Yards.{workers_of, worker_of, deques, deques_of_pass, deques_of_owners, each_owned, views, IsNew, IsPassOf, IsBlank, StealsAt, AllJoin};
 
 use crate::desk::Desk;
@@ -18,7 +18,7 @@ use std::alloc::Global;
 fn part_at<N: Naming>(owners: &mut Vec<Owner<N>>, k: usize) -> Part<N>
     requires within { k < vec_len owners.old }
     ensures of { slice_get (deques_of_owners owners.old.items) k ≡ Some (part_id result) }
-    ensures blank { known result ≡ empty }
+    ensures blank { known result ≡ empty_holding }
     ensures same { (deques_of_owners owners.new.items ≡ deques_of_owners owners.old.items) × (each_owned owners.new.items ≡ each_owned owners.old.items) }
 {
     owners[k].part()

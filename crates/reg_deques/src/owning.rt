@@ -2,8 +2,8 @@
 
 ghost use Rattle.std.specs.Prelude.{◌≡◌, ◌≤◌, ◌∷◌, [], length, IfOk, IfErr, IfSome, IfNone, OnOk};
 ghost use Rattle.crossbeam_deque.specs.Handles.{worker_deque, worker_view, worker_flavor, worker_capacity, worker_index};
-ghost use Rattle.reg_deques.specs.Views.{fresh, with_table, with_put};
-ghost use Rattle.reg_deques.specs.Tickets.{empty};
+ghost use Rattle.reg_deques.specs.Views.{fresh_view, with_table, with_put};
+ghost use Rattle.reg_deques.specs.Tickets.{empty_holding};
 ghost use Rattle.reg_deques.specs.Steps.{TakesOwn};
 ghost use Rattle.reg_deques.specs.Passes.{owner_id, part_id, owned, known};
 
@@ -24,11 +24,11 @@ use std::sync::Arc;
 // Tells the owner of a new deque the table of its tickets.
 fn tell<N: Naming, T: Ticketing>(deque: &mut Deque<N>, table: &TicketTable)
     requires table { T.table ≡ table.now.shared.table_id }
-    requires fresh { worker_view deque.old ≡ fresh }
+    requires fresh { worker_view deque.old ≡ fresh_view }
     ensures same { (worker_deque deque.new ≡ worker_deque deque.old) × (worker_flavor deque.new ≡ worker_flavor deque.old) }
     ensures room { worker_capacity deque.old ≤ worker_capacity deque.new }
     ensures index { worker_index deque.new ≡ worker_index deque.old }
-    ensures view { worker_view deque.new ≡ with_table T.table fresh }
+    ensures view { worker_view deque.new ≡ with_table T.table fresh_view }
 {
     deque.another::<Telling<T>>();
 }
@@ -36,7 +36,7 @@ fn tell<N: Naming, T: Ticketing>(deque: &mut Deque<N>, table: &TicketTable)
 impl<N: Naming> Owner<N> {
     // A new deque, which has room for 16 tasks, and its table of tickets.
     pub(crate) fn new(alloc: Global) -> Result<Owner<N>, NoMemory>
-        ensures { IfOk result (λ o. owned o ≡ with_table o.table.value.shared.table_id fresh) }
+        ensures { IfOk result (λ o. owned o ≡ with_table o.table.value.shared.table_id fresh_view) }
     {
         let (table, seat) = Table::of_words(alloc, &[0], &())?;
         let Ok(table) = Arc::new(alloc, table) else {
@@ -95,7 +95,7 @@ impl<N: Naming> Owner<N> {
     // What a thief knows of the deque at first: nothing.
     pub(crate) fn part(&mut self) -> Part<N>
         ensures of { part_id result ≡ owner_id self.old }
-        ensures blank { known result ≡ empty }
+        ensures blank { known result ≡ empty_holding }
         ensures same { (owner_id self.new ≡ owner_id self.old) × (owned self.new ≡ owned self.old) }
     {
         let pass = self.deque.another::<Parting>();

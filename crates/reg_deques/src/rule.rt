@@ -17,14 +17,14 @@ pub(crate) struct InOrder<N: Naming> {
 
 impl<N: Naming> Protocol<Ticketed<N>, View> for InOrder<N> {
     ghost use Rattle.reg_deques.specs.Queues.{queue_of, IsDeque};
-    ghost use Rattle.reg_deques.specs.Views.{fresh};
+    ghost use Rattle.reg_deques.specs.Views.{fresh_view};
 
     ghost holds = { λ tasks views. IsDeque (queue_of tasks) views };
 
-    ghost first = { fresh };
+    ghost first = { fresh_view };
 
     // No pass is made that way.
-    ghost guest = { fresh };
+    ghost guest = { fresh_view };
 }
 
 // The owner puts a task.
@@ -130,33 +130,33 @@ impl<P: Placing> Split<Holding> for Issuing<P> {
 pub(crate) struct Returning;
 
 impl Join<Holding> for Returning {
-    ghost use Rattle.reg_deques.specs.Tickets.{owner_of, without_last, empty};
+    ghost use Rattle.reg_deques.specs.Tickets.{owner_of, without_last, empty_holding};
 
     ghost both = { λ v w. owner_of (without_last v.seen) };
 
-    ghost spent = { empty };
+    ghost spent = { empty_holding };
 }
 
 // A seat for another worker, which holds nothing.
 pub(crate) struct Seating;
 
 impl Split<Holding> for Seating {
-    ghost use Rattle.reg_deques.specs.Tickets.{empty};
+    ghost use Rattle.reg_deques.specs.Tickets.{empty_holding};
 
     ghost left = { λ v. v };
 
-    ghost right = { λ v. empty };
+    ghost right = { λ v. empty_holding };
 }
 
 // What a seat holds goes to another: a ticket to who stole its task, or all that one of two passes has.
 pub(crate) struct Joining;
 
 impl Join<Holding> for Joining {
-    ghost use Rattle.reg_deques.specs.Tickets.{joined, empty};
+    ghost use Rattle.reg_deques.specs.Tickets.{joined_holdings, empty_holding};
 
-    ghost both = { λ v w. joined v w };
+    ghost both = { λ v w. joined_holdings v w };
 
-    ghost spent = { empty };
+    ghost spent = { empty_holding };
 }
 
 // The lists that both saw become one.

@@ -7,7 +7,7 @@ use Rattle.reg_book.specs.Settled.{committed}
 use Rattle.reg_book.specs.Day.{settled_day, log_of}
 use Rattle.reg_work.specs.Faults.{are_workers}
 use Rattle.reg_text.specs.Day.{DayValue}
-use Rattle.reg_text.specs.Rows.{rows_of}
+use Rattle.reg_text.specs.Rows.{rows_in_text}
 use Rattle.reg_text.specs.Faults.{day_of_rows}
 use Rattle.reg_text.specs.Reading.{IsReading}
 use Rattle.reg_text.specs.Report.{text_of, report_rows}
@@ -39,24 +39,24 @@ abbrev pub report_of : DayValue → List ℕ
 report_of day = text_of (report_rows (book_after day) (log_of day))
 
 -- this is the text of the plan of the day's instructions
-abbrev pub IsPlanOf : DayValue → List ℕ → Type 0
-IsPlanOf day text = (plan : PlanValue) × IsPlan (directory_of day.book.accounts) day.batch.instructions plan × (text ≡ text_of (plan_rows plan))
+abbrev pub IsPlanText : DayValue → List ℕ → Type 0
+IsPlanText day text = (plan : PlanValue) × IsPlan (directory_of day.book.accounts) day.batch.instructions plan × (text ≡ text_of (plan_rows plan))
 
 -- this is the text that the command writes for a day
 abbrev pub IsTextFor : Command → DayValue → List ℕ → Type 0
 IsTextFor (Settle workers) day text = text ≡ report_of day
-IsTextFor Plan day text = IsPlanOf day text
+IsTextFor Plan day text = IsPlanText day text
 IsTextFor (Statement account) day text = text ≡ text_of (statement_of day.book (log_of day) account)
 IsTextFor Figures day text = text ≡ text_of (figures_rows (book_after day))
 IsTextFor Totals day text = text ≡ text_of (totals_rows (book_after day))
 
 -- the input is a day text, the command is not refused for that day, and this is the text that it writes
 abbrev pub IsText : Command → List ℕ → List ℕ → Type 0
-IsText command input text = (day : DayValue) × IsReading (rows_of input) day × (command_fault command day.book ≡ None) × IsTextFor command day text
+IsText command input text = (day : DayValue) × IsReading (rows_in_text input) day × (command_fault command day.book ≡ None) × IsTextFor command day text
 
 -- the input is a day text, and the command is refused for that day for this reason
 abbrev pub IsRefused : Command → List ℕ → FrontFault → Type 0
-IsRefused command input fault = (day : DayValue) × IsReading (rows_of input) day × (command_fault command day.book ≡ Some fault)
+IsRefused command input fault = (day : DayValue) × IsReading (rows_in_text input) day × (command_fault command day.book ≡ Some fault)
 
 -- the command starts threads
 abbrev pub StartsThreads : Command → Type 0
@@ -65,11 +65,11 @@ StartsThreads command = (workers : ℕ) × (command ≡ Settle workers)
 -- the command may answer this fault for this input; a lack of threads can occur with every day text that is to be settled by
 -- workers, a lack of memory with every input; when an input is not read, the reader tells (`Reads`)
 abbrev pub IsFault : Command → List ℕ → FrontFault → Type 0
-IsFault command input (Row row cause) = day_of_rows (rows_of input) ≡ Err (row, cause)
+IsFault command input (Row row cause) = day_of_rows (rows_in_text input) ≡ Err (row, cause)
 IsFault command input Workers = IsRefused command input Workers
 IsFault command input NoAccount = IsRefused command input NoAccount
 IsFault command input WriteFailed = (text : List ℕ) × IsText command input text
-IsFault command input NoThread = StartsThreads command × ((day : DayValue) × IsReading (rows_of input) day × (command_fault command day.book ≡ None))
+IsFault command input NoThread = StartsThreads command × ((day : DayValue) × IsReading (rows_in_text input) day × (command_fault command day.book ≡ None))
 IsFault command input Read = ⊤
 IsFault command input NoMemory = ⊤
 
@@ -124,7 +124,7 @@ CarriesOut command (Some fault) input rest old new = Fails command fault input r
 
 -- why no day was read from the input
 abbrev pub IsReadingFault : Option (List ℕ) → FrontFault → Type 0
-IsReadingFault input (Row row cause) = IfSome input (λ bytes. day_of_rows (rows_of bytes) ≡ Err (row, cause))
+IsReadingFault input (Row row cause) = IfSome input (λ bytes. day_of_rows (rows_in_text bytes) ≡ Err (row, cause))
 IsReadingFault input Workers = ⊥
 IsReadingFault input NoAccount = ⊥
 IsReadingFault input NoThread = ⊥

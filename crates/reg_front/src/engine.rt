@@ -2,7 +2,7 @@
 
 ghost use Rattle.std.specs.Prelude.{◌≡◌, ◌+◌, IfOk, IfErr, IfSome, OnOk};
 ghost use Rattle.std.specs.Result.{result_err};
-ghost use Rattle.reg_text.specs.Rows.{rows_of};
+ghost use Rattle.reg_text.specs.Rows.{rows_in_text};
 ghost use Rattle.reg_text.specs.Reading.{IsReading};
 ghost use Rattle.reg_text.specs.Inputs.{day_of_input};
 ghost use Rattle.reg_front.specs.Streams.{CanFail};
@@ -92,7 +92,7 @@ fn run_and_keep<T: Threads + Wait + Sync, R: Source, W: Sink>(
 // The day that the whole input describes, and the bytes of the input, whose memory is used again for the output.
 fn read_input<R: Source>(alloc: Global, reader: &mut R) -> Result<(DayInput, Vec<u8>), FrontFault>
     requires { CanFail (R.stream reader.old) }
-    ensures ok { IfOk result (λ read. IfSome (R.stream reader.old).bytes (λ input. IsReading (rows_of input) (day_of_input read.0))) }
+    ensures ok { IfOk result (λ read. IfSome (R.stream reader.old).bytes (λ input. IsReading (rows_in_text input) (day_of_input read.0))) }
     ensures whole { OnOk result (IsReadWhole (R.stream reader.old) (R.stream reader.new)) }
     ensures follows { IfOk result (λ read. read.0.batch.base + 1 ≡ read.0.book.next) }
     ensures err { IfErr result (IsReadingFault (R.stream reader.old).bytes) }

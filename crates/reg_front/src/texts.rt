@@ -11,7 +11,7 @@ ghost use Rattle.reg_text.specs.Totals.{totals_rows};
 ghost use Rattle.reg_text.specs.Statement.{statement_of, has_account};
 ghost use Rattle.reg_front.specs.declared.command.Command.TheVariants.{Settle, Statement};
 ghost use Rattle.reg_front.specs.declared.fault.FrontFault.TheVariants as front;
-ghost use Rattle.reg_front.specs.Runs.{report_of, book_after, command_fault, IsPlanOf, IsTextFor, IsCommandFault};
+ghost use Rattle.reg_front.specs.Runs.{report_of, book_after, command_fault, IsPlanText, IsTextFor, IsCommandFault};
 
 use crate::command::Command;
 use crate::fault::FrontFault;
@@ -83,7 +83,7 @@ fn make_report<T: Threads + Wait + Sync>(
 
 // The plan of the day's instructions.
 fn make_plan(alloc: Global, day: &DayInput) -> Result<Used, FrontFault>
-    ensures { MatchResult result (λ used. IsPlanOf (day_of_input day.now) used.text.items) (λ fault. fault ≡ front.NoMemory) }
+    ensures { MatchResult result (λ used. IsPlanText (day_of_input day.now) used.text.items) (λ fault. fault ≡ front.NoMemory) }
 {
     let plan = Plan::of(alloc, &day.batch, day.book.directory())?;
     let text = plan_text(alloc, &plan)?;

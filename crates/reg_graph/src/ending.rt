@@ -5,7 +5,7 @@ ghost use Rattle.reg_book.specs.Settled.{IsOfBook};
 ghost use Rattle.reg_book.specs.Day.{settled_day};
 ghost use Rattle.reg_tasks.specs.Contexts.{the_day};
 ghost use Rattle.reg_schedules.specs.World.{known_of, is_over};
-ghost use Rattle.reg_schedules.specs.Schedules.{IsSettled};
+ghost use Rattle.reg_schedules.specs.Schedules.{IsWorldSettled};
 ghost use Rattle.reg_graph.specs.WorldParts.{world_of};
 
 use crate::parts::Parts;
@@ -33,7 +33,7 @@ impl<'c, 'a, N: Naming> World<'c, 'a, N> {
     // What is known of a world that is over. This method does nothing.
     fn is_settled(&self)
         requires over { is_over (world_of self.now.parts) ≡ true }
-        ensures { IsSettled (the_day self.now.context.now) (world_of self.now.parts) }
+        ensures { IsWorldSettled (the_day self.now.context.now) (world_of self.now.parts) }
     {
         every_schedule();
     }

@@ -17,7 +17,7 @@ use Rattle.reg_plan.specs.Plans.{PlanValue, IsPlan}
 use Rattle.reg_plan.specs.Laws.{TailsAreLastTouchers}
 use Rattle.reg_book.specs.Day.{Day, setting, state_at, value_at, row_at}
 use Rattle.reg_book.specs.Laws.{EachIsAStep, NumbersStay, ValueIsLastTouchers}
-use Rattle.reg_schedules.specs.Pool.{directory, footprint_at, run_at, tail_of, leads_on, Progress, at_first, needed, removed, laid, closed, with_row, after_place, executed_on, executed}
+use Rattle.reg_schedules.specs.Pool.{directory, footprint_at, run_at, tail_of, leads_on, Progress, at_first, needed, removed, laid, closed, with_log_row, after_place, executed_on, executed}
 use Rattle.reg_schedules.proofs.Members.{among_push}
 use Rattle.reg_schedules.proofs.Tails as tails
 use Rattle.reg_schedules.proofs.Tails.{clash}
@@ -270,7 +270,7 @@ module _ (k : Known) (day : Day) (plan : PlanValue) (made : IsPlan (directory da
           ∙ sym (k.values day a (length day.batch.instructions))
           ∙ ap (λ b. cond b (value_at day a (length day.batch.instructions)) None) (sym (among_same done place (last_at a) (sym same)))
 
-    rows_after : (q : ℕ) → with_row place m.row p.rows q ≡ cond (is_among (done ++ place ∷ []) q) (row_at day q) None
+    rows_after : (q : ℕ) → with_log_row place m.row p.rows q ≡ cond (is_among (done ++ place ∷ []) q) (row_at day q) None
     rows_after q = elim (cases_eq place q) [
       | inl same ↦ ap (λ b. cond b (Some m.row) (p.rows q)) (eq-eqb q place (sym same)) ∙ sym m.is_made.row_is ∙ ap (row_at day) same
           ∙ ap (λ b. cond b (row_at day q) None) (sym (among_same done place q same))

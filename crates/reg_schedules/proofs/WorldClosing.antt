@@ -17,7 +17,7 @@ use Rattle.reg_book.specs.Day.{Day, value_at, row_at, log_of}
 use Rattle.reg_schedules.specs.Pool.{directory}
 use Rattle.reg_schedules.specs.declared.event.Event.{Event}
 use Rattle.reg_schedules.specs.World.{WorldValue, at_place, is_over, world_after}
-use Rattle.reg_schedules.specs.Schedules.{HasRightValues, IsSettled, ScheduleDecides}
+use Rattle.reg_schedules.specs.Schedules.{HasRightValues, IsWorldSettled, ScheduleDecides}
 use Rattle.reg_schedules.proofs.Known.{found_among, stays_known, touched_account}
 use Rattle.reg_schedules.proofs.Ran.{found_by_number}
 use Rattle.reg_schedules.proofs.Executing.{Known}
@@ -71,7 +71,7 @@ module _ (k : Known) (day : Day) (plan : PlanValue) (made : IsPlan (directory da
     closing = last-values order w h;
   }
 
-  settled-by : (workers : ℕ) (order : List ℕ) (w : WorldValue) → WholeOf k day plan made workers w → Ordered k day plan made order w → is_over w ≡ true → IsSettled day w
+  settled-by : (workers : ℕ) (order : List ℕ) (w : WorldValue) → WholeOf k day plan made workers w → Ordered k day plan made order w → is_over w ≡ true → IsWorldSettled day w
   settled-by workers order w whole h over = record {
     rows = rows-are w.rows (log_of day) (omega (arith, whole.stands.rows, log_long)) (λ i lt. (right-by order w h).rows (suc i) (each-row w.rows i over lt));
     accounts = record { once = h.once; touched = touched; values = last-values order w h };

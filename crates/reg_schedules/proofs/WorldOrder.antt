@@ -13,10 +13,10 @@ use Rattle.reg_rules.specs.State.{State, account, numbers}
 use Rattle.reg_plan.specs.Plans.{PlanValue, IsPlan, inward}
 use Rattle.reg_book.specs.Day.{Day, value_at}
 use Rattle.reg_schedules.specs.declared.event.Event.{Event}
-use Rattle.reg_schedules.specs.Pool.{directory, footprint_at, run_at, tail_of, leads_on, Progress, at_first, and_more, needed, closed, with_row, after_place, executed, executed_all}
+use Rattle.reg_schedules.specs.Pool.{directory, footprint_at, run_at, tail_of, leads_on, Progress, at_first, and_more, needed, closed, with_log_row, after_place, executed, executed_all}
 use Rattle.reg_schedules.specs.Docks.{ParcelValue, TaskValue, names_needed, complete}
 use Rattle.reg_schedules.specs.World.{Holds, WorldValue, at_place, with_place, left_by, goes_on, after_run, after_delivery, at_start, is_in_dock, is_done, world_after}
-use Rattle.reg_schedules.specs.Schedules.{IsRight, AreRight, in_hand, row_in, IsEachParcel, IsMadeBy}
+use Rattle.reg_schedules.specs.Schedules.{IsRight, AreRight, in_hand, world_row_in, IsEachParcel, IsMadeBy}
 use Rattle.reg_counting.specs.Counting.{one_if, total}
 use Rattle.reg_counting.proofs.Totals.{total-replicate}
 use Rattle.reg_schedules.proofs.Members.{all_among}
@@ -116,7 +116,7 @@ none-at zero (suc k) = refl
 none-at (suc n) (suc zero) = refl
 none-at (suc n) (suc (suc k)) = none-at n (suc k)
 
-pub row-done : (w : WorldValue) (place : ℕ) → is_some (row_in w place) ≡ is_done w place
+pub row-done : (w : WorldValue) (place : ℕ) → is_some (world_row_in w place) ≡ is_done w place
 row-done w place = by (at_place w.rows place)
   where
     by : (o : Option (Option LogRow)) → is_some (option_map_or (λ row. row) o None) ≡ option_map_or is_some o false
@@ -230,7 +230,7 @@ module _ (k : Known) (day : Day) (plan : PlanValue) (made : IsPlan (directory da
     same-numbers : numbers out.0 ≡ numbers own
     same-numbers = run-numbers k.steps day task.place own out run
 
-    row-then : (q : ℕ) → with_row task.place out.1 h.progress.rows q ≡ option_map_or (λ row. row) (at_place (with_place w.rows task.place (Some out.1)) q) None
+    row-then : (q : ℕ) → with_log_row task.place out.1 h.progress.rows q ≡ option_map_or (λ row. row) (at_place (with_place w.rows task.place (Some out.1)) q) None
     row-then q = by (eqb q task.place) refl
       where
         by : (b : Bool) → eqb q task.place ≡ b → cond b (Some out.1) (h.progress.rows q) ≡ option_map_or (λ row. row) (at_place (with_place w.rows task.place (Some out.1)) q) None

@@ -85,15 +85,15 @@ abbrev pub closed : PlanValue → ℕ → List ℕ → State → (ℕ → Option
 closed plan place accounts results closing = λ a. if is_among accounts a && not (leads_on plan place a) then account results a else closing a
 
 -- the rows with that of this place
-abbrev pub with_row : ℕ → LogRow → (ℕ → Option LogRow) → ℕ → Option LogRow
-with_row place row rows = λ other. if other == place then Some row else rows other
+abbrev pub with_log_row : ℕ → LogRow → (ℕ → Option LogRow) → ℕ → Option LogRow
+with_log_row place row rows = λ other. if other == place then Some row else rows other
 
 -- after the instruction at this place has made these results and this row
 abbrev pub after_place : Day → PlanValue → Progress → ℕ → State × LogRow → Progress
 after_place day plan p place made = record {
   pool = laid plan place (footprint_at day place) made.0 (removed plan place (footprint_at day place) p.pool);
   closing = closed plan place (footprint_at day place) made.0 p.closing;
-  rows = with_row place made.1 p.rows;
+  rows = with_log_row place made.1 p.rows;
 }
 
 -- executing the instruction at this place. It is undefined if a needed value is not in the pool, or if this is no place

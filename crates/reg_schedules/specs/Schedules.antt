@@ -52,7 +52,7 @@ pub record AreLastValues (day : Day) (accounts : State) : Type 0 where
   pub values : AllByRecursion (λ v. value_at day v.number (length day.batch.instructions) ≡ Some v) accounts
 
 -- all rows are there, in the order of the batch, and the accounts are those that some instruction touches, in any order
-pub record IsSettled (day : Day) (world : WorldValue) : Type 0 where
+pub record IsWorldSettled (day : Day) (world : WorldValue) : Type 0 where
   pub rows : world.rows ≡ map Some (log_of day)
   pub accounts : AreLastValues day world.closing
 
@@ -60,7 +60,7 @@ pub record IsSettled (day : Day) (world : WorldValue) : Type 0 where
 -- has the settled day
 pub record ScheduleDecides (day : Day) (world : WorldValue) : Type 0 where
   pub right : HasRightValues day world
-  pub settled : is_over world ≡ true → IsSettled day world
+  pub settled : is_over world ≡ true → IsWorldSettled day world
 
 abbrev pub EverySchedule : Type 0
 EverySchedule = (day : Day) (plan : PlanValue) (workers : ℕ) (events : List Event) (world : WorldValue)
@@ -75,8 +75,8 @@ times_named world name =
     total (λ d. times_among name (in_dock d)) world.docks + (total (total (λ t. times_among name t.parcels)) world.lists + total (λ h. times_among name (in_hand h)) world.hands)
 
 -- the row of a place, if it is done
-abbrev pub row_in : WorldValue → ℕ → Option LogRow
-row_in world place = option_map_or (λ row. row) (at_place world.rows place) None
+abbrev pub world_row_in : WorldValue → ℕ → Option LogRow
+world_row_in world place = option_map_or (λ row. row) (at_place world.rows place) None
 
 -- so is each parcel in a dock, a list or a hand
 pub record IsEachParcel (is_so : ParcelValue → Type 0) (world : WorldValue) : Type 0 where
@@ -89,7 +89,7 @@ pub record IsEachParcel (is_so : ParcelValue → Type 0) (world : WorldValue) : 
 pub record IsMadeBy (day : Day) (plan : PlanValue) (order : List ℕ) (progress : Progress) (world : WorldValue) : Type 0 where
   pub meaning : meaning_of day plan order ≡ Some progress
   pub done : (place : ℕ) → is_among order place ≡ is_done world place
-  pub rows : (place : ℕ) → progress.rows place ≡ row_in world place
+  pub rows : (place : ℕ) → progress.rows place ≡ world_row_in world place
   pub closing : (a : ℕ) → progress.closing a ≡ account world.closing a
 
 -- some order has made what a world has. Each parcel is in its pool under the parcel's name, and each value in its pool that a

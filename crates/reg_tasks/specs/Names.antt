@@ -29,8 +29,8 @@ AreValues name (v ∷ vs) [] = ⊥
 AreValues name (v ∷ vs) (t ∷ ts) = IsValue name v t × AreValues name vs ts
 
 -- if a day is named, this is the row of that place
-abbrev pub IsRow : Option Day → ℕ → LogRow → Type 0
-IsRow name place row = (day : Day) → name ≡ Some day → row_at day place ≡ Some row
+abbrev pub IsRowOfDay : Option Day → ℕ → LogRow → Type 0
+IsRowOfDay name place row = (day : Day) → name ≡ Some day → row_at day place ≡ Some row
 
 -- there are as many names as those that are needed, and each of these is among them
 abbrev pub has_names : List (ℕ × ℕ) → List (ℕ × ℕ) → Bool

@@ -1,7 +1,7 @@
 //! The rows of instructions that were run.
 
 ghost use Rattle.std.specs.Prelude.{◌≡◌};
-ghost use Rattle.reg_tasks.specs.Names.{IsRow};
+ghost use Rattle.reg_tasks.specs.Names.{IsRowOfDay};
 
 use crate::naming::Naming;
 use reg_rules::LogRow;
@@ -19,7 +19,7 @@ pub struct Done<N: Naming> {
 
 impl<N: Naming> Done<N> {
     pub(crate) fn new(place: u32, row: LogRow) -> Done<N>
-        requires { IsRow N.day place row }
+        requires { IsRowOfDay N.day place row }
         ensures place { result.place ≡ place }
         ensures row { result.row ≡ row }
     {
@@ -40,7 +40,7 @@ impl<N: Naming> Done<N> {
     /// Its row in the log.
     pub fn row(&self) -> &LogRow
         ensures value { result.now ≡ self.now.row }
-        ensures right { IsRow N.day self.now.place result.now }
+        ensures right { IsRowOfDay N.day self.now.place result.now }
     {
         &self.row
     }
@@ -48,7 +48,7 @@ impl<N: Naming> Done<N> {
     // Its row in the log.
     pub(crate) fn into_row(self) -> LogRow
         ensures value { result ≡ self.row }
-        ensures right { IsRow N.day self.place result }
+        ensures right { IsRowOfDay N.day self.place result }
     {
         self.row
     }

@@ -1,7 +1,7 @@
 //! What a run gives.
 
 ghost use Rattle.std.specs.Prelude.{◌≡◌};
-ghost use Rattle.reg_tasks.specs.Names.{IsRow, AreLeft};
+ghost use Rattle.reg_tasks.specs.Names.{IsRowOfDay, AreLeft};
 ghost use Rattle.reg_tasks.specs.Parcels.{names_of};
 
 use crate::done::Done;
@@ -40,7 +40,7 @@ impl<N: Naming> Ran<N> {
 
 impl<N: Naming> Outcome<N> {
     pub(crate) fn new(place: u32, row: LogRow, parcels: Vec<Parcel<N>>) -> Outcome<N>
-        requires row { IsRow N.day place row }
+        requires row { IsRowOfDay N.day place row }
         requires left { AreLeft N.day place (names_of parcels.items) }
         ensures place { result.place ≡ place }
         ensures row { result.row ≡ row }
@@ -91,7 +91,7 @@ impl<N: Naming> Outcome<N> {
     /// the place.
     pub fn into_parts(self) -> (Ran<N>, LogRow, Vec<Parcel<N>>)
         ensures ran { result.0.place ≡ self.place }
-        ensures row { (result.1 ≡ self.row) × IsRow N.day self.place result.1 }
+        ensures row { (result.1 ≡ self.row) × IsRowOfDay N.day self.place result.1 }
         ensures parcels { (result.2.items ≡ self.parcels.items) × AreLeft N.day self.place (names_of result.2.items) }
     {
         let (ran, done, parcels) = self.into_done();

@@ -6,7 +6,7 @@ use Rattle.std.specs.Str.{bytes_eq}
 use Rattle.std.proofs.lemmas.Slice.Eq.{bytes_eq-Decides}
 use Rattle.reg_text.proofs.Names.{MOST_NUMBER, Act, ActName, Transfer, Tag, IsCodec, AreFields}
 use Rattle.reg_text.proofs.Names.{within_limits, any_number, a_no, factor, a_figure, a_date, an_approver, IsRow, row_with, act_names, act_word, act_name, form, said, an_act_name, act_fields, instruction_fields_of, version}
-use Rattle.reg_text.proofs.Names.{row, Cause, Codec, IsWithin, IsUserNo, CorrectionFits, FigureFits, ◌>>=◌, test, when, first_cause, fault_of, number, signed, number_of, date_of, signed_of, correction_of, signed_figure_of, bounded_of, user_no_of, approver_of, approver_text, number_tests, correction_tests, figure_tests, approver_tests, IsPlain}
+use Rattle.reg_text.proofs.Names.{row, Cause, Codec, IsWithin, IsUserNo, CorrectionFits, FigureFits, ◌>>=◌, test, when, first_cause, fault_of, number, signed, plain_number_of, date_of, signed_of, correction_of, signed_figure_of, bounded_of, user_no_of, approver_of, approver_text, number_tests, correction_tests, figure_tests, approver_tests, IsPlain}
 use Rattle.reg_base.specs.declared.act.Act.TheVariants as act
 use Rattle.reg_text.specs.declared.cause.Cause.TheVariants as cause
 use Rattle.reg_text.specs.declared.reading.tag.Tag.TheVariants as tag
@@ -21,7 +21,7 @@ use Rattle.reg_text.proofs.CodecLaws.{are_none, are_last, are_then, are_made, ar
 -- ---- the fields
 
 pub is-number : IsCodec any_number
-is-number = record { spelled = number-spelled; again = number-again; fault = λ f. once cause.Number (number_of f) (only-number f); plain = plain-decimal }
+is-number = record { spelled = number-spelled; again = number-again; fault = λ f. once cause.Number (plain_number_of f) (only-number f); plain = plain-decimal }
 
 abbrev pub any_signed : Codec ℤ
 any_signed = record { spell = signed; read = signed_of; tests = λ f. when (not (is_ok (signed_of f))) cause.Number ∷ []; Fits = λ z. unsigned_abs z < 2 ^ 64 }
@@ -49,7 +49,7 @@ ranged low high n e = let both = and_parts (nat_le low n) (nat_le n high) e in r
 pub is-within : (low high : ℕ) → nat_lt high (2 ^ 64) ≡ true → IsCodec (within_limits low high)
 unfolding bounded_of
 is-within low high small = is-limited any_number (λ n. nat_le low n && nat_le n high) (number_tests low high) (IsWithin low high) is-number (ranged low high)
-    (λ n h. (rw (le-leb low n h.low, le-leb n high h.high) refl, omega (arith, h.high, ltb-true high (2 ^ 64) small))) (λ f. limited cause.Number _ 0 (number_of f) (only-number f))
+    (λ n h. (rw (le-leb low n h.low, le-leb n high h.high) refl, omega (arith, h.high, ltb-true high (2 ^ 64) small))) (λ f. limited cause.Number _ 0 (plain_number_of f) (only-number f))
 
 -- the same of a signed number with at most so many digits
 signed-limited : (most : ℕ) (Fits : ℤ → Type 0) (tests : List ℕ → List (Option Cause)) → most < 2 ^ 64 → ((z : ℤ) → unsigned_abs z ≤ most → Fits z) → ((z : ℤ) → Fits z → unsigned_abs z ≤ most)

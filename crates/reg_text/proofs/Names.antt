@@ -22,7 +22,7 @@ pub use Rattle.reg_text.specs.Report.{log_rows, report_rows, text_of, totals_row
 pub use Rattle.csv.specs.Writing.{default_writer}
 unfoldable pub use Rattle.csv.specs.Writing.{fields_text, is_blank}
 pub use Rattle.reg_text.specs.Numbers.{digits_from, has_no_leading_zero, number, value_after}
-unfoldable pub use Rattle.reg_text.specs.Numbers.{number_of}
+unfoldable pub use Rattle.reg_text.specs.Numbers.{plain_number_of}
 pub use Rattle.reg_text.specs.Dates.{date_text, day_in, is_civil, is_date_text, is_digit, is_pair_at, month_and_place, month_in, part_and_place, year_and_place, year_in}
 unfoldable pub use Rattle.reg_text.specs.Dates.{date, date_of, day_named, in_days}
 pub use Rattle.reg_text.specs.Words.{account_kind_word, account_kinds, kind_word, kinds, named, retirement_word, retirements, right_word, rights, status_word, statuses, yes_and_no, yes_no_word}
@@ -50,7 +50,7 @@ pub use Rattle.reg_base.specs.declared.instruction.Instruction.{Instruction}
 pub use Rattle.reg_text.specs.Causes.{test, ◌>>=◌}
 pub use Rattle.csv.specs.Reading.{ExplainsRead, ReadRecord, default_config, is_bom, is_flexible, records, records_next, with_flexible, with_names_headers}
 unfoldable pub use Rattle.csv.specs.Reading.{Reached, records_from, strip_bom}
-pub use Rattle.reg_text.specs.Rows.{IsOfMemory, IsOpen, known_rest, records_in, rest_of, rows_left, rows_of}
+pub use Rattle.reg_text.specs.Rows.{IsOfMemory, IsOpen, known_rest, records_in, rest_of, rows_left, rows_in_text}
 pub use Rattle.reg_text.specs.declared.reading.instruction_row.ActName.{ActName}
 pub use Rattle.reg_text.specs.declared.reading.instruction_row.ActName.TheVariants.{Transfer}
 pub use Rattle.reg_text.specs.Codecs.{AreFields, Codec, Fields, IsCodec, IsRow, Row, a_date, a_figure, a_no, a_word, an_approver, any_number, factor, forms, holds_of, last, made, named_row, none, provided, row_with, tests_then, within_limits, ◌▸◌}

@@ -13,7 +13,7 @@ ghost use Rattle.reg_account.specs.Account.{CorrectionFits};
 ghost use Rattle.reg_account.specs.Years.{FigureFits};
 ghost use Rattle.reg_text.specs.declared.cause.Cause.{Cause};
 ghost use Rattle.reg_text.specs.declared.cause.Cause.TheVariants as cause;
-ghost use Rattle.reg_text.specs.Numbers.{number, number_of};
+ghost use Rattle.reg_text.specs.Numbers.{number, plain_number_of};
 ghost use Rattle.reg_text.specs.Signed.{signed, correction_of, signed_figure_of};
 ghost use Rattle.reg_text.specs.Dates.{date, date_of};
 ghost use Rattle.reg_text.specs.Limits.{bounded_of};
@@ -29,7 +29,7 @@ ghost use Rattle.reg_text.specs.FieldTests.{fault_of, first_cause};
 
 /// A field is read as a number exactly if it is the one spelling of that number and the number is below 2^64.
 pub fn one_spelling_of_a_number()
-    ensures { (f : List ℕ) (n : ℕ) → (number_of f ≡ Ok n) ↔ ((f ≡ number n) × (n < 2 ^ 64)) }
+    ensures { (f : List ℕ) (n : ℕ) → (plain_number_of f ≡ Ok n) ↔ ((f ≡ number n) × (n < 2 ^ 64)) }
 {}
 
 /// A field is read as a correction factor exactly if it is the one spelling of that number and the number is within

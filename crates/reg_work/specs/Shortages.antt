@@ -7,9 +7,9 @@ use Rattle.reg_work.specs.declared.fault.WorkFault.{WorkFault}
 use Rattle.reg_work.specs.declared.fault.WorkFault.TheVariants as fault
 
 -- the fault for what was lacking
-abbrev pub fault_of : Shortage → WorkFault
-fault_of Thread = fault.NoThread
-fault_of Memory = fault.NoMemory
+abbrev pub fault_of_shortage : Shortage → WorkFault
+fault_of_shortage Thread = fault.NoThread
+fault_of_shortage Memory = fault.NoMemory
 
 -- the fault for that of a context
 abbrev pub fault_of_context : SettleFault → WorkFault

@@ -1,7 +1,7 @@
 //! Why a day was not settled.
 
 ghost use Rattle.std.specs.Prelude.{◌≡◌};
-ghost use Rattle.reg_work.specs.Shortages.{fault_of, fault_of_context};
+ghost use Rattle.reg_work.specs.Shortages.{fault_of_shortage, fault_of_context};
 ghost use Rattle.reg_work.specs.declared.fault.Shortage.TheVariants.{Memory};
 
 use reg_base::NoMemory;
@@ -42,7 +42,7 @@ pub(crate) enum Shortage {
 }
 
 impl From<Shortage> for WorkFault {
-    ghost from_gives = { λ shortage fault. fault ≡ fault_of shortage };
+    ghost from_gives = { λ shortage fault. fault ≡ fault_of_shortage shortage };
 
     fn from(shortage: Shortage) -> WorkFault {
         match shortage {

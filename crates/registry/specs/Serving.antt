@@ -4,12 +4,12 @@ use Rattle.reg_front.specs.declared.command.Command.{Command}
 use Rattle.reg_front.specs.declared.fault.FrontFault.{FrontFault}
 use Rattle.reg_front.specs.Streams.{Stream}
 use Rattle.reg_front.specs.Runs.{CarriesOut}
-use Rattle.registry.specs.Statuses.{status_of}
+use Rattle.registry.specs.Statuses.{exit_status_of}
 
 -- 0 after a command without a fault, or the status of its fault
 abbrev pub status_after : Option FrontFault → ℕ
 status_after None = 0
-status_after (Some fault) = status_of fault
+status_after (Some fault) = exit_status_of fault
 
 -- the command is carried out, and the status is that of its end
 pub record Obeys (command : Command) (status : ℕ) (input rest old new : Stream) : Type 0 where

@@ -5,13 +5,13 @@ use Rattle.reg_front.specs.declared.command.Command.{Command}
 use Rattle.reg_front.specs.declared.command.Command.TheVariants.{Settle, Plan, Statement, Figures, Totals}
 
 -- the word that asks for a command
-abbrev pub name_of : Command → List ℕ
-name_of (Settle workers) = codes "settle"
-name_of Plan = codes "plan"
-name_of (Statement account) = codes "statement"
-name_of Figures = codes "figures"
-name_of Totals = codes "totals"
+abbrev pub command_name : Command → List ℕ
+command_name (Settle workers) = codes "settle"
+command_name Plan = codes "plan"
+command_name (Statement account) = codes "statement"
+command_name Figures = codes "figures"
+command_name Totals = codes "totals"
 
 -- the number that a word spells, with or without a plus sign
-abbrev pub number_of : List ℕ → ℕ
-number_of word = digits_value 10 (without_leading_plus word)
+abbrev pub word_number : List ℕ → ℕ
+word_number word = digits_value 10 (without_leading_plus word)

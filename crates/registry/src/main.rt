@@ -5,7 +5,7 @@
 ghost use Rattle.std.specs.Prelude.{◌≡◌};
 ghost use Rattle.reg_front.specs.Streams.{CanFail};
 ghost use Rattle.registry.specs.Serving.{IsShown, Obeys, Serves};
-ghost use Rattle.registry.specs.Statuses.{status_of};
+ghost use Rattle.registry.specs.Statuses.{exit_status_of};
 
 mod input;
 mod words;
@@ -100,7 +100,7 @@ fn show<W: Write, F: Write>(error: &clap::Error, writer: &mut W, faults: &mut F)
 
 // Writes the line of a fault, and answers its status.
 fn tell<F: Write>(fault: FrontFault, faults: &mut F) -> u8
-    ensures { result ≡ status_of fault }
+    ensures { result ≡ exit_status_of fault }
 {
     let _ = writeln!(faults, "{fault}");
     status(fault)
@@ -111,7 +111,7 @@ const WORDS_NOT_TAKEN: u8 = 2;
 
 // The exit status of a fault.
 fn status(fault: FrontFault) -> u8
-    ensures { result ≡ status_of fault }
+    ensures { result ≡ exit_status_of fault }
 {
     match fault {
         FrontFault::Workers | FrontFault::NoAccount => WORDS_NOT_TAKEN,

@@ -3,7 +3,7 @@
 ghost use Rattle.std.specs.Prelude.{◌≡◌, ℕ, List, IfSome, Some, codes};
 ghost use Rattle.clap.specs.Matches.{found_of, one_text, subcommand_name_of};
 ghost use Rattle.reg_front.specs.declared.command.Command.TheVariants.{Settle, Statement};
-ghost use Rattle.registry.specs.Words.{name_of, number_of};
+ghost use Rattle.registry.specs.Words.{command_name, word_number};
 
 use clap::builder::ValueParser;
 use clap::error::ErrorKind;
@@ -52,7 +52,7 @@ fn find_words<'a, S: AsStr>(
 
 // The command that was found among the words, with its values.
 fn find_command(matches: &ArgMatches<'_>) -> Option<Command>
-    ensures { IfSome result (λ command. subcommand_name_of matches.now ≡ Some (name_of command)) }
+    ensures { IfSome result (λ command. subcommand_name_of matches.now ≡ Some (command_name command)) }
 {
     if let Some(found) = matches.subcommand_matches("settle") {
         return settle_found(found);
@@ -73,16 +73,16 @@ fn find_command(matches: &ArgMatches<'_>) -> Option<Command>
 }
 
 fn settle_found(found: &ArgMatches<'_>) -> Option<Command>
-    ensures name { IfSome result (λ command. name_of command ≡ codes "settle") }
-    ensures workers { (word : List ℕ) → one_text (found_of found.now) (codes "workers") ≡ Some word → IfSome result (λ command. command ≡ Settle (number_of word)) }
+    ensures name { IfSome result (λ command. command_name command ≡ codes "settle") }
+    ensures workers { (word : List ℕ) → one_text (found_of found.now) (codes "workers") ≡ Some word → IfSome result (λ command. command ≡ Settle (word_number word)) }
 {
     let workers = found.get_one::<u32>("workers")?;
     Some(Command::Settle { workers })
 }
 
 fn statement_found(found: &ArgMatches<'_>) -> Option<Command>
-    ensures name { IfSome result (λ command. name_of command ≡ codes "statement") }
-    ensures account { (word : List ℕ) → one_text (found_of found.now) (codes "account") ≡ Some word → IfSome result (λ command. command ≡ Statement (number_of word)) }
+    ensures name { IfSome result (λ command. command_name command ≡ codes "statement") }
+    ensures account { (word : List ℕ) → one_text (found_of found.now) (codes "account") ≡ Some word → IfSome result (λ command. command ≡ Statement (word_number word)) }
 {
     let account = AccountNo::new(found.get_one::<u32>("account")?)?;
     Some(Command::Statement { account })

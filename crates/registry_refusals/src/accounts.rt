@@ -2,7 +2,7 @@
 
 ghost use Rattle.std.specs.Prelude.{◌≡◌, ◌≤◌, IsTrue, nat_lt};
 ghost use Rattle.std.specs.List.{list_all};
-ghost use Rattle.reg_base.specs.declared.limits.TheConstants.{MOST_HELD};
+ghost use Rattle.reg_base.specs.declared.limits.TheConstants.{MOST_RETIRED};
 ghost use Rattle.reg_account.specs.Account.{CanRetire, retired_by};
 ghost use Rattle.reg_rules.specs.Effect.{IsBehind};
 
@@ -10,7 +10,7 @@ use crate::call::{Call, Ended, rehearse, shown, try_call};
 use crate::stop::Stop;
 use reg_account::{Account, Retirement, RetirementRow};
 use reg_base::{
-    AccountNo, AllowanceKind, Day, MOST_HELD, MOST_ROWS, MOST_TRUSTED, NoMemory, RecordNo, Year,
+    AccountNo, AllowanceKind, Day, MOST_RETIRED, MOST_ROWS, MOST_TRUSTED, NoMemory, RecordNo, Year,
 };
 use reg_text::DayInput;
 use std::alloc::Global;
@@ -91,7 +91,7 @@ fn ended(answer: Result<(), NoMemory>) -> Ended {
 // How much of this kind the account has surrendered, or deleted, as the row does.
 fn retired(account: &Account, row: &RetirementRow) -> u64
     ensures value { result ≡ retired_by account.now row.now.retirement row.now.kind }
-    ensures limit { result ≤ MOST_HELD }
+    ensures limit { result ≤ MOST_RETIRED }
 {
     match row.retirement {
         Retirement::Surrendered => account.surrendered(row.kind),
@@ -132,7 +132,7 @@ fn can_retire(account: &Account, row: &RetirementRow) -> bool
     if row.amount > account.held(row.kind) {
         return false;
     }
-    row.amount <= MOST_HELD - retired(account, row)
+    row.amount <= MOST_RETIRED - retired(account, row)
 }
 
 fn retire(account: &mut Account, number: RecordNo, day: Day) -> Ended {

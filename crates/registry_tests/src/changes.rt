@@ -1,14 +1,14 @@
 //! An account with something in every list: its copy, and the changes that take memory.
 
 ghost use Rattle.std.specs.Prelude.{◌≡◌, ◌≤◌, IsTrue};
-ghost use Rattle.reg_base.specs.declared.limits.TheConstants.{MOST_HELD};
+ghost use Rattle.reg_base.specs.declared.limits.TheConstants.{MOST_RETIRED};
 ghost use Rattle.reg_account.specs.Account.{CanRetire, retired_by};
 ghost use Rattle.reg_rules.specs.Effect.{IsBehind};
 
 use crate::fixtures::{account_no, day, read, surrendered, year};
 use crate::rules::is_behind;
 use reg_account::{Account, Retirement, RetirementRow};
-use reg_base::{MOST_HELD, MOST_ROWS, MOST_TRUSTED, RecordNo};
+use reg_base::{MOST_RETIRED, MOST_ROWS, MOST_TRUSTED, RecordNo};
 use reg_book::{Book, BookDraft};
 use reg_text::{figures, write_report};
 use std::alloc::Global;
@@ -102,7 +102,7 @@ fn a_copy_is_equal(rt: HostRuntime) {
 // How much of this kind the account has surrendered, or deleted, as the row does.
 fn retired(account: &Account, row: &RetirementRow) -> u64
     ensures value { result ≡ retired_by account.now row.now.retirement row.now.kind }
-    ensures limit { result ≤ MOST_HELD }
+    ensures limit { result ≤ MOST_RETIRED }
 {
     match row.retirement {
         Retirement::Surrendered => account.surrendered(row.kind),
@@ -126,7 +126,7 @@ fn assert_can_retire(rt: &impl Abort, account: &Account, row: &RetirementRow)
     assert!(rt; is_later(account, row.number));
     assert!(rt; account.rows().len() < MOST_ROWS);
     assert!(rt; row.amount <= account.held(row.kind));
-    assert!(rt; row.amount <= MOST_HELD - retired(account, row));
+    assert!(rt; row.amount <= MOST_RETIRED - retired(account, row));
 }
 
 // Surrenders 50 general allowances under record 6.
