@@ -2,5 +2,6 @@ pub mod Counting
 pub mod Devices
 pub mod Faulting
 pub mod Faults
+pub mod Lines
 pub mod Runs
 pub mod Streams

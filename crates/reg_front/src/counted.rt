@@ -1,7 +1,7 @@
 //! A reader or a writer of the standard library whose failed calls are counted.
 
 ghost use Rattle.std.specs.Prelude.{◌≡◌, ◌<◌, ◌+◌, ◌-◌, ◌^◌};
-ghost use Rattle.reg_front.specs.Counting.{counted_inner, counted_failures};
+ghost use Rattle.reg_front.specs.Counting.{counted_inner, counted_failures, counted_stream};
 
 use crate::stream::{CallFailed, Sink, Source};
 use std::io;
@@ -35,7 +35,7 @@ impl<T> Counted<T> {
 }
 
 impl<R: Read> Source for Counted<R> {
-    ghost stream = { λ counted. record { bytes = R.remaining counted.inner; failures = counted.failures } };
+    ghost stream = { counted_stream R.remaining };
 
     fn read(&mut self, buf: &mut [u8]) -> Result<usize, CallFailed> {
         match self.inner.read(buf) {
@@ -46,7 +46,7 @@ impl<R: Read> Source for Counted<R> {
 }
 
 impl<W: Write> Sink for Counted<W> {
-    ghost stream = { λ counted. record { bytes = W.contents counted.inner; failures = counted.failures } };
+    ghost stream = { counted_stream W.contents };
 
     fn write(&mut self, buf: &[u8]) -> Result<usize, CallFailed> {
         match self.inner.write(buf) {

@@ -1,19 +1,21 @@
 //! Why a command gave no text.
 
-ghost use Rattle.std.specs.Prelude.{◌≡◌};
+ghost use Rattle.std.specs.Prelude.{◌≡◌, Some};
 ghost use Rattle.reg_front.specs.declared.fault.FrontFault.TheVariants.{NoMemory};
 ghost use Rattle.reg_front.specs.Faults.{fault_of_read, fault_of_day};
+ghost use Rattle.reg_front.specs.Lines.{fault_text};
 
 use crate::device::ReadFault;
+use crate::line::text_of;
 use reg_base::NoMemory;
 use reg_text::{Cause, DayFault};
-use thiserror::Error;
+use std::error::Error;
+use std::fmt;
 
-/// Why [`run`](crate::run) gave no text. `Display` gives the line on standard error.
-#[derive(Clone, Copy, Debug, PartialEq, Eq, Error)]
+/// Why [`run`](crate::run) gave no text. `Display` gives its line on standard error, without the end of the line.
+#[derive(Clone, Copy, Debug, PartialEq, Eq)]
 pub enum FrontFault {
     /// The input is not a day text.
-    #[error("row {row}: {cause}")]
     Row {
         /// The number of the first faulty row among the records of the text, counted from 1. If the text ends too
         /// early: the number of records plus 1.
@@ -22,24 +24,28 @@ pub enum FrontFault {
         cause: Cause,
     },
     /// The reader failed, or the input has more than 2^30 bytes.
-    #[error("read failed")]
     Read,
     /// The number of workers is not 1 to 8.
-    #[error("workers must be 1 to 8")]
     Workers,
     /// The account of a statement is not in the book.
-    #[error("no such account")]
     NoAccount,
     /// A thread could not be started.
-    #[error("no thread")]
     NoThread,
     /// Memory ran out.
-    #[error("out of memory")]
     NoMemory,
     /// The writer failed. It may have taken a prefix of the text.
-    #[error("write failed")]
     WriteFailed,
 }
+
+impl fmt::Display for FrontFault {
+    ghost output = { λ fault. Some (fault_text fault) };
+
+    fn fmt<W: fmt::Write>(&self, f: &mut fmt::Formatter<W>) -> fmt::Result {
+        f.write_str(text_of(*self).as_str())
+    }
+}
+
+impl Error for FrontFault {}
 
 impl From<ReadFault> for FrontFault {
     ghost from_gives = { λ e fault. fault ≡ fault_of_read e };

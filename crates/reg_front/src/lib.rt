@@ -9,6 +9,7 @@ mod device;
 mod engine;
 mod fault;
 mod faulty;
+mod line;
 mod stream;
 mod texts;
 
@@ -17,4 +18,5 @@ pub use counted::Counted;
 pub use engine::{run, run_without_freeing};
 pub use fault::FrontFault;
 pub use faulty::Faulty;
+pub use line::tell_fault;
 pub use stream::{CallFailed, Sink, Source};

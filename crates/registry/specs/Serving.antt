@@ -1,28 +1,55 @@
 -- What `serve` does, and the status that it answers.
 use Rattle.std.specs.Prelude.{◌≡◌, ◌≢◌, ◌⊎◌, ℕ, List, [], ◌∷◌, Option, Some, None, Contains}
 use Rattle.reg_front.specs.declared.command.Command.{Command}
+use Rattle.reg_front.specs.declared.counted.Counted.{Counted}
 use Rattle.reg_front.specs.declared.fault.FrontFault.{FrontFault}
+use Rattle.reg_front.specs.declared.fault.FrontFault.TheVariants.{NoMemory}
+use Rattle.reg_front.specs.Counting.{counted_stream}
 use Rattle.reg_front.specs.Streams.{Stream}
+use Rattle.reg_front.specs.Lines.{IsTold}
 use Rattle.reg_front.specs.Runs.{CarriesOut}
 use Rattle.registry.specs.Statuses.{exit_status_of}
+
+-- the reader, the writer and the writer of faults at one moment
+pub record Streams : Type 0 where
+  pub reader : Stream
+  pub writer : Stream
+  pub faults : Stream
+
+abbrev pub streams : Stream → Stream → Stream → Streams
+streams r w f = record { reader = r; writer = w; faults = f }
+
+-- the same of a reader and two writers whose calls are counted, and whose bytes these functions tell
+abbrev pub streams_of : {R W F : Type 0} → (R → Option (List ℕ)) → (W → Option (List ℕ)) → (F → Option (List ℕ))
+    → Counted R → Counted W → Counted F → Streams
+streams_of remaining contents told r w f = streams (counted_stream remaining r) (counted_stream contents w) (counted_stream told f)
 
 -- 0 after a command without a fault, or the status of its fault
 abbrev pub status_after : Option FrontFault → ℕ
 status_after None = 0
 status_after (Some fault) = exit_status_of fault
 
--- the command is carried out, and the status is that of its end
-pub record Obeys (command : Command) (status : ℕ) (input rest old new : Stream) : Type 0 where
-  pub fault : Option FrontFault
-  pub carried_out : CarriesOut command fault input rest old new
-  pub answered : status ≡ status_after fault
+-- the writer of faults has got the line of the fault, or nothing if there is none
+abbrev pub IsToldAfter : Option FrontFault → Stream → Stream → Type 0
+IsToldAfter None old new = new ≡ old
+IsToldAfter (Some fault) old new = IsTold fault old new
 
--- a status in place of a command's: help was shown (0), the words were not taken (2), or memory ran out (4); only help is
--- written to the writer
-pub record IsShown (status : ℕ) (old new : Option (List ℕ)) : Type 0 where
+-- the command is carried out, and its end decides the status and the line of the fault
+pub record Obeys (command : Command) (status : ℕ) (old new : Streams) : Type 0 where
+  pub fault : Option FrontFault
+  pub carried_out : CarriesOut command fault old.reader new.reader old.writer new.writer
+  pub answered : status ≡ status_after fault
+  pub told : IsToldAfter fault old.faults new.faults
+
+-- a status in place of a command's: help was shown (0), the words were not taken (2), or memory ran out (4), of which the line
+-- tells; only help is written to the writer
+pub record IsShown (status : ℕ) (old new before after : Stream) : Type 0 where
   pub answered : Contains (0 ∷ 2 ∷ 4 ∷ []) status
   pub kept : status ≢ 0 → new ≡ old
+  pub quiet : status ≡ 0 → after ≡ before
+  pub told : status ≡ 4 → IsTold NoMemory before after
 
 -- the words gave a command, which is obeyed; or they gave none, and no input is read
-abbrev pub Serves : ℕ → Stream → Stream → Stream → Stream → Type 0
-Serves status input rest old new = ((command : Command) × Obeys command status input rest old new) ⊎ (IsShown status old.bytes new.bytes × (rest ≡ input))
+abbrev pub Serves : ℕ → Streams → Streams → Type 0
+Serves status old new = ((command : Command) × Obeys command status old new)
+    ⊎ (IsShown status old.writer new.writer old.faults new.faults × (new.reader ≡ old.reader))

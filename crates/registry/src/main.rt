@@ -3,8 +3,10 @@
 #![tactic(auto)]
 
 ghost use Rattle.std.specs.Prelude.{◌≡◌};
+ghost use Rattle.reg_front.specs.Counting.{counted_stream};
+ghost use Rattle.reg_front.specs.Lines.{IsTold};
 ghost use Rattle.reg_front.specs.Streams.{CanFail};
-ghost use Rattle.registry.specs.Serving.{IsShown, Obeys, Serves};
+ghost use Rattle.registry.specs.Serving.{IsShown, Obeys, Serves, streams, streams_of};
 ghost use Rattle.registry.specs.Statuses.{exit_status_of};
 
 mod input;
@@ -13,7 +15,7 @@ mod words;
 use crate::input::Input;
 use crate::words::read_words;
 use clap::error::ErrorKind;
-use reg_front::{Command, Counted, FrontFault, Sink, Source, run_without_freeing};
+use reg_front::{Command, Counted, FrontFault, Sink, Source, run_without_freeing, tell_fault};
 use std::alloc::{AllocError, Global};
 use std::convert::AsStr;
 use std::io::{Read, Write};
@@ -24,7 +26,8 @@ use std::thread::Threads;
 use std::{env, io};
 
 /// Carries out the command of these words, which stand without the program's name: reads a day text from `reader`
-/// and writes the command's text to `writer`. Help goes to `writer` too.
+/// and writes the command's text to `writer`. Help goes to `writer` too. Each stream is any reader or writer, whose failed
+/// calls are counted.
 ///
 /// Answers the exit status of the program: 0, or the status of the fault. A fault is written as one line to `faults`,
 /// and words that are not taken as a longer text, before any input is read. The status is the same if these can't be
@@ -35,27 +38,14 @@ pub fn serve<T: Threads + Wait + Sync, S: AsStr, R: Read, W: Write, F: Write>(
     rt: &T,
     alloc: Global,
     words: &[S],
-    reader: &mut R,
-    writer: &mut W,
-    faults: &mut F,
-) -> u8 {
-    let mut reader = Counted::new(reader);
-    let mut writer = Counted::new(writer);
-    serve_counted(rt, alloc, words, &mut reader, &mut writer, faults)
-}
-
-// The same, on streams that count their failed calls.
-fn serve_counted<T: Threads + Wait + Sync, S: AsStr, R: Read, W: Write, F: Write>(
-    rt: &T,
-    alloc: Global,
-    words: &[S],
     reader: &mut Counted<R>,
     writer: &mut Counted<W>,
-    faults: &mut F,
+    faults: &mut Counted<F>,
 ) -> u8
-    requires reader { CanFail (⟦<Counted<R> as Source>⟧.stream reader.old) }
-    requires writer { CanFail (⟦<Counted<W> as Sink>⟧.stream writer.old) }
-    ensures { Serves result (⟦<Counted<R> as Source>⟧.stream reader.old) (⟦<Counted<R> as Source>⟧.stream reader.new) (⟦<Counted<W> as Sink>⟧.stream writer.old) (⟦<Counted<W> as Sink>⟧.stream writer.new) }
+    requires reader { CanFail (counted_stream R.remaining reader.old) }
+    requires writer { CanFail (counted_stream W.contents writer.old) }
+    requires faults { CanFail (counted_stream F.contents faults.old) }
+    ensures { Serves result (streams_of R.remaining W.contents F.contents reader.old writer.old faults.old) (streams_of R.remaining W.contents F.contents reader.new writer.new faults.new) }
 {
     match read_words(alloc, words) {
         Ok(command) => carry_out(rt, alloc, command, reader, writer, faults),
@@ -64,7 +54,7 @@ fn serve_counted<T: Threads + Wait + Sync, S: AsStr, R: Read, W: Write, F: Write
 }
 
 // Runs the command, and answers the status.
-fn carry_out<T: Threads + Wait + Sync, R: Source, W: Sink, F: Write>(
+fn carry_out<T: Threads + Wait + Sync, R: Source, W: Sink, F: Sink>(
     rt: &T,
     alloc: Global,
     command: Command,
@@ -74,7 +64,8 @@ fn carry_out<T: Threads + Wait + Sync, R: Source, W: Sink, F: Write>(
 ) -> u8
     requires reader { CanFail (R.stream reader.old) }
     requires writer { CanFail (W.stream writer.old) }
-    ensures { Obeys command result (R.stream reader.old) (R.stream reader.new) (W.stream writer.old) (W.stream writer.new) }
+    requires faults { CanFail (F.stream faults.old) }
+    ensures { Obeys command result (streams (R.stream reader.old) (W.stream writer.old) (F.stream faults.old)) (streams (R.stream reader.new) (W.stream writer.new) (F.stream faults.new)) }
 {
     match run_without_freeing(rt, alloc, reader, writer, command) {
         Ok(()) => 0,
@@ -83,8 +74,13 @@ fn carry_out<T: Threads + Wait + Sync, R: Source, W: Sink, F: Write>(
 }
 
 // Shows help, or why the words are not taken, and answers the status.
-fn show<W: Write, F: Write>(error: &clap::Error, writer: &mut W, faults: &mut F) -> u8
-    ensures { IsShown result (W.contents writer.old) (W.contents writer.new) }
+fn show<W: Write, F: Write>(
+    error: &clap::Error,
+    writer: &mut Counted<W>,
+    faults: &mut Counted<F>,
+) -> u8
+    requires { CanFail (counted_stream F.contents faults.old) }
+    ensures { IsShown result (counted_stream W.contents writer.old) (counted_stream W.contents writer.new) (counted_stream F.contents faults.old) (counted_stream F.contents faults.new) }
 {
     if error.kind() == ErrorKind::OutOfMemory {
         return tell(FrontFault::NoMemory, faults);
@@ -94,15 +90,17 @@ fn show<W: Write, F: Write>(error: &clap::Error, writer: &mut W, faults: &mut F)
         return WORDS_NOT_TAKEN;
     }
     let _ = write!(writer, "{error}");
-    let _ = writer.flush();
+    let _ = Write::flush(writer);
     0
 }
 
 // Writes the line of a fault, and answers its status.
-fn tell<F: Write>(fault: FrontFault, faults: &mut F) -> u8
-    ensures { result ≡ exit_status_of fault }
+fn tell<F: Sink>(fault: FrontFault, faults: &mut F) -> u8
+    requires { CanFail (F.stream faults.old) }
+    ensures status { result ≡ exit_status_of fault }
+    ensures line { IsTold fault (F.stream faults.old) (F.stream faults.new) }
 {
-    let _ = writeln!(faults, "{fault}");
+    tell_fault(fault, faults);
     status(fault)
 }
 
@@ -133,14 +131,14 @@ fn read_arguments<R: Env + AllocGlobal>(rt: &R) -> Result<Vec<String>, AllocErro
 }
 
 fn main(rt: HostRuntime) -> ExitCode {
-    let mut faults = rt.stderr();
+    let mut faults = Counted::new(rt.stderr());
     let status = match read_arguments(&rt) {
         Ok(words) => serve(
             &rt,
             rt.alloc(),
             words.as_slice(),
-            &mut Input::new(rt.stdin(), faults),
-            &mut rt.stdout(),
+            &mut Counted::new(Input::new(rt.stdin(), rt.stderr())),
+            &mut Counted::new(rt.stdout()),
             &mut faults,
         ),
         Err(AllocError) => tell(FrontFault::NoMemory, &mut faults),

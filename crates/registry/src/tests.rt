@@ -1,6 +1,7 @@
 //! The status of each way in which `serve` can end, and what it writes.
 
 use crate::serve;
+use reg_front::Counted;
 use std::alloc::Global;
 use std::io;
 use std::io::{ErrorKind, Read, Write};
@@ -64,9 +65,9 @@ fn serve_text<T: Threads + Wait + Sync>(
         rt,
         alloc,
         words,
-        &mut text.as_bytes(),
-        &mut written,
-        &mut faults,
+        &mut Counted::new(text.as_bytes()),
+        &mut Counted::new(&mut written),
+        &mut Counted::new(&mut faults),
     );
     (status, written, faults)
 }
@@ -107,17 +108,17 @@ fn answers_5_if_a_stream_fails(rt: HostRuntime) {
         &rt,
         alloc,
         &["totals"],
-        &mut Broken,
-        &mut Broken,
-        &mut faults,
+        &mut Counted::new(Broken),
+        &mut Counted::new(Broken),
+        &mut Counted::new(&mut faults),
     );
     let unwritten = serve(
         &rt,
         alloc,
         &["totals"],
-        &mut DAY.as_bytes(),
-        &mut Broken,
-        &mut faults,
+        &mut Counted::new(DAY.as_bytes()),
+        &mut Counted::new(Broken),
+        &mut Counted::new(&mut faults),
     );
     assert_eq!(rt; (unread, unwritten), (5, 5));
     assert_eq!(rt;
@@ -133,9 +134,9 @@ fn keeps_the_status_of_a_fault_that_cannot_be_told(rt: HostRuntime) {
         &rt,
         rt.alloc(),
         &["totals"],
-        &mut b"".as_slice(),
-        &mut written,
-        &mut Broken,
+        &mut Counted::new(b"".as_slice()),
+        &mut Counted::new(&mut written),
+        &mut Counted::new(Broken),
     );
     assert_eq!(rt; status, 3);
 }
