@@ -8,6 +8,8 @@ use Rattle.reg_text.proofs.Names.{MOST_NUMBER, Act, ActName, Transfer, Tag, IsCo
 use Rattle.reg_text.proofs.Names.{within_limits, any_number, a_no, factor, a_figure, a_date, an_approver, IsRow, row_with, act_names, act_word, act_name, form, said, an_act_name, act_fields, instruction_fields_of, version}
 use Rattle.reg_text.proofs.Names.{row, Cause, Codec, IsWithin, IsUserNo, CorrectionFits, FigureFits, ◌>>=◌, test, when, first_cause, fault_of, number, signed, plain_number_of, date_of, signed_of, correction_of, signed_figure_of, bounded_of, user_no_of, approver_of, approver_text, number_tests, correction_tests, figure_tests, approver_tests, IsPlain}
 use Rattle.reg_base.specs.declared.act.Act.TheVariants as act
+use Rattle.reg_text.specs.declared.reading.instruction_row.ActName.TheVariants.{Distribute}
+use Rattle.reg_text.specs.Words.{kind_word, kinds}
 use Rattle.reg_text.specs.declared.cause.Cause.TheVariants as cause
 use Rattle.reg_text.specs.declared.reading.tag.Tag.TheVariants as tag
 use Rattle.reg_text.proofs.Binds.{bind_ok, test_ok, ok_is}
@@ -16,6 +18,7 @@ use Rattle.reg_text.proofs.NumberLaws.{number-spelled, number-again, digit-first
 use Rattle.reg_text.proofs.DateLaws.{date-spelled, date-again}
 use Rattle.reg_text.proofs.WordLaws.{is-word, own-kind, own-account_kind, own-status, own-right, own-retirement, own-yes_no, own-act_word}
 use Rattle.reg_text.proofs.PlainFacts.{plain-decimal, plain-signed, plain-date}
+use Rattle.reg_text.proofs.ShareLaws.{are_shares}
 use Rattle.reg_text.proofs.CodecLaws.{are_none, are_last, are_then, are_made, are_provided, are_forms, is_row, is_named_row, Form}
 
 -- ---- the fields
@@ -121,6 +124,7 @@ ruleset codecs = (is-version, is-number, is-within, is-factor, is-figure, is-dat
 
 each-act : (n : ActName) → AreFields (form n).fields
 each-act Transfer = search codecs depth 14
+each-act Distribute = are_made _ _ _ (are_then _ _ is-no (are_then _ _ (is-word kind_word kinds own-kind) (are_shares is-no is-number))) (λ p. refl) (λ d. refl)
 each-act n = search codecs depth 14
 
 parts-of-made : (n : ActName) (p : (form n).Parts) → ◌≡◌ {A = Form (λ m. (form m).Parts)} (said ((form n).make p)) (n, p)

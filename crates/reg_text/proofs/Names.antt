@@ -54,7 +54,7 @@ pub use Rattle.reg_text.specs.Rows.{IsOfMemory, IsOpen, known_rest, records_in, 
 pub use Rattle.reg_text.specs.declared.reading.instruction_row.ActName.{ActName}
 pub use Rattle.reg_text.specs.declared.reading.instruction_row.ActName.TheVariants.{Transfer}
 pub use Rattle.reg_text.specs.Codecs.{AreFields, Codec, Fields, IsCodec, IsRow, Row, a_date, a_figure, a_no, a_word, an_approver, any_number, factor, forms, holds_of, last, made, named_row, none, provided, row_with, tests_then, within_limits, ◌▸◌}
-pub use Rattle.reg_text.specs.Acts.{act_fields, act_name, act_names, act_word, an_act_name, form, instruction_fields_of, said}
+pub use Rattle.reg_text.specs.Acts.{IsShared, act_fields, act_name, act_names, act_word, an_act_name, form, instruction_fields_of, said}
 pub use Rattle.reg_text.specs.FieldTests.{approver_tests, correction_tests, fault_of, figure_tests, first_cause, number_tests, when}
 pub use Rattle.reg_text.specs.Table.{IsCauseOf, said_tests, tagged_tests, tests_of}
 pub use Rattle.reg_base.specs.declared.act.Act.{Act}

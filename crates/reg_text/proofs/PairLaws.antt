@@ -40,7 +40,7 @@ either-of false false (inr e) = e
 ends-so : (from more n place : ℕ) (r : Record) → from ≤ n → n < from + more → EndsAfter place r n → list_any (ends_after place r) (count_up from more) ≡ true
 ends-so from zero n place r low high e = absurd (omega arith)
 ends-so from (suc more) n place r low high e = dite (ℕ_discrete from n)
-    (λ same. either-of _ _ (inl (eq-eqb _ _ (omega arith))))
+    (λ same. either-of (ends_after place r from) _ (inl (eq-eqb (length r) (place + 2 * from) (omega arith))))
     (λ apart. either-of (ends_after place r from) _ (inr (ends-so (from + 1) more n place r (omega arith) (omega arith) e)))
 
 module _ {A B : Type 0} (c : Codec A) (d : Codec B) (h : IsCodec c) (k : IsCodec d) where

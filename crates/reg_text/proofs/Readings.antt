@@ -6,11 +6,11 @@ use mathlib.Core.List.{map-id}
 use Rattle.std.specs.Prelude.{All}
 use Rattle.std.proofs.lemmas.List.Elements.{All-from_recursion}
 use Rattle.std.specs.List.{AllByRecursion}
-use Rattle.reg_text.proofs.Names.{IsRising, Cause, Tag, Record, place, Said, row, DraftValue, accounts_in, block_closed, nothing_read, DayValue, day_with, is_text_over, day_said, day_text, IsUserNo, IsDayNo, IsInstruction, AccountValue, IsAccount, IsBehind, IsPair, CanBeSaid, IsReading, FitsSoFar, IsDraft, next_draft, at_row, at_end, after_rows}
+use Rattle.reg_text.proofs.Names.{IsRising, Instruction, IsShared, Cause, Tag, Record, place, Said, row, DraftValue, accounts_in, block_closed, nothing_read, DayValue, day_with, is_text_over, day_said, day_text, IsUserNo, IsDayNo, IsInstruction, AccountValue, IsAccount, IsBehind, IsPair, CanBeSaid, IsReading, FitsSoFar, IsDraft, next_draft, at_row, at_end, after_rows}
 use Rattle.reg_text.proofs.Names.{day_of_rows}
 use Rattle.reg_text.specs.declared.reading.tag.Tag.TheVariants as tag
 use Rattle.reg_text.proofs.ListFacts.{all-weaker}
-use Rattle.reg_text.proofs.RowLaws.{lags-fit, instruction-fits}
+use Rattle.reg_text.proofs.RowLaws.{lags-fit, instruction-fits, instruction-shared}
 use Rattle.reg_text.proofs.DraftSteps.{rows_so_far, closed-rows, closed-fits, grows, nothing-fits}
 use Rattle.reg_text.proofs.Taken.{text-taken}
 
@@ -77,6 +77,7 @@ says-a-day d h k =
         };
         follows = omega arith;
       };
+      shares = each-one (row tag.Do).Fits (λ (i : Instruction). IsShared i.act) instruction-shared d.instructions due.fits;
       pairs = each-one (row tag.Surrender).Fits IsPair (λ p f. f.1) d.surrender surrender.fits;
       pairs_rise = surrender.listed.ordered;
     }

@@ -5,11 +5,11 @@ use Rattle.std.specs.List.{AllByRecursion, flat_map}
 use Rattle.std.proofs.lemmas.List.Elements.{recursion_from_All}
 use Rattle.std.proofs.lemmas.Bool.{le-leb, lt-ltb}
 use Rattle.std.proofs.lemmas.List.{append-nil, map-append}
-use Rattle.reg_text.proofs.Names.{MOST_ACCOUNTS, MOST_RECORD, IsUserNo, IsDayNo, IsInstruction, IsRising, AccountValue, IsAccount, IsBehind, AreBelow, RetiredFits, RetirementRow, ListsValue, row_numbers, no_lists, AccountHead, Tag, Record, tag_word, last_item, as_list, Said, row, account_head, lists_of, account_with, account_block, each_row, section_rows, all_rows, key, follows, most, IsSection, DraftValue, items_said, accounts_in, account_count, nothing_read, DayValue}
+use Rattle.reg_text.proofs.Names.{MOST_ACCOUNTS, Instruction, IsShared, MOST_RECORD, IsUserNo, IsDayNo, IsInstruction, IsRising, AccountValue, IsAccount, IsBehind, AreBelow, RetiredFits, RetirementRow, ListsValue, row_numbers, no_lists, AccountHead, Tag, Record, tag_word, last_item, as_list, Said, row, account_head, lists_of, account_with, account_block, each_row, section_rows, all_rows, key, follows, most, IsSection, DraftValue, items_said, accounts_in, account_count, nothing_read, DayValue}
 use Rattle.reg_text.proofs.Names.{lags_in, day_text, IsPair, CanBeSaid, with, in_order, has_room, with_row, next_in, next_draft, after_rows}
 use Rattle.reg_text.specs.declared.reading.tag.Tag.TheVariants as tag
 use Rattle.reg_text.specs.Grammar.{row_text}
-use Rattle.reg_text.proofs.ListFacts.{all-weaker, all-rest}
+use Rattle.reg_text.proofs.ListFacts.{all-both, all-weaker, all-rest}
 use Rattle.reg_text.proofs.GrammarLaws.{each-row}
 use Rattle.reg_text.proofs.RowLaws.{fit-lags, fit-account, fit-lists, fit-instruction}
 use Rattle.reg_text.proofs.Retirements.{below-at, sum-left}
@@ -132,7 +132,7 @@ work-section : (v : DayValue) → CanBeSaid v → IsSection (Some tag.Work, v.ru
 work-section v h = let days = h.day.rules.working_days in record { fits = recursion_from_All IsDayNo v.rules.calendar days.each_day; listed = record { ordered = subst IsRising (sym (map-id v.rules.calendar)) days.rising; few = tt } }
 
 do-section : (v : DayValue) → CanBeSaid v → IsSection (Some tag.Do, v.batch.instructions)
-do-section v h = record { fits = all-weaker IsInstruction (row tag.Do).Fits fit-instruction v.batch.instructions (recursion_from_All IsInstruction v.batch.instructions h.day.batch.each); listed = record { ordered = tt; few = h.day.batch.few } }
+do-section v h = record { fits = all-both IsInstruction (λ (i : Instruction). IsShared i.act) (row tag.Do).Fits fit-instruction v.batch.instructions (recursion_from_All IsInstruction v.batch.instructions h.day.batch.each) (recursion_from_All (λ (i : Instruction). IsShared i.act) v.batch.instructions h.shares); listed = record { ordered = tt; few = h.day.batch.few } }
 
 accounts : (v : DayValue) → CanBeSaid v → AllByRecursion IsAccount v.book.accounts
 accounts v h = recursion_from_All IsAccount v.book.accounts h.day.book.within_limits

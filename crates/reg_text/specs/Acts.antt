@@ -1,18 +1,20 @@
 -- The acts that an instruction's row may name: of each its word, its fields, and how it is made of them.
-use Rattle.std.specs.Prelude.{ℕ, Bool, List, [], ◌∷◌, Result, Ok, codes}
-use Rattle.reg_base.specs.declared.limits.TheConstants.{MOST_RECORD, FIRST_YEAR, LAST_YEAR}
+use Rattle.std.specs.Prelude.{ℕ, Bool, List, [], ◌∷◌, map, length, ⊤, Result, Ok, codes}
+use Rattle.reg_base.specs.declared.limits.TheConstants.{MOST_RECORD, MOST_SHARES, FIRST_YEAR, LAST_YEAR}
 use Rattle.reg_base.specs.declared.kinds.AllowanceKind.{AllowanceKind}
 use Rattle.reg_base.specs.declared.kinds.Status.{Status}
+use Rattle.reg_base.specs.declared.shares.Share.{Share}
 use Rattle.reg_base.specs.declared.act.Act.{Act}
 use Rattle.reg_base.specs.declared.act.Act.TheVariants as act
 use Rattle.reg_base.specs.declared.instruction.Instruction.{Instruction}
+use Rattle.reg_base.specs.Numbers.{IsWithin}
 use Rattle.reg_text.specs.declared.cause.Cause.{Cause}
 use Rattle.reg_text.specs.declared.reading.instruction_row.ActName.{ActName}
-use Rattle.reg_text.specs.declared.reading.instruction_row.ActName.TheVariants.{Transfer, Surrender, Delete, Return, Reverse, Create, Central, Trust, Untrust, SetStatus, Emissions, Assess}
+use Rattle.reg_text.specs.declared.reading.instruction_row.ActName.TheVariants.{Transfer, Surrender, Delete, Return, Reverse, Create, Central, Distribute, Trust, Untrust, SetStatus, Emissions, Assess}
 use Rattle.reg_text.specs.Causes.{◌>>=◌}
 use Rattle.reg_text.specs.Records.{Record}
 use Rattle.reg_text.specs.Words.{word_of, kind_word, kind_of, status_word, status_of}
-use Rattle.reg_text.specs.Codecs.{Codec, Fields, within_limits, any_number, a_date, a_no, an_approver, a_word, last, ◌▸◌, made, forms, Row, row_with, named_row}
+use Rattle.reg_text.specs.Codecs.{Codec, Fields, within_limits, any_number, a_date, a_no, an_approver, a_word, last, ◌▸◌, made, pairs, forms, Row, row_with, named_row}
 
 -- ---- fields of acts
 
@@ -29,6 +31,31 @@ Amount = ℕ × AllowanceKind × ℕ
 
 abbrev pub amount_fields : Fields Amount
 amount_fields = made (λ p. (p.0, p.1.0, p.1.1)) (λ m. (m.0, (m.1, m.2))) (a_no ▸ a_word kind_word kind_of ▸ last any_number)
+
+-- TO,AMOUNT one to eight times
+abbrev pub share_made : ℕ × ℕ → Share
+share_made p = record { to = p.0; amount = p.1 }
+
+abbrev pub share_parts : Share → ℕ × ℕ
+share_parts share = (share.to, share.amount)
+
+abbrev pub share_pair : Fields Share
+share_pair = made share_made share_parts (a_no ▸ last any_number)
+
+abbrev pub share_fields : Fields (List Share)
+share_fields = made (map share_made) (map share_parts) (pairs MOST_SHARES a_no any_number)
+
+-- FROM,KIND and TO,AMOUNT one to eight times
+abbrev pub Distribution : Type 0
+Distribution = ℕ × AllowanceKind × List Share
+
+abbrev pub distribution_fields : Fields Distribution
+distribution_fields = made (λ p. (p.0, p.1.0, p.1.1)) (λ d. (d.0, (d.1, d.2))) (a_no ▸ a_word kind_word kind_of ▸ share_fields)
+
+-- a distribution has one share to eight
+abbrev pub IsShared : Act → Type 0
+IsShared (act.Distribute from kind shares) = IsWithin 1 MOST_SHARES (length shares)
+IsShared a = ⊤
 
 -- ACCOUNT,NUMBER
 abbrev pub record_fields : Fields (ℕ × ℕ)
@@ -67,6 +94,7 @@ form Return = record { word = codes "return"; Parts = Move; fields = move_fields
 form Reverse = record { word = codes "reverse"; Parts = ℕ × ℕ; fields = record_fields; make = λ p. act.Reverse p.0 p.1 }
 form Create = record { word = codes "create"; Parts = Amount; fields = amount_fields; make = λ p. act.Create p.0 p.1 p.2 }
 form Central = record { word = codes "central"; Parts = Move; fields = move_fields; make = λ p. act.CentralMove p.0 p.1 p.2 p.3 }
+form Distribute = record { word = codes "distribute"; Parts = Distribution; fields = distribution_fields; make = λ p. act.Distribute p.0 p.1 p.2 }
 form Trust = record { word = codes "trust"; Parts = ℕ × ℕ; fields = other_fields; make = λ p. act.Trust p.0 p.1 }
 form Untrust = record { word = codes "untrust"; Parts = ℕ × ℕ; fields = other_fields; make = λ p. act.Untrust p.0 p.1 }
 form SetStatus = record { word = codes "status"; Parts = ℕ × Status; fields = status_fields; make = λ p. act.SetStatus p.0 p.1 }
@@ -75,7 +103,7 @@ form Assess = record { word = codes "assess"; Parts = ℕ × ℕ; fields = year_
 
 -- the acts that a row may name
 abbrev pub act_names : List ActName
-act_names = Transfer ∷ Surrender ∷ Delete ∷ Return ∷ Reverse ∷ Create ∷ Central ∷ Trust ∷ Untrust ∷ SetStatus ∷ Emissions ∷ Assess ∷ []
+act_names = Transfer ∷ Surrender ∷ Delete ∷ Return ∷ Reverse ∷ Create ∷ Central ∷ Distribute ∷ Trust ∷ Untrust ∷ SetStatus ∷ Emissions ∷ Assess ∷ []
 
 -- the name and the parts of an act
 abbrev pub said : Act → (n : ActName) × (form n).Parts
@@ -86,6 +114,7 @@ said (act.ReturnExcess from to kind amount) = (Return, (from, to, kind, amount))
 said (act.Reverse account number) = (Reverse, (account, number))
 said (act.Create to kind amount) = (Create, (to, kind, amount))
 said (act.CentralMove from to kind amount) = (Central, (from, to, kind, amount))
+said (act.Distribute from kind shares) = (Distribute, (from, kind, shares))
 said (act.Trust account other) = (Trust, (account, other))
 said (act.Untrust account other) = (Untrust, (account, other))
 said (act.SetStatus account status) = (SetStatus, (account, status))

@@ -15,7 +15,7 @@ use reg_base::Day;
 use std::marker::Model;
 
 /// The bytes of the array: enough for every row except what the touched accounts hold.
-pub(crate) const ROOM: usize = 1_024;
+pub(crate) const ROOM: usize = 2_048;
 
 /// The bytes of a field with its comma, at most.
 pub(crate) const MOST_FIELD: usize = 64;
