@@ -60,7 +60,7 @@ module _ {A B : Type 0} (c : Codec A) (d : Codec B) (h : IsCodec c) (k : IsCodec
       let t = k.spelled g y.0 y.1 in
       let rest = list-spelled n fs qs.0 (omega arith) qs.1 in
       subst (λ (z : List (A × B)). (f ∷ g ∷ fs ≡ pairs_spelled c d z) × (length z ≡ suc n) × EachFits z) (ok_is ((x.0, y.0) ∷ qs.0) ps qs.2)
-          (cons s.0 (cons t.0 rest.0), ap suc rest.1, ((s.1, t.1), rest.2))
+      (cons s.0 (cons t.0 rest.0), ap suc rest.1, ((s.1, t.1), rest.2))
 
   list-again : (ps : List (A × B)) → EachFits ps → pairs_read c d (pairs_spelled c d ps) ≡ Ok ps
   list-again [] fits = refl

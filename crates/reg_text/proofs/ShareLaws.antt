@@ -1,6 +1,7 @@
 -- The shares of a distribution, as pairs of fields.
 use Rattle.std.proofs.Common.{◌≡◌, ℕ, suc, ◌+◌, ◌*◌, ◌^◌, ◌<◌, ◌≤◌, true, List, [], ◌∷◌, ◌++◌, length, map, drop, take, Result, Ok, Err, refl, sym, ap, ◌∙◌, arith}
 use Rattle.std.specs.List.{AllByRecursion}
+use Rattle.std.specs.Prelude.{MatchResult}
 use Rattle.reg_base.specs.declared.limits.TheConstants.{MOST_SHARES}
 use Rattle.reg_base.specs.declared.shares.Share.{Share}
 use Rattle.reg_text.proofs.Names.{Cause, MOST_NUMBER, IsAccountNo, IsWithin, Record, field, a_no, any_number, IsCodec, AreFields, ◌>>=◌}
@@ -54,3 +55,17 @@ by-share (Ok x) (Ok y) (Ok ps) = refl
 pub read-share : (place : ℕ) (r : Record) → suc place < length r → share_fields.read place r ≡ (share_pair.read place r >>= λ share. share_fields.read (suc (suc place)) r >>= λ shares. Ok (share ∷ shares))
 read-share place r h =
     rw (field-drop r place (omega arith), field-drop r (suc place) h) (by-share (a_no.read (field r place)) (any_number.read (field r (suc place))) (pairs_read a_no any_number (drop (suc (suc place)) r)))
+
+pub first-fault : (place : ℕ) (r : Record) (e : Cause) → suc place < length r → share_pair.read place r ≡ Err e → share_fields.read place r ≡ Err e
+first-fault place r e h first = rw (read-share place r h, first) refl
+
+-- what comes of the others after a share
+pub after-share : (place : ℕ) (r : Record) (share : Share) (rest all : List Share) (result : Result (Unit {0}) Cause) → suc place < length r → share_pair.read place r ≡ Ok share → all ≡ share ∷ rest
+    → MatchResult result (λ u. share_fields.read (place + 2) r ≡ Ok rest) (λ e. share_fields.read (place + 2) r ≡ Err e)
+    → MatchResult result (λ u. share_fields.read place r ≡ Ok all) (λ e. share_fields.read place r ≡ Err e)
+after-share place r share rest all (Ok u) h first is more =
+    let two : suc (suc place) ≡ place + 2 = omega arith in
+    rw (read-share place r h, first, two, more, is) refl
+after-share place r share rest all (Err e) h first is more =
+    let two : suc (suc place) ≡ place + 2 = omega arith in
+    rw (read-share place r h, first, two, more) refl
