@@ -1,6 +1,7 @@
 -- Lists that are kept one after another in one list, with the place behind each.
-use Rattle.std.specs.Prelude.{◌≡◌, ℕ, ◌+◌, ◌-◌, List, [], ◌∷◌, length, take, drop}
+use Rattle.std.specs.Prelude.{◌≡◌, ℕ, ◌+◌, ◌-◌, ◌≤◌, List, [], ◌∷◌, length, take, drop, slice_index_or}
 use Rattle.std.specs.List.{concat}
+use Rattle.reg_base.specs.declared.limits.TheConstants.{MOST_TOUCHED}
 
 -- the place behind each list, if the first begins here
 abbrev pub ends_from : ℕ → List (List ℕ) → List ℕ
@@ -16,3 +17,7 @@ parts_from flat start (end ∷ ends) = take (end - start) (drop start flat) ∷ 
 pub record AreFlat (lists : List (List ℕ)) (flat : List ℕ) (ends : List ℕ) : Type 0 where
   pub flat_is : flat ≡ concat lists
   pub ends_are : ends ≡ ends_from 0 lists
+
+-- each of these lists has at most as many accounts as an instruction touches
+abbrev pub AreFew : List (List ℕ) → Type 0
+AreFew lists = (index : ℕ) → length (slice_index_or lists index []) ≤ MOST_TOUCHED

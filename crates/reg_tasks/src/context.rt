@@ -13,6 +13,7 @@ ghost use Rattle.reg_base.specs.Rising.{IsRising};
 ghost use Rattle.reg_base.specs.declared.limits.TheConstants.{MOST_TOUCHED};
 ghost use Rattle.reg_tasks.specs.Names.{IsNamed};
 ghost use Rattle.reg_tasks.specs.Slots.{opened_accounts};
+ghost use Rattle.reg_tasks.specs.Touched.{AreFew};
 
 use crate::likely::Likely;
 use crate::naming::Naming;
@@ -38,6 +39,7 @@ pub struct Context<'a, N: Naming> {
     pub ghost follows: { batch.now.base + 1 ≡ book.now.next },
     pub ghost planned: { ∥ IsPlan (directory_of book.now.accounts) batch.now.instructions plan ∥₁ },
     pub ghost kept: { touched ≡ footprints (directory_of book.now.accounts) batch.now.instructions },
+    pub ghost few: { AreFew touched },
 }
 
 impl<'a, N: Naming> Context<'a, N> {
@@ -131,7 +133,6 @@ impl<'a, N: Naming> Context<'a, N> {
         ensures value { result.now ≡ footprint_at (the_day self.now) place }
         ensures few { length result.now ≤ MOST_TOUCHED }
     {
-        each_footprint_is_sound();
         self.touched.at(place)
     }
 

@@ -33,6 +33,7 @@ impl Touched {
     ghost use Rattle.reg_base.specs.Rising.{IsRising};
     ghost use Rattle.reg_book.specs.Places.{footprints};
     ghost use Rattle.reg_tasks.specs.Slots.{opened_accounts};
+    ghost use Rattle.reg_tasks.specs.Touched.{AreFew};
 
     /// The accounts that each of these instructions touches. The openings are those of their plan.
     ///
@@ -45,7 +46,8 @@ impl Touched {
         openings: &[Opening],
     ) -> Result<Touched, NoMemory>
         requires { IsRising (opened_accounts openings.now) }
-        ensures { IfOk result (λ touched. touched ≡ footprints directory.now instructions.now) }
+        ensures value { IfOk result (λ touched. touched ≡ footprints directory.now instructions.now) }
+        ensures few { IfOk result (λ touched. AreFew touched) }
     {
         let mut accounts = Vec::new(alloc);
         let mut ends = Vec::with_capacity(alloc, instructions.len())?;

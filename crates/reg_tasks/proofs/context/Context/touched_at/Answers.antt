@@ -2,7 +2,7 @@ use Rattle.std.proofs.Common.{◌-◌, [], length, get_or, ap, subst, sym, ◌�
 use Rattle.std.proofs.lemmas.List.{length-map}
 use Rattle.reg_base.specs.declared.limits.TheConstants.{MOST_TOUCHED}
 use Rattle.reg_tasks.specs.Contexts.{the_day}
-use Rattle.reg_tasks.proofs.Touching.{kept_at, few_touched}
+use Rattle.reg_tasks.proofs.Touching.{kept_at}
 use Rattle.reg_tasks.proofs.context.Context.touched_at.Goals as goal
 
 pub at-requires : goal.at-requires
@@ -19,4 +19,4 @@ returns-clause-value g c =
 
 pub returns-clause-few : goal.returns-clause-few
 returns-clause-few g c =
-    subst (λ ns. length ns ≤ MOST_TOUCHED) (sym (returns-clause-value g c)) (few_touched c.each_footprint_is_sound.ensures (the_day c.args.self.now) c.args.place)
+    subst (λ ns. length ns ≤ MOST_TOUCHED) (sym c.at.ensures) (c.args.self.now.few (c.args.place - 1))

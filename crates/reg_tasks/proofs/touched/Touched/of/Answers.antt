@@ -1,9 +1,12 @@
-use Rattle.std.proofs.Common.{◌≡◌, ◌+◌, ◌++◌, ◌∷◌, [], length, take, sym, ap, subst, ◌∙◌, rules}
+use Rattle.std.proofs.Common.{◌≡◌, ◌≤◌, ◌+◌, ◌++◌, ◌∷◌, [], length, take, sym, ap, subst, ◌∙◌, rules}
 use Rattle.std.proofs.lemmas.List.{take_more, map-append, take_all}
 use Rattle.reg_base.specs.declared.instruction.Instruction.{Instruction}
 use Rattle.reg_base.specs.Footprint.{footprint}
 use Rattle.reg_book.specs.Places.{footprints}
-use Rattle.reg_tasks.specs.Touched.{AreFlat}
+use Rattle.reg_base.specs.declared.limits.TheConstants.{MOST_TOUCHED}
+use Rattle.reg_schedules.proofs.WorldFits.{all-append}
+use Rattle.reg_tasks.specs.Touched.{AreFlat, AreFew}
+use Rattle.reg_tasks.proofs.Touching.{EachFew, few_at}
 use Rattle.reg_tasks.proofs.Flat.{flat_more, parts_are, parts_flat}
 use Rattle.reg_tasks.proofs.touched.Touched.of.Goals as goal
 
@@ -21,16 +24,24 @@ loop-instruction-preserved c =
     let accounts : c.extend_from_slice.new.self.items ≡ c.loop-instruction.accounts.items ++ xs = search rules in
     let count : c.len.result ≡ length c.extend_from_slice.new.self.items = search rules in
     let ends : c.push.new.self.items ≡ c.loop-instruction.ends.items ++ c.len.result ∷ [] = search rules in
-    let more = flat_more (footprints directory (take k is)) c.loop-instruction.accounts.items c.loop-instruction.ends.items xs c.loop-instruction.invariant in
-    subst (λ ls. AreFlat ls c.extend_from_slice.new.self.items c.push.new.self.items) (sym lists)
-    (subst (λ ys. AreFlat (footprints directory (take k is) ++ xs ∷ []) ys c.push.new.self.items) (sym accounts)
-    (subst (λ es. AreFlat (footprints directory (take k is) ++ xs ∷ []) (c.loop-instruction.accounts.items ++ xs) es)
-    (sym (ends ∙ ap (λ n. c.loop-instruction.ends.items ++ n ∷ []) (count ∙ ap length accounts))) more))
+    let more = flat_more (footprints directory (take k is)) c.loop-instruction.accounts.items c.loop-instruction.ends.items xs c.loop-instruction.invariant.flat in
+    record {
+      flat = subst (λ ls. AreFlat ls c.extend_from_slice.new.self.items c.push.new.self.items) (sym lists)
+          (subst (λ ys. AreFlat (footprints directory (take k is) ++ xs ∷ []) ys c.push.new.self.items) (sym accounts)
+          (subst (λ es. AreFlat (footprints directory (take k is) ++ xs ∷ []) (c.loop-instruction.accounts.items ++ xs) es)
+          (sym (ends ∙ ap (λ n. c.loop-instruction.ends.items ++ n ∷ []) (count ∙ ap length accounts))) more));
+      few = subst EachFew (sym lists) (all-append (λ accounts. length accounts ≤ MOST_TOUCHED) (footprints directory (take k is)) (xs ∷ []) c.loop-instruction.invariant.few (c.as_slice.ensures.few, tt));
+    }
 
 pub invariant_of-result : goal.invariant_of-result
-invariant_of-result c = parts_flat _ c.loop-instruction.accounts.items c.loop-instruction.ends.items c.loop-instruction.invariant
+invariant_of-result c = parts_flat _ c.loop-instruction.accounts.items c.loop-instruction.ends.items c.loop-instruction.invariant.flat
 
-pub returns : goal.returns
-returns c =
-    parts_are _ c.loop-instruction.accounts.items c.loop-instruction.ends.items c.loop-instruction.invariant
+pub returns-clause-value : goal.returns-clause-value
+returns-clause-value c =
+    parts_are _ c.loop-instruction.accounts.items c.loop-instruction.ends.items c.loop-instruction.invariant.flat
     ∙ ap (footprints c.args.directory.now) (take_all c.loop-instruction.instruction-index c.args.instructions.now c.loop-instruction-test.false)
+
+pub returns-clause-few : goal.returns-clause-few
+returns-clause-few c =
+    let all = subst (λ is. EachFew (footprints c.args.directory.now is)) (take_all c.loop-instruction.instruction-index c.args.instructions.now c.loop-instruction-test.false) c.loop-instruction.invariant.few in
+    subst AreFew (sym (returns-clause-value c)) (few_at _ all)
