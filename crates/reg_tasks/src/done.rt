@@ -14,7 +14,7 @@ pub struct Done<N: Naming> {
     place: u32,
     row: LogRow,
     of: PhantomData<N>,
-    pub ghost right: { IsRow N.day place row },
+    pub ghost right: { IsRowOfDay N.day place row },
 }
 
 impl<N: Naming> Done<N> {

@@ -17,7 +17,7 @@ pub struct Outcome<N: Naming> {
     place: u32,
     row: LogRow,
     parcels: Vec<Parcel<N>>,
-    pub ghost row_is: { IsRow N.day place row },
+    pub ghost row_is: { IsRowOfDay N.day place row },
     pub ghost left: { AreLeft N.day place (names_of parcels.items) },
 }
 
