@@ -1,12 +1,12 @@
 use Rattle.std.proofs.Common.{◌≡◌, true, map, Some, sym, ap, ◌∙◌}
 use Rattle.std.specs.List.{list_all}
 use Rattle.reg_plan.specs.Plans.{inward}
-use Rattle.reg_schedules.specs.Pool.{footprint_at}
+use Rattle.reg_schedules.specs.Pool.{footprint_at, tail_in}
 use Rattle.reg_schedules.specs.Docks.{names_needed}
 use Rattle.reg_tasks.specs.Contexts.{the_day}
 use Rattle.reg_tasks.specs.Parcels.{names_of}
 use Rattle.reg_tasks.specs.Slots.{standing_in, is_there}
-use Rattle.reg_tasks.proofs.Placing.{ready_stands, taken_needed, has_themselves}
+use Rattle.reg_tasks.proofs.Placing.{ready_stands, all_there, taken_needed, has_themselves}
 use Rattle.reg_schedules.proofs.Tails.{clash}
 use Rattle.reg_tasks.proofs.slots.Slots.take.Goals as goal
 
@@ -31,3 +31,14 @@ unreachable-requires g c =
     let all = has_themselves names (names_needed arrows touched)
     (taken_needed arrows (standing_in context.plan.openings c.args.self.now.slots.items) touched names (ready_stands arrows (standing_in context.plan.openings c.args.self.now.slots.items) touched ready) taken) in
     clash all (sym c.in-Err.ensures.fits)
+
+pub take_parcels-requires-clause-there : goal.take_parcels-requires-clause-there
+take_parcels-requires-clause-there g c =
+    let arrows = c.arrows_to.result.now in
+    let touched = c.touched_at-accounts.result.now in
+    let ready : list_all (λ name. is_there (standing_in c.openings-2.result.now c.deref_mut.result.now) name) (names_needed arrows touched) ≡ true =
+    ap (λ os. list_all (λ name. is_there (standing_in os c.deref_mut.result.now) name) (names_needed arrows touched)) (c.openings-2.ensures.value ∙ sym c.openings.ensures.value)
+    ∙ ap (λ ss. list_all (λ name. is_there (standing_in c.openings.result.now ss) name) (names_needed arrows touched)) (c.deref_mut.ensures.value ∙ sym c.deref.ensures.value)
+    ∙ sym c.are_ready.ensures ∙ c.if-not-are_ready.false in
+    let st = standing_in c.openings-2.result.now c.deref_mut.result.now in
+    all_there st touched (λ a. (a, tail_in arrows a)) (ready_stands arrows st touched ready)
