@@ -1,6 +1,7 @@
 -- Places by rising level are a legal order.
-use Rattle.std.proofs.Common.{◌≡◌, ℕ, zero, suc, ◌+◌, ◌<◌, inl, inr, List, [], ◌∷◌, ◌++◌, length, get_or, None, Some, arith, ap, ◌∙◌}
-use Rattle.std.specs.Prelude.{slice_get, Contains, IsPermutation}
+use Rattle.std.proofs.Common.{◌≡◌, ℕ, zero, suc, ◌+◌, ◌<◌, inl, inr, ◌&&◌, nat_eq, List, [], ◌∷◌, ◌++◌, length, get_or, None, Some, arith, tests, ap, ◌∙◌}
+use Rattle.std.specs.Prelude.{not, slice_get, Contains, IsPermutation}
+use Rattle.std.specs.Ordering.{nat_cmp, is_lt}
 use Rattle.std.specs.List.Sorted.{IsNonDecreasingBy}
 use Rattle.std.proofs.lemmas.Bool.{cases_lt}
 use Rattle.reg_base.specs.Rising.{count_up}
@@ -37,6 +38,10 @@ legal_by_level rise legal directory is plan made order same sorted =
           let at_q : level_at plan.levels (get_or order q 0) ≡ level_at plan.levels arrow.to = ap (level_at plan.levels) (at order q arrow.to to) in
           absurd (omega (arith, up, down, at_p, at_q))
     ]
+
+-- two levels tie exactly if they are one
+pub ties_are : (x y : ℕ) → (not (is_lt (nat_cmp x y)) && not (is_lt (nat_cmp y x))) ≡ nat_eq y x
+ties_are x y = grind (arith, tests)
 
 -- the first places
 pub count_more : (first n : ℕ) → count_up first (n + 1) ≡ count_up first n ++ (first + n) ∷ []

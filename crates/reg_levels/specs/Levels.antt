@@ -1,6 +1,8 @@
 -- A day's instructions level by level: which run at the same time, and what stands in the slots meanwhile.
-use Rattle.std.specs.Prelude.{◌≡◌, ◌≢◌, ◌⊎◌, ℕ, ◌+◌, ◌-◌, ◌<◌, ◌≤◌, Bool, true, List, length, take, drop, map, slice_index, Option, Some, None, if◌then◌else◌}
+use Rattle.std.specs.Prelude.{◌≡◌, ◌≢◌, ◌⊎◌, ℕ, ◌+◌, ◌-◌, ◌<◌, ◌≤◌, ◌==◌, Bool, true, List, length, take, drop, filter, map, slice_index, Option, Some, None, if◌then◌else◌}
 use Rattle.std.specs.List.{list_any}
+use Rattle.std.specs.List.Sorted.{IsNonDecreasingBy}
+use Rattle.reg_base.specs.Rising.{count_up}
 use Rattle.reg_base.specs.Touches.{is_touched}
 use Rattle.reg_plan.specs.Arrows.{touches_place}
 use Rattle.reg_plan.specs.Plans.{PlanValue, level_at}
@@ -27,6 +29,15 @@ AreBetween name day done running standing = (d : Day) → name ≡ Some d → St
 -- the places of an order from one position up to another one, counted from 0
 abbrev pub between : List ℕ → ℕ → ℕ → List ℕ
 between order from to = take (to - from) (drop from order)
+
+-- those of some places that have the level of this one
+abbrev pub with_level_of : List ℕ → ℕ → List ℕ → List ℕ
+with_level_of levels place places = filter (λ other. level_at levels other == level_at levels place) places
+
+-- the places of the plan stand by rising level, and those of one level by rising place
+pub record IsByLevel (plan : PlanValue) (order : List ℕ) : Type 0 where
+  pub rising : IsNonDecreasingBy (λ place. level_at plan.levels place) order
+  pub within : (place : ℕ) → with_level_of plan.levels place order ≡ with_level_of plan.levels place (count_up 1 (length plan.levels))
 
 -- these places have the same level
 abbrev pub IsOneLevel : PlanValue → List ℕ → ℕ → ℕ → Type 0

@@ -5,7 +5,7 @@ ghost use Rattle.reg_plan.specs.Orders.{first_order_fault};
 ghost use Rattle.reg_tasks.specs.Contexts.{the_day};
 ghost use Rattle.reg_tasks.specs.Gathering.{places_of as places_done};
 ghost use Rattle.reg_tasks.specs.Standing.{stands};
-ghost use Rattle.reg_levels.specs.Levels.{AreBetween, IsOneLevel, between};
+ghost use Rattle.reg_levels.specs.Levels.{AreBetween, IsByLevel, IsOneLevel, between};
 
 use crate::order::{level_end, order_by_level};
 use reg_base::NoMemory;
@@ -27,6 +27,7 @@ pub struct Levels<'c, 'a, N: Naming> {
     taken: usize,
     done: Vec<Done<N>>,
     pub ghost legal: { first_order_fault slots.context.now.plan order.items ≡ None },
+    pub ghost by_level: { IsByLevel slots.context.now.plan order.items },
     pub ghost ahead: { laid ≤ taken },
     pub ghost within: { taken ≤ length order.items },
     pub ghost level: { IsOneLevel slots.context.now.plan order.items laid taken },

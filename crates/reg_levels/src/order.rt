@@ -1,11 +1,11 @@
 //! The instructions of a day by rising level.
 
-ghost use Rattle.std.specs.Prelude.{◌≡◌, ◌+◌, ◌<◌, ◌≤◌, None, length, IfOk, OnOk, IsPermutation};
+ghost use Rattle.std.specs.Prelude.{◌≡◌, ℕ, ◌+◌, ◌<◌, ◌≤◌, None, length, IfOk, OnOk, IsPermutation};
 ghost use Rattle.std.specs.List.Sorted.{IsNonDecreasingBy};
 ghost use Rattle.reg_base.specs.Rising.{count_up};
 ghost use Rattle.reg_plan.specs.Plans.{level_at};
 ghost use Rattle.reg_plan.specs.Orders.{first_order_fault};
-ghost use Rattle.reg_levels.specs.Levels.{AreRestOrMost, IsOneLevel};
+ghost use Rattle.reg_levels.specs.Levels.{AreRestOrMost, IsByLevel, IsOneLevel, with_level_of};
 
 use reg_base::NoMemory;
 use reg_plan::Plan;
@@ -38,6 +38,7 @@ fn places(alloc: Global, count: u32) -> Result<Vec<u32>, NoMemory>
 fn sort_by_level(levels: &[u32], places: &mut Vec<u32>) -> Result<(), NoMemory>
     ensures same { IsPermutation places.old.items places.new.items }
     ensures sorted { OnOk result (IsNonDecreasingBy (λ place. level_at levels.now place) places.new.items) }
+    ensures kept { OnOk result ((place : ℕ) → with_level_of levels.now place places.new.items ≡ with_level_of levels.now place places.old.items) }
 {
     places.sort_by_key(|place| level_of(levels, *place))?;
     Ok(())
@@ -48,7 +49,8 @@ pub(crate) fn order_by_level<N: Naming>(
     alloc: Global,
     context: &Context<N>,
 ) -> Result<Vec<u32>, NoMemory>
-    ensures { IfOk result (λ order. first_order_fault context.now.plan order.items ≡ None) }
+    ensures legal { IfOk result (λ order. first_order_fault context.now.plan order.items ≡ None) }
+    ensures by_level { IfOk result (λ order. IsByLevel context.now.plan order.items) }
 {
     levels_rise_along_arrows();
     no_fault_is_a_legal_order();

@@ -10,7 +10,7 @@ use Rattle.reg_tasks.specs.Parcels.{names_of}
 use Rattle.reg_tasks.specs.Slots.{laid_at}
 use Rattle.reg_tasks.specs.Standing.{stands}
 use Rattle.reg_tasks.proofs.Placing.{laid_left}
-use Rattle.reg_levels.specs.Levels.{StandsBetween, IsOneLevel, between}
+use Rattle.reg_levels.specs.Levels.{StandsBetween, IsByLevel, IsOneLevel, between}
 use Rattle.reg_levels.proofs.Between.{between_first, laid_more}
 use Rattle.reg_levels.proofs.Apart.{untouched_after, level_more}
 use Rattle.reg_levels.proofs.levels.Levels.lay_one.Goals as goal
@@ -25,6 +25,7 @@ invariant_of-self-2 g c =
     let pushed : c.push_reserved.new.self.items ≡ l.done.items ++ c.in-Ok.done ∷ [] = search rules in
     record {
       legal = subst (λ x. first_order_fault x.plan order ≡ None) (sym c.in-Ok.ensures.context) l.legal;
+      by_level = subst (λ x. IsByLevel x.plan order) (sym c.in-Ok.ensures.context) l.by_level;
       ahead = let r = c.requires.running in omega (arith, r);
       within = l.within;
       level = subst (λ x. IsOneLevel x.plan order (l.laid + 1) l.taken) (sym c.in-Ok.ensures.context) (level_more context.plan order l.laid l.taken l.level);

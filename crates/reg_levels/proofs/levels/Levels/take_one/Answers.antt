@@ -8,7 +8,7 @@ use Rattle.reg_schedules.proofs.Tails.{clash}
 use Rattle.reg_tasks.proofs.Gathering.{no_name}
 use Rattle.reg_tasks.proofs.Placing.{lack_from, err_from}
 use Rattle.reg_tasks.proofs.OrderSteps.{faultless_at, within_at}
-use Rattle.reg_levels.specs.Levels.{StandsBetween, IsOneLevel, between}
+use Rattle.reg_levels.specs.Levels.{StandsBetween, IsByLevel, IsOneLevel, between}
 use Rattle.reg_levels.proofs.Between.{between_more, taken_more}
 use Rattle.reg_levels.proofs.Apart.{ready_next}
 use Rattle.reg_levels.proofs.levels.Levels.take_one.Goals as goal
@@ -45,6 +45,7 @@ invariant_of-self-2 g c =
     let is : c.index-place.result.now ≡ get_or order l.taken 0 = c.index-place.ensures ∙ get_or_default_zero l.order.items l.taken c.index-place.result.now c.requires.left in
     record {
       legal = subst (λ x. first_order_fault x.plan order ≡ None) (sym c.in_ok-task.ensures.context) l.legal;
+      by_level = subst (λ x. IsByLevel x.plan order) (sym c.in_ok-task.ensures.context) l.by_level;
       ahead = omega (arith, l.ahead);
       within = omega (arith, c.requires.left);
       level = subst (λ x. IsOneLevel x.plan order l.laid (l.taken + 1)) (sym c.in_ok-task.ensures.context) c.requires.level;
