@@ -1,3 +1,4 @@
 pub mod Awaiting
 pub mod Starting
 pub mod Heads
+pub mod Wanted
