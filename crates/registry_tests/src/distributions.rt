@@ -86,9 +86,9 @@ fn awaited(rt: &impl Abort, alloc: Global, text: &str, accounts: &[u32]) -> usiz
     assert!(rt; batch.len() == 1);
     let (mut dock, task) = Dock::new(alloc, &context, 1).expect(rt, "memory");
     assert!(rt; task.is_none());
-    let mut came = 0;
+    let mut came: usize = 0;
     for account in accounts {
-        came += 1;
+        came = came.saturating_add(1);
         let Ok(task) = dock.deliver(opening(rt, alloc, &context, *account)) else {
             panic!(rt; "a value that is not awaited");
         };
