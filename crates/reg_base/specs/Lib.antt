@@ -7,6 +7,7 @@ pub mod Refusals
 pub mod Rules
 pub mod Directory
 pub mod Padding
+pub mod Periods
 pub mod Acts
 pub mod Instructions
 pub mod Footprint

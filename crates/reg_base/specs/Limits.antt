@@ -1,6 +1,6 @@
 -- The limits of this profile, each as a number.
 use Rattle.std.specs.Prelude.{◌≡◌, pos}
-use Rattle.reg_base.specs.declared.limits.TheConstants.{MOST_ACCOUNTS, MOST_INSTRUCTIONS, MOST_ADMINISTRATORS, MOST_NUMBER, MOST_RECORD, MOST_HELD, MOST_RETIRED, MOST_USERS, MOST_TRUSTED, MOST_ROWS, MOST_EMISSIONS, MOST_FIGURE, MOST_CORRECTION, MOST_LAG, FIRST_YEAR, LAST_YEAR, FIRST_DAY, LAST_DAY, MOST_SHARES, MOST_TOUCHED}
+use Rattle.reg_base.specs.declared.limits.TheConstants.{MOST_ACCOUNTS, MOST_INSTRUCTIONS, MOST_ADMINISTRATORS, MOST_NUMBER, MOST_RECORD, MOST_HELD, MOST_RETIRED, MOST_USERS, MOST_TRUSTED, MOST_ROWS, MOST_EMISSIONS, MOST_FIGURE, MOST_CORRECTION, MOST_LAG, FIRST_YEAR, LAST_YEAR, FIRST_DAY, LAST_DAY, MOST_SHARES, MOST_TOUCHED, MOST_PERIODS}
 
 -- law: each limit is this number
 pub record LimitsAreTheseNumbers : Type 0 where
@@ -24,3 +24,4 @@ pub record LimitsAreTheseNumbers : Type 0 where
   pub last_day : LAST_DAY ≡ 47846
   pub shares : MOST_SHARES ≡ 8
   pub touched : MOST_TOUCHED ≡ 9
+  pub periods : MOST_PERIODS ≡ 8

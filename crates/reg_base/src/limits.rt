@@ -40,3 +40,5 @@ pub const LAST_DAY: u32 = 47_846;
 pub const MOST_SHARES: usize = 8;
 /// The most accounts that one instruction touches: the first, and those that receive.
 pub const MOST_TOUCHED: usize = 9;
+/// The most periods that the rules of a day name.
+pub const MOST_PERIODS: u8 = 8;

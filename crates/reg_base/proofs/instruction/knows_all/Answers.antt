@@ -1,4 +1,4 @@
-use Rattle.std.proofs.Common.{◌≡◌, ◌&&◌, true, sym, ap, ◌∙◌}
+use Rattle.std.proofs.Common.{◌&&◌, true, sym, ap, ◌∙◌}
 use Rattle.std.specs.Option.{option_map_or}
 use Rattle.reg_base.specs.Acts.{other_known}
 use Rattle.reg_base.specs.Directory.{is_known}

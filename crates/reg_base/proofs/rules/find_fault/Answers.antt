@@ -1,7 +1,7 @@
 use Rattle.std.proofs.Common.{sym, subst, ◌∙◌, arith}
 use Rattle.reg_base.specs.Rising.{IsRising, FirstNotRising}
 use Rattle.reg_base.specs.Rules.{rules_of}
-use Rattle.reg_base.proofs.Faults.{admins-fault, long-fault, last-fault, same_lt}
+use Rattle.reg_base.proofs.Faults.{admins-fault, long-fault, after-lags}
 use Rattle.reg_base.proofs.rules.find_fault.Goals as goal
 
 pub returns-in-Some-clause-first : goal.returns-in-Some-clause-first
@@ -14,5 +14,5 @@ returns-then-has_long_lag-clause-first c =
 
 pub returns-clause-first : goal.returns-clause-first
 returns-clause-first c =
-    last-fault (rules_of c.args.parts.now) c.lt.result c.then_some.result (omega arith) (subst IsRising c.deref.ensures.value (c.in_default.ensures {u = tt})) (c.if-has_long_lag.ensures {u = tt}).0
-    (c.lt.ensures ∙ same_lt c.args.parts.now.last_year c.args.parts.now.first_year) c.then_some.ensures
+    c.find_period_fault.ensures.first
+    ∙ sym (after-lags (rules_of c.args.parts.now) (omega arith) (subst IsRising c.deref.ensures.value (c.in_default.ensures {u = tt})) (c.if-has_long_lag.ensures {u = tt}).0)

@@ -1,4 +1,4 @@
-use Rattle.std.proofs.Common.{◌≡◌, ◌++◌, cond, [], sym, ap, ◌∙◌}
+use Rattle.std.proofs.Common.{◌++◌, cond, [], sym, ap, ◌∙◌}
 use Rattle.std.specs.Option.{option_to_list}
 use Rattle.std.specs.List.{list_all}
 use Rattle.reg_base.specs.declared.movement.Movement.{Movement}
