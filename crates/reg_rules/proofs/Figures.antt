@@ -1,41 +1,53 @@
 -- The compliance figure of an account within its limits is within its own.
-use Rattle.std.proofs.Common.{◌≡◌, ℕ, zero, suc, ◌+◌, ◌-◌, ◌*◌, ◌≤◌, Bool, true, false, cond, ◌&&◌, not, eqb, ℤ, pos, ◌-ℤ◌, ◌+ℤ◌, List, [], ◌∷◌, find, Option, Some, None, Result, Ok, Err, ap, subst, arith}
+use Rattle.std.proofs.Common.{◌≡◌, ℕ, zero, suc, ◌+◌, ◌-◌, ◌*◌, ◌≤◌, Bool, true, false, cond, ◌&&◌, not, eqb, ℤ, pos, ◌-ℤ◌, ◌+ℤ◌, List, [], ◌∷◌, find, Option, Some, None, Result, Ok, Err, refl, ap, subst, arith}
 use Rattle.std.specs.Prelude.{unwrap_or}
-use Rattle.std.specs.Option.{option_map}
+use Rattle.std.specs.Option.{option_map, option_map_or}
 use Rattle.std.specs.List.{sum_by, AllByRecursion}
 use Rattle.std.proofs.lemmas.Int.{ints}
+use Rattle.std.proofs.lemmas.Option.{same_Some, none-some}
+use Rattle.std.proofs.lemmas.List.Elements.{recursion_from_All}
 use Rattle.std.proofs.lemmas.List.Sums.{sum_by-cons}
 use Rattle.reg_base.specs.declared.limits.TheConstants.{MOST_HELD, MOST_EMISSIONS}
 use Rattle.reg_base.specs.declared.kinds.AllowanceKind.{AllowanceKind}
 use Rattle.reg_base.specs.declared.kinds.AllowanceKind.TheVariants.{General, Aviation}
 use Rattle.reg_base.specs.Numbers.{IsYearNo}
 use Rattle.reg_base.specs.Rising.{count_up}
-use Rattle.reg_base.specs.Rules.{RulesValue, AreRules, is_in_period}
-use Rattle.reg_base.specs.declared.kinds.Retirement.{Retirement}
-use Rattle.reg_base.specs.declared.kinds.Retirement.TheVariants.{Surrendered, Deleted}
+use Rattle.reg_base.specs.Periods.{is_within}
+use Rattle.reg_base.specs.Rules.{RulesValue, AreRules, period_of, period_with, is_in_period}
+use Rattle.reg_base.specs.declared.kinds.Retirement.TheVariants.{Surrendered}
+use Rattle.reg_account.specs.declared.rows.Fate.{Fate}
+use Rattle.reg_account.specs.declared.rows.Fate.TheVariants as fate
 use Rattle.reg_account.specs.declared.rows.RetirementRow.{RetirementRow}
+use Rattle.reg_account.specs.declared.corrections.Correction.{Correction}
+use Rattle.reg_account.specs.Corrections.{LaterFits, CorrectionsFit, factor_in}
 use Rattle.reg_account.specs.declared.years.Emission.{Emission}
 use Rattle.reg_account.specs.declared.figure.FigureFault.TheVariants.{YearOutsidePeriod}
-use Rattle.reg_account.specs.Rows.{is_same_retirement, is_same_kind, amount_in, retired_in}
+use Rattle.reg_account.specs.Rows.{retirement_of, is_for, is_same_retirement, is_same_kind, amount_in, retired_in}
 use Rattle.reg_account.specs.Years.{emissions_in, EmissionFits, FigureFits}
-use Rattle.reg_account.specs.Account.{AccountValue, IsAccount, CorrectionFits}
-use Rattle.reg_account.specs.Figure.{is_row_counted, surrendered_for, emitted_in, years_counted, first_missing, figure_with, figure_by, emitted_unless, figure_of}
+use Rattle.reg_account.specs.Account.{AccountValue, IsAccount, CorrectionFits, correction_of}
+use Rattle.reg_account.specs.Figure.{is_row_counted, surrendered_for, correction_added, emitted_in, years_from, years_counted, first_missing, figure_with, figure_by, emitted_unless, figure_of}
 
 -- a row counts for a figure at most as it counts for its kind
-row-counted : (way : Retirement) (kind : AllowanceKind) (reversed : Bool) (amount : ℕ)
-    → cond (is_same_retirement way Surrendered && not reversed) amount 0
-    ≤ cond (is_same_retirement way Surrendered && (is_same_kind kind General && not reversed)) amount 0 + cond (is_same_retirement way Surrendered && (is_same_kind kind Aviation && not reversed)) amount 0
-row-counted Surrendered General true amount = omega arith
-row-counted Surrendered General false amount = omega arith
-row-counted Surrendered Aviation true amount = omega arith
-row-counted Surrendered Aviation false amount = omega arith
-row-counted Deleted kind reversed amount = omega arith
+row-counted : (own : Option ℕ) (f : Fate) (kind : AllowanceKind) (reversed : Bool) (amount : ℕ)
+    → cond (option_map_or (λ period. is_for period f) own false && not reversed) amount 0
+    ≤ cond (is_same_retirement (retirement_of f) Surrendered && (is_same_kind kind General && not reversed)) amount 0
+    + cond (is_same_retirement (retirement_of f) Surrendered && (is_same_kind kind Aviation && not reversed)) amount 0
+row-counted None f kind reversed amount = omega arith
+row-counted (Some period) fate.Deleted kind reversed amount = omega arith
+row-counted (Some period) (fate.Surrendered named) kind reversed amount = go (eqb named period) kind reversed where
+  go : (b : Bool) (kind : AllowanceKind) (reversed : Bool)
+      → cond (b && not reversed) amount 0 ≤ cond (is_same_kind kind General && not reversed) amount 0 + cond (is_same_kind kind Aviation && not reversed) amount 0
+  go true General true = omega arith
+  go true General false = omega arith
+  go true Aviation true = omega arith
+  go true Aviation false = omega arith
+  go false kind reversed = omega arith
 
 rows-counted : (rules : RulesValue) (year : ℕ) (rows : List RetirementRow)
     → sum_by (λ row. cond (is_row_counted rules year row) row.amount 0) rows ≤ retired_in Surrendered General rows + retired_in Surrendered Aviation rows
 rows-counted rules year [] = omega arith
 rows-counted rules year (x ∷ xs) =
-    let here = row-counted x.retirement x.kind x.reversed x.amount in
+    let here = row-counted (period_of rules year) x.fate x.kind x.reversed x.amount in
     let more = rows-counted rules year xs in
     let f = λ (row : RetirementRow). cond (is_row_counted rules year row) row.amount 0 in
     let counted : sum_by f (x ∷ xs) ≡ f x + sum_by f xs = sum_by-cons f x xs in
@@ -60,6 +72,48 @@ emitted-fit v first (suc n) all =
     let sum : sum_by f (first ∷ count_up (first + 1) n) ≡ f first + sum_by f (count_up (first + 1) n) = sum_by-cons f first (count_up (first + 1) n) in
     omega (arith, here, more, sum)
 
+-- what a search finds has what all of the list have
+found-has : {X : Type 0} (P : X → Type 0) (test : X → Bool) (xs : List X) (x : X) → AllByRecursion P xs → find test xs ≡ Some x → P x
+found-has P test [] x all found = absurd (none-some x found)
+found-has {X} P test (y ∷ ys) x all found = go (test y) found (found-has P test ys x all.1) where
+  go : (b : Bool) → cond b (Some y) (find test ys) ≡ Some x → (find test ys ≡ Some x → P x) → P x
+  go true here more = subst P (same_Some y x here) all.0
+  go false here more = more here
+
+-- the years of a period up to this one are at most those from 2021 on
+emitted-few : (rules : RulesValue) (v : AccountValue) (year : ℕ) → AreRules rules → IsYearNo year → AllByRecursion EmissionFits v.emissions → emitted_in v (years_counted rules year) ≤ 80 * MOST_EMISSIONS
+emitted-few rules v year are in_range all = go (period_with rules year) refl where
+  go : (o : Option (ℕ × ℕ)) → period_with rules year ≡ o → emitted_in v (option_map_or (years_from year) o []) ≤ 80 * MOST_EMISSIONS
+  go None found = omega arith
+  go (Some period) found =
+      let own = found-has (λ p. IsYearNo p.0 × IsYearNo p.1) (λ p. is_within p year) rules.periods period (recursion_from_All (λ (p : ℕ × ℕ). IsYearNo p.0 × IsYearNo p.1) rules.periods are.each_year) found in
+      let from = own.0.low in
+      let to = in_range.high in
+      let sum = emitted-fit v period.0 (year + 1 - period.0) all in
+      omega (arith, from, to, sum)
+
+zero-fits : CorrectionFits (pos 0)
+zero-fits = record { low = omega (arith, ints); high = omega (arith, ints) }
+
+-- the factor of a period is within its limits
+listed-fits : (corrections : List Correction) (period : ℕ) → CorrectionsFit corrections → CorrectionFits (factor_in corrections period)
+listed-fits corrections period fit = go (find (λ c. eqb c.period period) corrections) refl where
+  go : (o : Option Correction) → find (λ c. eqb c.period period) corrections ≡ o → CorrectionFits (option_map_or (λ (c : Correction). c.factor) o (pos 0))
+  go None found = zero-fits
+  go (Some c) found = (found-has LaterFits (λ d. eqb d.period period) corrections c fit.each found).factor
+
+factor-fits : (v : AccountValue) (period : ℕ) → IsAccount v → CorrectionFits (correction_of v period)
+factor-fits v period is = go (eqb period 1) where
+  go : (b : Bool) → CorrectionFits (cond b v.correction (factor_in v.corrections period))
+  go true = is.correction_fits
+  go false = listed-fits v.corrections period is.corrections_fit
+
+added-fits : (rules : RulesValue) (v : AccountValue) (year : ℕ) → IsAccount v → CorrectionFits (correction_added rules v year)
+added-fits rules v year is = go (period_of rules year) where
+  go : (o : Option ℕ) → CorrectionFits (option_map_or (correction_of v) o (pos 0))
+  go None = zero-fits
+  go (Some period) = factor-fits v period is
+
 within : (surrendered emitted years : ℕ) (correction : ℤ) → surrendered ≤ MOST_HELD + MOST_HELD → emitted ≤ years * MOST_EMISSIONS → years ≤ 80 → CorrectionFits correction
     → FigureFits (pos surrendered -ℤ pos emitted +ℤ correction)
 within surrendered emitted years correction most few count fits =
@@ -77,13 +131,11 @@ pub figure-fits : (rules : RulesValue) (v : AccountValue) (year : ℕ) → AreRu
 figure-fits rules v year are in_range is figure found = go (is_in_period rules year) (first_missing v (years_counted rules year)) found where
   all : FigureFits (figure_with rules v year (emitted_in v (years_counted rules year)))
   all =
-      let from = are.from_year.low in
-      let to = in_range.high in
       let sums = rows-counted rules year v.rows in
       let general = is.retired_fits.at Surrendered General in
       let aviation = is.retired_fits.at Surrendered Aviation in
-      within (surrendered_for rules v year) (emitted_in v (years_counted rules year)) (year + 1 - rules.first_year) v.correction
-      (omega (arith, sums, general, aviation)) (emitted-fit v rules.first_year (year + 1 - rules.first_year) is.emissions_fit.each) (omega (arith, from, to)) is.correction_fits
+      within (surrendered_for rules v year) (emitted_in v (years_counted rules year)) 80 (correction_added rules v year)
+      (omega (arith, sums, general, aviation)) (emitted-few rules v year are in_range is.emissions_fit.each) (omega arith) (added-fits rules v year is)
 
   go : (b : Bool) (o : Option ℕ) → cond b (figure_by rules v year (emitted_unless v (years_counted rules year) o)) (Err YearOutsidePeriod) ≡ Ok figure → FigureFits figure
   go true None same = subst FigureFits (same-ok (figure_with rules v year (emitted_in v (years_counted rules year))) figure same) all

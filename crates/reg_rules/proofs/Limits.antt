@@ -16,11 +16,13 @@ use Rattle.reg_base.specs.declared.instruction.Instruction.{Instruction}
 use Rattle.reg_base.specs.declared.refusals.Refusal.{Refusal}
 use Rattle.reg_base.specs.Numbers.{IsAccountNo, IsDayNo, IsRecordNo, IsYearNo}
 use Rattle.reg_base.specs.Calendar.{is_due}
-use Rattle.reg_base.specs.Rules.{AreRules}
+use Rattle.reg_base.specs.declared.kinds.Retirement.{Retirement}
+use Rattle.reg_base.specs.declared.kinds.Retirement.TheVariants.{Surrendered, Deleted}
+use Rattle.reg_base.specs.Rules.{RulesValue, AreRules}
 use Rattle.reg_base.specs.Acts.{movement_of, change_of, first, shares, years, years_named, others, others_named}
 use Rattle.reg_account.specs.declared.rows.RetirementRow.{RetirementRow}
 use Rattle.reg_account.specs.declared.figure.FigureFault.{FigureFault}
-use Rattle.reg_account.specs.Rows.{row_numbers, row_in, with_mark, AreBelow}
+use Rattle.reg_account.specs.Rows.{FateFits, row_numbers, row_in, with_mark, AreBelow}
 use Rattle.reg_account.specs.Years.{FigureFits}
 use Rattle.reg_account.specs.Account.{AccountValue, IsAccount, held_by, credited, unretired_row, CanTrust}
 use Rattle.reg_account.specs.Figure.{figure_of}
@@ -28,7 +30,7 @@ use Rattle.reg_account.specs.Laws.{ChangesKeepLimits}
 use Rattle.reg_rules.specs.State.{State, Setting, account}
 use Rattle.reg_rules.specs.Checks.{refusal}
 use Rattle.reg_rules.specs.Trust.{effective_day}
-use Rattle.reg_rules.specs.Effect.{listed_from, assessed, made_by, first_after, share_of, given, by_part, with_changes, changed_by, CanMake, CanChange, IsBehind}
+use Rattle.reg_rules.specs.Effect.{fate_of, listed_from, assessed, made_by, first_after, share_of, given, by_part, with_changes, changed_by, CanMake, CanChange, IsBehind}
 use Rattle.reg_rules.specs.Step.{step_by}
 use Rattle.reg_rules.specs.Laws.{IsReady, StaysReadyInStep}
 use Rattle.reg_rules.proofs.Applied.{can-change}
@@ -61,10 +63,15 @@ module _ (laws : ChangesKeepLimits) where
   fit-listed v other (Some day) days in_range can is = laws.trust v (record { account = other; effective = day }) is can (record { number = in_range; day = days day refl })
   fit-listed v other None days in_range can is = is
 
+  -- the current period is one of the periods, of which there are at most eight
+  fate-fits : (rules : RulesValue) (way : Retirement) → AreRules rules → FateFits (fate_of rules way)
+  fate-fits rules Surrendered are = let few = are.fit.periods_fit.few in let low = are.fit.current_fits.low in let high = are.fit.current_fits.high in record { low = omega (arith, low); high = omega (arith, few, high) }
+  fate-fits rules Deleted are = tt
+
   first-fits : (c : Setting) (n : ℕ) (made : Change) (v : AccountValue) → AreRules c.rules → IsDayNo c.day → IsRecordNo n → InRange made → CanMake c n made v → IsAccount v → IsAccount (made_by c n made v)
   first-fits c n (Debit kind amount) v rules day numbered in_range can is = laws.debit v kind amount is
   first-fits c n (Credit kind amount) v rules day numbered in_range can is = laws.credit v kind amount is can
-  first-fits c n (Retire way kind amount) v rules day numbered in_range can is = laws.retire v _ is can (record { number = numbered; day = day })
+  first-fits c n (Retire way kind amount) v rules day numbered in_range can is = laws.retire v _ is can (fate-fits c.rules way rules) (record { number = numbered; day = day })
   first-fits c n (Unretire number) v rules day numbered in_range can is = laws.unretire v number is can
   first-fits c n (Trust other) v rules day numbered in_range can is = fit-listed v other (effective_day c) (λ effective due. day-found c.rules.calendar (is_due c.rules.calendar c.day c.rules.list_lag) effective rules.working_days.each_day due) in_range.others_fit.0 can is
   first-fits c n (Untrust other) v rules day numbered in_range can is = laws.untrust v other is
@@ -95,6 +102,7 @@ module _ (laws : ChangesKeepLimits) where
           own_number = all.0.own_number;
           own_holder = all.0.own_holder;
           correction_fits = all.0.correction_fits;
+          corrections_fit = all.0.corrections_fit;
           holdings_fit = is.holdings_fit;
           users_fit = all.0.users_fit;
           trusted_fit = is.trusted_fit;

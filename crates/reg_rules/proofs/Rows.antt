@@ -8,7 +8,7 @@ use Rattle.reg_base.specs.declared.kinds.AllowanceKind.{AllowanceKind}
 use Rattle.reg_base.specs.RisesFrom.{RisesFrom}
 use Rattle.reg_base.specs.declared.kinds.Retirement.{Retirement}
 use Rattle.reg_account.specs.declared.rows.RetirementRow.{RetirementRow}
-use Rattle.reg_account.specs.Rows.{is_same_retirement, is_same_kind, amount_in, retired_in, row_numbers, row_in, marked_reversed, with_mark, AreBelow}
+use Rattle.reg_account.specs.Rows.{retirement_of, is_same_retirement, is_same_kind, amount_in, retired_in, row_numbers, row_in, marked_reversed, with_mark, AreBelow}
 
 pub row-number : (rows : List RetirementRow) (number : ℕ) (row : RetirementRow) → row_in rows number ≡ Some row → row.number ≡ number
 row-number [] number row found = absurd (none-some row found)
@@ -69,7 +69,7 @@ marks-none number low (x ∷ xs) above rises =
     ∙ ap (λ ys. x ∷ ys) (marks-none number (suc x.number) xs (omega (arith, at, above)) rises.1)
 
 counts-no-more : (way : Retirement) (kind : AllowanceKind) (row : RetirementRow) → amount_in way kind (record row { reversed = true }) ≡ 0
-counts-no-more way kind row = go (is_same_retirement row.retirement way) (is_same_kind row.kind kind) where
+counts-no-more way kind row = go (is_same_retirement (retirement_of row.fate) way) (is_same_kind row.kind kind) where
   go : (a b : Bool) → cond (a && (b && false)) row.amount 0 ≡ 0
   go true true = refl
   go true false = refl

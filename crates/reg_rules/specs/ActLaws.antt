@@ -12,6 +12,8 @@ use Rattle.reg_base.specs.Footprint.{is_among}
 use Rattle.reg_base.specs.Calendar.{due}
 use Rattle.reg_base.specs.declared.kinds.Retirement.{Retirement}
 use Rattle.reg_base.specs.declared.kinds.Retirement.TheVariants.{Surrendered, Deleted}
+use Rattle.reg_account.specs.declared.rows.Fate.{Fate}
+use Rattle.reg_account.specs.declared.rows.Fate.TheVariants as fate
 use Rattle.reg_account.specs.declared.rows.RetirementRow.{RetirementRow}
 use Rattle.reg_account.specs.Rows.{amount_in}
 use Rattle.reg_account.specs.Account.{AccountValue}
@@ -117,11 +119,11 @@ pub record IsRetired (s t : State) (from : ℕ) (new : RetirementRow) : Type 0 w
   pub statuses_stay : StatusesStay s t
   pub rest_stays : RestStays s t
 
--- an accepted surrender (or deletion) records its amount as surrendered (or deleted) today, under its record number, and does nothing else
-abbrev pub Retires : Retirement → (ℕ → AllowanceKind → ℕ → Act) → Type 0
-Retires way act = (c : Setting) (s : State) (number : ℕ) (i : Instruction) (from : ℕ) (kind : AllowanceKind) (amount : ℕ)
+-- an accepted surrender (or deletion) records its amount as surrendered for the current period (or deleted) today, under its record number, and does nothing else
+abbrev pub Retires : (Setting → Fate) → (ℕ → AllowanceKind → ℕ → Act) → Type 0
+Retires fate_in act = (c : Setting) (s : State) (number : ℕ) (i : Instruction) (from : ℕ) (kind : AllowanceKind) (amount : ℕ)
     → i.act ≡ act from kind amount → IsReady number s → refusal c s i ≡ None
-    → IsRetired s (after_step c s number i) from (record { number = number; retirement = way; kind = kind; amount = amount; day = c.day; reversed = false })
+    → IsRetired s (after_step c s number i) from (record { number = number; fate = fate_in c; kind = kind; amount = amount; day = c.day; reversed = false })
 
 -- the second state is the first, except that the allowances of this row are back, and the row is marked as reversed
 pub record IsReversed (s t : State) (a : ℕ) (old : RetirementRow) : Type 0 where
@@ -236,8 +238,8 @@ Sets = (c : Setting) (s : State) (number : ℕ) (i : Instruction) (a : ℕ) (new
 -- law: what each act makes of the state
 pub record ActLaws : Type 0 where
   pub transfer : Moves (λ from to kind amount. Transfer from to kind amount)
-  pub surrender : Retires Surrendered (λ from kind amount. Surrender from kind amount)
-  pub delete : Retires Deleted (λ from kind amount. Delete from kind amount)
+  pub surrender : Retires (λ c. fate.Surrendered c.rules.current) (λ from kind amount. Surrender from kind amount)
+  pub delete : Retires (λ c. fate.Deleted) (λ from kind amount. Delete from kind amount)
   pub return_excess : Moves (λ from to kind amount. ReturnExcess from to kind amount)
   pub reverse : Reverses
   pub create : Creates

@@ -13,11 +13,13 @@ use Rattle.reg_base.specs.declared.movement.Change.TheVariants.{Credit, Retire, 
 use Rattle.reg_base.specs.declared.instruction.Instruction.{Instruction}
 use Rattle.reg_base.specs.Acts.{movement_of, change_of, amounts, tonnes_named, years_named}
 use Rattle.reg_base.specs.Calendar.{due}
-use Rattle.reg_base.specs.Rules.{RulesValue, may_surrender, is_in_period}
+use Rattle.reg_base.specs.Rules.{RulesValue, may_surrender, is_year_of, is_in_period}
 use Rattle.reg_base.specs.Footprint.{must_be_known, all_known}
 use Rattle.reg_base.specs.Refusals.{checks}
 use Rattle.reg_base.specs.declared.kinds.Retirement.{Retirement}
 use Rattle.reg_base.specs.declared.kinds.Retirement.TheVariants.{Surrendered}
+use Rattle.reg_account.specs.declared.rows.Fate.{Fate}
+use Rattle.reg_account.specs.declared.rows.Fate.TheVariants as fate
 use Rattle.reg_account.specs.declared.rows.RetirementRow.{RetirementRow}
 use Rattle.reg_account.specs.declared.years.Figure.{Figure}
 use Rattle.reg_account.specs.declared.figure.FigureFault.{FigureFault}
@@ -122,9 +124,9 @@ abbrev pub are_rows_full : Change → Seen → Bool
 are_rows_full (Retire way kind amount) e = has_all_rows e
 are_rows_full made e = false
 
--- the determined figure of the latest year of the period that has one; the figures of an account rise by year
-abbrev pub latest_determined : RulesValue → AccountValue → Option Figure
-latest_determined rules v = find (λ f. is_in_period rules f.year) (reverse v.figures)
+-- the determined figure of the latest year of this period that has one; the figures of an account rise by year
+abbrev pub latest_determined : RulesValue → ℕ → AccountValue → Option Figure
+latest_determined rules period v = find (λ f. is_year_of rules period f.year) (reverse v.figures)
 
 -- there is a figure, and it is below 0
 abbrev pub is_negative : Result ℤ FigureFault → Bool
@@ -140,24 +142,29 @@ is_compliant (Err fault) = false
 abbrev pub counted_amount : RulesValue → ℕ → RetirementRow → ℕ
 counted_amount rules year row = if is_row_counted rules year row then row.amount else 0
 
--- by how much the figure of the year falls if this row is reversed
-abbrev pub lost_by : RulesValue → ℕ → Option RetirementRow → ℕ
-lost_by rules year found = option_map_or (counted_amount rules year) found 0
-
 -- the figure of the year is 0 or more, and would be below 0 after the reversal
 abbrev pub turns_negative : RulesValue → ℕ → AccountValue → ℕ → Bool
 turns_negative rules number v year = is_compliant (figure_of rules v year) && is_negative (figure_of rules (unretired v number) year)
 
--- so it is for the latest year of the period that has a determined figure
+-- so it is for the latest year of this period that has a determined figure
+abbrev pub turns_in : RulesValue → ℕ → AccountValue → ℕ → Bool
+turns_in rules number v period = option_map_or (λ latest. turns_negative rules number v latest.year) (latest_determined rules period v) false
+
+-- so it is for the period that allowances with this fate were surrendered for; deleted ones count for no figure
+abbrev pub turns_by : RulesValue → ℕ → AccountValue → Fate → Bool
+turns_by rules number v (fate.Surrendered period) = turns_in rules number v period
+turns_by rules number v fate.Deleted = false
+
+-- the reversal of the row with this number would make the account non-compliant
 abbrev pub loses_compliance : RulesValue → ℕ → AccountValue → Bool
-loses_compliance rules number v = option_map_or (λ latest. turns_negative rules number v latest.year) (latest_determined rules v) false
+loses_compliance rules number v = option_map_or (λ row. turns_by rules number v row.fate) (row_in v.rows number) false
 
 -- the reversal would make the first account non-compliant
 abbrev pub would_become_non_compliant : RulesValue → Change → Seen → Bool
 would_become_non_compliant rules (Unretire number) e = passes (loses_compliance rules number) e.first
 would_become_non_compliant rules made e = false
 
--- a year that the act names is outside the period
+-- a year that the act names is outside every period
 abbrev pub names_year_outside : RulesValue → Change → Bool
 names_year_outside rules made = list_any (λ year. not (is_in_period rules year)) (years_named made)
 

@@ -10,6 +10,10 @@ use Rattle.reg_base.specs.declared.act.Act.{Act}
 use Rattle.reg_base.specs.declared.instruction.Instruction.{Instruction}
 use Rattle.reg_base.specs.Acts.{movement_of, change_of, first, shares}
 use Rattle.reg_base.specs.declared.kinds.Retirement.{Retirement}
+use Rattle.reg_base.specs.declared.kinds.Retirement.TheVariants.{Surrendered, Deleted}
+use Rattle.reg_base.specs.Rules.{RulesValue}
+use Rattle.reg_account.specs.declared.rows.Fate.{Fate}
+use Rattle.reg_account.specs.declared.rows.Fate.TheVariants as fate
 use Rattle.reg_account.specs.declared.rows.RetirementRow.{RetirementRow}
 use Rattle.reg_account.specs.declared.figure.FigureFault.{FigureFault}
 use Rattle.reg_account.specs.Rows.{row_numbers, AreBelow}
@@ -18,9 +22,14 @@ use Rattle.reg_account.specs.Figure.{figure_of}
 use Rattle.reg_rules.specs.State.{State, Setting}
 use Rattle.reg_rules.specs.Trust.{effective_day}
 
+-- what becomes today of allowances that are surrendered, for the current period, or deleted
+abbrev pub fate_of : RulesValue → Retirement → Fate
+fate_of rules Surrendered = fate.Surrendered rules.current
+fate_of rules Deleted = fate.Deleted
+
 -- the row of a surrender or deletion that is carried out today under this record number
 abbrev pub new_row : Setting → ℕ → Retirement → AllowanceKind → ℕ → RetirementRow
-new_row c number way kind amount = record { number = number; retirement = way; kind = kind; amount = amount; day = c.day; reversed = false }
+new_row c number way kind amount = record { number = number; fate = fate_of c.rules way; kind = kind; amount = amount; day = c.day; reversed = false }
 
 -- an account with this figure as the determined one of the year, if there is a figure
 abbrev pub assessed : AccountValue → ℕ → Result ℤ FigureFault → AccountValue

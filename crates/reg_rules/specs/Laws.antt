@@ -10,6 +10,7 @@ use Rattle.reg_base.specs.Footprint.{footprint}
 use Rattle.reg_base.specs.Instructions.{IsInstruction}
 use Rattle.reg_base.specs.Numbers.{IsDayNo, IsRecordNo}
 use Rattle.reg_base.specs.Rules.{AreRules}
+use Rattle.reg_account.specs.declared.corrections.Correction.{Correction}
 use Rattle.reg_account.specs.declared.users.Representative.{Representative}
 use Rattle.reg_account.specs.Account.{AccountValue, IsAccount}
 use Rattle.reg_rules.specs.declared.reply.Reply.{Reply}
@@ -39,10 +40,11 @@ pub record Constants : Type 0 where
   pub outside : Bool
   pub waiver : Bool
   pub correction : ℤ
+  pub corrections : List Correction
   pub users : List Representative
 
 abbrev pub constants_of : AccountValue → Constants
-constants_of v = record { number = v.number; kind = v.kind; holder = v.holder; outside = v.outside; waiver = v.waiver; correction = v.correction; users = v.users }
+constants_of v = record { number = v.number; kind = v.kind; holder = v.holder; outside = v.outside; waiver = v.waiver; correction = v.correction; corrections = v.corrections; users = v.users }
 
 -- an account with all that acts change left out
 abbrev pub set_aside : AccountValue → AccountValue
@@ -71,7 +73,7 @@ OthersStay = (c : Setting) (s : State) (number : ℕ) (i : Instruction) (a : ℕ
 abbrev pub NumbersStayInStep : Type 0
 NumbersStayInStep = (c : Setting) (s : State) (number : ℕ) (i : Instruction) → numbers (after_step c s number i) ≡ numbers s
 
--- an account keeps its kind, its holder, its two switches, its correction factor and its representatives
+-- an account keeps its kind, its holder, its two switches, its correction factors and its representatives
 abbrev pub ConstantsStay : Type 0
 ConstantsStay = (c : Setting) (s : State) (number : ℕ) (i : Instruction) (a : ℕ)
     → option_map constants_of (account (after_step c s number i) a) ≡ option_map constants_of (account s a)

@@ -8,7 +8,7 @@ use crate::parties::find_account;
 use reg_account::{Account, FigureFault};
 use reg_base::{Change, MOST_EMISSIONS, Movement, Rules};
 
-/// Whether a year that the act names is outside the period.
+/// Whether a year that the act names is outside every period.
 pub(crate) fn names_year_outside(rules: &Rules, change: &Change) -> bool
     ensures { result ≡ names_year_outside rules.now change.now }
 {

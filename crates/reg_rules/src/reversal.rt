@@ -1,18 +1,18 @@
 //! Reversals: the surrender or deletion that is to be reversed, the window for it, and what it makes of the figure.
 
-ghost use Rattle.std.specs.Prelude.{◌≡◌, ◌&&◌, false, nat_lt, find, reverse};
+ghost use Rattle.std.specs.Prelude.{◌≡◌, ◌&&◌, false, nat_lt, find, reverse, Some};
 ghost use Rattle.std.specs.Option.{option_map_or};
-ghost use Rattle.reg_base.specs.Rules.{is_in_period};
-ghost use Rattle.reg_account.specs.Rows.{row_in};
+ghost use Rattle.reg_base.specs.Rules.{period_of, is_year_of};
+ghost use Rattle.reg_account.specs.Rows.{is_for, row_in};
 ghost use Rattle.reg_account.specs.Laws.{lowered_by};
 ghost use Rattle.reg_rules.specs.State.{seen_by};
-ghost use Rattle.reg_rules.specs.Checks.{is_reversal, row_to_reverse, is_past_window, counted_amount, lost_by, is_compliant, is_negative, turns_negative, loses_compliance, would_become_non_compliant};
+ghost use Rattle.reg_rules.specs.Checks.{is_reversal, row_to_reverse, is_past_window, counted_amount, is_compliant, is_negative, turns_negative, turns_in, turns_by, loses_compliance, would_become_non_compliant};
 
 use crate::parties::find_account;
 use crate::setting::Setting;
 use reg_account::laws::figure_laws;
-use reg_account::{Account, Figure, FigureFault, RetirementRow};
-use reg_base::{Change, Day, Movement, RecordNo, Retirement, Rules, Year};
+use reg_account::{Account, Fate, Figure, FigureFault, RetirementRow};
+use reg_base::{Change, Day, Movement, RecordNo, Rules, Year};
 
 /// The surrender or deletion that is to be reversed.
 pub(crate) fn row_to_reverse(movement: &Movement, accounts: &[Account]) -> Option<RetirementRow>
@@ -99,57 +99,95 @@ fn loses_compliance(
     requires { row ≡ row_in account.now.rows number }
     ensures { result ≡ loses_compliance rules.now number account.now }
 {
-    match latest_determined(rules, account.all_figures()) {
+    match row {
+        Some(row) => turns_by(rules, number, row, account),
+        None => false,
+    }
+}
+
+// Whether the figure that the row's allowances count for turns negative. Deleted ones count for none.
+fn turns_by(rules: &Rules, number: RecordNo, row: RetirementRow, account: &Account) -> bool
+    requires { row_in account.now.rows number ≡ Some row }
+    ensures { result ≡ turns_by rules.now number account.now row.fate }
+{
+    match row.fate {
+        Fate::Surrendered { period } => turns_in(rules, number, row, account, period),
+        Fate::Deleted => false,
+    }
+}
+
+// Whether the figure of the latest year of the period turns negative that has a determined one.
+fn turns_in(
+    rules: &Rules,
+    number: RecordNo,
+    row: RetirementRow,
+    account: &Account,
+    period: u8,
+) -> bool
+    requires { row_in account.now.rows number ≡ Some row }
+    ensures { result ≡ turns_in rules.now number account.now period }
+{
+    match latest_determined(rules, period, account.all_figures()) {
         Some(latest) => turns_negative(rules, number, row, account, latest.year),
         None => false,
     }
 }
 
 // The determined figure of the latest year of the period that has one.
-fn latest_determined(rules: &Rules, figures: &[Figure]) -> Option<Figure>
-    ensures { result ≡ find (λ f. is_in_period rules.now f.year) (reverse figures.now) }
+fn latest_determined(rules: &Rules, period: u8, figures: &[Figure]) -> Option<Figure>
+    ensures { result ≡ find (λ f. is_year_of rules.now period f.year) (reverse figures.now) }
 {
     figures
         .iter()
         .rev()
         .copied()
-        .find(|figure| rules.is_in_period(figure.year))
+        .find(|figure| rules.is_year_of(period, figure.year))
 }
 
 // Whether the figure of the year is 0 or more, and would be below 0 after the reversal.
 fn turns_negative(
     rules: &Rules,
     _number: RecordNo,
-    row: Option<RetirementRow>,
+    row: RetirementRow,
     account: &Account,
     year: Year,
 ) -> bool
-    requires { row ≡ row_in account.now.rows _number }
+    requires { row_in account.now.rows _number ≡ Some row }
     ensures { result ≡ turns_negative rules.now _number account.now year }
 {
     figure_laws();
     account.is_within_limits();
-    let lost = lost_by(rules, year, row);
+    let lost = counted_amount(rules, year, row);
     falls_below_zero(account.figure(rules, year), lost)
 }
 
-// By how much the figure of the year falls if this row is reversed.
-fn lost_by(rules: &Rules, year: Year, row: Option<RetirementRow>) -> u64
-    ensures { result ≡ lost_by rules.now year row }
+// How many allowances of the row count for the figure of the year.
+fn counted_amount(rules: &Rules, year: Year, row: RetirementRow) -> u64
+    ensures { result ≡ counted_amount rules.now year row }
 {
-    match row {
-        Some(row) => counted_amount(rules, year, row),
-        None => 0,
+    if counts_for(rules, year, row.fate) && !row.reversed {
+        row.amount
+    } else {
+        0
     }
 }
 
-// How many allowances of the row count for the figure of the year. Today all rows belong to the one period.
-fn counted_amount(_rules: &Rules, _year: Year, row: RetirementRow) -> u64
-    ensures { result ≡ counted_amount _rules.now _year row }
+// Whether allowances with this fate were surrendered for the period of the year.
+fn counts_for(rules: &Rules, year: Year, fate: Fate) -> bool
+    ensures { result ≡ option_map_or (λ period. is_for period fate) (period_of rules.now year) false }
 {
-    match row.retirement {
-        Retirement::Surrendered => { if row.reversed { 0 } else { row.amount } }
-        Retirement::Deleted => 0,
+    match rules.period_of(year) {
+        Some(period) => is_for(period, fate),
+        None => false,
+    }
+}
+
+fn is_for(period: u8, fate: Fate) -> bool
+    ensures { result ≡ is_for period fate }
+{
+    match fate {
+        Fate::Surrendered { period: own } => own == period,
+        Fate::Deleted => false,
     }
 }
 

@@ -7,9 +7,10 @@ ghost use Rattle.reg_base.specs.Footprint.{footprint};
 ghost use Rattle.reg_account.specs.Figure.{figure_of};
 ghost use Rattle.reg_rules.specs.State.{numbers};
 ghost use Rattle.reg_account.specs.Account.{held_by, debited, CanTrust};
+ghost use Rattle.reg_account.specs.Rows.{FateFits};
 ghost use Rattle.reg_rules.specs.Trust.{effective_day};
 ghost use Rattle.reg_rules.specs.Checks.{refusal};
-ghost use Rattle.reg_rules.specs.Effect.{share_of, given, made_by, with_changes, changed_by, new_row as row_of_today, assessed, listed_from, CanMake, CanReceive, CanChange, IsBehind};
+ghost use Rattle.reg_rules.specs.Effect.{share_of, given, made_by, with_changes, changed_by, fate_of, new_row as row_of_today, assessed, listed_from, CanMake, CanReceive, CanChange, IsBehind};
 ghost use Rattle.reg_rules.specs.Step.{step, holdings_of, figure_made};
 
 use crate::checks::first_failing;
@@ -17,7 +18,7 @@ use crate::parties::find_account;
 use crate::reply::{Closing, HeldNow, Holdings, LogRow, Reply};
 use crate::setting::Setting;
 use crate::trust::effective_day;
-use reg_account::{Account, RetirementRow};
+use reg_account::{Account, Fate, RetirementRow};
 use reg_base::laws::each_footprint_is_sound;
 use reg_base::{
     AccountNo, Act, AllowanceKind, Change, Day, Directory, Instruction, Movement, NoMemory,
@@ -160,15 +161,29 @@ fn new_row(
     kind: AllowanceKind,
     amount: u64,
 ) -> RetirementRow
-    ensures { result ≡ row_of_today setting.now number retirement kind amount }
+    ensures value { result ≡ row_of_today setting.now number retirement kind amount }
+    ensures fate { FateFits result.fate }
 {
     RetirementRow {
         number,
-        retirement,
+        fate: fate_of(setting.rules, retirement),
         kind,
         amount,
         day: setting.day,
         reversed: false,
+    }
+}
+
+// What becomes today of allowances that are surrendered, for the current period, or deleted.
+fn fate_of(rules: &Rules, retirement: Retirement) -> Fate
+    ensures value { result ≡ fate_of rules.now retirement }
+    ensures fits { FateFits result }
+{
+    match retirement {
+        Retirement::Surrendered => Fate::Surrendered {
+            period: rules.current(),
+        },
+        Retirement::Deleted => Fate::Deleted,
     }
 }
 
