@@ -2,50 +2,56 @@
 use Rattle.std.proofs.Common.{◌≡◌, ℕ, ◌+◌, ◌≤◌, Bool, true, false, cond, ◌&&◌, eqb, List, [], ◌∷◌, Option, Some, None, Ok, Err, refl, ap, ◌∙◌, arith}
 use Rattle.std.specs.Prelude.{not, find, ℤ, pos, ◌-ℤ◌, ◌+ℤ◌, IfSome, Result, unwrap_or, is_none}
 use Rattle.std.specs.List.{sum_by, AllByRecursion}
-use Rattle.std.specs.Option.{option_map}
+use Rattle.std.specs.Option.{option_map, option_map_or}
 use Rattle.std.proofs.lemmas.Int.{ints}
 use Rattle.std.proofs.lemmas.List.Sums.{sum_by-cons}
 use Rattle.reg_base.specs.declared.limits.TheConstants.{MOST_EMISSIONS}
-use Rattle.reg_base.specs.declared.kinds.AllowanceKind.{AllowanceKind}
-use Rattle.reg_base.specs.declared.kinds.AllowanceKind.TheVariants.{General, Aviation}
-use Rattle.reg_base.specs.Rules.{RulesValue, is_in_period}
-use Rattle.reg_base.specs.declared.kinds.Retirement.{Retirement}
-use Rattle.reg_base.specs.declared.kinds.Retirement.TheVariants.{Surrendered, Deleted}
+use Rattle.reg_base.specs.Rules.{RulesValue, period_of, is_in_period}
+use Rattle.reg_account.specs.declared.rows.Fate.{Fate}
+use Rattle.reg_account.specs.declared.rows.Fate.TheVariants as fate
 use Rattle.reg_account.specs.declared.rows.RetirementRow.{RetirementRow}
 use Rattle.reg_account.specs.declared.years.Emission.{Emission}
 use Rattle.reg_account.specs.declared.years.Figure.{Figure}
 use Rattle.reg_account.specs.declared.figure.FigureFault.{FigureFault}
 use Rattle.reg_account.specs.declared.figure.FigureFault.TheVariants.{YearOutsidePeriod, Missing}
-use Rattle.reg_account.specs.Rows.{is_same_kind, is_same_retirement, amount_in, retired_in}
+use Rattle.reg_account.specs.Rows.{is_for, amount_for, surrendered_in}
 use Rattle.reg_account.specs.Years.{EmissionFits, emissions_in}
 use Rattle.reg_account.specs.Account.{AccountValue, unretired_row}
-use Rattle.reg_account.specs.Figure.{years_counted, is_row_counted, surrendered_for, emitted_in, emitted_unless, emitted_or_missing, figure_by, figure_of}
+use Rattle.reg_account.specs.Figure.{years_counted, is_for_year, is_row_counted, surrendered_for, correction_added, emitted_in, emitted_unless, emitted_or_missing, figure_by, figure_of}
 use Rattle.reg_account.specs.Laws.{YearLaws, FigureLaws, lowered_by}
 use Rattle.reg_account.proofs.Keyed.{from_zero, find_put}
 use Rattle.reg_account.proofs.RowFacts.{sum_marked}
+use Rattle.reg_account.proofs.PeriodSums.{sum_of_none}
 use Rattle.reg_account.proofs.Changes.{unretired_found}
 
--- what one row adds, over both kinds
-both_kinds : (rules : RulesValue) (year : ℕ) (row : RetirementRow) → cond (is_row_counted rules year row) row.amount 0 ≡ amount_in Surrendered General row + amount_in Surrendered Aviation row
-both_kinds rules year row = go row.retirement row.kind row.reversed where
-  go : (way : Retirement) (kind : AllowanceKind) (gone : Bool) → cond (is_same_retirement way Surrendered && not gone) row.amount 0
-      ≡ cond (is_same_retirement way Surrendered && (is_same_kind kind General && not gone)) row.amount 0 + cond (is_same_retirement way Surrendered && (is_same_kind kind Aviation && not gone)) row.amount 0
-  go Surrendered General true = refl
-  go Surrendered General false = omega arith
-  go Surrendered Aviation true = refl
-  go Surrendered Aviation false = omega arith
-  go Deleted kind gone = refl
+-- what a row adds to the figure of a year, given the period of the year
+adds_of : (rules : RulesValue) (year period : ℕ) → period_of rules year ≡ Some period → (row : RetirementRow) → cond (is_row_counted rules year row) row.amount 0 ≡ amount_for period row
+adds_of rules year period is row = go row.fate where
+  go : (f : Fate) → cond (is_for_year rules year f && not row.reversed) row.amount 0 ≡ cond (is_for period f && not row.reversed) row.amount 0
+  go (fate.Surrendered own) = ap (λ (o : Option ℕ). cond (option_map_or (λ n. eqb n own) o false && not row.reversed) row.amount 0) is
+  go fate.Deleted = refl
 
-pub surrendered_of_both : (rules : RulesValue) (year : ℕ) (rows : List RetirementRow)
-    → sum_by (λ row. cond (is_row_counted rules year row) row.amount 0) rows ≡ retired_in Surrendered General rows + retired_in Surrendered Aviation rows
-surrendered_of_both rules year [] = refl
-surrendered_of_both rules year (row ∷ rows) =
-    let e = sum_by-cons (λ r. cond (is_row_counted rules year r) r.amount 0) row rows in
-    let g = sum_by-cons (amount_in Surrendered General) row rows in
-    let a = sum_by-cons (amount_in Surrendered Aviation) row rows in
-    let one = both_kinds rules year row in
-    let more = surrendered_of_both rules year rows in
-    omega (arith, e, g, a, one, more)
+adds_of_none : (rules : RulesValue) (year : ℕ) → period_of rules year ≡ None → (row : RetirementRow) → cond (is_row_counted rules year row) row.amount 0 ≡ 0
+adds_of_none rules year none row = go row.fate where
+  go : (f : Fate) → cond (is_for_year rules year f && not row.reversed) row.amount 0 ≡ 0
+  go (fate.Surrendered own) = ap (λ (o : Option ℕ). cond (option_map_or (λ n. eqb n own) o false && not row.reversed) row.amount 0) none
+  go fate.Deleted = refl
+
+sums_alike : (one other : RetirementRow → ℕ) → ((row : RetirementRow) → one row ≡ other row) → (rows : List RetirementRow) → sum_by one rows ≡ sum_by other rows
+sums_alike one other alike [] = refl
+sums_alike one other alike (row ∷ rows) =
+    let e = sum_by-cons one row rows in
+    let o = sum_by-cons other row rows in
+    let same = alike row in
+    let more = sums_alike one other alike rows in
+    omega (arith, e, o, same, more)
+
+-- the surrenders for the period of a year, given the period
+pub surrendered_of : (rules : RulesValue) (a : AccountValue) (year period : ℕ) → period_of rules year ≡ Some period → surrendered_for rules a year ≡ surrendered_in period a.rows
+surrendered_of rules a year period is = sums_alike (λ row. cond (is_row_counted rules year row) row.amount 0) (amount_for period) (adds_of rules year period is) a.rows
+
+pub surrendered_of_none : (rules : RulesValue) (a : AccountValue) (year : ℕ) → period_of rules year ≡ None → surrendered_for rules a year ≡ 0
+surrendered_of_none rules a year none = sums_alike (λ row. cond (is_row_counted rules year row) row.amount 0) (λ row. 0) (adds_of_none rules year none) a.rows ∙ sum_of_none a.rows
 
 -- the emissions of a year are within the limit
 pub emissions_at_most : (emissions : List Emission) (year : ℕ) → AllByRecursion EmissionFits emissions → IfSome (emissions_in emissions year) (λ t. t ≤ MOST_EMISSIONS)
@@ -111,7 +117,7 @@ figure-laws = record {
       ∙ go rules a number row year (sum_marked (λ r. cond (is_row_counted rules year r) r.amount 0) (nothing rules year) 0 a.rows number row (from_zero _ is.rows_fit.rise) found) (is_in_period rules year) (emitted_or_missing a (years_counted rules year));
 } where
   nothing : (rules : RulesValue) (year : ℕ) (x : RetirementRow) → cond (is_row_counted rules year (record x { reversed = true })) x.amount 0 ≡ 0
-  nothing rules year x = by (is_same_retirement x.retirement Surrendered) where
+  nothing rules year x = by (is_for_year rules year x.fate) where
     by : (b : Bool) → cond (b && false) x.amount 0 ≡ 0
     by true = refl
     by false = refl
@@ -122,4 +128,4 @@ figure-laws = record {
       → cond within (figure_by rules (unretired_row number a row) year emitted) (Err YearOutsidePeriod) ≡ lowered_by (cond (is_row_counted rules year row) row.amount 0) (cond within (figure_by rules a year emitted) (Err YearOutsidePeriod))
   go rules a number row year same false emitted = refl
   go rules a number row year same true (Err f) = refl
-  go rules a number row year same true (Ok e) = ap Ok (figures_lowered (surrendered_for rules a year) (surrendered_for rules (unretired_row number a row) year) e (cond (is_row_counted rules year row) row.amount 0) a.correction same)
+  go rules a number row year same true (Ok e) = ap Ok (figures_lowered (surrendered_for rules a year) (surrendered_for rules (unretired_row number a row) year) e (cond (is_row_counted rules year row) row.amount 0) (correction_added rules a year) same)

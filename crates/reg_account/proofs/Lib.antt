@@ -1,5 +1,7 @@
 pub mod Keyed
 pub mod RowFacts
+pub mod PeriodSums
+pub mod Factors
 pub mod Changes
 pub mod Numbers
 pub mod NoFaults

@@ -3,28 +3,34 @@ use Rattle.std.proofs.Common.{◌≡◌, ℕ, suc, ◌+◌, ◌≤◌, Bool, tru
 use Rattle.std.specs.Prelude.{not, find, ℤ, pos, ◌-ℤ◌, ◌≤ℤ◌, int_lt}
 use Rattle.std.specs.List.{list_any, All, AllByRecursion}
 use Rattle.std.specs.Int.Signed.{lt_z_no}
+use Rattle.std.specs.Ordering.{int_eq}
 use Rattle.std.proofs.lemmas.Int.{ints}
 use Rattle.std.proofs.lemmas.Bool.{or_parts, or_from, and_from, and_parts, leb-true, le-leb, ltb-false, le-ltb, not_from_true}
 use Rattle.std.proofs.lemmas.List.Elements.{recursion_from_All}
 use Rattle.std.proofs.lemmas.Option.{none-some}
-use Rattle.reg_base.specs.declared.limits.TheConstants.{MOST_HELD, MOST_RETIRED, MOST_USERS, MOST_TRUSTED, MOST_ROWS, MOST_CORRECTION, MOST_EMISSIONS, MOST_FIGURE}
+use Rattle.reg_base.specs.declared.limits.TheConstants.{MOST_HELD, MOST_RETIRED, MOST_USERS, MOST_TRUSTED, MOST_ROWS, MOST_CORRECTION, MOST_EMISSIONS, MOST_FIGURE, MOST_PERIODS}
 use Rattle.reg_base.specs.declared.kinds.AllowanceKind.{AllowanceKind}
 use Rattle.reg_base.specs.declared.kinds.AllowanceKind.TheVariants.{General, Aviation}
 use Rattle.reg_base.specs.Numbers.{IsAccountNo, IsHolderNo}
 use Rattle.reg_base.specs.Rising.{IsRising, is_rising_from}
 use Rattle.reg_base.specs.RisesFrom.{RisesFrom}
 use Rattle.reg_account.specs.declared.parts.AccountFault.{AccountFault}
-use Rattle.reg_account.specs.declared.parts.AccountFault.TheVariants.{Correction, Holding, Users, Trusted, Rows, Retired, Emissions, Figures}
+use Rattle.reg_account.specs.declared.parts.AccountFault.TheVariants as fault
+use Rattle.reg_account.specs.declared.parts.AccountFault.TheVariants.{Holding, Users, Trusted, Rows, Retired, Emissions, Figures}
+use Rattle.reg_account.specs.declared.corrections.Correction.{Correction}
 use Rattle.reg_account.specs.declared.users.Representative.{Representative}
 use Rattle.reg_account.specs.declared.trusted.TrustedEntry.{TrustedEntry}
 use Rattle.reg_base.specs.declared.kinds.Retirement.{Retirement}
 use Rattle.reg_base.specs.declared.kinds.Retirement.TheVariants.{Surrendered, Deleted}
+use Rattle.reg_account.specs.declared.rows.Fate.{Fate}
+use Rattle.reg_account.specs.declared.rows.Fate.TheVariants as fate
 use Rattle.reg_account.specs.declared.rows.RetirementRow.{RetirementRow}
 use Rattle.reg_account.specs.declared.years.Emission.{Emission}
 use Rattle.reg_account.specs.declared.years.Figure.{Figure}
+use Rattle.reg_account.specs.Corrections.{CorrectionFits, LaterFits, CorrectionsFit, correction_periods, is_factor_unfit, is_later_unfit, are_corrections_unfit}
 use Rattle.reg_account.specs.Users.{UserIsInRange, UsersFit, user_numbers, are_users_unfit}
 use Rattle.reg_account.specs.Trusted.{EntryIsInRange, TrustedFit, trusted_numbers, are_trusted_unfit}
-use Rattle.reg_account.specs.Rows.{RowFits, RowIsInRange, RowsFit, RetiredFits, row_numbers, retired_in, is_row_unfit, are_rows_unfit, is_too_much, is_too_much_retired}
+use Rattle.reg_account.specs.Rows.{FateFits, RowFits, RowIsInRange, RowsFit, RetiredFits, row_numbers, retired_in, is_fate_unfit, is_row_unfit, are_rows_unfit, is_too_much, is_too_much_retired}
 use Rattle.reg_account.specs.Years.{EmissionFits, EmissionIsInRange, EmissionsFit, FigureFits, FigureIsInRange, FiguresFit, emission_years, figure_years, is_emission_unfit, is_figure_unfit, are_emissions_unfit, are_figures_unfit}
 use Rattle.reg_account.specs.Account.{AccountValue, IsAccount, account_has, first_account_fault, FitAccountsHaveNoFault}
 use Rattle.reg_account.proofs.Keyed.{from_zero, is_rising}
@@ -66,11 +72,56 @@ at_least : (a b : ℤ) → b ≤ℤ a → int_lt a b ≡ false
 at_least a b le = grind (arith, ints)
 
 -- each fault
+fit_factor : (factor : ℤ) → is_factor_unfit factor ≡ false → CorrectionFits factor
+fit_factor factor not_so =
+    let both = or_parts (int_lt factor (pos 0 -ℤ MOST_CORRECTION)) (int_lt MOST_CORRECTION factor) not_so in
+    record { low = not_below factor (pos 0 -ℤ MOST_CORRECTION) both.0; high = not_below MOST_CORRECTION factor both.1 }
+
+factor_fits : (factor : ℤ) → CorrectionFits factor → is_factor_unfit factor ≡ false
+factor_fits factor fit = or_from _ _ (at_least factor (pos 0 -ℤ MOST_CORRECTION) fit.low) (at_least MOST_CORRECTION factor fit.high)
+
+fit_later : (c : Correction) → is_later_unfit c ≡ false → LaterFits c
+fit_later c not_so =
+    let both = or_parts (ltb c.period 2 || ltb MOST_PERIODS c.period) (int_eq c.factor (pos 0) || is_factor_unfit c.factor) not_so in
+    let periods = or_parts (ltb c.period 2) (ltb MOST_PERIODS c.period) both.0 in
+    let factors = or_parts (int_eq c.factor (pos 0)) (is_factor_unfit c.factor) both.1 in
+    record {
+      later = record { low = ltb-false c.period 2 periods.0; high = ltb-false MOST_PERIODS c.period periods.1 };
+      some = factors.0;
+      factor = fit_factor c.factor factors.1;
+    }
+
+later_fits : (c : Correction) → LaterFits c → is_later_unfit c ≡ false
+later_fits c fit =
+    or_from _ _ (or_from _ _ (le-ltb c.period 2 fit.later.low) (le-ltb MOST_PERIODS c.period fit.later.high)) (or_from _ _ fit.some (factor_fits c.factor fit.factor))
+
+fit_corrections : (corrections : List Correction) → are_corrections_unfit corrections ≡ false → CorrectionsFit corrections
+fit_corrections corrections not_so =
+    let both = or_parts (not (is_rising_from 0 (correction_periods corrections))) (list_any is_later_unfit corrections) not_so in
+    record { rise = rising_of (correction_periods corrections) both.0; each = none_unfit is_later_unfit LaterFits fit_later corrections both.1 }
+
+corrections_fit : (corrections : List Correction) → CorrectionsFit corrections → are_corrections_unfit corrections ≡ false
+corrections_fit corrections fit =
+    or_from _ _ (of_rising (correction_periods corrections) fit.rise) (all_fit is_later_unfit LaterFits later_fits corrections fit.each)
+
+fit_fate : (f : Fate) → is_fate_unfit f ≡ false → FateFits f
+fit_fate (fate.Surrendered period) not_so =
+    let both = or_parts (ltb period 1) (ltb MOST_PERIODS period) not_so in
+    record { low = ltb-false period 1 both.0; high = ltb-false MOST_PERIODS period both.1 }
+fit_fate fate.Deleted not_so = tt
+
+fate_fits : (f : Fate) → FateFits f → is_fate_unfit f ≡ false
+fate_fits (fate.Surrendered period) fit = or_from _ _ (le-ltb period 1 fit.low) (le-ltb MOST_PERIODS period fit.high)
+fate_fits fate.Deleted fit = refl
+
 fit_row : (row : RetirementRow) → is_row_unfit row ≡ false → RowFits row
-fit_row row not_so = let both = or_parts (ltb row.amount 1) (ltb MOST_RETIRED row.amount) not_so in record { some = ltb-false row.amount 1 both.0; most = ltb-false MOST_RETIRED row.amount both.1 }
+fit_row row not_so =
+    let one = or_parts (ltb row.amount 1) (ltb MOST_RETIRED row.amount || is_fate_unfit row.fate) not_so in
+    let two = or_parts (ltb MOST_RETIRED row.amount) (is_fate_unfit row.fate) one.1 in
+    record { some = ltb-false row.amount 1 one.0; most = ltb-false MOST_RETIRED row.amount two.0; period = fit_fate row.fate two.1 }
 
 row_fits : (row : RetirementRow) → RowFits row → is_row_unfit row ≡ false
-row_fits row fit = or_from _ _ (le-ltb row.amount 1 fit.some) (le-ltb MOST_RETIRED row.amount fit.most)
+row_fits row fit = or_from _ _ (le-ltb row.amount 1 fit.some) (or_from _ _ (le-ltb MOST_RETIRED row.amount fit.most) (fate_fits row.fate fit.period))
 
 fit_figure : (f : Figure) → is_figure_unfit f ≡ false → FigureFits f.tonnes
 fit_figure f not_so = let both = or_parts (int_lt f.tonnes (pos 0 -ℤ MOST_FIGURE)) (int_lt MOST_FIGURE f.tonnes) not_so in record { low = not_below f.tonnes (pos 0 -ℤ MOST_FIGURE) both.0; high = not_below MOST_FIGURE f.tonnes both.1 }
@@ -154,7 +205,7 @@ not_it test x xs not_so none = ap (λ b. cond b (Some x) (find test xs)) not_so 
 pub fit_of_no_fault : (a : AccountValue) → IsAccountNo a.number → IsHolderNo a.holder → All UserIsInRange a.users → All EntryIsInRange a.trusted → All RowIsInRange a.rows → All EmissionIsInRange a.emissions → All FigureIsInRange a.figures
     → first_account_fault a ≡ None → IsAccount a
 fit_of_no_fault a number holder users trusted rows emissions figures none =
-    let one = none_of (account_has a) Correction (Holding ∷ Users ∷ Trusted ∷ Rows ∷ Retired ∷ Emissions ∷ Figures ∷ []) none in
+    let one = none_of (account_has a) fault.Correction (Holding ∷ Users ∷ Trusted ∷ Rows ∷ Retired ∷ Emissions ∷ Figures ∷ []) none in
     let two = none_of (account_has a) Holding (Users ∷ Trusted ∷ Rows ∷ Retired ∷ Emissions ∷ Figures ∷ []) one.1 in
     let of_users = none_of (account_has a) Users (Trusted ∷ Rows ∷ Retired ∷ Emissions ∷ Figures ∷ []) two.1 in
     let of_trusted = none_of (account_has a) Trusted (Rows ∷ Retired ∷ Emissions ∷ Figures ∷ []) of_users.1 in
@@ -162,12 +213,13 @@ fit_of_no_fault a number holder users trusted rows emissions figures none =
     let four = none_of (account_has a) Retired (Emissions ∷ Figures ∷ []) three.1 in
     let five = none_of (account_has a) Emissions (Figures ∷ []) four.1 in
     let six = none_of (account_has a) Figures [] five.1 in
-    let c = or_parts (int_lt a.correction (pos 0 -ℤ MOST_CORRECTION)) (int_lt MOST_CORRECTION a.correction) one.0 in
+    let c = or_parts (is_factor_unfit a.correction) (are_corrections_unfit a.corrections) one.0 in
     let h = or_parts (ltb MOST_HELD a.held.general) (ltb MOST_HELD a.held.aviation) two.0 in
     record {
       own_number = number;
       own_holder = holder;
-      correction_fits = record { low = not_below a.correction (pos 0 -ℤ MOST_CORRECTION) c.0; high = not_below MOST_CORRECTION a.correction c.1 };
+      correction_fits = fit_factor a.correction c.0;
+      corrections_fit = fit_corrections a.corrections c.1;
       holdings_fit = record { general = ltb-false MOST_HELD a.held.general h.0; aviation = ltb-false MOST_HELD a.held.aviation h.1 };
       users_fit = fit_users a.users of_users.0 (recursion_from_All UserIsInRange a.users users);
       trusted_fit = fit_trusted a.trusted of_trusted.0 (recursion_from_All EntryIsInRange a.trusted trusted);
@@ -179,7 +231,7 @@ fit_of_no_fault a number holder users trusted rows emissions figures none =
 
 pub fit-no_fault : FitAccountsHaveNoFault
 fit-no_fault a is =
-    not_it (account_has a) Correction (Holding ∷ Users ∷ Trusted ∷ Rows ∷ Retired ∷ Emissions ∷ Figures ∷ []) (or_from _ _ (at_least a.correction (pos 0 -ℤ MOST_CORRECTION) is.correction_fits.low) (at_least MOST_CORRECTION a.correction is.correction_fits.high))
+    not_it (account_has a) fault.Correction (Holding ∷ Users ∷ Trusted ∷ Rows ∷ Retired ∷ Emissions ∷ Figures ∷ []) (or_from _ _ (factor_fits a.correction is.correction_fits) (corrections_fit a.corrections is.corrections_fit))
     (not_it (account_has a) Holding (Users ∷ Trusted ∷ Rows ∷ Retired ∷ Emissions ∷ Figures ∷ []) (or_from _ _ (le-ltb MOST_HELD a.held.general is.holdings_fit.general) (le-ltb MOST_HELD a.held.aviation is.holdings_fit.aviation))
     (not_it (account_has a) Users (Trusted ∷ Rows ∷ Retired ∷ Emissions ∷ Figures ∷ []) (users_fit a.users is.users_fit)
     (not_it (account_has a) Trusted (Rows ∷ Retired ∷ Emissions ∷ Figures ∷ []) (trusted_fit a.trusted is.trusted_fit)

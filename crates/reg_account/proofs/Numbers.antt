@@ -7,7 +7,7 @@ use Rattle.reg_account.specs.declared.parts.Holdings.{Holdings}
 use Rattle.reg_base.specs.declared.kinds.Retirement.{Retirement}
 use Rattle.reg_base.specs.declared.kinds.Retirement.TheVariants.{Surrendered, Deleted}
 use Rattle.reg_account.specs.declared.rows.RetirementRow.{RetirementRow}
-use Rattle.reg_account.specs.Rows.{is_same_kind, is_same_retirement, amount_in}
+use Rattle.reg_account.specs.Rows.{is_same_kind, is_same_retirement, retirement_of, amount_in}
 use Rattle.reg_account.specs.Account.{amount_of, with_amount, unretired_row}
 use Rattle.reg_account.specs.Laws.{counted, of_kind, NumberLaws}
 use Rattle.reg_account.proofs.RowFacts.{retired_pushed, retired_marked}
@@ -28,8 +28,8 @@ lowered h Aviation Aviation n le = omega arith
 -- a row that stands is either surrendered or deleted
 either-way : (kind : AllowanceKind) (row : RetirementRow) → row.reversed ≡ false → amount_in Surrendered kind row + amount_in Deleted kind row ≡ of_kind kind row.kind row.amount
 either-way kind row stands =
-    ap (λ b. cond (is_same_retirement row.retirement Surrendered && (is_same_kind row.kind kind && not b)) row.amount 0 + cond (is_same_retirement row.retirement Deleted && (is_same_kind row.kind kind && not b)) row.amount 0) stands
-    ∙ go row.retirement (is_same_kind row.kind kind) where
+    ap (λ b. cond (is_same_retirement (retirement_of row.fate) Surrendered && (is_same_kind row.kind kind && not b)) row.amount 0 + cond (is_same_retirement (retirement_of row.fate) Deleted && (is_same_kind row.kind kind && not b)) row.amount 0) stands
+    ∙ go (retirement_of row.fate) (is_same_kind row.kind kind) where
       go : (way : Retirement) (b : Bool) → cond (is_same_retirement way Surrendered && (b && true)) row.amount 0 + cond (is_same_retirement way Deleted && (b && true)) row.amount 0 ≡ cond b row.amount 0
       go Surrendered true = omega arith
       go Surrendered false = refl

@@ -7,10 +7,11 @@ use Rattle.std.specs.declared.cmp.Ordering.TheVariants.{Equal}
 use Rattle.std.proofs.lemmas.Bool.{eq-eqb, eqb-true, ne_eqb}
 use Rattle.std.proofs.lemmas.Option.{same_Some, none-some}
 use Rattle.std.proofs.lemmas.List.{length-map}
-use Rattle.std.proofs.lemmas.List.Sums.{sum_by-append, sum_by-cons}
-use Rattle.reg_base.specs.declared.limits.TheConstants.{MOST_RETIRED, MOST_ROWS}
+use Rattle.std.proofs.lemmas.List.Sums.{sum_by-append, sum_by-cons, sum_by_push}
+use Rattle.reg_base.specs.declared.limits.TheConstants.{MOST_RETIRED, MOST_ROWS, MOST_PERIODS}
 use Rattle.reg_base.specs.declared.kinds.AllowanceKind.{AllowanceKind}
 use Rattle.reg_base.specs.declared.kinds.AllowanceKind.TheVariants.{General, Aviation}
+use Rattle.reg_base.specs.Numbers.{IsWithin}
 use Rattle.reg_base.specs.Rising.{IsRising}
 use Rattle.reg_base.specs.RisesFrom.{RisesFrom}
 use Rattle.reg_base.specs.declared.kinds.Retirement.{Retirement}
@@ -18,8 +19,8 @@ use Rattle.reg_base.specs.declared.kinds.Retirement.TheVariants.{Surrendered, De
 use Rattle.reg_account.specs.declared.rows.RetirementRow.{RetirementRow}
 use Rattle.reg_account.specs.declared.sums.Sums.{Sums}
 use Rattle.reg_account.specs.Places.{RowStandsAt}
-use Rattle.reg_account.specs.Rows.{is_same_kind, is_same_retirement, amount_in, retired_in, row_numbers, row_in, marked_reversed, with_mark, AreBelow, RowFits, RowIsInRange, RowsFit, RetiredFits}
-use Rattle.reg_account.specs.Sums.{sum_at, SumsAgree}
+use Rattle.reg_account.specs.Rows.{is_same_kind, is_same_retirement, retirement_of, is_for, amount_in, retired_in, amount_for, surrendered_in, row_numbers, row_in, marked_reversed, with_mark, AreBelow, RowFits, RowIsInRange, RowsFit, RetiredFits}
+use Rattle.reg_account.specs.Sums.{sum_at, sum_for, SumsAgree}
 use Rattle.reg_account.proofs.Keyed.{low_key, from_zero, is_rising, number_found}
 
 -- the number at a place, read from the list of numbers
@@ -69,7 +70,7 @@ each_marked : (n : ℕ) (xs : List RetirementRow) → AllByRecursion RowFits xs 
 each_marked n [] all = tt
 each_marked n (x ∷ xs) all = (go (eqb x.number n), each_marked n xs all.1) where
   go : (b : Bool) → RowFits (cond b (record x { reversed = true }) x)
-  go true = record { some = all.0.some; most = all.0.most }
+  go true = record { some = all.0.some; most = all.0.most; period = all.0.period }
   go false = all.0
 
 range_marked : (n : ℕ) (xs : List RetirementRow) → AllByRecursion RowIsInRange xs → AllByRecursion RowIsInRange (with_mark n xs)
@@ -89,7 +90,7 @@ rows_fit_marked rows n fit = record {
 
 -- a reversed row adds nothing
 nothing_from : (way : Retirement) (kind : AllowanceKind) (x : RetirementRow) → amount_in way kind (record x { reversed = true }) ≡ 0
-nothing_from way kind x = go (is_same_retirement x.retirement way) (is_same_kind x.kind kind) where
+nothing_from way kind x = go (is_same_retirement (retirement_of x.fate) way) (is_same_kind x.kind kind) where
   go : (a b : Bool) → cond (a && (b && false)) x.amount 0 ≡ 0
   go true true = refl
   go true false = refl
@@ -104,9 +105,9 @@ same_kind General = refl
 same_kind Aviation = refl
 
 -- a row that stands adds its amount to its own sum
-own_amount : (x : RetirementRow) → x.reversed ≡ false → amount_in x.retirement x.kind x ≡ x.amount
+own_amount : (x : RetirementRow) → x.reversed ≡ false → amount_in (retirement_of x.fate) x.kind x ≡ x.amount
 own_amount x stands =
-    ap (λ b. cond (b && (is_same_kind x.kind x.kind && not x.reversed)) x.amount 0) (same_way x.retirement)
+    ap (λ b. cond (b && (is_same_kind x.kind x.kind && not x.reversed)) x.amount 0) (same_way (retirement_of x.fate))
     ∙ ap (λ b. cond (b && not x.reversed) x.amount 0) (same_kind x.kind)
     ∙ ap (λ b. cond (not b) x.amount 0) stands
 
@@ -136,6 +137,17 @@ pub retired_marked : (xs : List RetirementRow) (n : ℕ) (row : RetirementRow) (
     → row_in xs n ≡ Some row → retired_in way kind (with_mark n xs) + amount_in way kind row ≡ retired_in way kind xs
 retired_marked xs n row way kind rises found = sum_marked (amount_in way kind) (nothing_from way kind) 0 xs n row (from_zero _ rises) found
 
+-- a reversed row adds nothing to a period
+nothing_for : (period : ℕ) (x : RetirementRow) → amount_for period (record x { reversed = true }) ≡ 0
+nothing_for period x = go (is_for period x.fate) where
+  go : (b : Bool) → cond (b && false) x.amount 0 ≡ 0
+  go true = refl
+  go false = refl
+
+pub surrendered_marked : (xs : List RetirementRow) (n : ℕ) (row : RetirementRow) (period : ℕ) → IsRising (row_numbers xs)
+    → row_in xs n ≡ Some row → surrendered_in period (with_mark n xs) + amount_for period row ≡ surrendered_in period xs
+surrendered_marked xs n row period rises found = sum_marked (amount_for period) (nothing_for period) 0 xs n row (from_zero _ rises) found
+
 -- a row that is added adds to the sums
 pub retired_pushed : (way : Retirement) (kind : AllowanceKind) (xs : List RetirementRow) (row : RetirementRow) → retired_in way kind (xs ++ row ∷ []) ≡ retired_in way kind xs + amount_in way kind row
 retired_pushed way kind xs row =
@@ -155,8 +167,9 @@ each_pushed P (x ∷ xs) row all own = (all.0, each_pushed P xs row all.1 own)
 -- the sums after a row was marked
 pub sums_marked : (s t : Sums) (rows : List RetirementRow) (n : ℕ) (row : RetirementRow) → IsRising (row_numbers rows) → row_in rows n ≡ Some row → SumsAgree s rows
     → ((way : Retirement) (kind : AllowanceKind) → sum_at t way kind + amount_in way kind row ≡ sum_at s way kind)
-    → SumsAgree t (with_mark n rows)
-sums_marked s t rows n row rises found agree counted = record {
+    → ((period : ℕ) → IsWithin 1 MOST_PERIODS period → sum_for t period + amount_for period row ≡ sum_for s period)
+    → length t.by_period ≡ MOST_PERIODS → SumsAgree t (with_mark n rows)
+sums_marked s t rows n row rises found agree counted counted_for eight = record {
   at = λ way kind.
       let e = counted way kind in
       let a = agree.at way kind in
@@ -167,13 +180,29 @@ sums_marked s t rows n row rises found agree counted = record {
       let a = agree.small way kind in
       let l = length-map rows (marked_reversed n) in
       omega (arith, e, a, l);
+  eight = eight;
+  for = λ period within.
+      let e = counted_for period within in
+      let a = agree.for period within in
+      let m = surrendered_marked rows n row period rises found in
+      omega (arith, e, a, m);
+  small_for = λ period within.
+      let e = counted_for period within in
+      let a = agree.small_for period within in
+      let l = length-map rows (marked_reversed n) in
+      omega (arith, e, a, l);
 }
+
+-- a row is among those that the sum of its period counts
+pub own_counted_for : (rows : List RetirementRow) (n : ℕ) (row : RetirementRow) (period : ℕ) → IsRising (row_numbers rows) → row_in rows n ≡ Some row
+    → amount_for period row ≤ surrendered_in period rows
+own_counted_for rows n row period rises found = let m = surrendered_marked rows n row period rises found in omega (arith, m)
 
 -- a row that stands is among those that its sum counts
 pub own_counted : (rows : List RetirementRow) (n : ℕ) (row : RetirementRow) → IsRising (row_numbers rows) → row_in rows n ≡ Some row → row.reversed ≡ false
-    → row.amount ≤ retired_in row.retirement row.kind rows
+    → row.amount ≤ retired_in (retirement_of row.fate) row.kind rows
 own_counted rows n row rises found stands =
-    let m = retired_marked rows n row row.retirement row.kind rises found in
+    let m = retired_marked rows n row (retirement_of row.fate) row.kind rises found in
     let o = own_amount row stands in
     omega (arith, m, o)
 
@@ -185,8 +214,8 @@ retired_fits_marked rows n row rises found fits = record {
       omega (arith, m, f);
 }
 
-other_amount : (way : Retirement) (kind : AllowanceKind) (row : RetirementRow) → (amount_in way kind row ≡ 0) ⊎ ((way ≡ row.retirement) × (kind ≡ row.kind) × (amount_in way kind row ≤ row.amount))
-other_amount way kind row = by way row.retirement kind row.kind row.reversed where
+other_amount : (way : Retirement) (kind : AllowanceKind) (row : RetirementRow) → (amount_in way kind row ≡ 0) ⊎ ((way ≡ retirement_of row.fate) × (kind ≡ row.kind) × (amount_in way kind row ≤ row.amount))
+other_amount way kind row = by way (retirement_of row.fate) kind row.kind row.reversed where
   by : (w r : Retirement) (k l : AllowanceKind) (gone : Bool)
       → (cond (is_same_retirement r w && (is_same_kind l k && not gone)) row.amount 0 ≡ 0) ⊎ ((w ≡ r) × (k ≡ l) × (cond (is_same_retirement r w && (is_same_kind l k && not gone)) row.amount 0 ≤ row.amount))
   by Surrendered Deleted k l gone = inl refl
@@ -204,13 +233,13 @@ other_amount way kind row = by way row.retirement kind row.kind row.reversed whe
   by Deleted Deleted Aviation Aviation true = inl refl
   by Deleted Deleted Aviation Aviation false = inr (refl, refl, omega arith)
 
-pub retired_fits_pushed : (rows : List RetirementRow) (row : RetirementRow) → RetiredFits rows → retired_in row.retirement row.kind rows + row.amount ≤ MOST_RETIRED → RetiredFits (rows ++ row ∷ [])
+pub retired_fits_pushed : (rows : List RetirementRow) (row : RetirementRow) → RetiredFits rows → retired_in (retirement_of row.fate) row.kind rows + row.amount ≤ MOST_RETIRED → RetiredFits (rows ++ row ∷ [])
 retired_fits_pushed rows row fits room = record {
   at = λ way kind. elim (other_amount way kind row) [
     | inl none ↦ let p = retired_pushed way kind rows row in let f = fits.at way kind in omega (arith, p, f, none)
     | inr own ↦
         let p = retired_pushed way kind rows row in
-        let same : retired_in way kind rows ≡ retired_in row.retirement row.kind rows = ap (λ w. retired_in w kind rows) own.0 ∙ ap (λ k. retired_in row.retirement k rows) own.1 in
+        let same : retired_in way kind rows ≡ retired_in (retirement_of row.fate) row.kind rows = ap (λ w. retired_in w kind rows) own.0 ∙ ap (λ k. retired_in (retirement_of row.fate) k rows) own.1 in
         omega (arith, p, same, room, own.2)
   ];
 }
@@ -227,8 +256,9 @@ rows_fit_pushed rows row fit later room own ranged = record {
 -- the sums after a row was added
 pub sums_pushed : (s t : Sums) (rows : List RetirementRow) (row : RetirementRow) → SumsAgree s rows → row.amount ≤ 18446744073709551615
     → ((way : Retirement) (kind : AllowanceKind) → sum_at t way kind ≡ sum_at s way kind + amount_in way kind row)
-    → SumsAgree t (rows ++ row ∷ [])
-sums_pushed s t rows row agree most counted = record {
+    → ((period : ℕ) → IsWithin 1 MOST_PERIODS period → sum_for t period ≡ sum_for s period + amount_for period row)
+    → length t.by_period ≡ MOST_PERIODS → SumsAgree t (rows ++ row ∷ [])
+sums_pushed s t rows row agree most counted counted_for eight = record {
   at = λ way kind. counted way kind ∙ ap (λ n. n + amount_in way kind row) (agree.at way kind) ∙ sym (retired_pushed way kind rows row);
   small = λ way kind.
       let c = counted way kind in
@@ -236,9 +266,27 @@ sums_pushed s t rows row agree most counted = record {
       let l = length-append rows (row ∷ []) in
       let m = at_most way kind row in
       omega (arith, c, a, l, m, most);
+  eight = eight;
+  for = λ period within.
+      let c = counted_for period within in
+      let a = agree.for period within in
+      let p = sum_by_push (amount_for period) rows row in
+      omega (arith, c, a, p);
+  small_for = λ period within.
+      let c = counted_for period within in
+      let a = agree.small_for period within in
+      let l = length-append rows (row ∷ []) in
+      let m = at_most_for period row in
+      omega (arith, c, a, l, m, most);
 } where
   at_most : (way : Retirement) (kind : AllowanceKind) (row : RetirementRow) → amount_in way kind row ≤ row.amount
   at_most way kind row = elim (other_amount way kind row) [
     | inl none ↦ omega (arith, none)
     | inr own ↦ own.2
   ]
+
+  at_most_for : (period : ℕ) (row : RetirementRow) → amount_for period row ≤ row.amount
+  at_most_for period row = go (is_for period row.fate && not row.reversed) where
+    go : (b : Bool) → cond b row.amount 0 ≤ row.amount
+    go true = omega arith
+    go false = omega arith

@@ -1,7 +1,7 @@
 -- The value of one account, what is read of it, and the changes to it.
-use Rattle.std.specs.Prelude.{◌≡◌, ℕ, ◌+◌, ◌-◌, ◌<◌, ◌≤◌, ℤ, pos, ◌≤ℤ◌, ◌-ℤ◌, Bool, false, ◌==◌, ◌||◌, nat_lt, int_lt, List, [], ◌∷◌, ◌++◌, find, length, Option, None, MatchOption}
+use Rattle.std.specs.Prelude.{◌≡◌, ℕ, ◌+◌, ◌-◌, ◌<◌, ◌≤◌, ℤ, Bool, false, ◌==◌, ◌||◌, nat_lt, if◌then◌else◌, List, [], ◌∷◌, ◌++◌, find, length, Option, None, MatchOption}
 use Rattle.std.specs.Option.{option_map_or}
-use Rattle.reg_base.specs.declared.limits.TheConstants.{MOST_HELD, MOST_RETIRED, MOST_CORRECTION, MOST_TRUSTED, MOST_ROWS}
+use Rattle.reg_base.specs.declared.limits.TheConstants.{MOST_HELD, MOST_RETIRED, MOST_TRUSTED, MOST_ROWS}
 use Rattle.reg_base.specs.declared.kinds.AccountKind.{AccountKind}
 use Rattle.reg_base.specs.declared.kinds.AllowanceKind.{AllowanceKind}
 use Rattle.reg_base.specs.declared.kinds.AllowanceKind.TheVariants.{General, Aviation}
@@ -10,19 +10,23 @@ use Rattle.reg_base.specs.Numbers.{IsAccountNo, IsHolderNo}
 use Rattle.reg_account.specs.declared.parts.Holdings.{Holdings}
 use Rattle.reg_account.specs.declared.parts.AccountParts.{AccountParts}
 use Rattle.reg_account.specs.declared.parts.AccountFault.{AccountFault}
-use Rattle.reg_account.specs.declared.parts.AccountFault.TheVariants.{Correction, Holding, Users, Trusted, Rows, Retired, Emissions, Figures}
+use Rattle.reg_account.specs.declared.parts.AccountFault.TheVariants as fault
+use Rattle.reg_account.specs.declared.parts.AccountFault.TheVariants.{Holding, Users, Trusted, Rows, Retired, Emissions, Figures}
+use Rattle.reg_account.specs.declared.corrections.Correction.{Correction}
 use Rattle.reg_account.specs.declared.users.Representative.{Representative}
 use Rattle.reg_account.specs.declared.trusted.TrustedEntry.{TrustedEntry}
 use Rattle.reg_base.specs.declared.kinds.Retirement.{Retirement}
 use Rattle.reg_account.specs.declared.rows.RetirementRow.{RetirementRow}
 use Rattle.reg_account.specs.declared.years.Emission.{Emission}
 use Rattle.reg_account.specs.declared.years.Figure.{Figure}
+pub use Rattle.reg_account.specs.Corrections.{CorrectionFits}
+use Rattle.reg_account.specs.Corrections.{factor_in, CorrectionsFit, is_factor_unfit, are_corrections_unfit}
 use Rattle.reg_account.specs.Users.{UsersFit, are_users_unfit}
 use Rattle.reg_account.specs.Trusted.{is_in_effect, with_entry, without_entry, TrustedFit, are_trusted_unfit}
-use Rattle.reg_account.specs.Rows.{retired_in, row_numbers, row_in, with_mark, AreBelow, RowsFit, RetiredFits, are_rows_unfit, is_too_much_retired}
+use Rattle.reg_account.specs.Rows.{retired_in, row_numbers, row_in, with_mark, retirement_of, FateFits, AreBelow, RowsFit, RetiredFits, are_rows_unfit, is_too_much_retired}
 use Rattle.reg_account.specs.Years.{with_emission, with_figure, EmissionsFit, FiguresFit, are_emissions_unfit, are_figures_unfit}
 
--- an account as plain data
+-- an account as plain data; its correction is that of period 1, and its corrections are those of later periods
 pub record AccountValue : Type 0 where
   pub number : ℕ
   pub kind : AccountKind
@@ -31,6 +35,7 @@ pub record AccountValue : Type 0 where
   pub outside : Bool
   pub waiver : Bool
   pub correction : ℤ
+  pub corrections : List Correction
   pub held : Holdings
   pub users : List Representative
   pub trusted : List TrustedEntry
@@ -48,6 +53,7 @@ account_of p = record {
   outside = p.outside;
   waiver = p.waiver;
   correction = p.correction;
+  corrections = p.lists.corrections;
   held = p.held;
   users = p.lists.users;
   trusted = p.lists.trusted;
@@ -55,6 +61,10 @@ account_of p = record {
   emissions = p.lists.emissions;
   figures = p.lists.figures;
 }
+
+-- the correction factor of this period in tonnes, 0 if none was given
+abbrev pub correction_of : AccountValue → ℕ → ℤ
+correction_of a period = if period == 1 then a.correction else factor_in a.corrections period
 
 -- how many allowances of this kind there are
 abbrev pub amount_of : Holdings → AllowanceKind → ℕ
@@ -123,10 +133,11 @@ with_determined a new = record a { figures = with_figure new a.figures }
 pub record CanRetire (a : AccountValue) (row : RetirementRow) : Type 0 where
   pub fresh : row.reversed ≡ false
   pub some : 1 ≤ row.amount
+  pub period : FateFits row.fate
   pub later : AreBelow row.number (row_numbers a.rows)
   pub room : length a.rows < MOST_ROWS
   pub enough : row.amount ≤ held_by a row.kind
-  pub fits : retired_by a row.retirement row.kind + row.amount ≤ MOST_RETIRED
+  pub fits : retired_by a (retirement_of row.fate) row.kind + row.amount ≤ MOST_RETIRED
 
 -- the row can be reversed
 pub record CanUnretireRow (a : AccountValue) (row : RetirementRow) : Type 0 where
@@ -141,11 +152,6 @@ CanUnretire a number = MatchOption (row_in a.rows number) ⊥ (CanUnretireRow a)
 abbrev pub CanTrust : AccountValue → Type 0
 CanTrust a = length a.trusted < MOST_TRUSTED
 
--- the correction factor is within its limits
-pub record CorrectionFits (correction : ℤ) : Type 0 where
-  pub low : (pos 0 -ℤ MOST_CORRECTION) ≤ℤ correction
-  pub high : correction ≤ℤ MOST_CORRECTION
-
 -- both holdings are within their limit
 pub record HoldingsFit (h : Holdings) : Type 0 where
   pub general : h.general ≤ MOST_HELD
@@ -156,6 +162,7 @@ pub record IsAccount (a : AccountValue) : Type 0 where
   pub own_number : IsAccountNo a.number
   pub own_holder : IsHolderNo a.holder
   pub correction_fits : CorrectionFits a.correction
+  pub corrections_fit : CorrectionsFit a.corrections
   pub holdings_fit : HoldingsFit a.held
   pub users_fit : UsersFit a.users
   pub trusted_fit : TrustedFit a.trusted
@@ -166,7 +173,7 @@ pub record IsAccount (a : AccountValue) : Type 0 where
 
 -- the account has this fault
 abbrev pub account_has : AccountValue → AccountFault → Bool
-account_has a Correction = int_lt a.correction (pos 0 -ℤ MOST_CORRECTION) || int_lt MOST_CORRECTION a.correction
+account_has a fault.Correction = is_factor_unfit a.correction || are_corrections_unfit a.corrections
 account_has a Holding = nat_lt MOST_HELD a.held.general || nat_lt MOST_HELD a.held.aviation
 account_has a Users = are_users_unfit a.users
 account_has a Trusted = are_trusted_unfit a.trusted
@@ -177,7 +184,7 @@ account_has a Figures = are_figures_unfit a.figures
 
 -- the faults that an account can have, in the order in which they are named
 abbrev pub account_faults : List AccountFault
-account_faults = Correction ∷ Holding ∷ Users ∷ Trusted ∷ Rows ∷ Retired ∷ Emissions ∷ Figures ∷ []
+account_faults = fault.Correction ∷ Holding ∷ Users ∷ Trusted ∷ Rows ∷ Retired ∷ Emissions ∷ Figures ∷ []
 
 -- the first fault that the account has
 abbrev pub first_account_fault : AccountValue → Option AccountFault

@@ -1,28 +1,38 @@
--- The compliance status figure of a year. Of a period the definitions below say which years count, which rows count
--- and which correction factor is added. Today there is one period, and all rows belong to it.
-use Rattle.std.specs.Prelude.{ℕ, ◌+◌, ◌-◌, ℤ, pos, ◌+ℤ◌, ◌-ℤ◌, Bool, not, ◌&&◌, List, find, Option, Some, None, Result, Ok, Err, unwrap_or, is_none, if◌then◌else◌}
+-- The compliance status figure of a year: the allowances of both kinds surrendered for the period of the year, minus the
+-- emissions of the years from the first of the period up to this one, plus the correction factor of the period.
+use Rattle.std.specs.Prelude.{ℕ, ◌+◌, ◌-◌, ℤ, pos, ◌+ℤ◌, ◌-ℤ◌, Bool, false, not, ◌&&◌, List, [], find, Option, Some, None, Result, Ok, Err, unwrap_or, is_none, if◌then◌else◌}
 use Rattle.std.specs.List.{sum_by}
-use Rattle.reg_base.specs.Rules.{RulesValue, is_in_period}
+use Rattle.std.specs.Option.{option_map_or}
+use Rattle.reg_base.specs.Rules.{RulesValue, period_of, period_with, is_year_of, is_in_period}
 use Rattle.reg_base.specs.Rising.{count_up}
-use Rattle.reg_base.specs.declared.kinds.Retirement.TheVariants.{Surrendered}
+use Rattle.reg_account.specs.declared.rows.Fate.{Fate}
+use Rattle.reg_account.specs.declared.rows.Fate.TheVariants as fate
 use Rattle.reg_account.specs.declared.rows.RetirementRow.{RetirementRow}
 use Rattle.reg_account.specs.declared.figure.FigureFault.{FigureFault}
 use Rattle.reg_account.specs.declared.figure.FigureFault.TheVariants.{YearOutsidePeriod, Missing}
-use Rattle.reg_account.specs.Rows.{is_same_retirement}
 use Rattle.reg_account.specs.Years.{emissions_in}
-use Rattle.reg_account.specs.Account.{AccountValue}
+use Rattle.reg_account.specs.Account.{AccountValue, correction_of}
+
+-- the years from the first of a period up to this one
+abbrev pub years_from : ℕ → ℕ × ℕ → List ℕ
+years_from year period = count_up period.0 (year + 1 - period.0)
 
 -- which years count for the figure of a year: those of its period up to this one, and this one
 abbrev pub years_counted : RulesValue → ℕ → List ℕ
-years_counted rules year = count_up rules.first_year (year + 1 - rules.first_year)
+years_counted rules year = option_map_or (years_from year) (period_with rules year) []
+
+-- allowances of this fate were surrendered for the period of the year
+abbrev pub is_for_year : RulesValue → ℕ → Fate → Bool
+is_for_year rules year (fate.Surrendered period) = is_year_of rules period year
+is_for_year rules year fate.Deleted = false
 
 -- which rows count for the figure of a year: the surrenders for its period that were not reversed
 abbrev pub is_row_counted : RulesValue → ℕ → RetirementRow → Bool
-is_row_counted rules year row = is_same_retirement row.retirement Surrendered && not row.reversed
+is_row_counted rules year row = is_for_year rules year row.fate && not row.reversed
 
 -- which correction factor is added to the figure of a year: that of its period
 abbrev pub correction_added : RulesValue → AccountValue → ℕ → ℤ
-correction_added rules a year = a.correction
+correction_added rules a year = option_map_or (correction_of a) (period_of rules year) (pos 0)
 
 -- the allowances of both kinds that were surrendered for the period of the year
 abbrev pub surrendered_for : RulesValue → AccountValue → ℕ → ℕ
@@ -52,7 +62,6 @@ abbrev pub figure_by : RulesValue → AccountValue → ℕ → Result ℕ Figure
 figure_by rules a year (Ok emitted) = Ok (figure_with rules a year emitted)
 figure_by rules a year (Err fault) = Err fault
 
--- the compliance status figure of a year: the allowances surrendered for the period, minus the emissions of the period
--- up to and including the year, plus the correction factor
+-- the compliance status figure of a year, unless no period has the year
 abbrev pub figure_of : RulesValue → AccountValue → ℕ → Result ℤ FigureFault
 figure_of rules a year = if is_in_period rules year then figure_by rules a year (emitted_or_missing a (years_counted rules year)) else Err YearOutsidePeriod

@@ -2,6 +2,7 @@ pub mod Users
 pub mod Trusted
 pub mod Rows
 pub mod Years
+pub mod Corrections
 pub mod Lists
 pub mod Account
 pub mod Figure

@@ -1,23 +1,26 @@
 -- The lists of an account.
 use Rattle.std.specs.Prelude.{List, []}
+use Rattle.reg_account.specs.declared.corrections.Correction.{Correction}
 use Rattle.reg_account.specs.declared.users.Representative.{Representative}
 use Rattle.reg_account.specs.declared.trusted.TrustedEntry.{TrustedEntry}
 use Rattle.reg_account.specs.declared.rows.RetirementRow.{RetirementRow}
 use Rattle.reg_account.specs.declared.years.Emission.{Emission}
 use Rattle.reg_account.specs.declared.years.Figure.{Figure}
 
--- the surrenders and deletions, the emissions and the determined figures as plain data
+-- the correction factors of later periods, the surrenders and deletions, the emissions and the determined figures as plain data
 pub record RecordsValue : Type 0 where
+  pub corrections : List Correction
   pub rows : List RetirementRow
   pub emissions : List Emission
   pub figures : List Figure
 
 -- none of them
 abbrev pub no_records : RecordsValue
-no_records = record { rows = []; emissions = []; figures = [] }
+no_records = record { corrections = []; rows = []; emissions = []; figures = [] }
 
 -- all lists as plain data
 pub record ListsValue : Type 0 where
+  pub corrections : List Correction
   pub users : List Representative
   pub trusted : List TrustedEntry
   pub rows : List RetirementRow
@@ -26,8 +29,8 @@ pub record ListsValue : Type 0 where
 
 -- no list has anything
 abbrev pub no_lists : ListsValue
-no_lists = record { users = []; trusted = []; rows = []; emissions = []; figures = [] }
+no_lists = record { corrections = []; users = []; trusted = []; rows = []; emissions = []; figures = [] }
 
 -- the lists with these records
 abbrev pub lists_made : List Representative → List TrustedEntry → RecordsValue → ListsValue
-lists_made users trusted r = record { users = users; trusted = trusted; rows = r.rows; emissions = r.emissions; figures = r.figures }
+lists_made users trusted r = record { corrections = r.corrections; users = users; trusted = trusted; rows = r.rows; emissions = r.emissions; figures = r.figures }

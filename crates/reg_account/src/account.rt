@@ -6,6 +6,7 @@ ghost use Rattle.std.specs.Result.{result_err};
 ghost use Rattle.reg_account.specs.Account.{account_of, amount_of, with_amount, first_account_fault};
 ghost use Rattle.reg_base.specs.declared.limits.TheConstants.{MOST_HELD, MOST_RETIRED, MOST_EMISSIONS};
 
+use crate::corrections::{Correction, find_factor};
 use crate::faults::find_fault;
 use crate::figure::{FigureFault, figure_of};
 use crate::parts::{AccountFault, AccountParts, Holdings};
@@ -15,8 +16,8 @@ use crate::trusted::{TrustedEntry, find_effective, is_in_effect, know_entries};
 use crate::users::{Representative, find_right, know_users};
 use crate::years::{Emission, Figure, find_emissions, find_figure};
 use reg_base::{
-    AccountKind, AccountNo, AllowanceKind, Day, HolderNo, MOST_HELD, NoMemory, RecordNo,
-    Retirement, Right, Rules, Status, UserNo, Year,
+    AccountKind, AccountNo, AllowanceKind, Day, HolderNo, MOST_HELD, MOST_PERIODS, NoMemory,
+    RecordNo, Retirement, Right, Rules, Status, UserNo, Year,
 };
 use std::alloc::Global;
 use std::marker::Model;
@@ -40,11 +41,12 @@ impl Model for Account {
 
 impl Account {
     ghost use Rattle.reg_base.specs.declared.kinds.Retirement.TheVariants.{Surrendered, Deleted};
+    ghost use Rattle.reg_account.specs.Corrections.{CorrectionFits, CorrectionsFit};
     ghost use Rattle.reg_account.specs.Users.{right_in, UsersFit};
     ghost use Rattle.reg_account.specs.Trusted.{effective_in, TrustedFit};
-    ghost use Rattle.reg_account.specs.Rows.{row_in, RowsFit};
+    ghost use Rattle.reg_account.specs.Rows.{row_in, surrendered_in, RowsFit};
     ghost use Rattle.reg_account.specs.Years.{emissions_in, figure_in, EmissionsFit, FiguresFit, FigureFits};
-    ghost use Rattle.reg_account.specs.Account.{held_by, retired_by, credited, debited, retired, unretired, trusts, with_trusted, without_trusted, with_status, with_emissions, with_determined, CanTrust, CanRetire, CanUnretire, IsAccount, CorrectionFits};
+    ghost use Rattle.reg_account.specs.Account.{correction_of, held_by, retired_by, credited, debited, retired, unretired, trusts, with_trusted, without_trusted, with_status, with_emissions, with_determined, CanTrust, CanRetire, CanUnretire, IsAccount};
     ghost use Rattle.reg_account.specs.Figure.{figure_of};
 
     /// The account with these parts, exactly if they have no fault. Takes no memory.
@@ -126,12 +128,24 @@ impl Account {
         self.parts.waiver
     }
 
-    /// The correction factor of its compliance figure, from -10^15 to 10^15 tonnes of carbon dioxide equivalent.
-    pub fn correction(&self) -> i64
-        ensures value { result ≡ self.now.correction }
+    /// The correction factor of its compliance figures of this period, from -10^15 to 10^15 tonnes of carbon dioxide
+    /// equivalent. It is 0 where none was given.
+    pub fn correction(&self, period: u8) -> i64
+        ensures value { result ≡ correction_of self.now period }
         ensures limits { CorrectionFits result }
     {
-        self.parts.correction
+        if period == 1 {
+            return self.parts.correction;
+        }
+        find_factor(self.parts.lists.corrections(), period)
+    }
+
+    /// Its correction factors of the periods after the first that have one, by rising period.
+    pub fn corrections(&self) -> &[Correction]
+        ensures value { result.now ≡ self.now.corrections }
+        ensures fit { CorrectionsFit result.now }
+    {
+        self.parts.lists.corrections()
     }
 
     /// How many allowances of this kind it holds, 0 to 10^15.
@@ -243,6 +257,19 @@ impl Account {
         self.parts.lists.sum(Retirement::Surrendered, kind) as u64
     }
 
+    /// How many allowances of both kinds it has surrendered for this period, 0 to 2 x 10^15. Surrenders that were reversed do
+    /// not count.
+    pub fn surrendered_for(&self, period: u8) -> u64
+        ensures value { result ≡ surrendered_in period self.now.rows }
+        ensures limit { result ≤ MOST_RETIRED + MOST_RETIRED }
+    {
+        self.is_within_limits();
+        if period < 1 || MOST_PERIODS < period {
+            return 0;
+        }
+        self.parts.lists.surrendered_for(period) as u64
+    }
+
     /// How many allowances of this kind it has deleted, 0 to 10^15. Deletions that were reversed do not count.
     pub fn deleted(&self, kind: AllowanceKind) -> u64
         ensures value { result ≡ retired_by self.now Deleted kind }
@@ -297,11 +324,12 @@ impl Account {
         find_figure(self.parts.lists.figures(), year)
     }
 
-    /// Its compliance figure of this year as of now: the allowances of both kinds that it surrendered for the period,
-    /// minus its emissions of the period up to and including the year, plus its correction factor, in tonnes.
+    /// Its compliance figure of this year as of now: the allowances of both kinds that it surrendered for the period of the
+    /// year, minus its emissions of that period up to and including the year, plus its correction factor of the period, in
+    /// tonnes.
     ///
     /// # Errors
-    /// The year is outside the period, or the first year of the period without emissions, if it is this one or earlier.
+    /// The year is outside every period, or the first year of its period without emissions, if it is this one or earlier.
     pub fn figure(&self, rules: &Rules, year: Year) -> Result<i64, FigureFault>
         ensures value { result ≡ figure_of rules.now self.now year }
         ensures limits { IfOk result FigureFits }
@@ -310,7 +338,7 @@ impl Account {
     }
 
     /// Surrenders or deletes allowances: they leave the account, and the row is its last one. The row must not be
-    /// reversed. Its number must be above those of the other rows, the account must hold the amount, and all limits must
+    /// reversed, and the period of a surrender must be 1 to 8. Its number must be above those of the other rows, the account must hold the amount, and all limits must
     /// stay met. Nothing else changes.
     ///
     /// # Errors

@@ -1,23 +1,25 @@
 //! What can be wrong with the parts of an account.
 
-ghost use Rattle.std.specs.Prelude.{◌≡◌};
+ghost use Rattle.std.specs.Prelude.{◌≡◌, ℤ};
 ghost use Rattle.std.specs.List.{list_any};
 ghost use Rattle.reg_base.specs.Rising.{is_rising_from};
+ghost use Rattle.reg_account.specs.Corrections.{correction_periods, is_factor_unfit, is_later_unfit, are_corrections_unfit};
 ghost use Rattle.reg_account.specs.Users.{user_numbers, are_users_unfit};
 ghost use Rattle.reg_account.specs.Trusted.{trusted_numbers, are_trusted_unfit};
-ghost use Rattle.reg_account.specs.Rows.{row_numbers, is_row_unfit, are_rows_unfit, is_too_much, is_too_much_retired};
+ghost use Rattle.reg_account.specs.Rows.{row_numbers, is_fate_unfit, is_row_unfit, are_rows_unfit, is_too_much, is_too_much_retired};
 ghost use Rattle.reg_account.specs.Years.{emission_years, figure_years, is_emission_unfit, are_emissions_unfit, is_figure_unfit, are_figures_unfit};
 ghost use Rattle.reg_account.specs.Account.{account_of, account_has, first_account_fault};
 
+use crate::corrections::Correction;
 use crate::lists::Lists;
 use crate::parts::{AccountFault, AccountParts};
-use crate::rows::RetirementRow;
+use crate::rows::{Fate, RetirementRow};
 use crate::trusted::TrustedEntry;
 use crate::users::Representative;
 use crate::years::{Emission, Figure};
 use reg_base::{
-    AllowanceKind, MOST_CORRECTION, MOST_EMISSIONS, MOST_FIGURE, MOST_HELD, MOST_RETIRED,
-    MOST_ROWS, MOST_TRUSTED, MOST_USERS, Retirement,
+    AllowanceKind, MOST_CORRECTION, MOST_EMISSIONS, MOST_FIGURE, MOST_HELD, MOST_PERIODS,
+    MOST_RETIRED, MOST_ROWS, MOST_TRUSTED, MOST_USERS, Retirement,
 };
 
 // The faults that parts can have, in the order in which they are named.
@@ -47,7 +49,7 @@ fn has_fault(parts: &AccountParts, fault: AccountFault) -> bool
 {
     match fault {
         AccountFault::Correction => {
-            parts.correction < -MOST_CORRECTION || MOST_CORRECTION < parts.correction
+            is_factor_unfit(parts.correction) || are_corrections_unfit(parts.lists.corrections())
         }
         AccountFault::Holding => {
             MOST_HELD < parts.held.general || MOST_HELD < parts.held.aviation
@@ -59,6 +61,47 @@ fn has_fault(parts: &AccountParts, fault: AccountFault) -> bool
         AccountFault::Emissions => are_emissions_unfit(parts.lists.emissions()),
         AccountFault::Figures => are_figures_unfit(parts.lists.figures()),
     }
+}
+
+fn is_factor_unfit(factor: i64) -> bool
+    ensures { result ≡ is_factor_unfit factor }
+{
+    factor < -MOST_CORRECTION || MOST_CORRECTION < factor
+}
+
+fn are_corrections_unfit(corrections: &[Correction]) -> bool
+    ensures { result ≡ are_corrections_unfit corrections.now }
+{
+    !have_rising_periods(corrections) || has_unfit_factor(corrections)
+}
+
+fn have_rising_periods(corrections: &[Correction]) -> bool
+    ensures { result ≡ is_rising_from 0 (correction_periods corrections.now) }
+{
+    let mut low = 0;
+    for correction in corrections {
+        let period = u16::from(correction.period);
+        if period < low {
+            return false;
+        }
+        low = period + 1;
+    }
+    true
+}
+
+fn has_unfit_factor(corrections: &[Correction]) -> bool
+    ensures { result ≡ list_any is_later_unfit corrections.now }
+{
+    corrections
+        .iter()
+        .any(|correction| is_later_unfit(correction))
+}
+
+fn is_later_unfit(correction: &Correction) -> bool
+    ensures { result ≡ is_later_unfit correction.now }
+{
+    (correction.period < 2 || MOST_PERIODS < correction.period)
+        || (correction.factor == 0 || is_factor_unfit(correction.factor))
 }
 
 fn are_users_unfit(users: &[Representative]) -> bool
@@ -130,7 +173,16 @@ fn has_unfit_row(rows: &[RetirementRow]) -> bool
 fn is_row_unfit(row: &RetirementRow) -> bool
     ensures { result ≡ is_row_unfit row.now }
 {
-    row.amount < 1 || MOST_RETIRED < row.amount
+    row.amount < 1 || (MOST_RETIRED < row.amount || is_fate_unfit(row.fate))
+}
+
+fn is_fate_unfit(fate: Fate) -> bool
+    ensures { result ≡ is_fate_unfit fate }
+{
+    match fate {
+        Fate::Surrendered { period } => period < 1 || MOST_PERIODS < period,
+        Fate::Deleted => false,
+    }
 }
 
 fn is_too_much_retired(lists: &Lists) -> bool

@@ -2,12 +2,15 @@
 
 ghost use Rattle.std.specs.Prelude.{◌≡◌, ◌++◌, [], ◌∷◌, false, IfOk, OnOk, OnErr, MatchOption};
 ghost use Rattle.reg_base.specs.Rising.{IsRising};
-ghost use Rattle.reg_account.specs.Rows.{row_numbers, row_in, retired_in, with_mark};
+ghost use Rattle.reg_base.specs.declared.limits.TheConstants.{MOST_PERIODS};
+ghost use Rattle.reg_base.specs.Numbers.{IsWithin};
+ghost use Rattle.reg_account.specs.Rows.{row_numbers, row_in, retired_in, surrendered_in, with_mark};
 ghost use Rattle.reg_account.specs.Years.{emission_years, figure_years, with_emission, with_figure};
 ghost use Rattle.reg_account.specs.Lists.{RecordsValue, no_records};
 
+use crate::corrections::Correction;
 use crate::rows::{RetirementRow, copy_rows, mark_reversed, place_of};
-use crate::sums::{Sums, count_row, get_sum, uncount_row};
+use crate::sums::{Sums, count_row, get_sum, get_sum_for, uncount_row};
 use crate::years::{Emission, Figure, put_emission, put_figure};
 use reg_base::{AllowanceKind, NoMemory, RecordNo, Retirement};
 use std::alloc::Global;
@@ -16,6 +19,7 @@ use std::marker::Model;
 /// Records, and the sums over the rows.
 #[derive(Debug, Drop)]
 pub(crate) struct Kept {
+    corrections: Vec<Correction>,
     rows: Vec<RetirementRow>,
     emissions: Vec<Emission>,
     figures: Vec<Figure>,
@@ -29,7 +33,7 @@ impl Model for Kept {
 
     ghost Value = { RecordsValue };
 
-    ghost view = { λ k. record { rows = k.rows.items; emissions = k.emissions.items; figures = k.figures.items } };
+    ghost view = { λ k. record { corrections = k.corrections.items; rows = k.rows.items; emissions = k.emissions.items; figures = k.figures.items } };
 
     ghost invariant = { λ k. SumsAgree k.sums k.rows.items };
 }
@@ -39,11 +43,18 @@ impl Kept {
         ensures { result ≡ no_records }
     {
         Kept {
+            corrections: Vec::new(alloc),
             rows: Vec::new(alloc),
             emissions: Vec::new(alloc),
             figures: Vec::new(alloc),
             sums: Sums::NONE,
         }
+    }
+
+    pub(crate) fn corrections(&self) -> &[Correction]
+        ensures { result.now ≡ self.now.corrections }
+    {
+        &self.corrections
     }
 
     pub(crate) fn rows(&self) -> &[RetirementRow]
@@ -68,6 +79,22 @@ impl Kept {
         ensures { result ≡ retired_in way kind self.now.rows }
     {
         get_sum(&self.sums, way, kind)
+    }
+
+    pub(crate) fn surrendered_for(&self, period: u8) -> u128
+        requires { IsWithin 1 MOST_PERIODS period }
+        ensures { result ≡ surrendered_in period self.now.rows }
+    {
+        get_sum_for(&self.sums, period)
+    }
+
+    #[inline(always)]
+    pub(crate) fn push_correction(&mut self, correction: Correction) -> Result<(), NoMemory>
+        ensures ok { OnOk result (self.new ≡ record self.old { corrections = self.old.corrections ++ correction ∷ [] }) }
+        ensures err { OnErr result (self.new ≡ self.old) }
+    {
+        self.corrections.push(correction)?;
+        Ok(())
     }
 
     #[inline(always)]
@@ -138,6 +165,7 @@ impl Kept {
         ensures { IfOk result (λ k. k ≡ self.now) }
     {
         Ok(Kept {
+            corrections: self.corrections.clone()?,
             rows: copy_rows(alloc, &self.rows)?,
             emissions: self.emissions.clone()?,
             figures: self.figures.clone()?,

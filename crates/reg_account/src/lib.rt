@@ -3,6 +3,7 @@
 #![tactic(auto)]
 
 mod account;
+mod corrections;
 mod faults;
 mod figure;
 mod kept;
@@ -18,11 +19,12 @@ mod users;
 mod years;
 
 pub use account::Account;
+pub use corrections::Correction;
 pub use figure::FigureFault;
 pub use lists::Lists;
 pub use parts::{AccountFault, AccountParts, Holdings};
 pub use reg_base::Retirement;
-pub use rows::RetirementRow;
+pub use rows::{Fate, RetirementRow};
 pub use trusted::TrustedEntry;
 pub use users::Representative;
 pub use years::{Emission, Figure};

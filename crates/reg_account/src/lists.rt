@@ -1,12 +1,15 @@
-//! The lists of an account: its representatives, its trusted account list, and its records.
+//! The lists of an account: its correction factors of later periods, its representatives, its trusted account list, and its records.
 
 ghost use Rattle.std.specs.Prelude.{◌≡◌, ◌++◌, [], ◌∷◌, false, IfOk, OnOk, OnErr, MatchOption};
 ghost use Rattle.reg_base.specs.Rising.{IsRising};
 ghost use Rattle.reg_account.specs.Trusted.{trusted_numbers, with_entry, without_entry};
-ghost use Rattle.reg_account.specs.Rows.{row_numbers, row_in, retired_in, with_mark};
+ghost use Rattle.reg_base.specs.declared.limits.TheConstants.{MOST_PERIODS};
+ghost use Rattle.reg_base.specs.Numbers.{IsWithin};
+ghost use Rattle.reg_account.specs.Rows.{row_numbers, row_in, retired_in, surrendered_in, with_mark};
 ghost use Rattle.reg_account.specs.Years.{emission_years, figure_years, with_emission, with_figure};
 ghost use Rattle.reg_account.specs.Lists.{ListsValue, no_lists};
 
+use crate::corrections::Correction;
 use crate::records::Records;
 use crate::rows::RetirementRow;
 use crate::trusted::{Entries, TrustedEntry, put_entry, remove_entry};
@@ -28,8 +31,8 @@ struct Filled {
     records: Records,
 }
 
-/// The lists of an account, not yet tested: its representatives, its trusted account list, its surrenders and deletions,
-/// its emissions and its determined figures. A contract sees them as plain data. Lists without anything take no memory.
+/// The lists of an account, not yet tested: its correction factors of later periods, its representatives, its trusted
+/// account list, its surrenders and deletions, its emissions and its determined figures. A contract sees them as plain data. Lists without anything take no memory.
 #[derive(Debug, Drop)]
 pub struct Lists {
     alloc: Global,
@@ -54,6 +57,16 @@ impl Lists {
         Lists {
             alloc,
             filled: None,
+        }
+    }
+
+    /// The correction factors of later periods.
+    pub fn corrections(&self) -> &[Correction]
+        ensures { result.now ≡ self.now.corrections }
+    {
+        match &self.filled {
+            Some(filled) => filled.records.corrections(),
+            None => &[],
         }
     }
 
@@ -104,6 +117,26 @@ impl Lists {
         match &self.filled {
             Some(filled) => filled.records.figures(),
             None => &[],
+        }
+    }
+
+    /// Appends the correction factor of a later period.
+    ///
+    /// # Errors
+    /// `NoMemory` if memory ran out. The lists are unchanged.
+    #[inline(always)]
+    pub fn push_correction(&mut self, correction: Correction) -> Result<(), NoMemory>
+        ensures ok { OnOk result (self.new ≡ record self.old { corrections = self.old.corrections ++ correction ∷ [] }) }
+        ensures err { OnErr result (self.new ≡ self.old) }
+    {
+        match &mut self.filled {
+            Some(filled) => filled.records.push_correction(correction),
+            None => {
+                let mut filled = Filled::empty(self.alloc);
+                filled.records.push_correction(correction)?;
+                self.filled = Some(Box::new(self.alloc, filled)?);
+                Ok(())
+            }
         }
     }
 
@@ -225,6 +258,18 @@ impl Lists {
     {
         match &self.filled {
             Some(filled) => filled.records.sum(way, kind),
+            None => 0,
+        }
+    }
+
+    /// How many allowances of both kinds were surrendered for this period, 1 to 8, and not reversed. Takes no memory and goes
+    /// through no list.
+    pub fn surrendered_for(&self, period: u8) -> u128
+        requires { IsWithin 1 MOST_PERIODS period }
+        ensures { result ≡ surrendered_in period self.now.rows }
+    {
+        match &self.filled {
+            Some(filled) => filled.records.surrendered_for(period),
             None => 0,
         }
     }

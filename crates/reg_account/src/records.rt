@@ -1,11 +1,15 @@
-//! The records of an account: its surrenders and deletions, its emissions and its determined figures.
+//! The records of an account: its correction factors of later periods, its surrenders and deletions, its emissions and its
+//! determined figures.
 
 ghost use Rattle.std.specs.Prelude.{◌≡◌, ◌++◌, [], ◌∷◌, false, IfOk, OnOk, OnErr, MatchOption};
 ghost use Rattle.reg_base.specs.Rising.{IsRising};
-ghost use Rattle.reg_account.specs.Rows.{row_numbers, row_in, retired_in, with_mark};
+ghost use Rattle.reg_base.specs.declared.limits.TheConstants.{MOST_PERIODS};
+ghost use Rattle.reg_base.specs.Numbers.{IsWithin};
+ghost use Rattle.reg_account.specs.Rows.{row_numbers, row_in, retired_in, surrendered_in, with_mark};
 ghost use Rattle.reg_account.specs.Years.{emission_years, figure_years, emissions_in, figure_in, with_emission, with_figure};
 ghost use Rattle.reg_account.specs.Lists.{RecordsValue, no_records};
 
+use crate::corrections::Correction;
 use crate::kept::Kept;
 use crate::rows::RetirementRow;
 use crate::years::{Emission, Figure};
@@ -13,8 +17,8 @@ use reg_base::{AllowanceKind, NoMemory, RecordNo, Retirement, Year};
 use std::alloc::Global;
 use std::marker::Model;
 
-/// The surrenders and deletions of an account, its emissions and its determined figures, not yet tested. A contract sees
-/// them as plain data. Most accounts have none, so records without anything take no memory.
+/// The correction factors of later periods of an account, its surrenders and deletions, its emissions and its determined
+/// figures, not yet tested. A contract sees them as plain data. Most accounts have none, so records without anything take no memory.
 #[derive(Debug, Drop)]
 pub(crate) struct Records {
     alloc: Global,
@@ -36,6 +40,16 @@ impl Records {
         ensures { result ≡ no_records }
     {
         Records { alloc, kept: None }
+    }
+
+    /// The correction factors of later periods.
+    pub(crate) fn corrections(&self) -> &[Correction]
+        ensures { result.now ≡ self.now.corrections }
+    {
+        match &self.kept {
+            Some(kept) => kept.corrections(),
+            None => &[],
+        }
     }
 
     /// The surrenders and deletions.
@@ -65,6 +79,26 @@ impl Records {
         match &self.kept {
             Some(kept) => kept.figures(),
             None => &[],
+        }
+    }
+
+    /// Appends the correction factor of a later period.
+    ///
+    /// # Errors
+    /// `NoMemory` if memory ran out. The records are unchanged.
+    #[inline(always)]
+    pub(crate) fn push_correction(&mut self, correction: Correction) -> Result<(), NoMemory>
+        ensures ok { OnOk result (self.new ≡ record self.old { corrections = self.old.corrections ++ correction ∷ [] }) }
+        ensures err { OnErr result (self.new ≡ self.old) }
+    {
+        match &mut self.kept {
+            Some(kept) => kept.push_correction(correction),
+            None => {
+                let mut kept = Kept::empty(self.alloc);
+                kept.push_correction(correction)?;
+                self.kept = Some(Box::new(self.alloc, kept)?);
+                Ok(())
+            }
         }
     }
 
@@ -135,6 +169,18 @@ impl Records {
     {
         match &self.kept {
             Some(kept) => kept.sum(way, kind),
+            None => 0,
+        }
+    }
+
+    /// How many allowances of both kinds were surrendered for this period, 1 to 8, and not reversed. Takes no memory and goes
+    /// through no list.
+    pub(crate) fn surrendered_for(&self, period: u8) -> u128
+        requires { IsWithin 1 MOST_PERIODS period }
+        ensures { result ≡ surrendered_in period self.now.rows }
+    {
+        match &self.kept {
+            Some(kept) => kept.surrendered_for(period),
             None => 0,
         }
     }

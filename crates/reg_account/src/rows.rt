@@ -2,11 +2,35 @@
 
 ghost use Rattle.std.specs.Prelude.{◌≡◌, ◌<◌, Some, None, IfOk, MatchOption, length, slice_index};
 ghost use Rattle.reg_base.specs.Rising.{IsRising};
-ghost use Rattle.reg_account.specs.Rows.{row_numbers, row_in, with_mark};
+ghost use Rattle.reg_account.specs.Rows.{retirement_of, row_numbers, row_in, with_mark};
 ghost use Rattle.reg_account.specs.Places.{RowStandsAt};
 
 use reg_base::{AllowanceKind, Day, NoMemory, RecordNo, Retirement};
 use std::alloc::Global;
+
+/// What became of the allowances of a row.
+#[derive(Clone, Copy, Debug, PartialEq, Eq)]
+pub enum Fate {
+    /// They were surrendered for the emissions of a period.
+    Surrendered {
+        /// The number of the period, 1 to 8.
+        period: u8,
+    },
+    /// They were deleted.
+    Deleted,
+}
+
+impl Fate {
+    /// Whether they were surrendered or deleted.
+    pub fn retirement(self) -> Retirement
+        ensures { result ≡ retirement_of self }
+    {
+        match self {
+            Fate::Surrendered { .. } => Retirement::Surrendered,
+            Fate::Deleted => Retirement::Deleted,
+        }
+    }
+}
 
 /// A surrender or a deletion. The fields stand by their size, so that a row takes 24 bytes.
 #[derive(Clone, Copy, Debug, PartialEq, Eq)]
@@ -17,8 +41,8 @@ pub struct RetirementRow {
     pub amount: u64,
     /// The settlement day on which the instruction was carried out.
     pub day: Day,
-    /// Whether the allowances were surrendered or deleted.
-    pub retirement: Retirement,
+    /// Whether the allowances were surrendered, and for which period, or deleted.
+    pub fate: Fate,
     /// Their kind.
     pub kind: AllowanceKind,
     /// Whether it was reversed.

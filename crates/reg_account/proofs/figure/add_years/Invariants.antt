@@ -3,7 +3,7 @@ use Rattle.reg_base.specs.declared.limits.TheConstants.{MOST_EMISSIONS}
 use Rattle.reg_base.specs.Rising.{count_up}
 use Rattle.reg_account.specs.Figure.{emitted_or_missing}
 use Rattle.reg_account.proofs.Figures.{plus}
-use Rattle.reg_account.proofs.figure.add_emissions.Given as goal
+use Rattle.reg_account.proofs.figure.add_years.Given as goal
 
 abbrev pub invariant-loop-number : goal.invariant-loop-number
 invariant-loop-number l = record {

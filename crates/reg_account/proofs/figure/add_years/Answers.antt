@@ -5,7 +5,7 @@ use Rattle.reg_base.specs.Rising.{count_up}
 use Rattle.reg_account.specs.Years.{emissions_in}
 use Rattle.reg_account.specs.Figure.{emitted_or_missing}
 use Rattle.reg_account.proofs.Figures.{plus, plus_plus, one_more}
-use Rattle.reg_account.proofs.figure.add_emissions.Goals as goal
+use Rattle.reg_account.proofs.figure.add_years.Goals as goal
 
 pub loop-number-preserved : goal.loop-number-preserved
 loop-number-preserved c =
