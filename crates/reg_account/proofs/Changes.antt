@@ -13,7 +13,7 @@ use Rattle.reg_account.specs.declared.rows.RetirementRow.{RetirementRow}
 use Rattle.reg_account.specs.declared.years.Emission.{Emission}
 use Rattle.reg_account.specs.declared.years.Figure.{Figure}
 use Rattle.reg_account.specs.Trusted.{TrustedFit, EntryIsInRange, with_entry, without_entry}
-use Rattle.reg_account.specs.Rows.{row_in, RowIsInRange}
+use Rattle.reg_account.specs.Rows.{row_in, FateFits, RowIsInRange}
 use Rattle.reg_account.specs.Years.{EmissionsFit, FiguresFit, EmissionFits, FigureFits, EmissionIsInRange, FigureIsInRange, with_emission, with_figure}
 use Rattle.reg_account.specs.Account.{AccountValue, IsAccount, HoldingsFit, amount_of, with_amount, held_by, retired, unretired_row, unretired, CanRetire, CanUnretire, CanUnretireRow}
 use Rattle.reg_account.specs.Laws.{ChangesKeepLimits}
@@ -44,8 +44,8 @@ with_held a h is fit = record {
   figures_fit = is.figures_fit;
 }
 
-pub retired_is_account : (a : AccountValue) (row : RetirementRow) → IsAccount a → CanRetire a row → RowIsInRange row → IsAccount (retired a row)
-retired_is_account a row is can ranged =
+pub retired_is_account : (a : AccountValue) (row : RetirementRow) → IsAccount a → CanRetire a row → FateFits row.fate → RowIsInRange row → IsAccount (retired a row)
+retired_is_account a row is can fate ranged =
     let most = fits_at a.held row.kind is.holdings_fit in
     record {
       own_number = is.own_number;
@@ -55,7 +55,7 @@ retired_is_account a row is can ranged =
       holdings_fit = fits_with a.held row.kind (held_by a row.kind - row.amount) is.holdings_fit (omega (arith, most));
       users_fit = is.users_fit;
       trusted_fit = is.trusted_fit;
-      rows_fit = rows_fit_pushed a.rows row is.rows_fit can.later can.room (record { some = can.some; most = omega (arith, can.enough, most); period = can.period }) ranged;
+      rows_fit = rows_fit_pushed a.rows row is.rows_fit can.later can.room (record { some = can.some; most = omega (arith, can.enough, most); period = fate }) ranged;
       retired_fits = retired_fits_pushed a.rows row is.retired_fits can.fits;
       emissions_fit = is.emissions_fit;
       figures_fit = is.figures_fit;
@@ -133,7 +133,7 @@ pub changes-keep-limits : ChangesKeepLimits
 changes-keep-limits = record {
   credit = λ a kind amount is room. with_held a _ is (fits_with a.held kind (held_by a kind + amount) is.holdings_fit room);
   debit = λ a kind amount is. let most = fits_at a.held kind is.holdings_fit in with_held a _ is (fits_with a.held kind (held_by a kind - amount) is.holdings_fit (omega (arith, most)));
-  retire = λ a row is can ranged. retired_is_account a row is can ranged;
+  retire = λ a row is can fate ranged. retired_is_account a row is can fate ranged;
   unretire = λ a number is can. unretired_is_account a number is can;
   trust = λ a new is room ranged. with_list a _ is (trusted_fit_put a.trusted new is.trusted_fit room ranged);
   untrust = λ a other is. with_list a _ is (trusted_fit_without a.trusted other is.trusted_fit);

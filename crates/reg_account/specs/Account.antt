@@ -23,7 +23,7 @@ pub use Rattle.reg_account.specs.Corrections.{CorrectionFits}
 use Rattle.reg_account.specs.Corrections.{factor_in, CorrectionsFit, is_factor_unfit, are_corrections_unfit}
 use Rattle.reg_account.specs.Users.{UsersFit, are_users_unfit}
 use Rattle.reg_account.specs.Trusted.{is_in_effect, with_entry, without_entry, TrustedFit, are_trusted_unfit}
-use Rattle.reg_account.specs.Rows.{retired_in, row_numbers, row_in, with_mark, retirement_of, FateFits, AreBelow, RowsFit, RetiredFits, are_rows_unfit, is_too_much_retired}
+use Rattle.reg_account.specs.Rows.{retired_in, row_numbers, row_in, with_mark, retirement_of, AreBelow, RowsFit, RetiredFits, are_rows_unfit, is_too_much_retired}
 use Rattle.reg_account.specs.Years.{with_emission, with_figure, EmissionsFit, FiguresFit, are_emissions_unfit, are_figures_unfit}
 
 -- an account as plain data; its correction is that of period 1, and its corrections are those of later periods
@@ -133,7 +133,6 @@ with_determined a new = record a { figures = with_figure new a.figures }
 pub record CanRetire (a : AccountValue) (row : RetirementRow) : Type 0 where
   pub fresh : row.reversed ≡ false
   pub some : 1 ≤ row.amount
-  pub period : FateFits row.fate
   pub later : AreBelow row.number (row_numbers a.rows)
   pub room : length a.rows < MOST_ROWS
   pub enough : row.amount ≤ held_by a row.kind

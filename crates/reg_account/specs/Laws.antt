@@ -11,7 +11,7 @@ use Rattle.reg_account.specs.declared.years.Emission.{Emission}
 use Rattle.reg_account.specs.declared.years.Figure.{Figure}
 use Rattle.reg_account.specs.declared.figure.FigureFault.{FigureFault}
 use Rattle.reg_account.specs.Trusted.{effective_in, EntryIsInRange}
-use Rattle.reg_account.specs.Rows.{is_same_kind, amount_in, row_in, RowIsInRange}
+use Rattle.reg_account.specs.Rows.{is_same_kind, amount_in, row_in, FateFits, RowIsInRange}
 use Rattle.reg_account.specs.Years.{emissions_in, figure_in, FigureFits, EmissionFits, EmissionIsInRange, FigureIsInRange}
 use Rattle.reg_account.specs.Account.{AccountValue, held_by, retired_by, credited, debited, retired, unretired, with_trusted, without_trusted, with_status, with_emissions, with_determined, CanTrust, CanRetire, CanUnretire, CanUnretireRow, IsAccount}
 use Rattle.reg_account.specs.Figure.{figure_of, is_row_counted}
@@ -20,7 +20,7 @@ use Rattle.reg_account.specs.Figure.{figure_of, is_row_counted}
 pub record ChangesKeepLimits : Type 0 where
   pub credit : (a : AccountValue) (kind : AllowanceKind) (amount : ℕ) → IsAccount a → held_by a kind + amount ≤ MOST_HELD → IsAccount (credited a kind amount)
   pub debit : (a : AccountValue) (kind : AllowanceKind) (amount : ℕ) → IsAccount a → IsAccount (debited a kind amount)
-  pub retire : (a : AccountValue) (row : RetirementRow) → IsAccount a → CanRetire a row → RowIsInRange row → IsAccount (retired a row)
+  pub retire : (a : AccountValue) (row : RetirementRow) → IsAccount a → CanRetire a row → FateFits row.fate → RowIsInRange row → IsAccount (retired a row)
   pub unretire : (a : AccountValue) (number : ℕ) → IsAccount a → CanUnretire a number → IsAccount (unretired a number)
   pub trust : (a : AccountValue) (new : TrustedEntry) → IsAccount a → CanTrust a → EntryIsInRange new → IsAccount (with_trusted a new)
   pub untrust : (a : AccountValue) (other : ℕ) → IsAccount a → IsAccount (without_trusted a other)

@@ -44,7 +44,7 @@ impl Account {
     ghost use Rattle.reg_account.specs.Corrections.{CorrectionFits, CorrectionsFit};
     ghost use Rattle.reg_account.specs.Users.{right_in, UsersFit};
     ghost use Rattle.reg_account.specs.Trusted.{effective_in, TrustedFit};
-    ghost use Rattle.reg_account.specs.Rows.{row_in, surrendered_in, RowsFit};
+    ghost use Rattle.reg_account.specs.Rows.{FateFits, row_in, surrendered_in, RowsFit};
     ghost use Rattle.reg_account.specs.Years.{emissions_in, figure_in, EmissionsFit, FiguresFit, FigureFits};
     ghost use Rattle.reg_account.specs.Account.{correction_of, held_by, retired_by, credited, debited, retired, unretired, trusts, with_trusted, without_trusted, with_status, with_emissions, with_determined, CanTrust, CanRetire, CanUnretire, IsAccount};
     ghost use Rattle.reg_account.specs.Figure.{figure_of};
@@ -338,13 +338,14 @@ impl Account {
     }
 
     /// Surrenders or deletes allowances: they leave the account, and the row is its last one. The row must not be
-    /// reversed, and the period of a surrender must be 1 to 8. Its number must be above those of the other rows, the account must hold the amount, and all limits must
-    /// stay met. Nothing else changes.
+    /// reversed, and the period of a surrender must be 1 to 8. Its number must be above those of the other rows, the
+    /// account must hold the amount, and all limits must stay met. Nothing else changes.
     ///
     /// # Errors
     /// `NoMemory` if there was no room for the row. The account is unchanged.
     pub fn retire(&mut self, row: RetirementRow) -> Result<(), NoMemory>
-        requires { CanRetire self.old row }
+        requires can { CanRetire self.old row }
+        requires fate { FateFits row.fate }
         ensures ok { OnOk result (self.new ≡ retired self.old row) }
         ensures err { OnErr result (self.new ≡ self.old) }
     {
