@@ -44,7 +44,7 @@ impl Account {
     ghost use Rattle.reg_account.specs.Corrections.{CorrectionFits, CorrectionsFit};
     ghost use Rattle.reg_account.specs.Users.{right_in, UsersFit};
     ghost use Rattle.reg_account.specs.Trusted.{effective_in, TrustedFit};
-    ghost use Rattle.reg_account.specs.Rows.{FateFits, row_in, surrendered_in, RowsFit};
+    ghost use Rattle.reg_account.specs.Rows.{row_in, surrendered_in, FateFits, RowsFit};
     ghost use Rattle.reg_account.specs.Years.{emissions_in, figure_in, EmissionsFit, FiguresFit, FigureFits};
     ghost use Rattle.reg_account.specs.Account.{correction_of, held_by, retired_by, credited, debited, retired, unretired, trusts, with_trusted, without_trusted, with_status, with_emissions, with_determined, CanTrust, CanRetire, CanUnretire, IsAccount};
     ghost use Rattle.reg_account.specs.Figure.{figure_of};

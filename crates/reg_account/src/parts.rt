@@ -42,9 +42,9 @@ pub struct AccountParts {
 /// Why parts are not an account: the first of these that applies.
 #[derive(Clone, Copy, Debug, PartialEq, Eq, Error)]
 pub enum AccountFault {
-    /// A correction factor is below -10^15 or above 10^15 tonnes, or those of later periods are not of periods that rise from
-    /// 2 to 8, or one of them is 0.
-    #[error("the correction factors are not -10^15 to 10^15 tonnes, or later ones are 0 or not of periods that rise from 2 to 8")]
+    /// A correction factor is below -10^15 or above 10^15 tonnes; or the periods of later factors don't rise from 2 to 8, or
+    /// one of these factors is 0.
+    #[error("a correction factor is not -10^15 to 10^15 tonnes, or those of later periods are 0 or don't rise from 2 to 8")]
     Correction,
     /// A holding is above 10^15 allowances.
     #[error("a holding is above 10^15 allowances")]
