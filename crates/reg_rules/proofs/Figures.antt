@@ -13,7 +13,7 @@ use Rattle.reg_base.specs.declared.kinds.AllowanceKind.TheVariants.{General, Avi
 use Rattle.reg_base.specs.Numbers.{IsYearNo}
 use Rattle.reg_base.specs.Rising.{count_up}
 use Rattle.reg_base.specs.Periods.{is_within}
-use Rattle.reg_base.specs.Rules.{RulesValue, AreRules, period_of, period_with, is_in_period}
+use Rattle.reg_base.specs.Rules.{RulesValue, AreRules, period_of, period_with, is_year_of, is_in_period}
 use Rattle.reg_base.specs.declared.kinds.Retirement.TheVariants.{Surrendered}
 use Rattle.reg_account.specs.declared.rows.Fate.{Fate}
 use Rattle.reg_account.specs.declared.rows.Fate.TheVariants as fate
@@ -22,19 +22,18 @@ use Rattle.reg_account.specs.declared.corrections.Correction.{Correction}
 use Rattle.reg_account.specs.Corrections.{LaterFits, CorrectionsFit, factor_in}
 use Rattle.reg_account.specs.declared.years.Emission.{Emission}
 use Rattle.reg_account.specs.declared.figure.FigureFault.TheVariants.{YearOutsidePeriod}
-use Rattle.reg_account.specs.Rows.{retirement_of, is_for, is_same_retirement, is_same_kind, amount_in, retired_in}
+use Rattle.reg_account.specs.Rows.{retirement_of, is_same_retirement, is_same_kind, amount_in, retired_in}
 use Rattle.reg_account.specs.Years.{emissions_in, EmissionFits, FigureFits}
 use Rattle.reg_account.specs.Account.{AccountValue, IsAccount, CorrectionFits, correction_of}
-use Rattle.reg_account.specs.Figure.{is_row_counted, surrendered_for, correction_added, emitted_in, years_from, years_counted, first_missing, figure_with, figure_by, emitted_unless, figure_of}
+use Rattle.reg_account.specs.Figure.{is_for_year, is_row_counted, surrendered_for, correction_added, emitted_in, years_from, years_counted, first_missing, figure_with, figure_by, emitted_unless, figure_of}
 
 -- a row counts for a figure at most as it counts for its kind
-row-counted : (own : Option ℕ) (f : Fate) (kind : AllowanceKind) (reversed : Bool) (amount : ℕ)
-    → cond (option_map_or (λ period. is_for period f) own false && not reversed) amount 0
+row-counted : (rules : RulesValue) (year : ℕ) (f : Fate) (kind : AllowanceKind) (reversed : Bool) (amount : ℕ)
+    → cond (is_for_year rules year f && not reversed) amount 0
     ≤ cond (is_same_retirement (retirement_of f) Surrendered && (is_same_kind kind General && not reversed)) amount 0
     + cond (is_same_retirement (retirement_of f) Surrendered && (is_same_kind kind Aviation && not reversed)) amount 0
-row-counted None f kind reversed amount = omega arith
-row-counted (Some period) fate.Deleted kind reversed amount = omega arith
-row-counted (Some period) (fate.Surrendered named) kind reversed amount = go (eqb named period) kind reversed where
+row-counted rules year fate.Deleted kind reversed amount = omega arith
+row-counted rules year (fate.Surrendered period) kind reversed amount = go (is_year_of rules period year) kind reversed where
   go : (b : Bool) (kind : AllowanceKind) (reversed : Bool)
       → cond (b && not reversed) amount 0 ≤ cond (is_same_kind kind General && not reversed) amount 0 + cond (is_same_kind kind Aviation && not reversed) amount 0
   go true General true = omega arith
@@ -47,7 +46,7 @@ rows-counted : (rules : RulesValue) (year : ℕ) (rows : List RetirementRow)
     → sum_by (λ row. cond (is_row_counted rules year row) row.amount 0) rows ≤ retired_in Surrendered General rows + retired_in Surrendered Aviation rows
 rows-counted rules year [] = omega arith
 rows-counted rules year (x ∷ xs) =
-    let here = row-counted (period_of rules year) x.fate x.kind x.reversed x.amount in
+    let here : cond (is_row_counted rules year x) x.amount 0 ≤ amount_in Surrendered General x + amount_in Surrendered Aviation x = row-counted rules year x.fate x.kind x.reversed x.amount in
     let more = rows-counted rules year xs in
     let f = λ (row : RetirementRow). cond (is_row_counted rules year row) row.amount 0 in
     let counted : sum_by f (x ∷ xs) ≡ f x + sum_by f xs = sum_by-cons f x xs in

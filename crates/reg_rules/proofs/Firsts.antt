@@ -1,5 +1,5 @@
 -- If no check fails, the first account has what its change needs.
-use Rattle.std.proofs.Common.{◌≡◌, ℕ, ◌+◌, ◌<◌, ◌≤◌, Bool, true, false, ◌||◌, eqb, List, map, length, Option, Some, None, refl, sym, ap, ◌∙◌, arith}
+use Rattle.std.proofs.Common.{◌≡◌, ℕ, ◌+◌, ◌<◌, ◌≤◌, Bool, true, false, ◌||◌, eqb, List, map, length, Option, Some, None, refl, sym, ap, ◌∙◌, subst, arith}
 use Rattle.std.specs.Prelude.{nat_le, nat_lt, is_none, MatchOption}
 use Rattle.std.specs.Option.{option_map_or}
 use Rattle.std.specs.List.{list_any}
@@ -13,14 +13,17 @@ use Rattle.reg_base.specs.declared.act.Act.{Act}
 use Rattle.reg_base.specs.declared.act.Act.TheVariants.{Transfer, Surrender, Delete, ReturnExcess, CentralMove, Distribute}
 use Rattle.reg_base.specs.declared.instruction.Instruction.{Instruction}
 use Rattle.reg_base.specs.declared.refusals.Refusal.TheVariants.{ZeroAmount, UnknownTransaction, AlreadyReversed, NotEnough, HoldingTooLarge, RetiredTooLarge, RowsFull, ListFull, AmountTooLarge}
+use Rattle.reg_base.specs.declared.kinds.Retirement.{Retirement}
+use Rattle.reg_base.specs.declared.kinds.Retirement.TheVariants.{Surrendered, Deleted}
+use Rattle.reg_base.specs.Rules.{RulesValue}
 use Rattle.reg_base.specs.Acts.{movement_of, change_of, first, shares, amounts_named}
 use Rattle.reg_account.specs.declared.rows.RetirementRow.{RetirementRow}
-use Rattle.reg_account.specs.Rows.{row_in}
-use Rattle.reg_account.specs.Account.{AccountValue, held_by, CanUnretireRow}
+use Rattle.reg_account.specs.Rows.{retirement_of, row_in}
+use Rattle.reg_account.specs.Account.{AccountValue, held_by, retired_by, CanUnretireRow}
 use Rattle.reg_rules.specs.State.{State, Setting, Seen, Receiver, account, seen}
 use Rattle.reg_rules.specs.Trust.{is_list_full}
 use Rattle.reg_rules.specs.Checks.{is_unknown_transaction, is_already_reversed, is_short, overfills_first, overfills_some, is_retired_too_large, are_rows_full, enters_too_much, refusal}
-use Rattle.reg_rules.specs.Effect.{CanMake, CanFirst, IsBehind}
+use Rattle.reg_rules.specs.Effect.{fate_of, CanMake, CanFirst, IsBehind}
 use Rattle.reg_rules.proofs.Passed.{passed}
 
 pub or-left : (a b : Bool) → (a || b) ≡ false → a ≡ false
@@ -74,6 +77,11 @@ can-reverse : (v : AccountValue) (o : Option RetirementRow)
 can-reverse v None known stands room = absurd (let h : true ≡ false = known in cc)
 can-reverse v (Some row) known stands room = record { stands = stands; fits = ltb-false MOST_HELD (held_by v row.kind + row.amount) room }
 
+-- what becomes of the allowances is what the act does with them
+retirement-of : (rules : RulesValue) (way : Retirement) → retirement_of (fate_of rules way) ≡ way
+retirement-of rules Surrendered = refl
+retirement-of rules Deleted = refl
+
 first-can : (c : Setting) (n : ℕ) (made : Change) (v : AccountValue) (rs : List Receiver) → HasPassed made (record { first = Some v; receivers = rs }) → IsBehind n v → CanMake c n made v
 unfolding short_by
 first-can c n (Debit kind amount) v rs p behind = ltb-false (held_by v kind) amount p.enough
@@ -84,7 +92,7 @@ first-can c n (Retire way kind amount) v rs p behind = record {
   later = behind;
   room = below-full MOST_ROWS (length v.rows) p.rows;
   enough = ltb-false (held_by v kind) amount p.enough;
-  fits = ltb-false MOST_RETIRED _ p.retired;
+  fits = subst (λ w. retired_by v w kind + amount ≤ MOST_RETIRED) (sym (retirement-of c.rules way)) (ltb-false MOST_RETIRED (retired_by v way kind + amount) p.retired);
 }
 first-can c n (Unretire number) v rs p behind = can-reverse v (row_in v.rows number) p.known p.stands p.room
 first-can c n (Trust other) v rs p behind = below-full MOST_TRUSTED (length v.trusted) p.space

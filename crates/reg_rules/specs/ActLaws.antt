@@ -11,7 +11,6 @@ use Rattle.reg_base.specs.Acts.{total_of}
 use Rattle.reg_base.specs.Footprint.{is_among}
 use Rattle.reg_base.specs.Calendar.{due}
 use Rattle.reg_base.specs.declared.kinds.Retirement.{Retirement}
-use Rattle.reg_base.specs.declared.kinds.Retirement.TheVariants.{Surrendered, Deleted}
 use Rattle.reg_account.specs.declared.rows.Fate.{Fate}
 use Rattle.reg_account.specs.declared.rows.Fate.TheVariants as fate
 use Rattle.reg_account.specs.declared.rows.RetirementRow.{RetirementRow}

@@ -2,8 +2,9 @@
 
 ghost use Rattle.std.specs.Prelude.{◌≡◌, ◌&&◌, false, nat_lt, find, reverse, Some};
 ghost use Rattle.std.specs.Option.{option_map_or};
-ghost use Rattle.reg_base.specs.Rules.{period_of, is_year_of};
-ghost use Rattle.reg_account.specs.Rows.{is_for, row_in};
+ghost use Rattle.reg_base.specs.Rules.{is_year_of};
+ghost use Rattle.reg_account.specs.Rows.{row_in};
+ghost use Rattle.reg_account.specs.Figure.{is_for_year};
 ghost use Rattle.reg_account.specs.Laws.{lowered_by};
 ghost use Rattle.reg_rules.specs.State.{seen_by};
 ghost use Rattle.reg_rules.specs.Checks.{is_reversal, row_to_reverse, is_past_window, counted_amount, is_compliant, is_negative, turns_negative, turns_in, turns_by, loses_compliance, would_become_non_compliant};
@@ -165,7 +166,7 @@ fn turns_negative(
 fn counted_amount(rules: &Rules, year: Year, row: RetirementRow) -> u64
     ensures { result ≡ counted_amount rules.now year row }
 {
-    if counts_for(rules, year, row.fate) && !row.reversed {
+    if is_for_year(rules, year, row.fate) && !row.reversed {
         row.amount
     } else {
         0
@@ -173,20 +174,11 @@ fn counted_amount(rules: &Rules, year: Year, row: RetirementRow) -> u64
 }
 
 // Whether allowances with this fate were surrendered for the period of the year.
-fn counts_for(rules: &Rules, year: Year, fate: Fate) -> bool
-    ensures { result ≡ option_map_or (λ period. is_for period fate) (period_of rules.now year) false }
-{
-    match rules.period_of(year) {
-        Some(period) => is_for(period, fate),
-        None => false,
-    }
-}
-
-fn is_for(period: u8, fate: Fate) -> bool
-    ensures { result ≡ is_for period fate }
+fn is_for_year(rules: &Rules, year: Year, fate: Fate) -> bool
+    ensures { result ≡ is_for_year rules.now year fate }
 {
     match fate {
-        Fate::Surrendered { period: own } => own == period,
+        Fate::Surrendered { period } => rules.is_year_of(period, year),
         Fate::Deleted => false,
     }
 }
