@@ -8,7 +8,7 @@ ghost use Rattle.registry.specs.Words.{command_name, word_number};
 use clap::builder::ValueParser;
 use clap::error::ErrorKind;
 use clap::{Arg, ArgMatches, Command as Program, Error, value_parser};
-use reg_base::AccountNo;
+use reg_base::{AccountNo, MOST_NUMBER};
 use reg_front::Command;
 use std::alloc::{AllocError, Global};
 use std::convert::AsStr;
@@ -131,7 +131,7 @@ fn describe_statement<'a>(alloc: Global) -> Result<Program<'a>, AllocError> {
     let account = Arg::new(alloc, "account")
         .required(true)
         .value_name("ACCOUNT")
-        .value_parser(ValueParser::unsigned(1, 999_999_999))
+        .value_parser(ValueParser::unsigned(1, u64::from(MOST_NUMBER)))
         .help("The number of the account");
     Program::new(alloc, "statement")
         .about("Settle the day; write what an account held, its log rows, and what it holds then")
