@@ -1,11 +1,11 @@
 -- Surrenders and deletions, one more at the end: the sums over them, and their numbers below the next one.
-use Rattle.std.proofs.Common.{◌≡◌, ◌⊎◌, inl, inr, ℕ, ◌+◌, ◌<◌, true, false, cond, ◌&&◌, nat_le, List, [], ◌∷◌, ◌++◌, map, Option, Some, None, refl, arith}
+use Rattle.std.proofs.Common.{◌≡◌, ◌⊎◌, inl, inr, ℕ, ◌+◌, ◌<◌, ◌≤◌, length, true, false, cond, ◌&&◌, nat_le, List, [], ◌∷◌, ◌++◌, map, Option, Some, None, refl, arith}
 use Rattle.std.specs.Prelude.{not, IfSome}
 use Rattle.std.specs.List.{AllByRecursion, list_any}
 use Rattle.std.proofs.lemmas.Bool.{leb-true, le-leb, lt-leb, ltb-true, lt-ltb}
 use Rattle.std.proofs.lemmas.List.{append-nil}
 use Rattle.std.proofs.lemmas.List.Sums.{sum_by-append, sum_by-cons}
-use Rattle.reg_text.proofs.Names.{AllowanceKind, General, Aviation, Retirement, Surrendered, Deleted, RetirementRow, RetiredFits, AreBelow, AccountValue, AccountHead, ListsValue, IsBehind, AreRecorded, amount_in, retired_in, row_numbers, as_list, account_with, is_recorded, is_sum_left}
+use Rattle.reg_text.proofs.Names.{AllowanceKind, General, Aviation, Retirement, Surrendered, Deleted, RetirementRow, RetiredFits, AreBelow, AccountValue, AccountHead, ListsValue, IsBehind, AreRecorded, amount_in, retired_in, row_numbers, as_list, account_with, next_in, is_recorded, is_sum_left}
 use Rattle.reg_account.specs.Rows.{is_same_kind, is_same_retirement}
 use Rattle.reg_text.proofs.ListFacts.{all-push}
 
@@ -16,8 +16,8 @@ sum-more : (way : Retirement) (kind : AllowanceKind) (rows : List RetirementRow)
 sum-more way kind rows x others = omega (arith, sum_by-append (amount_in way kind) rows (x ∷ others), sum_by-cons (amount_in way kind) x others)
 
 -- a row adds to no sum but its own
-other-amount : (way : Retirement) (kind : AllowanceKind) (x : RetirementRow) → (amount_in way kind x ≡ 0) ⊎ ((way ≡ x.retirement) × (kind ≡ x.kind))
-other-amount way kind x = by way x.retirement kind x.kind where
+other-amount : (way : Retirement) (kind : AllowanceKind) (x : RetirementRow) → (amount_in way kind x ≡ 0) ⊎ ((way ≡ (retirement_of x.fate)) × (kind ≡ x.kind))
+other-amount way kind x = by way (retirement_of x.fate) kind x.kind where
   by : (w r : Retirement) (k l : AllowanceKind) → (cond (is_same_retirement r w && (is_same_kind l k && not x.reversed)) x.amount 0 ≡ 0) ⊎ ((w ≡ r) × (k ≡ l))
   by Surrendered Deleted k l = inl refl
   by Deleted Surrendered k l = inl refl
@@ -38,9 +38,9 @@ fits-push rows x h left = record {
 -- a row of rows whose sums are within their limit
 pub sum-left : (rows : List RetirementRow) (x : RetirementRow) (others : List RetirementRow) → RetiredFits (rows ++ x ∷ others) → is_sum_left rows x ≡ true
 sum-left rows x others h =
-    let one = sum-more x.retirement x.kind rows x [] in
-    let all = sum-more x.retirement x.kind rows x others in
-    let most = h.at x.retirement x.kind in
+    let one = sum-more (retirement_of x.fate) x.kind rows x [] in
+    let all = sum-more (retirement_of x.fate) x.kind rows x others in
+    let most = h.at (retirement_of x.fate) x.kind in
     le-leb _ _ (omega (arith, one, all, most))
 
 -- ---- the numbers
@@ -71,6 +71,11 @@ none-recorded (Some next) accounts rows e f = rw (e, f) (record { closed = tt; o
 pub below-at : (next : ℕ) (rows : List RetirementRow) (x : RetirementRow) (others : List RetirementRow) → AreBelow next (row_numbers (rows ++ x ∷ others)) → is_recorded (Some next) x ≡ true
 below-at next [] x others h = lt-ltb _ _ h.0
 below-at next (y ∷ rows) x others h = below-at next rows x others h.1
+
+-- the rows of the open account, once the next number is known
+pub opened-below : (day : Option (ℕ × ℕ)) (next : ℕ) (accounts : List AccountValue) (rows : List RetirementRow) → 1 ≤ length (as_list day) → IfSome day (λ d. next ≡ d.1) → IfSome (next_in (as_list day)) (AreRecorded accounts rows) → AreBelow next (row_numbers rows)
+opened-below None next accounts rows some same recorded = absurd (omega arith)
+opened-below (Some day) next accounts rows some same recorded = rw same recorded.opened
 
 pub not-ahead : (next : ℕ) (rows : List RetirementRow) → AreBelow next (row_numbers rows) → list_any (λ (row : RetirementRow). nat_le next row.number) rows ≡ false
 not-ahead next [] h = refl

@@ -2,7 +2,7 @@
 use Rattle.std.specs.Prelude.{◌≡◌, ℕ, ◌+◌, Bool, true, ◌&&◌, nat_lt, nat_le, List, [], ◌∷◌, ◌++◌, length, Option, Some, None, Result, Ok, Err, if◌then◌else◌}
 use Rattle.reg_base.specs.declared.limits.TheConstants.{MOST_ACCOUNTS, MOST_RETIRED, MOST_INSTRUCTIONS, MOST_RECORD}
 use Rattle.reg_account.specs.declared.rows.RetirementRow.{RetirementRow}
-use Rattle.reg_account.specs.Rows.{retired_in}
+use Rattle.reg_account.specs.Rows.{retired_in, retirement_of}
 use Rattle.reg_text.specs.declared.cause.Cause.{Cause}
 use Rattle.reg_text.specs.declared.cause.Cause.TheVariants as cause
 use Rattle.reg_text.specs.declared.cause.DayFault.{DayFault}
@@ -17,7 +17,7 @@ use Rattle.reg_text.specs.Records.{Record, field}
 use Rattle.reg_text.specs.Tags.{tag_after}
 use Rattle.reg_text.specs.Grammar.{Said, row}
 use Rattle.reg_text.specs.Sections.{key, follows, most, is_room}
-use Rattle.reg_text.specs.Drafts.{DraftValue, items_said, account_count, block_closed, nothing_read}
+use Rattle.reg_text.specs.Drafts.{DraftValue, items_said, account_count, block_closed, nothing_read, scope_of}
 use Rattle.reg_text.specs.Day.{DayValue, is_text_over, day_said}
 
 -- ---- one row
@@ -27,11 +27,13 @@ abbrev pub with : (t : Tag) → DraftValue → Said t → DraftValue
 with tag.Format d x = record d { last = Some tag.Format; versions = d.versions ++ x ∷ [] }
 with tag.Day d x = record d { last = Some tag.Day; days = d.days ++ x ∷ [] }
 with tag.Period d x = record d { last = Some tag.Period; periods = d.periods ++ x ∷ [] }
+with tag.Current d x = record d { last = Some tag.Current; current = d.current ++ x ∷ [] }
 with tag.Lags d x = record d { last = Some tag.Lags; lags = d.lags ++ x ∷ [] }
 with tag.Surrender d x = record d { last = Some tag.Surrender; surrender = d.surrender ++ x ∷ [] }
 with tag.Admin d x = record d { last = Some tag.Admin; admins = d.admins ++ x ∷ [] }
 with tag.Work d x = record d { last = Some tag.Work; work = d.work ++ x ∷ [] }
 with tag.Account d x = record (block_closed d) { last = Some tag.Account; head = Some x }
+with tag.Correction d x = record d { last = Some tag.Correction; lists = record d.lists { corrections = d.lists.corrections ++ x ∷ [] } }
 with tag.User d x = record d { last = Some tag.User; lists = record d.lists { users = d.lists.users ++ x ∷ [] } }
 with tag.Trusted d x = record d { last = Some tag.Trusted; lists = record d.lists { trusted = d.lists.trusted ++ x ∷ [] } }
 with tag.Retired d x = record d { last = Some tag.Retired; lists = record d.lists { rows = d.lists.rows ++ x ∷ [] } }
@@ -61,7 +63,7 @@ is_recorded (Some next) row = nat_lt row.number next
 
 -- with it, what was surrendered (or deleted) of its kind is within the limit
 abbrev pub is_sum_left : List RetirementRow → RetirementRow → Bool
-is_sum_left rows row = nat_le (retired_in row.retirement row.kind (rows ++ row ∷ [])) MOST_RETIRED
+is_sum_left rows row = nat_le (retired_in (retirement_of row.fate) row.kind (rows ++ row ∷ [])) MOST_RETIRED
 
 -- its section may have one more row, an instruction has a record number, and a surrender or a deletion is one of before the day, and
 -- not too much
@@ -81,11 +83,11 @@ adding t d x = placed (in_order t d x) (has_room t d x) (with t d x)
 
 -- what a row with this tag adds
 unfoldable pub with_row : Tag → DraftValue → Record → Result DraftValue Cause
-with_row t d r = (row t).read r >>= λ x. adding t d x
+with_row t d r = (row (scope_of d) t).read r >>= λ x. adding t d x
 
 -- what the rows say with one more row, or the first cause that applies to it
 abbrev pub next_draft : DraftValue → Record → Result DraftValue Cause
-next_draft d r = if is_text_over d.last then Err cause.End else (tag_after d.last (field r 0) >>= λ t. with_row t d r)
+next_draft d r = if is_text_over d.last then Err cause.End else (tag_after (scope_of d).version d.last (field r 0) >>= λ t. with_row t d r)
 
 -- what these rows, each of which is taken, make of a draft
 abbrev pub drafted : DraftValue → List Record → Result DraftValue Cause
