@@ -53,7 +53,7 @@ fn faults_of_accounts_and_books_have_their_texts(rt: HostRuntime) {
         Stale { next: 2 },
     );
     let wanted = "\
-the correction factors are not -10^15 to 10^15 tonnes, or later ones are 0 or not of periods that rise from 2 to 8
+a correction factor is not -10^15 to 10^15 tonnes, or those of later periods are 0 or don't rise from 2 to 8
 a holding is above 10^15 allowances
 an account of this number is there already
 the book has as many accounts as it may have
