@@ -1,12 +1,14 @@
 #!/usr/bin/env python3
 """Writes a large day text: accounts, and transfers between different pairs of them.
 
-usage: days.py [--accounts N] [--instructions N] [--years N] > day.csv
+usage: days.py [--accounts N] [--instructions N] [--years N] [--periods N] > day.csv
 
 The same arguments always give the same bytes. Each account has a user who proposes and one who
 approves. Each transfer is done: it is due, and the account holds enough. The pairs are all different
 if there are twice as many accounts as instructions; with fewer accounts they repeat. With --years,
-each operator and aircraft operator has that many surrenders, emissions and determined figures.
+each operator and aircraft operator has that many surrenders, emissions and determined figures. With
+--periods, there are that many periods, of a year each but the last: then each of these accounts has a
+correction factor for each later period, and its surrenders are for the periods of their years.
 """
 
 import argparse
@@ -18,12 +20,13 @@ SETTLEMENT_DAY = datetime.date(2025, 3, 31)
 FIRST_RECORD = 100_000_001
 KINDS = ("operator", "aircraft", "trading")
 
-FIRST_YEAR = 2021
+FIRST_YEAR, LAST_YEAR = 2021, 2030
 
 # The limits of a day text, and what is written where nothing is said.
 FEWEST_ACCOUNTS, MOST_ACCOUNTS = 2, 100_000
 MOST_INSTRUCTIONS = 16_384
-MOST_YEARS = 10  # those of the period
+MOST_YEARS = 10  # from the first to the last
+MOST_PERIODS = 8
 
 
 def number(index):
@@ -41,11 +44,19 @@ def amount(place):
     return 1 + place * 613 % 1_000
 
 
-def heading():
+def period_of(year, periods):
+    """The number of the period of a year, where there are so many."""
+    return min(year - FIRST_YEAR + 1, periods)
+
+
+def heading(periods):
     """The rows before the accounts. Every weekday of 2025 is a working day."""
-    yield "format,1"
+    yield f"format,{1 if periods == 1 else 2}"
     yield f"day,{SETTLEMENT_DAY},{FIRST_RECORD}"
-    yield "period,2021,2030"
+    for first in range(FIRST_YEAR, FIRST_YEAR + periods):
+        yield f"period,{first},{first if period_of(first, periods) < periods else LAST_YEAR}"
+    if periods > 1:
+        yield f"current,{period_of(SETTLEMENT_DAY.year, periods)}"
     yield "lags,0,2,2,60"
     first = datetime.date(2025, 1, 1)
     for days in range(365):
@@ -83,15 +94,30 @@ def surrendered(place):
     return 10_000 + 37 * place
 
 
-def lists(index, years):
-    """The rows of the lists of one account. All its figures are 0."""
+def correction(period):
+    """The correction factor of each of these accounts for a period."""
+    return 0 if period == 1 else period
+
+
+def corrections(index, periods):
+    """The rows of the correction factors of one account."""
+    if has_years(index):
+        for period in range(2, periods + 1):
+            yield f"correction,{period},{correction(period)}"
+
+
+def lists(index, years, periods):
+    """The rows of the lists of one account. Each of its figures is the correction factor of its period."""
     if has_years(index):
         for place in range(years):
-            yield f"retired,{1 + MOST_YEARS * index + place},surrender,general,{surrendered(place)},2025-03-03,no"
+            period = period_of(FIRST_YEAR + place, periods)
+            row = f"retired,{1 + MOST_YEARS * index + place},surrender,general,{surrendered(place)},2025-03-03,no"
+            yield row if period == 1 else f"{row},{period}"
         for place in range(years):
             yield f"emissions,{FIRST_YEAR + place},{surrendered(place)}"
         for place in range(years):
-            yield f"figure,{FIRST_YEAR + place},0"
+            year = FIRST_YEAR + place
+            yield f"figure,{year},{correction(period_of(year, periods))}"
 
 
 def pairs(accounts):
@@ -112,13 +138,14 @@ def transfer(place, source, target):
             f"transfer,{number(source)},{number(target)},general,{amount(place)}")
 
 
-def day_text(accounts, instructions, years=0):
+def day_text(accounts, instructions, years=0, periods=1):
     """The rows of a whole day text."""
-    yield from heading()
+    yield from heading(periods)
     for index in range(accounts):
         yield account(index)
+        yield from corrections(index, periods)
         yield from representatives(index)
-        yield from lists(index, years)
+        yield from lists(index, years, periods)
     for place, (source, target) in zip(range(instructions), pairs(accounts)):
         yield transfer(place, source, target)
     yield "end"
@@ -148,6 +175,7 @@ def main():
     words.add_argument("--accounts", type=int, default=MOST_ACCOUNTS)
     words.add_argument("--instructions", type=int, default=MOST_INSTRUCTIONS)
     words.add_argument("--years", type=int, default=0)
+    words.add_argument("--periods", type=int, default=1)
     given = words.parse_args()
     if not FEWEST_ACCOUNTS <= given.accounts <= MOST_ACCOUNTS:
         sys.exit(f"days.py: accounts are {FEWEST_ACCOUNTS} to {MOST_ACCOUNTS}")
@@ -155,7 +183,10 @@ def main():
         sys.exit(f"days.py: instructions are 0 to {MOST_INSTRUCTIONS}")
     if not 0 <= given.years <= MOST_YEARS:
         sys.exit(f"days.py: years are 0 to {MOST_YEARS}")
-    sys.stdout.writelines(f"{row}\n" for row in day_text(given.accounts, given.instructions, given.years))
+    if not 1 <= given.periods <= MOST_PERIODS:
+        sys.exit(f"days.py: periods are 1 to {MOST_PERIODS}")
+    rows = day_text(given.accounts, given.instructions, given.years, given.periods)
+    sys.stdout.writelines(f"{row}\n" for row in rows)
 
 
 if __name__ == "__main__":

@@ -12,8 +12,9 @@ Prints
   - the same for 1,000 to 100,000 accounts, and for 1,000 to 16,384 transfers, with the exponent of
     each axis: the power of the size by which the time grew over the last step. The time of a day
     with almost nothing on that axis is subtracted first. 1 is linear;
-  - with --commands, in place of both: each command of the program on a full day, in which each
-    operator has the surrenders, emissions and figures of four years.
+  - with --commands, in place of both: each command of the program on a full day without lists, on
+    one in which each operator has the surrenders, emissions and figures of four years, and on one in
+    which these are of eight periods, and each operator has a correction factor for each later one.
 Times are the least of all repeats, memory is the greatest. The texts or commands take turns, so that
 a busy moment of the machine affects all of them. Each output is looked through: every transfer must
 have its row, and be done, and the totals, if they are written, must be the sums of the text.
@@ -41,10 +42,12 @@ class Day(NamedTuple):
     accounts: int
     instructions: int
     years: int = 0
+    periods: int = 1
 
 
 FULL_DAY = Day(100_000, 16_384)
 FULL_DAY_WITH_LISTS = Day(100_000, 16_384, 4)
+FULL_DAY_OF_PERIODS = Day(100_000, 16_384, 4, days.MOST_PERIODS)
 FEW_TRANSFERS = 500  # on each text of the first axis; 1,000 accounts are 500 distinct pairs
 MANY_ACCOUNTS = 32_768  # on each text of the second axis; 16,384 distinct pairs
 BY_ACCOUNTS = [Day(accounts, FEW_TRANSFERS) for accounts in (days.FEWEST_ACCOUNTS, 1_000, 10_000, 100_000)]
@@ -166,11 +169,12 @@ def show_growth(words, repeat):
 
 
 def show_commands(repeat):
-    """Measures each command, on a full day with and without lists."""
-    for day in (FULL_DAY, FULL_DAY_WITH_LISTS):
+    """Measures each command, on a full day without lists, with lists, and with those of several periods."""
+    for day in (FULL_DAY, FULL_DAY_WITH_LISTS, FULL_DAY_OF_PERIODS):
         found = measure([Task((OWN_PROGRAM, *command), day) for command in COMMANDS], repeat)
         lists = f", and {day.years} years of surrenders, emissions and figures of each operator" if day.years else ""
-        print(f"\n{day.accounts:,} accounts and {day.instructions:,} transfers{lists}")
+        periods = f", in {day.periods} periods" if day.periods > 1 else ""
+        print(f"\n{day.accounts:,} accounts and {day.instructions:,} transfers{lists}{periods}")
         print(f"  {'':14}  {'seconds':>8}  {'MB':>6}")
         for task, cost in found.items():
             print(f"  {' '.join(task.words[1:]):14}  {cost.seconds:8.4f}  {cost.megabytes:6.1f}")

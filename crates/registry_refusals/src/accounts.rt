@@ -4,11 +4,12 @@ ghost use Rattle.std.specs.Prelude.{◌≡◌, ◌≤◌, IsTrue, nat_lt};
 ghost use Rattle.std.specs.List.{list_all};
 ghost use Rattle.reg_base.specs.declared.limits.TheConstants.{MOST_RETIRED};
 ghost use Rattle.reg_account.specs.Account.{CanRetire, retired_by};
+ghost use Rattle.reg_account.specs.Rows.{retirement_of};
 ghost use Rattle.reg_rules.specs.Effect.{IsBehind};
 
 use crate::call::{Call, Ended, rehearse, shown, try_call};
 use crate::stop::Stop;
-use reg_account::{Account, Retirement, RetirementRow};
+use reg_account::{Account, Fate, RetirementRow};
 use reg_base::{
     AccountNo, AllowanceKind, Day, MOST_RETIRED, MOST_ROWS, MOST_TRUSTED, NoMemory, RecordNo, Year,
 };
@@ -70,7 +71,7 @@ pub(crate) fn try_copy<W: Write>(
 /// A change of an account that takes memory.
 #[derive(Clone, Copy)]
 pub(crate) enum Change {
-    /// Surrenders 50 general allowances under the next record number.
+    /// Surrenders 50 general allowances for period 1 under the next record number.
     Retire,
     /// Trusts the account with the number 3 from the settlement day on.
     Trust,
@@ -90,12 +91,12 @@ fn ended(answer: Result<(), NoMemory>) -> Ended {
 
 // How much of this kind the account has surrendered, or deleted, as the row does.
 fn retired(account: &Account, row: &RetirementRow) -> u64
-    ensures value { result ≡ retired_by account.now row.now.retirement row.now.kind }
+    ensures value { result ≡ retired_by account.now (retirement_of row.now.fate) row.now.kind }
     ensures limit { result ≤ MOST_RETIRED }
 {
-    match row.retirement {
-        Retirement::Surrendered => account.surrendered(row.kind),
-        Retirement::Deleted => account.deleted(row.kind),
+    match row.fate {
+        Fate::Surrendered { .. } => account.surrendered(row.kind),
+        Fate::Deleted => account.deleted(row.kind),
     }
 }
 
@@ -138,7 +139,7 @@ fn can_retire(account: &Account, row: &RetirementRow) -> bool
 fn retire(account: &mut Account, number: RecordNo, day: Day) -> Ended {
     let row = RetirementRow {
         number,
-        retirement: Retirement::Surrendered,
+        fate: Fate::Surrendered { period: 1 },
         kind: AllowanceKind::General,
         amount: 50,
         day,

@@ -10,10 +10,11 @@ use std::process::Abort;
 
 const MOST: u64 = 1_000_000_000_000_000;
 
-const MOST_CORRECTION: i64 = 1_000_000_000_000_000;
+/// The largest correction factor.
+pub(crate) const MOST_CORRECTION: i64 = 1_000_000_000_000_000;
 
-// What the row of account 1 says, an operator's, with this correction factor and these holdings.
-fn row(rt: &impl Abort, correction: i64, general: u64, aviation: u64) -> AccountRow {
+/// What the row of account 1 says, an operator's, with this correction factor and these holdings.
+pub(crate) fn row(rt: &impl Abort, correction: i64, general: u64, aviation: u64) -> AccountRow {
     AccountRow {
         number: account_no(rt, 1),
         kind: AccountKind::Operator,
@@ -31,7 +32,8 @@ fn parts_with(alloc: Global, row: AccountRow) -> AccountParts {
     parts_of(row, Lists::empty(alloc))
 }
 
-fn parts_of(row: AccountRow, lists: Lists) -> AccountParts {
+/// The parts of an account with this row and these lists.
+pub(crate) fn parts_of(row: AccountRow, lists: Lists) -> AccountParts {
     AccountParts {
         number: row.number,
         kind: row.kind,
@@ -70,8 +72,8 @@ fn parts_past_a_limit_are_given_back(rt: HostRuntime) {
     }
 }
 
-// What is wrong with lists of an account, if anything is.
-fn fault_of(rt: &impl Abort, lists: Lists) -> Option<AccountFault> {
+/// What is wrong with lists of an account, if anything is.
+pub(crate) fn fault_of(rt: &impl Abort, lists: Lists) -> Option<AccountFault> {
     let (_, fault) = Account::of(parts_of(row(rt, 0, 0, 0), lists)).err()?;
     Some(fault)
 }
@@ -147,9 +149,14 @@ emissions,2025,1
 end
 ";
 
-// The figure of the account for a year.
-fn figure(rt: &impl Abort, alloc: Global, number: u16) -> Result<i64, FigureFault> {
-    let day = read(rt, alloc, YEARS);
+/// The figure of account 1 of a day text for a year.
+pub(crate) fn figure(
+    rt: &impl Abort,
+    alloc: Global,
+    text: &str,
+    number: u16,
+) -> Result<i64, FigureFault> {
+    let day = read(rt, alloc, text);
     let account = day.book.get(account_no(rt, 1)).expect(rt, "the account");
     account.figure(&day.rules, year(rt, number))
 }
@@ -164,6 +171,7 @@ fn the_first_year_without_emissions_is_named(rt: HostRuntime) {
         (2027, Err(FigureFault::Missing(year(&rt, 2024)))),
         (2028, Err(FigureFault::YearOutsidePeriod)),
     ] {
-        assert_eq!(rt; figure(&rt, rt.alloc(), number), wanted, "{number}");
+        let found = figure(&rt, rt.alloc(), YEARS, number);
+        assert_eq!(rt; found, wanted, "{number}");
     }
 }

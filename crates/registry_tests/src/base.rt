@@ -6,7 +6,7 @@ ghost use Rattle.reg_base.specs.Calendar.{due};
 use crate::fixtures::{account_no, day, holder, user, year};
 use reg_base::{
     AccountKind, Act, AllowanceKind, Batch, BatchFault, Calendar, CalendarFault, Day, Directory,
-    Instruction, Rules, RulesFault, RulesParts, UserNo,
+    Instruction, Rules, RulesFault, RulesParts, UserNo, Year,
 };
 use std::alloc::Global;
 use std::process::Abort;
@@ -69,18 +69,42 @@ fn a_calendar_names_the_first_day_that_does_not_rise(rt: HostRuntime) {
     }
 }
 
-// What is wrong with rules of that week with these administrators, these lags (to a trusted account, other, of a list,
-// reversal window), and these first and last years.
-fn rules_fault(
+/// The first and last years of nine periods. The ninth has the same first year as the last of the eighth, and ends before it
+/// begins; the others are as they may be.
+pub(crate) const NINE: [[u16; 2]; 9] = [
+    [2021, 2021],
+    [2022, 2022],
+    [2023, 2024],
+    [2026, 2026],
+    [2027, 2027],
+    [2028, 2028],
+    [2029, 2029],
+    [2030, 2100],
+    [2100, 2099],
+];
+
+// The periods with these first and last years.
+fn periods(rt: &impl Abort, alloc: Global, years: &[[u16; 2]]) -> Vec<(Year, Year)> {
+    let mut periods = Vec::new(alloc);
+    for [first, last] in years {
+        let period = (year(rt, *first), year(rt, *last));
+        periods.push(period).expect(rt, "memory");
+    }
+    periods
+}
+
+/// The parts of rules of that week with these administrators, these lags (to a trusted account, other, of a list, reversal
+/// window), periods with these first and last years, and this current one.
+pub(crate) fn rules_parts(
     rt: &impl Abort,
     alloc: Global,
     admins: Vec<UserNo>,
     lags: [u16; 4],
-    years: [u16; 2],
-) -> Option<RulesFault> {
+    years: &[[u16; 2]],
+    current: u8,
+) -> RulesParts {
     let [trusted_lag, other_lag, list_lag, reversal_window] = lags;
-    let [first, last] = years;
-    let parts = RulesParts {
+    RulesParts {
         calendar: week(rt, alloc),
         admins,
         surrender: Vec::new(alloc),
@@ -88,10 +112,21 @@ fn rules_fault(
         other_lag,
         list_lag,
         reversal_window,
-        first_year: year(rt, first),
-        last_year: year(rt, last),
-    };
-    Rules::new(parts).err()
+        periods: periods(rt, alloc, years),
+        current,
+    }
+}
+
+// What is wrong with such rules, if anything is.
+fn rules_fault(
+    rt: &impl Abort,
+    alloc: Global,
+    admins: Vec<UserNo>,
+    lags: [u16; 4],
+    years: &[[u16; 2]],
+    current: u8,
+) -> Option<RulesFault> {
+    Rules::new(rules_parts(rt, alloc, admins, lags, years, current)).err()
 }
 
 fn users(rt: &impl Abort, alloc: Global, numbers: &[u32]) -> Vec<UserNo> {
@@ -127,23 +162,23 @@ fn rules_name_the_first_fault(rt: HostRuntime) {
         (
             [5, 6, 7, 8],
             [1000, 1000, 1000, 1000],
-            RulesFault::PeriodReversed,
+            RulesFault::PeriodCount,
         ),
     ] {
         let admins = users(&rt, rt.alloc(), &admins);
-        let found = rules_fault(&rt, rt.alloc(), admins, lags, [2022, 2021]);
+        let found = rules_fault(&rt, rt.alloc(), admins, lags, &NINE, 0);
         assert_eq!(rt; found, Some(fault));
     }
 }
 
 #[test]
 fn rules_have_at_most_64_administrators(rt: HostRuntime) {
-    for (count, lag, last, fault) in [
-        (64, 1000, 2022, None),
-        (65, 1001, 2021, Some(RulesFault::TooManyAdmins)),
+    for (count, lag, years, current, fault) in [
+        (64, 1000, &NINE[..8], 8, None),
+        (65, 1001, &NINE[..], 0, Some(RulesFault::TooManyAdmins)),
     ] {
         let admins = many_users(&rt, rt.alloc(), count);
-        let found = rules_fault(&rt, rt.alloc(), admins, [lag; 4], [2022, last]);
+        let found = rules_fault(&rt, rt.alloc(), admins, [lag; 4], years, current);
         assert_eq!(rt; found, fault, "{count} administrators");
     }
 }

@@ -3,11 +3,12 @@
 ghost use Rattle.std.specs.Prelude.{◌≡◌, ◌≤◌, IsTrue};
 ghost use Rattle.reg_base.specs.declared.limits.TheConstants.{MOST_RETIRED};
 ghost use Rattle.reg_account.specs.Account.{CanRetire, retired_by};
+ghost use Rattle.reg_account.specs.Rows.{retirement_of};
 ghost use Rattle.reg_rules.specs.Effect.{IsBehind};
 
 use crate::fixtures::{account_no, day, read, surrendered, year};
 use crate::rules::is_behind;
-use reg_account::{Account, Retirement, RetirementRow};
+use reg_account::{Account, Fate, RetirementRow};
 use reg_base::{MOST_RETIRED, MOST_ROWS, MOST_TRUSTED, RecordNo};
 use reg_book::{Book, BookDraft};
 use reg_text::{figures, write_report};
@@ -101,12 +102,12 @@ fn a_copy_is_equal(rt: HostRuntime) {
 
 // How much of this kind the account has surrendered, or deleted, as the row does.
 fn retired(account: &Account, row: &RetirementRow) -> u64
-    ensures value { result ≡ retired_by account.now row.now.retirement row.now.kind }
+    ensures value { result ≡ retired_by account.now (retirement_of row.now.fate) row.now.kind }
     ensures limit { result ≤ MOST_RETIRED }
 {
-    match row.retirement {
-        Retirement::Surrendered => account.surrendered(row.kind),
-        Retirement::Deleted => account.deleted(row.kind),
+    match row.fate {
+        Fate::Surrendered { .. } => account.surrendered(row.kind),
+        Fate::Deleted => account.deleted(row.kind),
     }
 }
 

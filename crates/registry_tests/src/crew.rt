@@ -67,18 +67,17 @@ fn lengths<N: Naming>(rt: &impl Abort, alloc: Global, shifts: &[Shift<N>]) -> St
     told
 }
 
-// How many places each of so many workers ran of these instructions, which leave what they leave one after another.
+// How many places each of so many workers ran of a day, whose instructions leave what they leave one after another.
 pub(crate) fn shifts<R: Abort + Threads + Wait + Sync, G: Gate>(
     rt: &R,
     alloc: Global,
-    instructions: &str,
+    day: &DayInput,
     workers: u32,
     gate: &G,
 ) -> String {
-    let DayInput { rules, book, batch } = worked(rt, alloc, instructions);
-    let done = settle_with(rt, alloc, &book, &rules, &batch, workers, gate);
+    let done = settle_with(rt, alloc, &day.book, &day.rules, &day.batch, workers, gate);
     let (left, shifts) = done.expect(rt, "memory and threads");
-    assert!(rt; told(rt, alloc, &left) == settled(rt, alloc, instructions));
+    assert!(rt; told(rt, alloc, &left) == settled(rt, alloc, day));
     lengths(rt, alloc, shifts.as_slice())
 }
 
@@ -89,8 +88,9 @@ fn met<R: Abort + Threads + Wait + Sync>(
     instructions: &str,
     workers: u32,
 ) -> String {
+    let day = worked(rt, alloc, instructions);
     let gate = Meeting::of(workers);
-    let told = shifts(rt, alloc, instructions, workers, &gate);
+    let told = shifts(rt, alloc, &day, workers, &gate);
     assert!(rt; gate.missed.load(Ordering::SeqCst) == 0);
     told
 }
@@ -125,15 +125,17 @@ fn a_worker_steals_what_is_complete_in_another_ones_deque(rt: HostRuntime) {
         third: AtomicU32::new(0),
         missed: AtomicU32::new(0),
     };
-    shifts(&rt, rt.alloc(), AFTER_ONE, 2, &gate);
+    let day = worked(&rt, rt.alloc(), AFTER_ONE);
+    shifts(&rt, rt.alloc(), &day, 2, &gate);
     assert_eq!(rt; gate.missed.load(Ordering::SeqCst), 0);
 }
 
 #[test]
 fn workers_leave_what_one_instruction_after_another_leaves(rt: HostRuntime) {
     for instructions in [BACK, TWICE, UNKNOWN] {
+        let day = worked(&rt, rt.alloc(), instructions);
         for workers in [1, 2, 8] {
-            shifts(&rt, rt.alloc(), instructions, workers, &OpenGate);
+            shifts(&rt, rt.alloc(), &day, workers, &OpenGate);
         }
     }
 }
@@ -141,14 +143,16 @@ fn workers_leave_what_one_instruction_after_another_leaves(rt: HostRuntime) {
 #[test]
 fn eight_workers_find_nothing_to_do(rt: HostRuntime) {
     let none = "0:0 1:0 2:0 3:0 4:0 5:0 6:0 7:0 ";
-    let told = shifts(&rt, rt.alloc(), "", 8, &OpenGate);
+    let day = worked(&rt, rt.alloc(), "");
+    let told = shifts(&rt, rt.alloc(), &day, 8, &OpenGate);
     assert_eq!(rt; told.as_str(), none);
 }
 
 #[test]
 fn eight_workers_settle_a_full_batch(rt: HostRuntime) {
     let instructions = full_batch(&rt, rt.alloc());
-    shifts(&rt, rt.alloc(), instructions.as_str(), 8, &OpenGate);
+    let day = worked(&rt, rt.alloc(), instructions.as_str());
+    shifts(&rt, rt.alloc(), &day, 8, &OpenGate);
 }
 
 #[test]

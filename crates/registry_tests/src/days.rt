@@ -54,33 +54,33 @@ pub(crate) fn put_in(rt: &impl Abort, book: &mut Book, settled: Settled) -> Vec<
     book.commit(settled).expect(rt, "a day that follows")
 }
 
-// The book after the worked day with these instructions, and the log of the day.
-fn closed(rt: &impl Abort, alloc: Global, instructions: &str) -> (Book, Vec<LogRow>) {
+// The book after a day, and the log of the day.
+fn closed(rt: &impl Abort, alloc: Global, day: DayInput) -> (Book, Vec<LogRow>) {
     let DayInput {
         rules,
         mut book,
         batch,
-    } = worked(rt, alloc, instructions);
+    } = day;
     let settled = settle_plain(alloc, &book, &rules, &batch).expect(rt, "memory");
     let log = put_in(rt, &mut book, settled);
     (book, log)
 }
 
-// The report of the worked day with these instructions.
-fn reported(rt: &impl Abort, alloc: Global, instructions: &str) -> Vec<u8> {
-    let (book, log) = closed(rt, alloc, instructions);
+/// The report of a day.
+pub(crate) fn reported(rt: &impl Abort, alloc: Global, day: DayInput) -> Vec<u8> {
+    let (book, log) = closed(rt, alloc, day);
     write_report(alloc, &book, log.as_slice()).expect(rt, "memory")
 }
 
 #[test]
 fn a_day_is_reported(rt: HostRuntime) {
-    let report = reported(&rt, rt.alloc(), TRANSFER);
+    let report = reported(&rt, rt.alloc(), worked(&rt, rt.alloc(), TRANSFER));
     assert_eq!(rt; report.as_slice(), REPORT.as_bytes());
 }
 
-// The totals of both kinds after the worked day with these instructions.
-fn totals(rt: &impl Abort, alloc: Global, instructions: &str) -> [Totals; 2] {
-    let (book, _) = closed(rt, alloc, instructions);
+// The totals of both kinds after a day.
+fn totals(rt: &impl Abort, alloc: Global, day: DayInput) -> [Totals; 2] {
+    let (book, _) = closed(rt, alloc, day);
     [
         book.totals(AllowanceKind::General),
         book.totals(AllowanceKind::Aviation),
@@ -99,6 +99,6 @@ fn totals_follow_creations_and_deletions(rt: HostRuntime) {
         surrendered: 0,
         deleted: 0,
     };
-    let found = totals(&rt, rt.alloc(), CREATION);
+    let found = totals(&rt, rt.alloc(), worked(&rt, rt.alloc(), CREATION));
     assert_eq!(rt; found, [general, aviation]);
 }

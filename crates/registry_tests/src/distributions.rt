@@ -60,23 +60,29 @@ do,2025-03-31,901,902,distribute,8,general,28,1,27,2,26,3,25,4,24,5,23,6,22,7,21
 end
 ";
 
-// What these four instructions leave in the order of the batch, each on its own values.
-fn in_order(rt: &impl Abort, alloc: Global, instructions: &str) -> String {
-    let DayInput { rules, book, batch } = worked(rt, alloc, instructions);
-    let context = Context::<Unnamed>::of(alloc, &book, &rules, &batch).expect(rt, "memory");
-    let settled = run_order(alloc, &context, &[1, 2, 3, 4]).expect(rt, "a legal order");
+// What the instructions of a day leave in this order, each on its own values.
+fn in_order(rt: &impl Abort, alloc: Global, day: &DayInput, order: &[u32]) -> String {
+    let context = Context::<Unnamed>::of(alloc, &day.book, &day.rules, &day.batch).expect(
+        rt, "memory",
+    );
+    let settled = run_order(alloc, &context, order).expect(rt, "a legal order");
     told(rt, alloc, &settled)
 }
 
-// Tells whether all ways leave what the instructions one after another leave.
-fn are_same<R: Abort + Threads + Wait + Sync>(rt: &R, alloc: Global, instructions: &str) -> bool {
+/// Tells whether all ways, of which one takes this order, leave what the instructions of a day one after another leave.
+pub(crate) fn are_same<R: Abort + Threads + Wait + Sync>(
+    rt: &R,
+    alloc: Global,
+    day: &DayInput,
+    order: &[u32],
+) -> bool {
     for workers in 1..9u32 {
-        shifts(rt, alloc, instructions, workers, &OpenGate);
-        if !is_same(rt, alloc, instructions, workers) {
+        shifts(rt, alloc, day, workers, &OpenGate);
+        if !is_same(rt, alloc, day, workers) {
             return false;
         }
     }
-    in_order(rt, alloc, instructions) == settled(rt, alloc, instructions)
+    in_order(rt, alloc, day, order) == settled(rt, alloc, day)
 }
 
 // How many opening values the dock of a distribution takes until it gives the task out.
@@ -102,7 +108,11 @@ fn awaited(rt: &impl Abort, alloc: Global, text: &str, accounts: &[u32]) -> usiz
 #[test]
 fn all_ways_leave_what_one_instruction_after_another_leaves(rt: HostRuntime) {
     for instructions in [TWO_SHARES, ONE_TOO_MANY, TO_NOBODY] {
-        assert!(rt; are_same(&rt, rt.alloc(), instructions), "{instructions}");
+        let day = worked(&rt, rt.alloc(), instructions);
+        assert!(rt;
+            are_same(&rt, rt.alloc(), &day, &[1, 2, 3, 4]),
+            "{instructions}"
+        );
     }
 }
 

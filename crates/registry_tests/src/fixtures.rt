@@ -1,6 +1,8 @@
 //! Values that the tests share. What can't be made ends the test.
 
-use reg_account::{AccountParts, Holdings, Retirement, RetirementRow};
+ghost use Rattle.reg_account.specs.Rows.{FateFits};
+
+use reg_account::{AccountParts, Fate, Holdings, RetirementRow};
 use reg_base::{
     AccountKind, AccountNo, AllowanceKind, Day, HolderNo, RecordNo, Status, UserNo, Year,
 };
@@ -64,11 +66,13 @@ pub(crate) fn year(rt: &impl Abort, number: u16) -> Year {
     Year::new(number).expect(rt, "a year within its limits")
 }
 
-/// A surrender of so many general allowances on 2025-03-28, under this record number.
-pub(crate) fn surrendered(rt: &impl Abort, number: u64, amount: u64) -> RetirementRow {
+/// A surrender of so many general allowances on 2025-03-28 for period 1, under this record number.
+pub(crate) fn surrendered(rt: &impl Abort, number: u64, amount: u64) -> RetirementRow
+    ensures { FateFits result.fate }
+{
     RetirementRow {
         number: RecordNo::new(number).expect(rt, "a record number within its limits"),
-        retirement: Retirement::Surrendered,
+        fate: Fate::Surrendered { period: 1 },
         kind: AllowanceKind::General,
         amount,
         day: day(rt, 20_175),

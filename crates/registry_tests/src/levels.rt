@@ -88,27 +88,26 @@ impl Gate for Notes {
     }
 }
 
-// What so many workers leave of these instructions.
+// What so many workers leave of a day.
 fn by_workers<R: Abort + Threads + Wait, G: Gate>(
     rt: &R,
     alloc: Global,
-    instructions: &str,
+    day: &DayInput,
     workers: u32,
     gate: &G,
 ) -> String {
-    let DayInput { rules, book, batch } = worked(rt, alloc, instructions);
-    let settled = settle_waves(rt, alloc, &book, &rules, &batch, workers, gate);
+    let settled = settle_waves(rt, alloc, &day.book, &day.rules, &day.batch, workers, gate);
     told(rt, alloc, &settled.expect(rt, "memory and threads"))
 }
 
-// Whether so many workers leave what the instructions one after another leave.
+// Whether so many workers leave what the instructions of a day one after another leave.
 pub(crate) fn is_same<R: Abort + Threads + Wait>(
     rt: &R,
     alloc: Global,
-    instructions: &str,
+    day: &DayInput,
     workers: u32,
 ) -> bool {
-    by_workers(rt, alloc, instructions, workers, &OpenGate) == settled(rt, alloc, instructions)
+    by_workers(rt, alloc, day, workers, &OpenGate) == settled(rt, alloc, day)
 }
 
 // Why so many workers do not settle a day.
@@ -125,9 +124,10 @@ fn met<R: Abort + Threads + Wait>(
     workers: u32,
     wanted: u32,
 ) -> (u32, u32) {
+    let day = worked(rt, alloc, instructions);
     let gate = Meeting::of(wanted);
-    let left = by_workers(rt, alloc, instructions, workers, &gate);
-    assert!(rt; left == settled(rt, alloc, instructions));
+    let left = by_workers(rt, alloc, &day, workers, &gate);
+    assert!(rt; left == settled(rt, alloc, &day));
     let missed = gate.missed.load(Ordering::SeqCst);
     (missed, gate.workers.load(Ordering::SeqCst))
 }
@@ -139,7 +139,7 @@ fn noted<R: Abort + Threads + Wait>(rt: &R, alloc: Global) -> [u32; 2] {
         first: AtomicU32::new(0),
         second: AtomicU32::new(0),
     };
-    by_workers(rt, alloc, TWICE, 2, &gate);
+    by_workers(rt, alloc, &worked(rt, alloc, TWICE), 2, &gate);
     [
         gate.first.load(Ordering::SeqCst),
         gate.second.load(Ordering::SeqCst),
@@ -183,14 +183,16 @@ fn one_worker_runs_one_task_after_another(rt: HostRuntime) {
 #[test]
 fn workers_leave_what_one_instruction_after_another_leaves(rt: HostRuntime) {
     for instructions in ["", BACK, TWICE, UNKNOWN] {
-        assert!(rt; is_same(&rt, rt.alloc(), instructions, 2), "{instructions}");
+        let day = worked(&rt, rt.alloc(), instructions);
+        assert!(rt; is_same(&rt, rt.alloc(), &day, 2), "{instructions}");
     }
 }
 
 #[test]
 fn eight_workers_settle_a_full_batch(rt: HostRuntime) {
     let instructions = full_batch(&rt, rt.alloc());
-    assert!(rt; is_same(&rt, rt.alloc(), instructions.as_str(), 8));
+    let day = worked(&rt, rt.alloc(), instructions.as_str());
+    assert!(rt; is_same(&rt, rt.alloc(), &day, 8));
 }
 
 #[test]

@@ -26,6 +26,8 @@ mod levels;
 #[cfg(test)]
 mod orders;
 #[cfg(test)]
+mod periods;
+#[cfg(test)]
 mod plan;
 #[cfg(test)]
 mod rules;

@@ -60,10 +60,9 @@ pub(crate) fn told(rt: &impl Abort, alloc: Global, settled: &Settled) -> String 
     format!(in alloc; "{:?}", settled).expect(rt, "memory")
 }
 
-/// What these instructions one after another leave.
-pub(crate) fn settled(rt: &impl Abort, alloc: Global, instructions: &str) -> String {
-    let DayInput { rules, book, batch } = worked(rt, alloc, instructions);
-    let settled = settle_plain(alloc, &book, &rules, &batch).expect(rt, "memory");
+/// What the instructions of a day one after another leave.
+pub(crate) fn settled(rt: &impl Abort, alloc: Global, day: &DayInput) -> String {
+    let settled = settle_plain(alloc, &day.book, &day.rules, &day.batch).expect(rt, "memory");
     told(rt, alloc, &settled)
 }
 
@@ -226,9 +225,10 @@ fn run_both(
 }
 
 // What is gathered of both surrenders.
-fn gathered(rt: &impl Abort, alloc: Global) -> String {
-    let DayInput { rules, book, batch } = worked(rt, alloc, APART);
-    let context = Context::<Unnamed>::of(alloc, &book, &rules, &batch).expect(rt, "memory");
+fn gathered(rt: &impl Abort, alloc: Global, day: &DayInput) -> String {
+    let context = Context::<Unnamed>::of(alloc, &day.book, &day.rules, &day.batch).expect(
+        rt, "memory",
+    );
     let (rows, parcels) = run_both(rt, alloc, &context);
     let settled = context.gather(alloc, rows, parcels).expect(rt, "memory");
     told(rt, alloc, &settled)
@@ -236,13 +236,10 @@ fn gathered(rt: &impl Abort, alloc: Global) -> String {
 
 #[test]
 fn a_day_runs_under_its_own_name(rt: HostRuntime) {
-    let DayInput { rules, book, batch } = worked(&rt, rt.alloc(), APART);
-    let ran = run_named(rt.alloc(), &book, &rules, &batch, &[2, 1]);
+    let day = worked(&rt, rt.alloc(), APART);
+    let ran = run_named(rt.alloc(), &day.book, &day.rules, &day.batch, &[2, 1]);
     let ran = ran.expect(&rt, "a legal order");
-    assert_eq!(rt;
-        told(&rt, rt.alloc(), &ran),
-        settled(&rt, rt.alloc(), APART)
-    );
+    assert_eq!(rt; told(&rt, rt.alloc(), &ran), settled(&rt, rt.alloc(), &day));
 }
 
 #[test]
@@ -261,5 +258,9 @@ fn opening_values_make_a_task_of_the_first_place_alone(rt: HostRuntime) {
 
 #[test]
 fn outcomes_are_gathered_in_any_order(rt: HostRuntime) {
-    assert_eq!(rt; gathered(&rt, rt.alloc()), settled(&rt, rt.alloc(), APART));
+    let day = worked(&rt, rt.alloc(), APART);
+    assert_eq!(rt;
+        gathered(&rt, rt.alloc(), &day),
+        settled(&rt, rt.alloc(), &day)
+    );
 }

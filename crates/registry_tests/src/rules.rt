@@ -119,8 +119,8 @@ fn held_by(rt: &impl Abort, alloc: Global, accounts: &[Account]) -> Vec<u64> {
     held.collect(alloc).expect(rt, "memory")
 }
 
-// The check that refuses, if one does.
-fn refusal_of(reply: &Reply) -> Option<Refusal> {
+/// The check that refuses, if one does.
+pub(crate) fn refusal_of(reply: &Reply) -> Option<Refusal> {
     match reply {
         Reply::Refused(refusal) => Some(*refusal),
         Reply::Done { .. } => None,

@@ -10,7 +10,7 @@ use reg_work::WorkFault;
 #[test]
 fn faults_of_the_base_have_their_texts(rt: HostRuntime) {
     let text = format!(in rt.alloc();
-        "{}\n{}\n{}\n{}\n{}\n{}\n{}\n{}\n",
+        "{}\n{}\n{}\n{}\n{}\n{}\n{}\n{}\n{}\n{}\n{}\n",
         NoMemory,
         CalendarFault::NotRising { place: 3 },
         BatchFault::TooMany,
@@ -18,7 +18,10 @@ fn faults_of_the_base_have_their_texts(rt: HostRuntime) {
         RulesFault::TooManyAdmins,
         RulesFault::AdminsNotRising { place: 3 },
         RulesFault::LagTooLong,
+        RulesFault::PeriodCount,
         RulesFault::PeriodReversed,
+        RulesFault::PeriodsNotRising { place: 2 },
+        RulesFault::CurrentOutside,
     );
     let wanted = "\
 out of memory
@@ -28,7 +31,10 @@ the last record number would be above 10^15
 there are more than 64 administrators
 the administrator at place 3 has no higher number than the one before
 a lag or the reversal window is longer than 1,000 working days
-the last year of the period is before its first
+there are not 1 to 8 periods
+the last year of a period is before its first
+the period at place 2 does not begin after the one before has ended
+the current period is none of the periods
 ";
     assert_eq!(rt; text.expect(&rt, "memory").as_str(), wanted);
 }
@@ -47,7 +53,7 @@ fn faults_of_accounts_and_books_have_their_texts(rt: HostRuntime) {
         Stale { next: 2 },
     );
     let wanted = "\
-the correction factor is not -10^15 to 10^15 tonnes
+a correction factor is not -10^15 to 10^15 tonnes, or those of later periods are 0 or don't rise from 2 to 8
 a holding is above 10^15 allowances
 an account of this number is there already
 the book has as many accounts as it may have

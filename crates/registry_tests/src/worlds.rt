@@ -4,7 +4,6 @@ use crate::fixtures::worked;
 use crate::orders::{APART, settled, told};
 use reg_graph::Event::{Deliver, Pop, Push, Run, Steal};
 use reg_graph::{Context, Event, Unnamed, World};
-use reg_text::DayInput;
 use std::alloc::Global;
 use std::process::Abort;
 
@@ -45,8 +44,10 @@ fn played(
     first: &[Event],
     others: &[Event],
 ) -> String {
-    let DayInput { rules, book, batch } = worked(rt, alloc, instructions);
-    let context = Context::<Unnamed>::of(alloc, &book, &rules, &batch).expect(rt, "memory");
+    let day = worked(rt, alloc, instructions);
+    let context = Context::<Unnamed>::of(alloc, &day.book, &day.rules, &day.batch).expect(
+        rt, "memory",
+    );
     let mut world = World::new(alloc, &context, 2).expect(rt, "memory");
     let mut played = String::new(alloc);
     play(rt, alloc, &mut world, first, &mut played);
@@ -59,7 +60,7 @@ fn played(
     let Ok(ended) = world.into_settled() else {
         panic!(rt; "all are done");
     };
-    assert_eq!(rt; told(rt, alloc, &ended), settled(rt, alloc, instructions));
+    assert_eq!(rt; told(rt, alloc, &ended), settled(rt, alloc, &day));
     played
 }
 
