@@ -15,14 +15,14 @@ use Rattle.reg_schedules.specs.Pool.{directory, footprint_at}
 use Rattle.reg_schedules.proofs.Known.{footprint_touches}
 use Rattle.reg_schedules.proofs.Tails.{touched_from}
 use Rattle.reg_schedules.proofs.Members.{In}
-use Rattle.reg_tasks.specs.Gathering.{AreLast, AreOutcomes, named_accounts}
+use Rattle.reg_tasks.specs.Gathering.{AreLast, AreOutcomes, are_last, named_accounts}
 use Rattle.reg_tasks.specs.Slots.{name_of, standing_in, opened_accounts, have_slots, IsAtEnd}
 use Rattle.reg_tasks.specs.declared.naming.Naming.{Ghosts}
 use Rattle.reg_tasks.specs.declared.parcel.Parcel.{Parcel}
 use Rattle.reg_tasks.proofs.Rising.{Up, up_rising, up_distinct}
 use Rattle.reg_tasks.proofs.Slotting.{Name, number_of, stands_opened, stands_nowhere, unopened}
 use Rattle.reg_tasks.proofs.OrderSteps.{all_touched}
-use Rattle.reg_tasks.proofs.Collecting.{opened_touched}
+use Rattle.reg_tasks.proofs.Collecting.{opened_touched, last_tested}
 
 -- slots, one by one
 module _ {N : Type 0} {b : Ghosts N} where
@@ -67,19 +67,19 @@ module _ (tails : TailsAreLastTouchers) (last : LastToucherIsLast) (day : Day) (
   abbrev pub last_at : ℕ → ℕ × ℕ
   last_at a = (a, last_toucher (directory day) day.batch.instructions a (length day.batch.instructions))
 
+  accounts_at_end : (os : List Opening) → named_accounts (map (λ (o : Opening). last_at o.account) os) ≡ opened_accounts os
+  accounts_at_end [] = refl
+  accounts_at_end (o ∷ os) = ap (λ ns. o.account ∷ ns) (accounts_at_end os)
+
   -- these names, one for each opening, are the last ones
   pub names_at_end : (names : List (ℕ × ℕ)) → IsRising (opened_accounts plan.openings) → names ≡ map (λ (o : Opening). last_at o.account) plan.openings → AreLast day names
   names_at_end names rising e =
       subst (AreLast day) (sym e) (record {
-        once = subst (IsDistinct eqb) (sym (accounts plan.openings)) (up_distinct number_of plan.openings (up_rising number_of plan.openings rising));
-        touched = λ a. ap (λ ns. is_among ns a) (accounts plan.openings) ∙ opened_touched tails last day plan planned a;
+        once = subst (IsDistinct eqb) (sym (accounts_at_end plan.openings)) (up_distinct number_of plan.openings (up_rising number_of plan.openings rising));
+        touched = λ a. ap (λ ns. is_among ns a) (accounts_at_end plan.openings) ∙ opened_touched tails last day plan planned a;
         last = ends plan.openings;
       })
     where
-      accounts : (os : List Opening) → named_accounts (map (λ (o : Opening). last_at o.account) os) ≡ opened_accounts os
-      accounts [] = refl
-      accounts (o ∷ os) = ap (λ ns. o.account ∷ ns) (accounts os)
-
       ends : (os : List Opening) → AllByRecursion (λ (n : ℕ × ℕ). n.1 ≡ last_toucher (directory day) day.batch.instructions n.0 (length day.batch.instructions)) (map (λ (o : Opening). last_at o.account) os)
       ends [] = tt
       ends (o ∷ os) = (refl, ends os)
@@ -118,3 +118,10 @@ module _ (tails : TailsAreLastTouchers) (last : LastToucherIsLast) (day : Day) (
       each = ends.each;
       last = names_at_end names rising (names_full last_at plan.openings names (e ∙ full_at_end rising slots size places ends));
     }
+
+    -- which pass the test
+    pub last_at_end : IsRising (opened_accounts plan.openings) → (slots : List (Option (Parcel N b))) → length slots ≡ length plan.openings → (places : List ℕ) (names : List (ℕ × ℕ))
+        → map Some names ≡ map (option_map name_of) slots → IsAtEnd day places (standing_in plan.openings slots) → are_last day plan (opened_accounts plan.openings) names ≡ true
+    last_at_end rising slots size places names e ends =
+        let is = names_full last_at plan.openings names (e ∙ full_at_end rising slots size places ends) in
+        last_tested tails last day plan planned names (names_at_end names rising is) (ap named_accounts is ∙ accounts_at_end plan.openings)

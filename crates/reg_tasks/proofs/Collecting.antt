@@ -1,5 +1,5 @@
 -- What the tests of rows and parcels say: that they are those of all places and of all touched accounts.
-use Rattle.std.proofs.Common.{◌≡◌, ℕ, zero, suc, ◌+◌, ◌<◌, ◌≤◌, inl, inr, Bool, true, false, not, ◌||◌, ◌&&◌, eqb, List, [], ◌∷◌, length, map, Some, arith, refl, sym, ap, subst, ◌∙◌}
+use Rattle.std.proofs.Common.{◌≡◌, ℕ, zero, suc, ◌+◌, ◌<◌, ◌≤◌, inl, inr, Bool, true, false, not, ◌||◌, ◌&&◌, eqb, List, [], ◌∷◌, length, map, take, Some, arith, refl, sym, ap, subst, ◌∙◌}
 use Rattle.std.specs.Prelude.{slice_get, IsPermutation}
 use Rattle.std.specs.List.{IsDistinct, AllByRecursion}
 use Rattle.std.specs.List.Sorted.{IsNonDecreasingBy}
@@ -207,7 +207,7 @@ module _ (tails : TailsAreLastTouchers) (last : LastToucherIsLast) (day : Day) (
       }
 
   -- and the last names pass it if they are of the opened accounts, in their order
-  last_tested : (names : List (ℕ × ℕ)) → AreLast day names → named_accounts names ≡ opened_accounts plan.openings → are_last day plan (opened_accounts plan.openings) names ≡ true
+  pub last_tested : (names : List (ℕ × ℕ)) → AreLast day names → named_accounts names ≡ opened_accounts plan.openings → are_last day plan (opened_accounts plan.openings) names ≡ true
   last_tested names is accounts =
       tested_accounts day plan (opened_accounts plan.openings) names accounts
       (all_from_in (λ n. is_last day plan n ≡ true) names (λ n m. the_last_is n.0 n.1 (on n m)
@@ -278,6 +278,15 @@ same_some (x ∷ xs) (y ∷ ys) e =
     let head : x ≡ y = cc in
     let tail : map Some xs ≡ map Some ys = cc in
     ap (λ z. z ∷ xs) head ∙ ap (λ zs. y ∷ zs) (same_some xs ys tail)
+
+take_whole : {X : Type 0} (xs : List X) → take (length xs) xs ≡ xs
+take_whole [] = refl
+take_whole (x ∷ xs) = ap (λ ys. x ∷ ys) (take_whole xs)
+
+-- as many rows as there are instructions are the whole log
+pub first_whole : (day : Day) (rows : List LogRow) → rows ≡ take (length day.batch.instructions) (log_of day) → rows ≡ log_of day
+first_whole day rows e =
+    e ∙ ap (λ n. take n (log_of day)) (sym (size_rows (setting day) day.book.accounts (day.batch.base + 1) day.batch.instructions)) ∙ take_whole (log_of day)
 
 module _ {N : Type 0} {b : Ghosts N} (day : Day) (named : b.day ≡ Some day) where
   rows_right : (done : List (Done N b)) → map Some (rows_in done) ≡ map (row_at day) (places_of done)

@@ -1,5 +1,5 @@
 -- What a settled day is gathered from, and what is tested of it.
-use Rattle.std.specs.Prelude.{◌≡◌, ℕ, ◌+◌, ◌==◌, ◌&&◌, Bool, true, false, not, nat_eq, List, [], ◌∷◌, length, map, Option, Some, IsPermutation}
+use Rattle.std.specs.Prelude.{◌≡◌, ℕ, ◌+◌, ◌==◌, ◌&&◌, Bool, true, false, not, nat_eq, List, [], ◌∷◌, length, map, take, Option, Some, IsPermutation}
 use Rattle.std.specs.List.{IsDistinct, AllByRecursion}
 use Rattle.std.specs.FinMap as fin
 use Rattle.reg_base.specs.Directory.{DirectoryValue}
@@ -23,6 +23,10 @@ use Rattle.reg_tasks.specs.declared.done.Done.{Done}
 -- if a day is named, these are the rows of its log, in any order
 abbrev pub AreRows : Option Day → List LogRow → Type 0
 AreRows name rows = (day : Day) → name ≡ Some day → ∥ IsPermutation (log_of day) rows ∥₁
+
+-- if a day is named, these are the rows of its first places, so many
+abbrev pub AreFirstRows : Option Day → ℕ → List LogRow → Type 0
+AreFirstRows name count rows = (day : Day) → name ≡ Some day → rows ≡ take count (log_of day)
 
 -- the accounts of names
 abbrev pub named_accounts : List (ℕ × ℕ) → List ℕ

@@ -77,8 +77,8 @@ fn is_last<N: Naming>(context: &Context<N>, parcel: &Parcel<N>) -> bool
     touched.contains(&parcel.account()) && !context.leads_on(place, parcel.account())
 }
 
-// Whether these are the last parcels of all touched accounts, by rising account.
-fn are_last<N: Naming>(context: &Context<N>, parcels: &[Parcel<N>]) -> bool
+/// Whether these are the last parcels of all touched accounts, by rising account.
+pub(crate) fn are_last<N: Naming>(context: &Context<N>, parcels: &[Parcel<N>]) -> bool
     ensures { result ≡ are_last (the_day context.now) context.now.plan (opened_accounts context.now.plan.openings) (names_of parcels.now) }
 {
     let openings = context.openings();

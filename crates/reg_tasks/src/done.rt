@@ -8,7 +8,8 @@ use reg_rules::LogRow;
 use std::marker::PhantomData;
 
 /// An instruction that was run: its place, and its row in the log. If a day is named, it is the day's row of that place,
-/// whoever carries it. Only [`Outcome::into_done`](crate::Outcome::into_done) makes one.
+/// whoever carries it. Outside of this crate only [`Outcome::into_done`](crate::Outcome::into_done) makes one. In it
+/// [`Context::gather`](crate::Context::gather) makes one of each row that it gets, which is the day's by its own condition.
 #[derive(Drop)]
 pub struct Done<N: Naming> {
     place: u32,
@@ -45,8 +46,8 @@ impl<N: Naming> Done<N> {
         &self.row
     }
 
-    // Its row in the log.
-    pub(crate) fn into_row(self) -> LogRow
+    /// Its row in the log, without its place.
+    pub fn into_row(self) -> LogRow
         ensures value { result ≡ self.row }
         ensures right { IsRowOfDay N.day self.place result }
     {

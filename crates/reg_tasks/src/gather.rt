@@ -1,6 +1,6 @@
 //! Gathering the settled day from the outcomes of all instructions.
 
-ghost use Rattle.std.specs.Prelude.{◌≡◌, ◌+◌, ◌≤◌, ◌↔◌, false, Some, None, length, IfOk, IfErr, IfSome, IsTrue, MatchOption, IsPermutation};
+ghost use Rattle.std.specs.Prelude.{◌≡◌, ◌≢◌, ℕ, ◌+◌, ◌^◌, ◌<◌, ◌≤◌, ◌↔◌, false, Some, None, length, IfOk, IfErr, IfSome, IsTrue, MatchOption, IsPermutation};
 ghost use Rattle.std.specs.List.{AllByRecursion};
 ghost use Rattle.std.specs.List.Sorted.{IsNonDecreasingBy};
 ghost use Rattle.std.specs.FinMap as fin;
@@ -11,11 +11,11 @@ ghost use Rattle.reg_book.specs.Settled.{IsOfBook};
 ghost use Rattle.reg_book.specs.Day.{Day, log_of, settled_day};
 ghost use Rattle.reg_tasks.specs.Contexts.{the_day};
 ghost use Rattle.reg_tasks.specs.Parcels.{names_of, values_of};
-ghost use Rattle.reg_tasks.specs.Gathering.{AreRows, AreClosing, AreNotAll, IsGathered, IsCommittable, IsWhole, are_counted, are_outcomes, places_of};
+ghost use Rattle.reg_tasks.specs.Gathering.{AreRows, AreFirstRows, AreClosing, AreNotAll, IsGathered, IsCommittable, IsWhole, are_counted, are_last, are_outcomes, places_of, rows_in};
 ghost use Rattle.reg_tasks.specs.Slots.{LacksFor, opened_accounts};
 ghost use Rattle.reg_schedules.specs.Schedules.{AreLastValues};
 
-use crate::collect::{are_outcomes, into_rows, sort_done, sort_parcels};
+use crate::collect::{are_last, are_outcomes, into_rows, sort_done, sort_parcels};
 use crate::context::Context;
 use crate::done::Done;
 use crate::lack::Lack;
@@ -149,6 +149,33 @@ fn settle<N: Naming>(
     Some(Settled::of(context.batch().base(), rows, accounts))
 }
 
+/// The settled day of its log and parcels by rising account, if these are the last ones of all touched accounts.
+pub(crate) fn settle_log<N: Naming>(
+    alloc: Global,
+    context: &Context<N>,
+    log: Vec<LogRow>,
+    parcels: Vec<Parcel<N>>,
+) -> Result<Settled, Lack>
+    requires log { AreFirstRows N.day (length context.now.batch.now.instructions) log.items }
+    ensures settled { IfOk result (λ s. IfSome N.day (λ d. s ≡ settled_day d)) }
+    ensures of_book { IfOk result (λ s. IsOfBook context.now.book.now s) }
+    ensures lack { IfErr result (LacksFor ((d : Day) → N.day ≡ Some d → are_last (the_day context.now) context.now.plan (opened_accounts context.now.plan.openings) (names_of parcels.items) ≡ false)) }
+{
+    context.is_day();
+    value_is_last_touchers();
+    last_toucher_is_last();
+    tails_are_last_touchers();
+    settled_is_closing();
+    settled_is_of_book();
+    if !are_last(context, &parcels) {
+        return Err(Lack::Foreign);
+    }
+    let Ok(closing) = values(alloc, parcels) else {
+        return Err(Lack::Memory);
+    };
+    settle(context, log, closing).ok_or(Lack::Foreign)
+}
+
 // The settled day of rows by rising place and parcels by rising account, if they are those of all places and the last
 // ones of all touched accounts.
 fn settle_sorted<N: Naming>(
@@ -181,7 +208,9 @@ fn settle_sorted<N: Naming>(
 
 // The place of the instruction of a row, by its record number.
 fn place_of<N: Naming>(context: &Context<N>, row: &LogRow) -> Option<u32>
-    ensures { IfSome result (λ place. place + context.now.batch.now.base ≡ row.now.number) }
+    ensures { MatchOption result
+        ((place : ℕ) → place < 2 ^ 32 → place + context.now.batch.now.base ≢ row.now.number)
+        (λ place. place + context.now.batch.now.base ≡ row.now.number) }
 {
     let place = row.number.get().checked_sub(context.batch().base())?;
     u32::try_from(place).ok()
@@ -194,6 +223,7 @@ fn with_places<N: Naming>(
     rows: Vec<LogRow>,
 ) -> Result<Vec<Done<N>>, NoMemory>
     requires rows { AreRows N.day rows.items }
+    ensures rows { IfOk result (λ done. rows_in done.items ≡ rows.items) }
 {
     context.is_day();
     let mut done = Vec::with_capacity(alloc, rows.len())?;

@@ -4,6 +4,7 @@ ghost use Rattle.std.specs.Prelude.{◌≡◌, length};
 
 use crate::context::Context;
 use crate::done::Done;
+use crate::gather::settle_log;
 use crate::lack::Lack;
 use crate::naming::Naming;
 use crate::outcome::{Outcome, Ran};
@@ -14,6 +15,7 @@ use reg_base::NoMemory;
 use reg_base::laws::{each_footprint_is_sound, last_toucher_is_last};
 use reg_book::Settled;
 use reg_plan::laws::tails_are_last_touchers;
+use reg_rules::LogRow;
 use std::alloc::Global;
 
 /// A slot for each account that an instruction of the day touches. The parcel that the last instruction so far left stands
@@ -30,7 +32,8 @@ impl<'c, 'a, N: Naming> Slots<'c, 'a, N> {
     ghost use Rattle.reg_book.specs.Day.{Day, settled_day};
     ghost use Rattle.reg_book.specs.Settled.{IsOfBook};
     ghost use Rattle.reg_tasks.specs.Contexts.{the_day};
-    ghost use Rattle.reg_tasks.specs.Gathering.{places_of};
+    ghost use Rattle.reg_base.specs.Rising.{count_up};
+    ghost use Rattle.reg_tasks.specs.Gathering.{places_of, AreFirstRows};
     ghost use Rattle.reg_tasks.specs.Parcels.{names_of};
     ghost use Rattle.reg_tasks.specs.Slots.{AreOpened, AreTaken, AreLaid, StandAsBefore, IsAtEnd, LacksFor, have_slots, is_ready};
     ghost use Rattle.reg_tasks.specs.Standing.{stands};
@@ -90,10 +93,8 @@ impl<'c, 'a, N: Naming> Slots<'c, 'a, N> {
         else {
             return Err(Lack::Memory);
         };
-        match Task::assemble(context, place, parcels) {
-            Ok(task) => Ok(task),
-            Err(_) => unreachable!(),
-        }
+        let task = Task::of_needed(context, place, parcels);
+        Ok(task)
     }
 
     /// Lays what an instruction left into the slots of its accounts, in place of what stood there, and answers what is kept
@@ -121,6 +122,24 @@ impl<'c, 'a, N: Naming> Slots<'c, 'a, N> {
         let (ran, done, parcels) = outcome.into_done();
         lay_parcels(openings, &mut self.slots, parcels, likely);
         Ok((ran, done))
+    }
+
+    /// The settled day, from its log and what stands in the slots.
+    ///
+    /// # Errors
+    /// `Memory` if memory ran out. `Foreign` if what stands for some account is not what its last instruction left. If no day
+    /// is named, also if the log is that of another context.
+    pub fn close_log(self, alloc: Global, log: Vec<LogRow>) -> Result<Settled, Lack>
+        requires log { AreFirstRows N.day (length self.context.now.batch.now.instructions) log.items }
+        ensures settled { IfOk result (λ s. IfSome N.day (λ d. s ≡ settled_day d)) }
+        ensures of_book { IfOk result (λ s. IsOfBook self.entry.context.now.book.now s) }
+        ensures lack { IfErr result (LacksFor ((d : Day) → N.day ≡ Some d → ¬ (IsAtEnd d (count_up 1 (length d.batch.instructions)) (stands self.entry)))) }
+    {
+        last_toucher_is_last();
+        tails_are_last_touchers();
+        let Slots { context, slots, .. } = self;
+        let parcels = empty_slots(alloc, slots)?;
+        settle_log(alloc, context, log, parcels)
     }
 
     /// The settled day, from what is kept of each instruction, in any order, and what stands in the slots.

@@ -74,6 +74,21 @@ impl<N: Naming> Task<N> {
         Ok(Task { place, parcels })
     }
 
+    /// The task of a place with just the parcels that its instruction needs, in the order of its footprint. Tests nothing:
+    /// for the slots, which have tested what they take.
+    pub(crate) fn of_needed(context: &Context<N>, place: u32, parcels: Vec<Parcel<N>>) -> Task<N>
+        requires from_one { 1 ≤ place }
+        requires within { place ≤ length context.now.batch.now.instructions }
+        requires needed { names_of parcels.items ≡ names_needed (inward context.now.plan.arrows place) (footprint_at (the_day context.now) place) }
+        ensures place { result.place ≡ place }
+        ensures parcels { result.parcels ≡ parcels }
+    {
+        let _context = context;
+        last_toucher_is_last();
+        tails_are_last_touchers();
+        Task { place, parcels }
+    }
+
     /// The task of a place with the opening values of the accounts that its instruction touches, in the order of its
     /// footprint, exactly if no arrow leads to the place. The place is counted from 1.
     ///

@@ -1,9 +1,11 @@
-use Rattle.std.proofs.Common.{◌≡◌, rules, arith, Some, ap, subst}
+use Rattle.std.proofs.Common.{◌≡◌, ◌++◌, ◌∷◌, [], rules, arith, Some, ap, sym, ◌∙◌, append_assoc, subst}
 use Rattle.std.specs.List.{AllByRecursion}
+use Rattle.std.proofs.lemmas.List.{map-append}
 use Rattle.std.proofs.Props.{props}
 use mathlib.Core.Logic.{∥∥₁_elim, ∥∥₁_map}
 use Rattle.reg_book.specs.Day.{Day, row_at}
 use Rattle.reg_schedules.proofs.Members.{In}
+use Rattle.reg_tasks.specs.Gathering.{rows_in}
 use Rattle.reg_tasks.proofs.Rising.{all_from_in}
 use Rattle.reg_tasks.proofs.Collecting.{IsLogged, rows_logged}
 use Rattle.reg_tasks.proofs.gather.with_places.Goals as goal
@@ -15,6 +17,7 @@ loop-row-init g c = record {
   right = λ d e. all_from_in (λ row. ∥ IsLogged d row ∥₁) _ (λ row m. ∥∥₁_map (c.requires.rows d e) (λ same.
       rows_logged d c.args.rows.items same row (subst (In row) c.into_iter-row-iterator.ensures.into_iter_gives.0 m)));
   room = search rules;
+  rows = search rules;
 }
 
 pub new-requires : goal.new-requires
@@ -31,4 +34,14 @@ loop-row-preserved g c = record {
   ends = search rules;
   right = λ d e. (subst (AllByRecursion (λ row. ∥ IsLogged d row ∥₁)) c.in-Some.ensures.steps.0 (c.loop-row.invariant.right d e)).1;
   room = search rules;
+  rows =
+      let one = c.new.result in
+      let rest = c.next.new.self.rest.items in
+      let before = c.loop-row.done.items in
+      ap (λ ds. rows_in ds ++ rest) c.push_reserved.ensures.items
+      ∙ ap (λ rs. rs ++ rest) (map-append (λ d. d.row) before (one ∷ []))
+      ∙ append_assoc (rows_in before) (one.row ∷ []) rest
+      ∙ ap (λ row. rows_in before ++ row ∷ rest) c.new.ensures.row
+      ∙ ap (λ rs. rows_in before ++ rs) (sym c.in-Some.ensures.steps.0)
+      ∙ c.loop-row.invariant.rows;
 }

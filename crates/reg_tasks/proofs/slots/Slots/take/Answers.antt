@@ -6,12 +6,11 @@ use Rattle.reg_schedules.specs.Docks.{names_needed}
 use Rattle.reg_tasks.specs.Contexts.{the_day}
 use Rattle.reg_tasks.specs.Parcels.{names_of}
 use Rattle.reg_tasks.specs.Slots.{standing_in, is_there}
-use Rattle.reg_tasks.proofs.Placing.{ready_stands, all_there, taken_needed, has_themselves}
-use Rattle.reg_schedules.proofs.Tails.{clash}
+use Rattle.reg_tasks.proofs.Placing.{ready_stands, all_there, taken_needed}
 use Rattle.reg_tasks.proofs.slots.Slots.take.Goals as goal
 
-pub unreachable-requires : goal.unreachable-requires
-unreachable-requires g c =
+pub of_needed-task-requires-clause-needed : goal.of_needed-task-requires-clause-needed
+of_needed-task-requires-clause-needed g c =
     let context = c.args.self.now.context.now in
     let arrows = inward context.plan.arrows c.args.place in
     let touched = footprint_at (the_day context) c.args.place in
@@ -28,9 +27,7 @@ unreachable-requires g c =
     ∙ ap (λ os. map (standing_in os c.deref_mut.result.now) c.touched_at-accounts.result.now) c.openings-2.ensures.value
     ∙ ap (λ ss. map (standing_in context.plan.openings ss) c.touched_at-accounts.result.now) c.deref_mut.ensures.value
     ∙ ap (map (standing_in context.plan.openings c.args.self.now.slots.items)) c.touched_at-accounts.ensures.value in
-    let all = has_themselves names (names_needed arrows touched)
-    (taken_needed arrows (standing_in context.plan.openings c.args.self.now.slots.items) touched names (ready_stands arrows (standing_in context.plan.openings c.args.self.now.slots.items) touched ready) taken) in
-    clash all (sym c.in-Err.ensures.fits)
+    taken_needed arrows (standing_in context.plan.openings c.args.self.now.slots.items) touched names (ready_stands arrows (standing_in context.plan.openings c.args.self.now.slots.items) touched ready) taken
 
 pub take_parcels-requires-clause-there : goal.take_parcels-requires-clause-there
 take_parcels-requires-clause-there g c =
