@@ -2,23 +2,22 @@
 use Rattle.std.proofs.Common.{◌≡◌, ℕ, ℤ, pos, unsigned_abs, Bool, ◌^◌, ◌<◌, ◌≤◌, true, not, ◌&&◌, nat_lt, nat_le, codes, List, [], ◌∷◌, length, Option, Some, None, Ok, refl, sym, ap, ◌∙◌, subst, arith}
 use Rattle.std.specs.Prelude.{IfSome, is_ok, ◌↔◌}
 use Rattle.std.proofs.lemmas.Bool.{and_parts, ltb-true, leb-true, le-leb}
-use Rattle.std.specs.Str.{bytes_eq}
-use Rattle.std.proofs.lemmas.Slice.Eq.{bytes_eq-Decides}
 use Rattle.reg_text.proofs.Names.{MOST_NUMBER, Act, ActName, Transfer, Tag, IsCodec, AreFields}
-use Rattle.reg_text.proofs.Names.{within_limits, any_number, a_no, factor, a_figure, a_date, an_approver, IsRow, row_with, act_names, act_word, act_name, form, said, an_act_name, act_fields, instruction_fields_of, version}
-use Rattle.reg_text.proofs.Names.{row, Cause, Codec, IsWithin, IsUserNo, CorrectionFits, FigureFits, ◌>>=◌, test, when, first_cause, fault_of, number, signed, plain_number_of, date_of, signed_of, correction_of, signed_figure_of, bounded_of, user_no_of, approver_of, approver_text, number_tests, correction_tests, figure_tests, approver_tests, IsPlain}
+use Rattle.reg_text.proofs.Names.{within_limits, a_period, any_number, a_no, factor, a_figure, a_date, an_approver, IsRow, row_with, act_names, act_word, act_name, form, said, an_act_name, act_fields, instruction_fields_of, Scope}
+use Rattle.reg_text.proofs.Names.{row, Said, widest, Cause, Codec, IsWithin, IsUserNo, CorrectionFits, FigureFits, ◌>>=◌, test, when, first_cause, fault_of, number, signed, plain_number_of, date_of, signed_of, correction_of, signed_figure_of, bounded_of, user_no_of, approver_of, approver_text, number_tests, correction_tests, figure_tests, approver_tests, IsPlain}
 use Rattle.reg_base.specs.declared.act.Act.TheVariants as act
 use Rattle.reg_text.specs.declared.reading.instruction_row.ActName.TheVariants.{Distribute}
 use Rattle.reg_text.specs.Words.{kind_word, kinds}
 use Rattle.reg_text.specs.declared.cause.Cause.TheVariants as cause
 use Rattle.reg_text.specs.declared.reading.tag.Tag.TheVariants as tag
 use Rattle.reg_text.proofs.Binds.{bind_ok, test_ok, ok_is}
-use Rattle.reg_text.proofs.CauseLaws.{tested, done, limited, once, only-number, only-signed, by_result}
+use Rattle.reg_text.proofs.CauseLaws.{done, limited, once, only-number, only-signed, by_result}
 use Rattle.reg_text.proofs.NumberLaws.{number-spelled, number-again, digit-first, signed-spelled, signed-again, signed-range, digits-range}
 use Rattle.reg_text.proofs.DateLaws.{date-spelled, date-again}
-use Rattle.reg_text.proofs.WordLaws.{is-word, own-kind, own-account_kind, own-status, own-right, own-retirement, own-yes_no, own-act_word}
+use Rattle.reg_text.proofs.WordLaws.{is-version, is-word, own-kind, own-account_kind, own-status, own-right, own-retirement, own-yes_no, own-act_word}
 use Rattle.reg_text.proofs.PlainFacts.{plain-decimal, plain-signed, plain-date}
 use Rattle.reg_text.proofs.ShareLaws.{are_shares}
+use Rattle.reg_text.proofs.MaybeLaws.{are_maybe}
 use Rattle.reg_text.proofs.CodecLaws.{are_none, are_last, are_then, are_made, are_provided, are_forms, is_row, is_named_row, Form}
 
 -- ---- the fields
@@ -33,14 +32,15 @@ pub is-signed : IsCodec any_signed
 is-signed = record { spelled = signed-spelled; again = signed-again; fault = λ f. once cause.Number (signed_of f) (only-signed f); plain = plain-signed }
 
 -- the same field, of a value within a limit
-is-limited : {A : Type 0} (c : Codec A) (holds : A → Bool) (tests : List ℕ → List (Option Cause)) (Fits : A → Type 0) → IsCodec c → ((x : A) → holds x ≡ true → Fits x) → ((x : A) → Fits x → (holds x ≡ true) × c.Fits x)
+is-limited : {A : Type 0} (c : Codec A) (holds : A → Bool) (tests : List ℕ → List (Option Cause)) (Fits : A → Type 0) → IsCodec c → ((x : A) → c.Fits x → holds x ≡ true → Fits x) → ((x : A) → Fits x → (holds x ≡ true) × c.Fits x)
     → ((f : List ℕ) → fault_of (c.read f >>= λ x. test (holds x) cause.Limit x) ≡ first_cause (tests f))
     → IsCodec (record { spell = c.spell; read = λ f. c.read f >>= λ x. test (holds x) cause.Limit x; tests = tests; Fits = Fits })
 is-limited c holds tests Fits h fit passes fault = record {
   spelled = λ f x e.
       let y = bind_ok (c.read f) _ x e in
       let t = test_ok (holds y.0) cause.Limit y.0 x y.2 in
-      rw (← t.1) ((h.spelled f y.0 y.1).0, fit y.0 t.0);
+      let s = h.spelled f y.0 y.1 in
+      rw (← t.1) (s.0, fit y.0 s.1 t.0);
   again = λ x fits. let k = passes x fits in rw (h.again x k.1, k.0) refl;
   fault = fault;
   plain = h.plain;
@@ -51,14 +51,19 @@ ranged low high n e = let both = and_parts (nat_le low n) (nat_le n high) e in r
 
 pub is-within : (low high : ℕ) → nat_lt high (2 ^ 64) ≡ true → IsCodec (within_limits low high)
 unfolding bounded_of
-is-within low high small = is-limited any_number (λ n. nat_le low n && nat_le n high) (number_tests low high) (IsWithin low high) is-number (ranged low high)
+is-within low high small = is-limited any_number (λ n. nat_le low n && nat_le n high) (number_tests low high) (IsWithin low high) is-number (λ n fits. ranged low high n)
     (λ n h. (rw (le-leb low n h.low, le-leb n high h.high) refl, omega (arith, h.high, ltb-true high (2 ^ 64) small))) (λ f. limited cause.Number _ 0 (plain_number_of f) (only-number f))
+
+pub is-period : (low most : ℕ) → IsCodec (a_period low most)
+unfolding bounded_of
+is-period low most = is-limited any_number (λ n. nat_le low n && nat_le n most) (number_tests low most) (a_period low most).Fits is-number (λ n fits e. (ranged low most n e, fits))
+    (λ n h. (rw (le-leb low n h.0.low, le-leb n most h.0.high) refl, h.1)) (λ f. limited cause.Number _ 0 (plain_number_of f) (only-number f))
 
 -- the same of a signed number with at most so many digits
 signed-limited : (most : ℕ) (Fits : ℤ → Type 0) (tests : List ℕ → List (Option Cause)) → most < 2 ^ 64 → ((z : ℤ) → unsigned_abs z ≤ most → Fits z) → ((z : ℤ) → Fits z → unsigned_abs z ≤ most)
     → ((f : List ℕ) → fault_of (signed_of f >>= λ z. test (nat_le (unsigned_abs z) most) cause.Limit z) ≡ first_cause (tests f))
     → IsCodec (record { spell = signed; read = λ f. signed_of f >>= λ z. test (nat_le (unsigned_abs z) most) cause.Limit z; tests = tests; Fits = Fits })
-signed-limited most Fits tests small fit size fault = is-limited any_signed (λ z. nat_le (unsigned_abs z) most) tests Fits is-signed (λ z e. fit z (leb-true _ _ e)) (λ z h. (le-leb _ _ (size z h), omega (arith, size z h))) fault
+signed-limited most Fits tests small fit size fault = is-limited any_signed (λ z. nat_le (unsigned_abs z) most) tests Fits is-signed (λ z fits e. fit z (leb-true _ _ e)) (λ z h. (le-leb _ _ (size z h), omega (arith, size z h))) fault
 
 pub is-factor : IsCodec factor
 unfolding correction_of
@@ -75,14 +80,6 @@ is-date = record { spelled = date-spelled; again = date-again; fault = λ f. by_
 
 pub is-no : IsCodec a_no
 is-no = is-within _ _ refl
-
-is-version : IsCodec version
-is-version = record {
-  spelled = λ f n e. let t = test_ok (bytes_eq f (codes "1")) cause.Version 1 n e in ((bytes_eq-Decides f (codes "1")).0 t.0, sym t.1);
-  again = λ n fits. rw fits refl;
-  fault = λ f. tested (bytes_eq f (codes "1")) cause.Version 1;
-  plain = λ n. refl;
-}
 
 -- the approver: nobody, or a number
 approver-spelled : (f : List ℕ) (o : Option ℕ) → approver_of f ≡ Ok o → (f ≡ approver_text o) × IfSome o IsUserNo
@@ -120,11 +117,11 @@ one-spelling {c = c} h f x = (h.spelled f x, λ is. ap c.read is.0 ∙ h.again x
 
 -- ---- the acts: a line each
 
-ruleset codecs = (is-version, is-number, is-within, is-factor, is-figure, is-date, is-approver, is-word, own-kind, own-account_kind, own-status, own-right, own-retirement, own-yes_no, are_none, are_last, are_then, are_made, are_provided)
+ruleset codecs = (is-version, is-number, is-within, is-period, is-factor, is-figure, is-date, is-approver, is-word, own-kind, own-account_kind, own-status, own-right, own-retirement, own-yes_no, are_none, are_last, are_maybe, are_then, are_made, are_provided)
 
 each-act : (n : ActName) → AreFields (form n).fields
 each-act Transfer = search codecs depth 14
-each-act Distribute = are_made _ _ _ (are_then _ _ is-no (are_then _ _ (is-word kind_word kinds own-kind) (are_shares is-no is-number))) (λ p. refl) (λ d. refl)
+each-act Distribute = are_made _ _ _ (are_then _ _ is-no (are_then _ _ (is-word kind_word kinds own-kind) (are_shares is-no is-number))) (λ p fits. refl) (λ d. refl)
 each-act n = search codecs depth 14
 
 parts-of-made : (n : ActName) (p : (form n).Parts) → ◌≡◌ {A = Form (λ m. (form m).Parts)} (said ((form n).make p)) (n, p)
@@ -143,6 +140,11 @@ are-acts = are_forms act_name (λ n. (form n).Parts) an_act_name (λ n. (form n)
 are-instructions : AreFields instruction_fields_of
 are-instructions = search (codecs, are-acts) depth 14
 
-pub each-row : (t : Tag) → IsRow (row t)
-each-row tag.Do = is_named_row 4 an_act_name (row_with instruction_fields_of) (λ i. act_name i.act) (is-word act_word act_names own-act_word) (is_row _ are-instructions) (λ tag i fits. (omega arith, refl, tt))
-each-row t = search (codecs, is_row) depth 24
+-- a row is spelled the same in every scope
+pub same-spelling : (scope : Scope) (t : Tag) (x : Said t) → (row scope t).spell x ≡ (row widest t).spell x
+same-spelling scope tag.Format x = refl
+same-spelling scope t x = refl
+
+pub each-row : (scope : Scope) (t : Tag) → IsRow (row scope t)
+each-row scope tag.Do = is_named_row 4 an_act_name (row_with instruction_fields_of) (λ i. act_name i.act) (is-word act_word act_names own-act_word) (is_row _ are-instructions) (λ tag i fits. (omega arith, refl, tt))
+each-row scope t = search (codecs, is_row) depth 24

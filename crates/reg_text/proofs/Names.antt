@@ -15,8 +15,8 @@ pub use Rattle.reg_rules.specs.Effect.{IsBehind}
 pub use Rattle.reg_rules.specs.declared.reply.LogRow.{LogRow}
 pub use Rattle.reg_book.specs.Book.{BookValue, first_fault, has_row_ahead, total_held, total_retired}
 pub use Rattle.reg_text.specs.Records.{Record, field}
-pub use Rattle.reg_text.specs.Sections.{AreAtMost, IsOrdered, IsSection, Item, Section, account_block, account_with, all_rows, each_row, follows, account_head, is_room, item_rows, key, lists_of, most, section_rows}
-pub use Rattle.reg_text.specs.Spelling.{account_row, book_rows, closing_sections, day_sections, day_text, end_row, heading, instruction_fields, lags_in}
+pub use Rattle.reg_text.specs.Sections.{AreAtMost, Key, by, IsOrdered, IsSection, Item, Section, account_block, account_with, all_rows, each_row, follows, account_head, is_room, item_rows, key, lists_of, most, section_rows}
+pub use Rattle.reg_text.specs.Spelling.{account_row, book_rows, closing_sections, day_sections, current_rows, current_in, periods_in, day_text, end_row, heading, instruction_fields, lags_in}
 pub use Rattle.reg_text.specs.Log.{answer_fields, closing_fields, figure_field, holding_fields, log_row}
 pub use Rattle.reg_text.specs.Report.{log_rows, report_rows, text_of, totals_row, written_book}
 pub use Rattle.csv.specs.Writing.{default_writer}
@@ -27,7 +27,7 @@ pub use Rattle.reg_text.specs.Dates.{date_text, day_in, is_civil, is_date_text, 
 unfoldable pub use Rattle.reg_text.specs.Dates.{date, date_of, day_named, in_days}
 pub use Rattle.reg_text.specs.Words.{account_kind_word, account_kinds, kind_word, kinds, named, retirement_word, retirements, right_word, rights, status_word, statuses, yes_and_no, yes_no_word}
 unfoldable pub use Rattle.reg_text.specs.Words.{word_of}
-pub use Rattle.reg_text.specs.Grammar.{Said, row, row_read, version}
+pub use Rattle.reg_text.specs.Grammar.{Said, row, row_read, row_text}
 pub use Rattle.reg_text.specs.Plain.{IsPlain, with_commas}
 pub use Rattle.reg_text.specs.Written.{EachBookIsWritten, EachReportIsWritten, EachTextSplits, HasField}
 pub use Rattle.reg_base.specs.declared.limits.TheConstants.{FIRST_DAY, FIRST_YEAR, LAST_DAY, MOST_ACCOUNTS, MOST_INSTRUCTIONS, MOST_LAG, MOST_NUMBER, MOST_RECORD, MOST_ROWS}
@@ -37,15 +37,19 @@ pub use Rattle.reg_base.specs.Refusals.{refusal_name}
 pub use Rattle.reg_base.specs.Rising.{IsRising}
 pub use Rattle.reg_text.specs.declared.reading.account_row.AccountHead.{AccountHead}
 pub use Rattle.reg_text.specs.declared.reading.tag.Tag.{Tag}
-pub use Rattle.reg_text.specs.Tags.{all_tags, may_follow, place, rule, tag_after, tag_word}
-pub use Rattle.reg_text.specs.Lasts.{as_list, is_above, last_item}
-pub use Rattle.reg_text.specs.Drafts.{DraftValue, account_count, accounts_in, block_closed, draft_of, ended, items_said, nothing_read, sections, sections_to}
-pub use Rattle.reg_text.specs.Day.{DayValue, day_said, day_with, is_text_over}
-pub use Rattle.reg_text.specs.Reading.{Begins, CanBeSaid, IsFirstFaulty, IsPair, IsReading}
+pub use Rattle.reg_text.specs.declared.reading.scope.Version.{Version}
+pub use Rattle.reg_text.specs.declared.reading.scope.Version.TheVariants.{One, Two}
+pub use Rattle.reg_text.specs.declared.reading.scope.Scope.{Scope}
+pub use Rattle.reg_text.specs.Scopes.{MOST_PERIODS, widest}
+pub use Rattle.reg_text.specs.Tags.{all_tags, is_known, is_needed, is_once, may_follow, place, rule, tag_after, tag_place, tag_word}
+pub use Rattle.reg_text.specs.Lasts.{AreAbove, as_list, is_above, last_item}
+pub use Rattle.reg_text.specs.Drafts.{DraftValue, account_count, accounts_in, block_closed, draft_of, ended, items_said, nothing_read, scope_of, sections, sections_to, version_in}
+pub use Rattle.reg_text.specs.Day.{DayValue, current_said, day_said, day_with, is_text_over}
+pub use Rattle.reg_text.specs.Reading.{Begins, CanBeSaid, IsFirstFaulty, IsPair, IsReading, IsVersionOf}
 pub use Rattle.reg_text.specs.Faults.{AnswersFault, after_rows, at_end, at_row, day_of_rows, drafted, has_room, in_order, is_number_left, is_recorded, is_sum_left, next_draft, next_in, placed, with}
 unfoldable pub use Rattle.reg_text.specs.Faults.{with_row}
 pub use Rattle.reg_text.specs.declared.cause.Cause.{Cause}
-pub use Rattle.reg_text.specs.DraftLimits.{LagsSaidFit, AreRecorded, FitsSoFar, IsDraft, SectionStandsAt, TakesFirst, comes_once, stands_at}
+pub use Rattle.reg_text.specs.DraftLimits.{LagsSaidFit, AreRecorded, FitsSoFar, IsDraft, SectionStandsAt, comes_once, has_to_come, may_come, stands_at}
 pub use Rattle.reg_base.specs.declared.instruction.Instruction.{Instruction}
 pub use Rattle.reg_text.specs.Causes.{test, ◌>>=◌}
 pub use Rattle.csv.specs.Reading.{ExplainsRead, ReadRecord, default_config, is_bom, is_flexible, records, records_next, with_flexible, with_names_headers}
@@ -53,7 +57,7 @@ unfoldable pub use Rattle.csv.specs.Reading.{Reached, records_from, strip_bom}
 pub use Rattle.reg_text.specs.Rows.{IsOfMemory, IsOpen, known_rest, records_in, rest_of, rows_left, rows_in_text}
 pub use Rattle.reg_text.specs.declared.reading.instruction_row.ActName.{ActName}
 pub use Rattle.reg_text.specs.declared.reading.instruction_row.ActName.TheVariants.{Transfer}
-pub use Rattle.reg_text.specs.Codecs.{AreFields, Codec, Fields, IsCodec, IsRow, Row, a_date, a_figure, a_no, a_word, an_approver, any_number, factor, forms, holds_of, last, made, named_row, none, provided, row_with, tests_then, within_limits, ◌▸◌}
+pub use Rattle.reg_text.specs.Codecs.{AreFields, Codec, Fields, IsCodec, IsRow, Row, a_date, a_figure, a_no, a_period, a_word, an_approver, any_number, factor, forms, holds_of, last, made, named_row, none, provided, row_with, tests_then, within_limits, ◌▸◌}
 pub use Rattle.reg_text.specs.Acts.{IsShared, act_fields, act_name, act_names, act_word, an_act_name, form, instruction_fields_of, said}
 pub use Rattle.reg_text.specs.FieldTests.{approver_tests, correction_tests, fault_of, figure_tests, first_cause, number_tests, when}
 pub use Rattle.reg_text.specs.Table.{IsCauseOf, said_tests, tagged_tests, tests_of}

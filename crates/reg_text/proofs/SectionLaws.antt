@@ -1,13 +1,13 @@
 -- Sections: one row more at the end of one, and what stays of the others.
 use Rattle.std.proofs.Common.{◌≡◌, ℕ, ◌<◌, ◌≤◌, true, List, [], ◌∷◌, ◌++◌, length, map, Option, Some, None, refl, sym, ap, subst, ◌∙◌, arith, append_assoc, length-append}
-use Rattle.std.proofs.lemmas.Bool.{ltb-true, lt-ltb}
-use Rattle.std.proofs.lemmas.List.{append-nil, map-append}
+use Rattle.std.proofs.lemmas.Bool.{ltb-true, lt-ltb, le-leb}
+use Rattle.std.proofs.lemmas.List.{append-nil, length-map, map-append}
 use Rattle.std.specs.List.{AllByRecursion, flat_map}
 use Rattle.std.proofs.lemmas.Grind.{flat_map-append}
-use Rattle.reg_text.proofs.Names.{IsRising, Tag, Record, rule, last_item, is_above, Said, row, Section, item_rows, section_rows, all_rows, key, follows, IsOrdered, most, is_room, AreAtMost, IsSection, stands_at, comes_once, SectionStandsAt}
+use Rattle.reg_text.proofs.Names.{Tag, Version, Scope, Record, rule, tag_place, last_item, is_above, Said, row, Section, item_rows, section_rows, all_rows, Key, key, follows, IsOrdered, most, is_room, AreAtMost, IsSection, stands_at, has_to_come, SectionStandsAt}
 use Rattle.reg_text.specs.Grammar.{row_text}
 use Rattle.reg_text.proofs.ListFacts.{all-push, all-append, all-first, all-rest, all-both}
-use Rattle.reg_text.proofs.RisingFacts.{rising-push, rising-above, last-key}
+use Rattle.reg_text.proofs.RisingFacts.{above-push, above-at, last-key}
 
 -- ---- the rows
 
@@ -36,13 +36,20 @@ push (b ∷ before) t xs x behind e =
 
 -- ---- order and length
 
-pub ordered-push : {X : Type 0} (o : Option (X → ℕ)) (xs : List X) (x : X) → IsOrdered o xs → follows o (last_item xs) x ≡ true → IsOrdered o (xs ++ x ∷ [])
-ordered-push None xs x h e = tt
-ordered-push (Some by) xs x h e = rw map-append (rising-push (map by xs) (by x) h (ap (λ (b : Option ℕ). is_above b (by x)) (sym (last-key by xs)) ∙ e))
+same-length : {X : Type 0} (k : Key X) (xs : List X) → length (map k.ends xs) ≡ length (map k.begins xs)
+same-length k xs = length-map xs k.ends ∙ sym (length-map xs k.begins)
 
-pub ordered-at : {X : Type 0} (o : Option (X → ℕ)) (xs : List X) (x : X) (others : List X) → IsOrdered o (xs ++ x ∷ others) → follows o (last_item xs) x ≡ true
+pub ordered-push : {X : Type 0} (o : Option (Key X)) (xs : List X) (x : X) → IsOrdered o xs → follows o (last_item xs) x ≡ true → IsOrdered o (xs ++ x ∷ [])
+ordered-push None xs x h e = tt
+ordered-push (Some k) xs x h e =
+    rw (map-append k.ends xs (x ∷ []), map-append k.begins xs (x ∷ []))
+    (above-push (map k.ends xs) (map k.begins xs) (k.ends x) (k.begins x) (same-length k xs) h (ap (λ (b : Option ℕ). is_above b (k.begins x)) (sym (last-key k.ends xs)) ∙ e))
+
+pub ordered-at : {X : Type 0} (o : Option (Key X)) (xs : List X) (x : X) (others : List X) → IsOrdered o (xs ++ x ∷ others) → follows o (last_item xs) x ≡ true
 ordered-at None xs x others h = refl
-ordered-at (Some by) xs x others h = ap (λ (b : Option ℕ). is_above b (by x)) (last-key by xs) ∙ rising-above (map by xs) (by x) (map by others) (subst IsRising (map-append by xs (x ∷ others)) h)
+ordered-at (Some k) xs x others h =
+    ap (λ (b : Option ℕ). is_above b (k.begins x)) (last-key k.ends xs)
+    ∙ above-at (map k.ends xs) (map k.begins xs) (k.ends x) (k.begins x) (map k.ends others) (map k.begins others) (same-length k xs) (rw (map-append k.ends xs (x ∷ others), map-append k.begins xs (x ∷ others)) at h)
 
 pub few-push : {X : Type 0} (o : Option ℕ) (xs : List X) (x : X) → is_room o (length xs) ≡ true → AreAtMost o (length (xs ++ x ∷ []))
 few-push None xs x e = tt
@@ -53,35 +60,50 @@ room-at None xs x others h = refl
 room-at (Some limit) xs x others h = lt-ltb _ _ (omega (arith, length-append xs (x ∷ others), h))
 
 -- a section with one row more
-pub section-push : (t : Tag) (xs : List (Said t)) (x : Said t) → IsSection (Some t, xs) → (row t).Fits x → follows (key t) (last_item xs) x ≡ true → is_room (most t) (length xs) ≡ true → IsSection (Some t, xs ++ x ∷ [])
-section-push t xs x h fits order room = record {
-  fits = all-push (row t).Fits xs x h.fits fits;
+pub section-push : (scope : Scope) (t : Tag) (xs : List (Said t)) (x : Said t) → IsSection scope (Some t, xs) → (row scope t).Fits x → follows (key t) (last_item xs) x ≡ true → is_room (most t) (length xs) ≡ true → IsSection scope (Some t, xs ++ x ∷ [])
+section-push scope t xs x h fits order room = record {
+  fits = all-push (row scope t).Fits xs x h.fits fits;
   listed = record { ordered = ordered-push (key t) xs x h.listed.ordered order; few = few-push (most t) xs x room };
 }
 
 -- ---- where sections stand
 
--- a section of a later row; a section of an earlier one, which has come before this row if it stands once
-pub record IsLater (t : Tag) (s : Section) : Type 0 where
-  pub above : (rule t).place < stands_at s.0
+-- the section of a later row; that of an earlier one, which has come before this row if it has to come
+pub record IsLater (t : Tag) (part : Option Tag) : Type 0 where
+  pub above : tag_place t < stands_at part
 
-pub record IsEarlier (t : Tag) (s : Section) : Type 0 where
-  pub before : comes_once s.0 ≡ true → stands_at s.0 ≤ (rule t).from
+pub record IsEarlier (version : Version) (t : Tag) (part : Option Tag) : Type 0 where
+  pub before : has_to_come version part ≡ true → stands_at part ≤ (rule version t).from
+
+abbrev pub AreLater : Tag → List Section → Type 0
+AreLater t ss = AllByRecursion (λ (s : Section). IsLater t s.0) ss
+
+abbrev pub AreEarlier : Version → Tag → List Section → Type 0
+AreEarlier version t ss = AllByRecursion (λ (s : Section). IsEarlier version t s.0) ss
+
+-- the section of a row that came
+stands-grown : (version : Version) (at : ℕ) (t : Tag) (xs : List (Said t)) (x : Said t) → (rule version t).from ≤ at → at ≤ (rule version t).to → SectionStandsAt version at (Some t, xs) → SectionStandsAt version (tag_place t) (Some t, xs ++ x ∷ [])
+stands-grown version at t xs x low high h = record {
+  begun = λ lt. absurd (omega arith);
+  come = λ le needed. omega (arith, length-append xs (x ∷ []));
+  once = λ once. rw (h.begun (omega (arith, ltb-true _ _ once))) (omega arith);
+  known = λ foreign. let known = le-leb (rule version t).from (rule version t).to (omega (arith, low, high)) in absurd cc;
+}
 
 -- after a row more, each section stands as it should
-pub stand-push : (at : ℕ) (t : Tag) (before : List Section) (xs : List (Said t)) (x : Said t) (behind : List Section)
-    → (rule t).from ≤ at → at ≤ (rule t).to → at ≤ (rule t).place → AllByRecursion (IsEarlier t) before → AllByRecursion (IsLater t) behind
-    → AllByRecursion (SectionStandsAt at) (before ++ shorter t xs behind) → AllByRecursion (SectionStandsAt (rule t).place) (before ++ grown t xs x behind)
-stand-push at t before xs x behind low high up earlier later h =
-    let tail = all-rest (SectionStandsAt at) before (shorter t xs behind) h in
-    all-append (SectionStandsAt (rule t).place) before (grown t xs x behind)
-    (all-both (IsEarlier t) (SectionStandsAt at) (SectionStandsAt (rule t).place) (λ s e k. record { begun = λ lt. k.begun (omega arith); come = λ le once. k.come (omega (arith, e.before once)) once })
-    before earlier (all-first (SectionStandsAt at) before (shorter t xs behind) h)) (
-      record { begun = λ lt. absurd (omega arith); come = λ le once. (x, rw (tail.0.begun (omega (arith, ltb-true _ _ once))) refl) },
-      all-both (IsLater t) (SectionStandsAt at) (SectionStandsAt (rule t).place) (λ s e k. record { begun = λ lt. k.begun (omega (arith, e.above)); come = λ le once. absurd (omega (arith, e.above)) }) behind later tail.1,
+pub stand-push : (version : Version) (at : ℕ) (t : Tag) (before : List Section) (xs : List (Said t)) (x : Said t) (behind : List Section)
+    → (rule version t).from ≤ at → at ≤ (rule version t).to → at ≤ tag_place t → AreEarlier version t before → AreLater t behind
+    → AllByRecursion (SectionStandsAt version at) (before ++ shorter t xs behind) → AllByRecursion (SectionStandsAt version (tag_place t)) (before ++ grown t xs x behind)
+stand-push version at t before xs x behind low high up earlier later h =
+    let tail = all-rest (SectionStandsAt version at) before (shorter t xs behind) h in
+    all-append (SectionStandsAt version (tag_place t)) before (grown t xs x behind)
+    (all-both (λ (s : Section). IsEarlier version t s.0) (SectionStandsAt version at) (SectionStandsAt version (tag_place t)) (λ s e k. record { begun = λ lt. k.begun (omega arith); come = λ le needed. k.come (omega (arith, e.before needed)) needed; once = k.once; known = k.known })
+    before earlier (all-first (SectionStandsAt version at) before (shorter t xs behind) h)) (
+      stands-grown version at t xs x low high tail.0,
+      all-both (λ (s : Section). IsLater t s.0) (SectionStandsAt version at) (SectionStandsAt version (tag_place t)) (λ s e k. record { begun = λ lt. k.begun (omega (arith, e.above)); come = λ le needed. absurd (omega (arith, e.above)); once = k.once; known = k.known }) behind later tail.1,
     )
 
 -- behind the section of a row nothing has begun
-pub empty-behind : (at : ℕ) (t : Tag) (behind : List Section) → at ≤ (rule t).place → AllByRecursion (IsLater t) behind → AllByRecursion (SectionStandsAt at) behind → AllByRecursion (λ (s : Section). s.1 ≡ []) behind
-empty-behind at t behind up later h =
-    all-both (IsLater t) (SectionStandsAt at) (λ (s : Section). s.1 ≡ []) (λ s e k. k.begun (omega (arith, e.above))) behind later h
+pub empty-behind : (version : Version) (at : ℕ) (t : Tag) (behind : List Section) → at ≤ tag_place t → AreLater t behind → AllByRecursion (SectionStandsAt version at) behind → AllByRecursion (λ (s : Section). s.1 ≡ []) behind
+empty-behind version at t behind up later h =
+    all-both (λ (s : Section). IsLater t s.0) (SectionStandsAt version at) (λ (s : Section). s.1 ≡ []) (λ s e k. k.begun (omega (arith, e.above))) behind later h

@@ -20,7 +20,7 @@ back [] = refl
 back (share ∷ shares) = cons refl (back shares)
 
 pub are_shares : IsCodec a_no → IsCodec any_number → AreFields share_fields
-are_shares h k = are_made (map share_made) (map share_parts) (pairs MOST_SHARES a_no any_number) (are_pairs a_no any_number h k MOST_SHARES) there back
+are_shares h k = are_made (map share_made) (map share_parts) (pairs MOST_SHARES a_no any_number) (are_pairs a_no any_number h k MOST_SHARES) (λ ps fits. there ps) back
 
 -- ---- what fits in their fields
 

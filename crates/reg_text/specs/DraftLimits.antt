@@ -1,5 +1,5 @@
 -- What holds of every draft: its sections are within their limits, and in the order of the grammar.
-use Rattle.std.specs.Prelude.{◌≡◌, ℕ, ◌+◌, ◌<◌, ◌≤◌, Bool, true, false, List, [], ◌∷◌, map, length, Option, Some, None, IfSome, Result, MatchResult}
+use Rattle.std.specs.Prelude.{◌≡◌, ℕ, ◌+◌, ◌<◌, ◌≤◌, Bool, true, false, List, [], map, length, Option, Some, None, IfSome}
 use Rattle.std.specs.List.{AllByRecursion}
 use Rattle.reg_base.specs.declared.limits.TheConstants.{MOST_ACCOUNTS, MOST_RECORD}
 use Rattle.reg_base.specs.Rising.{IsRising}
@@ -9,33 +9,42 @@ use Rattle.reg_account.specs.Rows.{AreBelow, RetiredFits, row_numbers}
 use Rattle.reg_account.specs.Account.{AccountValue}
 use Rattle.reg_account.specs.Lists.{no_lists}
 use Rattle.reg_rules.specs.Effect.{IsBehind}
-use Rattle.reg_text.specs.declared.cause.DayFault.{DayFault}
 use Rattle.reg_text.specs.declared.reading.tag.Tag.{Tag}
 use Rattle.reg_text.specs.declared.reading.heading_rows.Lags.{Lags}
-use Rattle.reg_text.specs.Records.{Record}
-use Rattle.reg_text.specs.Tags.{place, rule, is_once}
-use Rattle.reg_text.specs.Grammar.{Said}
-use Rattle.reg_text.specs.Sections.{Section, Item, IsSection}
-use Rattle.reg_text.specs.Drafts.{DraftValue, accounts_in, account_count, sections}
-use Rattle.reg_text.specs.Faults.{next_in, with, after_rows, AnswersFault}
+use Rattle.reg_text.specs.declared.reading.scope.Version.{Version}
+use Rattle.reg_text.specs.Tags.{place, tag_place, is_known, is_needed, is_once}
+use Rattle.reg_text.specs.Sections.{Section, IsSection}
+use Rattle.reg_text.specs.Drafts.{DraftValue, accounts_in, account_count, sections, scope_of}
+use Rattle.reg_text.specs.Faults.{next_in}
 
 -- the lags and the window of a row, each within its limit
 abbrev pub LagsSaidFit : Lags → Type 0
 LagsSaidFit lags = AreLags lags.trusted lags.other lags.list lags.reversal
 
--- where a section stands, whether its row occurs once, and the blocks that are over before the open one
+-- where a section stands: the blocks that are over stand before the open one
 abbrev pub stands_at : Option Tag → ℕ
 stands_at None = 75
-stands_at (Some t) = (rule t).place
+stands_at (Some t) = tag_place t
 
-abbrev pub comes_once : Option Tag → Bool
-comes_once None = false
-comes_once (Some t) = is_once t
+-- whether its row may stand somewhere in a version, comes at most once, and has to come
+abbrev pub may_come : Version → Option Tag → Bool
+may_come version None = true
+may_come version (Some t) = is_known version t
 
--- after a row at this place: a section of later rows has not begun, and a row that occurs once has come if its place is not later
-pub record SectionStandsAt (at : ℕ) (s : Section) : Type 0 where
+abbrev pub comes_once : Version → Option Tag → Bool
+comes_once version None = false
+comes_once version (Some t) = is_once version t
+
+abbrev pub has_to_come : Version → Option Tag → Bool
+has_to_come version None = false
+has_to_come version (Some t) = is_needed version t
+
+-- after a row at this place: a section of later rows has not begun, and a row that has to come has come if its place is not later
+pub record SectionStandsAt (version : Version) (at : ℕ) (s : Section) : Type 0 where
   pub begun : at < stands_at s.0 → s.1 ≡ []
-  pub come : stands_at s.0 ≤ at → comes_once s.0 ≡ true → (x : Item s.0) × (s.1 ≡ x ∷ [])
+  pub come : stands_at s.0 ≤ at → has_to_come version s.0 ≡ true → 1 ≤ length s.1
+  pub once : comes_once version s.0 ≡ true → length s.1 ≤ 1
+  pub known : may_come version s.0 ≡ false → s.1 ≡ []
 
 -- the surrenders and deletions of these accounts, and of the open one, are recorded under numbers below the next one
 pub record AreRecorded (accounts : List AccountValue) (rows : List RetirementRow) (next : ℕ) : Type 0 where
@@ -44,8 +53,9 @@ pub record AreRecorded (accounts : List AccountValue) (rows : List RetirementRow
 
 -- what was read is within its limits and in the order of the grammar; without an open account there are no lists
 pub record FitsSoFar (d : DraftValue) : Type 0 where
-  pub within : AllByRecursion IsSection (sections d)
-  pub stand : AllByRecursion (SectionStandsAt (place d.last)) (sections d)
+  pub within : AllByRecursion (IsSection (scope_of d)) (sections d)
+  pub stand : AllByRecursion (SectionStandsAt (scope_of d).version (place d.last)) (sections d)
+  pub known : may_come (scope_of d).version d.last ≡ true
   pub rising : IsRising (map (λ a. a.number) (accounts_in d))
   pub few : account_count d ≤ MOST_ACCOUNTS
   pub numbered : IfSome (next_in d.days) (λ next. next + length d.instructions ≤ MOST_RECORD + 1)
@@ -58,12 +68,3 @@ pub record IsDraft (d : DraftValue) : Type 0 where
   pub fits : FitsSoFar d
   pub first : d.head ≡ None → d.accounts ≡ []
   pub opened : d.head ≡ None → 80 ≤ place d.last → 90 ≤ place d.last
-
--- a row with this number and tag was taken after a row with the last tag, whatever the draft
-pub record IsTaken (number : ℕ) (t : Tag) (last : Option Tag) (left rows : List Record) (x : Said t) : Type 0 where
-  pub fits : (d : DraftValue) → IsDraft d → d.last ≡ last → IsDraft (with t d x)
-  pub goes_on : (d : DraftValue) → d.last ≡ last → after_rows number d left ≡ after_rows (number + 1) (with t d x) rows
-
--- what a call that took it answered
-abbrev pub TakesFirst : (number : ℕ) (t : Tag) (last : Option Tag) → Result (Said t) DayFault → (left rows : List Record) → Type 0
-TakesFirst number t last result left rows = MatchResult result (IsTaken number t last left rows) (λ e. (d : DraftValue) → d.last ≡ last → AnswersFault e (after_rows number d left))

@@ -17,7 +17,7 @@ use Rattle.reg_text.specs.Records.{Record, field}
 use Rattle.reg_text.specs.Tags.{tag_after}
 use Rattle.reg_text.specs.Grammar.{Said, row}
 use Rattle.reg_text.specs.Sections.{key, follows, most, is_room}
-use Rattle.reg_text.specs.Drafts.{DraftValue, items_said, account_count, block_closed, nothing_read}
+use Rattle.reg_text.specs.Drafts.{DraftValue, items_said, account_count, block_closed, nothing_read, scope_of}
 use Rattle.reg_text.specs.Day.{DayValue, is_text_over, day_said}
 
 -- ---- one row
@@ -27,6 +27,7 @@ abbrev pub with : (t : Tag) → DraftValue → Said t → DraftValue
 with tag.Format d x = record d { last = Some tag.Format; versions = d.versions ++ x ∷ [] }
 with tag.Day d x = record d { last = Some tag.Day; days = d.days ++ x ∷ [] }
 with tag.Period d x = record d { last = Some tag.Period; periods = d.periods ++ x ∷ [] }
+with tag.Current d x = record d { last = Some tag.Current; current = d.current ++ x ∷ [] }
 with tag.Lags d x = record d { last = Some tag.Lags; lags = d.lags ++ x ∷ [] }
 with tag.Surrender d x = record d { last = Some tag.Surrender; surrender = d.surrender ++ x ∷ [] }
 with tag.Admin d x = record d { last = Some tag.Admin; admins = d.admins ++ x ∷ [] }
@@ -81,11 +82,11 @@ adding t d x = placed (in_order t d x) (has_room t d x) (with t d x)
 
 -- what a row with this tag adds
 unfoldable pub with_row : Tag → DraftValue → Record → Result DraftValue Cause
-with_row t d r = (row t).read r >>= λ x. adding t d x
+with_row t d r = (row (scope_of d) t).read r >>= λ x. adding t d x
 
 -- what the rows say with one more row, or the first cause that applies to it
 abbrev pub next_draft : DraftValue → Record → Result DraftValue Cause
-next_draft d r = if is_text_over d.last then Err cause.End else (tag_after d.last (field r 0) >>= λ t. with_row t d r)
+next_draft d r = if is_text_over d.last then Err cause.End else (tag_after (scope_of d).version d.last (field r 0) >>= λ t. with_row t d r)
 
 -- what these rows, each of which is taken, make of a draft
 abbrev pub drafted : DraftValue → List Record → Result DraftValue Cause

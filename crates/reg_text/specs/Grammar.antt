@@ -1,6 +1,5 @@
 -- The rows of a day text: of each tag what its row says, and its fields.
-use Rattle.std.specs.Prelude.{◌≡◌, [], ◌∷◌, ℕ, Bool, true, false, not, nat_le, ◌+◌, Result, codes}
-use Rattle.std.specs.Str.{bytes_eq}
+use Rattle.std.specs.Prelude.{[], ◌∷◌, ℕ, Bool, true, false, not, is_ok, nat_le, ◌+◌, Result}
 use Rattle.reg_base.specs.declared.limits.TheConstants.{MOST_EMISSIONS, MOST_HELD, MOST_RETIRED, MOST_LAG, MOST_RECORD, FIRST_YEAR, LAST_YEAR}
 use Rattle.reg_base.specs.declared.kinds.AccountKind.{AccountKind}
 use Rattle.reg_base.specs.declared.kinds.AccountKind.TheVariants.{Total, Allocation, Operator, Aircraft, Trading}
@@ -17,19 +16,21 @@ use Rattle.reg_text.specs.declared.reading.tag.Tag.{Tag}
 use Rattle.reg_text.specs.declared.reading.tag.Tag.TheVariants as tag
 use Rattle.reg_text.specs.declared.reading.account_row.AccountHead.{AccountHead}
 use Rattle.reg_text.specs.declared.reading.heading_rows.Lags.{Lags}
-use Rattle.reg_text.specs.Causes.{test}
+use Rattle.reg_text.specs.declared.reading.scope.Version.{Version}
+use Rattle.reg_text.specs.declared.reading.scope.Scope.{Scope}
+use Rattle.reg_text.specs.Scopes.{version_word, version_of, widest}
 use Rattle.reg_text.specs.Records.{Record}
 use Rattle.reg_text.specs.Words.{kind_word, kind_of, account_kind_word, account_kind_of, status_word, status_of, right_word, right_of, retirement_word, retirement_of, yes_no_word, yes_no_of}
 use Rattle.reg_text.specs.Tags.{tag_word}
 use Rattle.reg_text.specs.FieldTests.{when}
 use Rattle.reg_text.specs.Acts.{instruction_row}
-use Rattle.reg_text.specs.Codecs.{Codec, Fields, within_limits, a_no, factor, a_figure, a_date, a_word, none, last, ◌▸◌, made, provided, Row, row_with}
+use Rattle.reg_text.specs.Codecs.{Codec, Fields, within_limits, a_no, a_period, factor, a_figure, a_date, a_word, none, last, ◌▸◌, made, provided, Row, row_with}
 
 -- ---- fields of one kind of row
 
 -- the version of the format
-abbrev pub version : Codec ℕ
-version = record { spell = λ n. codes "1"; read = λ f. test (bytes_eq f (codes "1")) cause.Version 1; tests = λ f. when (not (bytes_eq f (codes "1"))) cause.Version ∷ []; Fits = λ n. n ≡ 1 }
+abbrev pub a_version : Codec Version
+a_version = record { spell = version_word; read = version_of; tests = λ f. when (not (is_ok (version_of f))) cause.Version ∷ []; Fits = λ v. Unit {0} }
 
 abbrev pub a_next : Codec ℕ
 a_next = within_limits 1 (MOST_RECORD + 1)
@@ -114,9 +115,10 @@ figure_fields = made (λ p. record { year = p.0; tonnes = p.1 }) (λ f. (f.year,
 
 -- what a row with a tag says
 abbrev pub Said : Tag → Type 0
-Said tag.Format = ℕ
+Said tag.Format = Version
 Said tag.Day = ℕ × ℕ
 Said tag.Period = ℕ × ℕ
+Said tag.Current = ℕ
 Said tag.Lags = Lags
 Said tag.Surrender = AccountKind × AllowanceKind
 Said tag.Admin = ℕ
@@ -130,28 +132,29 @@ Said tag.Figure = Figure
 Said tag.Do = Instruction
 Said tag.End = Unit {0}
 
--- its fields
-abbrev pub row : (t : Tag) → Row (Said t)
-row tag.Format = row_with (last version)
-row tag.Day = row_with (a_date ▸ last a_next)
-row tag.Period = row_with period_fields
-row tag.Lags = row_with lags_fields
-row tag.Surrender = row_with pair_fields
-row tag.Admin = row_with (last a_no)
-row tag.Work = row_with (last a_date)
-row tag.Account = row_with account_fields
-row tag.User = row_with user_fields
-row tag.Trusted = row_with trusted_fields
-row tag.Retired = row_with retired_fields
-row tag.Emissions = row_with emissions_fields
-row tag.Figure = row_with figure_fields
-row tag.Do = instruction_row
-row tag.End = row_with none
+-- its fields, by what earlier rows decided
+abbrev pub row : Scope → (t : Tag) → Row (Said t)
+row scope tag.Format = row_with (last a_version)
+row scope tag.Day = row_with (a_date ▸ last a_next)
+row scope tag.Period = row_with period_fields
+row scope tag.Current = row_with (last (a_period 1 scope.periods))
+row scope tag.Lags = row_with lags_fields
+row scope tag.Surrender = row_with pair_fields
+row scope tag.Admin = row_with (last a_no)
+row scope tag.Work = row_with (last a_date)
+row scope tag.Account = row_with account_fields
+row scope tag.User = row_with user_fields
+row scope tag.Trusted = row_with trusted_fields
+row scope tag.Retired = row_with retired_fields
+row scope tag.Emissions = row_with emissions_fields
+row scope tag.Figure = row_with figure_fields
+row scope tag.Do = instruction_row
+row scope tag.End = row_with none
 
--- the row that says this
+-- the row that says this, whatever earlier rows decided
 abbrev pub row_text : (t : Tag) → Said t → Record
-row_text t x = tag_word t ∷ (row t).spell x
+row_text t x = tag_word t ∷ (row widest t).spell x
 
 -- what the fields of a row with this tag say
-abbrev pub row_read : (t : Tag) → Record → Result (Said t) Cause
-row_read t r = (row t).read r
+abbrev pub row_read : Scope → (t : Tag) → Record → Result (Said t) Cause
+row_read scope t r = (row scope t).read r

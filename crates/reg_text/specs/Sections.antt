@@ -6,7 +6,7 @@ use Rattle.reg_base.specs.declared.kinds.AccountKind.{AccountKind}
 use Rattle.reg_base.specs.declared.kinds.AccountKind.TheVariants.{Aircraft}
 use Rattle.reg_base.specs.declared.kinds.AllowanceKind.{AllowanceKind}
 use Rattle.reg_base.specs.declared.kinds.AllowanceKind.TheVariants.{General, Aviation}
-use Rattle.reg_base.specs.Rising.{IsRising}
+use Rattle.reg_text.specs.Lasts.{AreAbove}
 use Rattle.reg_account.specs.Account.{AccountValue, IsAccount}
 use Rattle.reg_account.specs.Lists.{ListsValue}
 use Rattle.reg_text.specs.declared.reading.account_row.AccountHead.{AccountHead}
@@ -14,6 +14,8 @@ use Rattle.reg_text.specs.declared.reading.tag.Tag.{Tag}
 use Rattle.reg_text.specs.declared.reading.tag.Tag.TheVariants as tag
 use Rattle.reg_text.specs.Records.{Record}
 use Rattle.reg_text.specs.Lasts.{is_above}
+use Rattle.reg_text.specs.declared.reading.scope.Scope.{Scope}
+use Rattle.reg_text.specs.Scopes.{MOST_PERIODS}
 use Rattle.reg_text.specs.Grammar.{Said, row, row_text}
 
 -- ---- an account's block
@@ -70,33 +72,43 @@ pair_place (Aircraft, Aviation) = 3
 pair_place (kind, General) = 0
 pair_place (kind, Aviation) = 1
 
+-- the numbers with which a row of a section begins and ends
+pub record Key (X : Type 0) : Type 0 where
+  pub begins : X → ℕ
+  pub ends : X → ℕ
+
+abbrev pub by : {X : Type 0} → (X → ℕ) → Option (Key X)
+by number = Some (record { begins = number; ends = number })
+
 -- by what the rows of a section rise, if they do
-abbrev pub key : (t : Tag) → Option (Said t → ℕ)
-key tag.Surrender = Some pair_place
-key tag.Admin = Some (λ n. n)
-key tag.Work = Some (λ day. day)
-key tag.Account = Some (λ h. h.number)
-key tag.User = Some (λ u. u.user)
-key tag.Trusted = Some (λ t. t.account)
-key tag.Retired = Some (λ r. r.number)
-key tag.Emissions = Some (λ e. e.year)
-key tag.Figure = Some (λ f. f.year)
+abbrev pub key : (t : Tag) → Option (Key (Said t))
+key tag.Period = Some (record { begins = λ period. period.0; ends = λ period. period.1 })
+key tag.Surrender = by pair_place
+key tag.Admin = by (λ n. n)
+key tag.Work = by (λ day. day)
+key tag.Account = by (λ h. h.number)
+key tag.User = by (λ u. u.user)
+key tag.Trusted = by (λ t. t.account)
+key tag.Retired = by (λ r. r.number)
+key tag.Emissions = by (λ e. e.year)
+key tag.Figure = by (λ f. f.year)
 key t = None
 
--- it comes after the one before it, if there is one
-abbrev pub follows : {X : Type 0} → Option (X → ℕ) → Option X → X → Bool
+-- it begins after the end of the one before it, if there is one
+abbrev pub follows : {X : Type 0} → Option (Key X) → Option X → X → Bool
 follows None before x = true
-follows (Some by) before x = is_above (option_map by before) (by x)
+follows (Some k) before x = is_above (option_map k.ends before) (k.begins x)
 
--- each comes after the one before it
-abbrev pub IsOrdered : {X : Type 0} → Option (X → ℕ) → List X → Type 0
+-- each begins after the end of the one before it
+abbrev pub IsOrdered : {X : Type 0} → Option (Key X) → List X → Type 0
 IsOrdered None xs = Unit {0}
-IsOrdered (Some by) xs = IsRising (map by xs)
+IsOrdered (Some k) xs = AreAbove (map k.ends xs) (map k.begins xs)
 
 -- ---- the length of a section
 
 -- how many rows a section may have, if that is limited; how many accounts there may be is asked of the draft (`has_room`)
 abbrev pub most : Tag → Option ℕ
+most tag.Period = Some MOST_PERIODS
 most tag.Admin = Some MOST_ADMINISTRATORS
 most tag.User = Some MOST_USERS
 most tag.Trusted = Some MOST_TRUSTED
@@ -119,14 +131,14 @@ pub record IsList (t : Tag) (xs : List (Said t)) : Type 0 where
   pub ordered : IsOrdered (key t) xs
   pub few : AreAtMost (most t) (length xs)
 
-abbrev pub Fits : (part : Option Tag) → Item part → Type 0
-Fits None a = IsAccount a
-Fits (Some t) x = (row t).Fits x
+abbrev pub Fits : Scope → (part : Option Tag) → Item part → Type 0
+Fits scope None a = IsAccount a
+Fits scope (Some t) x = (row scope t).Fits x
 
 abbrev pub Lists : (part : Option Tag) → List (Item part) → Type 0
 Lists None xs = Unit {0}
 Lists (Some t) xs = IsList t xs
 
-pub record IsSection (s : Section) : Type 0 where
-  pub fits : AllByRecursion (Fits s.0) s.1
+pub record IsSection (scope : Scope) (s : Section) : Type 0 where
+  pub fits : AllByRecursion (Fits scope s.0) s.1
   pub listed : Lists s.0 s.1

@@ -3,6 +3,7 @@
 ghost use Rattle.std.specs.Prelude.{◌≡◌};
 ghost use Rattle.csv.specs.Records.{fields_of};
 ghost use Rattle.reg_text.specs.declared.reading.tag.Tag.TheVariants as tag;
+ghost use Rattle.reg_text.specs.Scopes.{widest};
 ghost use Rattle.reg_text.specs.Grammar.{row_read};
 
 use crate::cause::Cause;
@@ -18,7 +19,7 @@ use reg_account::{Emission, Figure, Representative, RetirementRow, TrustedEntry}
 
 /// `user,USER,RIGHT`: a representative.
 pub(crate) fn read_representative_row(row: &ByteRecord) -> Result<Representative, Cause>
-    ensures { result ≡ row_read tag.User (fields_of row.now) }
+    ensures { result ≡ row_read widest tag.User (fields_of row.now) }
 {
     if !has_fields(row, 3) {
         return Err(Cause::Fields);
@@ -30,7 +31,7 @@ pub(crate) fn read_representative_row(row: &ByteRecord) -> Result<Representative
 
 /// `trusted,NO,DATE`: an entry of the trusted account list.
 pub(crate) fn read_trusted_row(row: &ByteRecord) -> Result<TrustedEntry, Cause>
-    ensures { result ≡ row_read tag.Trusted (fields_of row.now) }
+    ensures { result ≡ row_read widest tag.Trusted (fields_of row.now) }
 {
     if !has_fields(row, 3) {
         return Err(Cause::Fields);
@@ -42,7 +43,7 @@ pub(crate) fn read_trusted_row(row: &ByteRecord) -> Result<TrustedEntry, Cause>
 
 /// `retired,NUMBER,WHAT,KIND,AMOUNT,DATE,REVERSED`: a surrender or a deletion.
 pub(crate) fn read_retired_row(row: &ByteRecord) -> Result<RetirementRow, Cause>
-    ensures { result ≡ row_read tag.Retired (fields_of row.now) }
+    ensures { result ≡ row_read widest tag.Retired (fields_of row.now) }
 {
     if !has_fields(row, 7) {
         return Err(Cause::Fields);
@@ -65,7 +66,7 @@ pub(crate) fn read_retired_row(row: &ByteRecord) -> Result<RetirementRow, Cause>
 
 /// `emissions,YEAR,TONNES`: the emissions of a year.
 pub(crate) fn read_emissions_row(row: &ByteRecord) -> Result<Emission, Cause>
-    ensures { result ≡ row_read tag.Emissions (fields_of row.now) }
+    ensures { result ≡ row_read widest tag.Emissions (fields_of row.now) }
 {
     if !has_fields(row, 3) {
         return Err(Cause::Fields);
@@ -77,7 +78,7 @@ pub(crate) fn read_emissions_row(row: &ByteRecord) -> Result<Emission, Cause>
 
 /// `figure,YEAR,FIGURE`: the determined figure of a year.
 pub(crate) fn read_figure_row(row: &ByteRecord) -> Result<Figure, Cause>
-    ensures { result ≡ row_read tag.Figure (fields_of row.now) }
+    ensures { result ≡ row_read widest tag.Figure (fields_of row.now) }
 {
     if !has_fields(row, 3) {
         return Err(Cause::Fields);

@@ -1,16 +1,18 @@
-//! The four rows at the head of a text.
+//! The rows at the head of a text.
 
 ghost use Rattle.std.specs.Prelude.{◌≡◌, IfOk};
 ghost use Rattle.reg_book.specs.Book.{IsNext};
 ghost use Rattle.csv.specs.Records.{fields_of};
 ghost use Rattle.reg_text.specs.declared.reading.tag.Tag.TheVariants as tag;
+ghost use Rattle.reg_text.specs.Scopes.{widest};
 ghost use Rattle.reg_text.specs.Grammar.{row_read};
 
 use crate::cause::Cause;
 use crate::fields::dates::read_date;
-use crate::fields::limits::{read_lag, read_next, read_year};
-use crate::fields::words::is_word;
+use crate::fields::limits::{read_lag, read_next, read_period, read_year};
+use crate::fields::words::read_named;
 use crate::reading::row::{field_at, has_fields};
+use crate::reading::scope::{Scope, Version};
 use csv::ByteRecord;
 use reg_base::{Day, Year};
 
@@ -27,41 +29,19 @@ pub(crate) struct Lags {
     pub reversal: u16,
 }
 
-/// What the four rows say.
-#[derive(Clone, Copy, Debug, PartialEq, Eq)]
-pub(crate) struct Heading {
-    /// The version of the format.
-    pub version: u8,
-    /// The settlement day.
-    pub day: Day,
-    /// The next record number, 1 to 10^15 + 1.
-    pub next: u64,
-    /// The first year of the period.
-    pub first_year: Year,
-    /// The last year of the period.
-    pub last_year: Year,
-    /// The lags and the reversal window.
-    pub lags: Lags,
-    ghost next_fits: { IsNext next },
-}
-
-/// `format,1`: the version.
-pub(crate) fn read_format_row(row: &ByteRecord) -> Result<u8, Cause>
-    ensures { result ≡ row_read tag.Format (fields_of row.now) }
+/// `format,1` or `format,2`: the version.
+pub(crate) fn read_format_row(row: &ByteRecord) -> Result<Version, Cause>
+    ensures { result ≡ row_read widest tag.Format (fields_of row.now) }
 {
     if !has_fields(row, 2) {
         return Err(Cause::Fields);
     }
-    if is_word(field_at(row, 1), b"1") {
-        Ok(1)
-    } else {
-        Err(Cause::Version)
-    }
+    read_named(field_at(row, 1), Cause::Version)
 }
 
 /// `day,DATE,NEXT`: the settlement day, and the next record number.
 pub(crate) fn read_day_row(row: &ByteRecord) -> Result<(Day, u64), Cause>
-    ensures value { result ≡ row_read tag.Day (fields_of row.now) }
+    ensures value { result ≡ row_read widest tag.Day (fields_of row.now) }
     ensures next { IfOk result (λ v. IsNext v.1) }
 {
     if !has_fields(row, 3) {
@@ -74,7 +54,7 @@ pub(crate) fn read_day_row(row: &ByteRecord) -> Result<(Day, u64), Cause>
 
 /// `period,YEAR,YEAR`: the first year, and the last, which is not before it.
 pub(crate) fn read_period_row(row: &ByteRecord) -> Result<(Year, Year), Cause>
-    ensures { result ≡ row_read tag.Period (fields_of row.now) }
+    ensures { result ≡ row_read widest tag.Period (fields_of row.now) }
 {
     if !has_fields(row, 3) {
         return Err(Cause::Fields);
@@ -87,9 +67,19 @@ pub(crate) fn read_period_row(row: &ByteRecord) -> Result<(Year, Year), Cause>
     Ok((first, last))
 }
 
+/// `current,PERIOD`: the current period.
+pub(crate) fn read_current_row(scope: Scope, row: &ByteRecord) -> Result<u8, Cause>
+    ensures { result ≡ row_read scope tag.Current (fields_of row.now) }
+{
+    if !has_fields(row, 2) {
+        return Err(Cause::Fields);
+    }
+    read_period(field_at(row, 1), 1, scope.periods)
+}
+
 /// `lags,TRUSTED,OTHER,LIST,REVERSAL`, each in working days.
 pub(crate) fn read_lags_row(row: &ByteRecord) -> Result<Lags, Cause>
-    ensures { result ≡ row_read tag.Lags (fields_of row.now) }
+    ensures { result ≡ row_read widest tag.Lags (fields_of row.now) }
 {
     if !has_fields(row, 5) {
         return Err(Cause::Fields);

@@ -1,10 +1,11 @@
 //! The rows of the lists between the heading and the accounts.
 
-ghost use Rattle.std.specs.Prelude.{◌≡◌, Some};
+ghost use Rattle.std.specs.Prelude.{◌≡◌};
 ghost use Rattle.csv.specs.Records.{fields_of};
 ghost use Rattle.reg_text.specs.declared.reading.tag.Tag.TheVariants as tag;
+ghost use Rattle.reg_text.specs.Scopes.{widest};
 ghost use Rattle.reg_text.specs.Grammar.{row_read, is_surrender_kind as source};
-ghost use Rattle.reg_text.specs.Sections.{pair_place as place, follows};
+ghost use Rattle.reg_text.specs.Sections.{pair_place as place, by, follows};
 
 use crate::cause::Cause;
 use crate::fields::dates::read_date;
@@ -41,7 +42,7 @@ pub(crate) fn comes_after(
     before: Option<(AccountKind, AllowanceKind)>,
     pair: (AccountKind, AllowanceKind),
 ) -> bool
-    ensures { result ≡ follows (Some place) before pair }
+    ensures { result ≡ follows (by place) before pair }
 {
     match before {
         Some(before) => pair_place(before) < pair_place(pair),
@@ -52,7 +53,7 @@ pub(crate) fn comes_after(
 /// `surrender,ACCOUNTKIND,KIND`: allowances of this kind may be surrendered from accounts of that kind. Any pair
 /// except four is a wrong word at the account kind.
 pub(crate) fn read_surrender_row(row: &ByteRecord) -> Result<(AccountKind, AllowanceKind), Cause>
-    ensures { result ≡ row_read tag.Surrender (fields_of row.now) }
+    ensures { result ≡ row_read widest tag.Surrender (fields_of row.now) }
 {
     if !has_fields(row, 3) {
         return Err(Cause::Fields);
@@ -67,7 +68,7 @@ pub(crate) fn read_surrender_row(row: &ByteRecord) -> Result<(AccountKind, Allow
 
 /// `admin,USER`: an administrator.
 pub(crate) fn read_admin_row(row: &ByteRecord) -> Result<UserNo, Cause>
-    ensures { result ≡ row_read tag.Admin (fields_of row.now) }
+    ensures { result ≡ row_read widest tag.Admin (fields_of row.now) }
 {
     if !has_fields(row, 2) {
         return Err(Cause::Fields);
@@ -77,7 +78,7 @@ pub(crate) fn read_admin_row(row: &ByteRecord) -> Result<UserNo, Cause>
 
 /// `work,DATE`: a working day.
 pub(crate) fn read_work_row(row: &ByteRecord) -> Result<Day, Cause>
-    ensures { result ≡ row_read tag.Work (fields_of row.now) }
+    ensures { result ≡ row_read widest tag.Work (fields_of row.now) }
 {
     if !has_fields(row, 2) {
         return Err(Cause::Fields);

@@ -3,10 +3,12 @@
 ghost use Rattle.std.specs.Prelude.{◌≡◌};
 ghost use Rattle.reg_text.specs.declared.cause.Cause.TheVariants as cause;
 ghost use Rattle.reg_text.specs.Words.{named};
-ghost use Rattle.reg_text.specs.Tags.{all_tags, tag_word, rule, place, tag_after};
+ghost use Rattle.reg_text.specs.declared.reading.scope.Version.TheVariants.{One, Two};
+ghost use Rattle.reg_text.specs.Tags.{all_tags, tag_word, tag_place, rule, place, tag_after};
 
 use crate::cause::Cause;
 use crate::fields::words::{Word, is_word, read_named};
+use crate::reading::scope::Version;
 
 /// The kind of a row, which its first field names.
 #[derive(Clone, Copy, Debug, PartialEq, Eq)]
@@ -15,8 +17,10 @@ pub enum Tag {
     Format,
     /// The settlement day, and the next record number.
     Day,
-    /// The first and the last year of the period.
+    /// The first and the last year of a period.
     Period,
+    /// The current period.
+    Current,
     /// The lags and the reversal window.
     Lags,
     /// A kind of accounts and a kind of allowances that may be surrendered from them.
@@ -44,32 +48,34 @@ pub enum Tag {
 }
 
 // The table of tags, frequent ones first: of each its place among the rows of a text, the lowest and the highest place of
-// the row before it, and its word. The macro that is named first makes something of it. Places leave gaps for other tags.
-// Those of an account's block are 80 to 89, and another block may begin behind each of its rows.
+// the row before it in the first version and then in the second (101 and 0 if there is no such row), and its word. The macro
+// that is named first makes something of it. Places leave gaps for other tags. Those of an account's block are 80 to 89,
+// and another block may begin behind each of its rows.
 macro_rules! tags {
     ($make:ident $($of:tt)?) => {
         $make! { [$($of)?]
-            Account 80 40 89 b"account",
-            User 82 80 82 b"user",
-            Trusted 83 80 83 b"trusted",
-            Retired 84 80 84 b"retired",
-            Emissions 85 80 85 b"emissions",
-            Figure 86 80 86 b"figure",
-            Do 90 40 90 b"do",
-            Work 70 40 70 b"work",
-            Admin 60 40 60 b"admin",
-            Surrender 50 40 50 b"surrender",
-            Format 10 0 0 b"format",
-            Day 20 10 10 b"day",
-            Period 30 20 20 b"period",
-            Lags 40 30 30 b"lags",
-            End 100 40 90 b"end",
+            Account 80 (40 89) (40 89) b"account",
+            User 82 (80 82) (80 82) b"user",
+            Trusted 83 (80 83) (80 83) b"trusted",
+            Retired 84 (80 84) (80 84) b"retired",
+            Emissions 85 (80 85) (80 85) b"emissions",
+            Figure 86 (80 86) (80 86) b"figure",
+            Do 90 (40 90) (40 90) b"do",
+            Work 70 (40 70) (40 70) b"work",
+            Admin 60 (40 60) (40 60) b"admin",
+            Surrender 50 (40 50) (40 50) b"surrender",
+            Format 10 (0 0) (0 0) b"format",
+            Day 20 (10 10) (10 10) b"day",
+            Period 30 (20 20) (20 30) b"period",
+            Current 35 (101 0) (30 30) b"current",
+            Lags 40 (30 30) (35 35) b"lags",
+            End 100 (40 90) (40 90) b"end",
         }
     };
 }
 
 macro_rules! words {
-    ([$of:tt] $($tag:ident $place:literal $from:literal $to:literal $word:literal,)*) => {
+    ([$of:tt] $($tag:ident $place:literal ($from:literal $to:literal) ($later_from:literal $later_to:literal) $word:literal,)*) => {
         match $of {
             $(Tag::$tag => $word,)*
         }
@@ -77,15 +83,31 @@ macro_rules! words {
 }
 
 macro_rules! list {
-    ([] $($tag:ident $place:literal $from:literal $to:literal $word:literal,)*) => {
+    ([] $($tag:ident $place:literal ($from:literal $to:literal) ($later_from:literal $later_to:literal) $word:literal,)*) => {
         &[$(Tag::$tag),*]
     };
 }
 
-macro_rules! rules {
-    ([$of:tt] $($tag:ident $place:literal $from:literal $to:literal $word:literal,)*) => {
+macro_rules! places {
+    ([$of:tt] $($tag:ident $place:literal ($from:literal $to:literal) ($later_from:literal $later_to:literal) $word:literal,)*) => {
+        match $of {
+            $(Tag::$tag => $place,)*
+        }
+    };
+}
+
+macro_rules! first_rules {
+    ([$of:tt] $($tag:ident $place:literal ($from:literal $to:literal) ($later_from:literal $later_to:literal) $word:literal,)*) => {
         match $of {
             $(Tag::$tag => Rule::new($place, $from, $to),)*
+        }
+    };
+}
+
+macro_rules! second_rules {
+    ([$of:tt] $($tag:ident $place:literal ($from:literal $to:literal) ($later_from:literal $later_to:literal) $word:literal,)*) => {
+        match $of {
+            $(Tag::$tag => Rule::new($place, $later_from, $later_to),)*
         }
     };
 }
@@ -126,11 +148,32 @@ impl Rule {
 }
 
 impl Tag {
-    /// Where a row with the tag is allowed.
-    pub(crate) fn rule(self) -> Rule
-        ensures { result ≡ rule self }
+    /// Where a row with the tag is allowed in a version.
+    pub(crate) fn rule(self, version: Version) -> Rule
+        ensures { result ≡ rule version self }
     {
-        tags!(rules self)
+        match version {
+            Version::One => self.first_rule(),
+            Version::Two => self.second_rule(),
+        }
+    }
+
+    fn first_rule(self) -> Rule
+        ensures { result ≡ rule One self }
+    {
+        tags!(first_rules self)
+    }
+
+    fn second_rule(self) -> Rule
+        ensures { result ≡ rule Two self }
+    {
+        tags!(second_rules self)
+    }
+
+    fn place(self) -> u8
+        ensures { result ≡ tag_place self }
+    {
+        tags!(places self)
     }
 }
 
@@ -140,7 +183,7 @@ fn place_of(last: Option<Tag>) -> u8
 {
     match last {
         None => 0,
-        Some(tag) => tag.rule().place,
+        Some(tag) => tag.place(),
     }
 }
 
@@ -180,11 +223,11 @@ fn read_other_name(field: &[u8]) -> Result<Tag, Cause>
 
 /// The tag that a field names, if it is allowed after the last row.
 #[inline(always)]
-pub(crate) fn read_tag(last: Option<Tag>, field: &[u8]) -> Result<Tag, Cause>
-    ensures { result ≡ tag_after last field.now }
+pub(crate) fn read_tag(version: Version, last: Option<Tag>, field: &[u8]) -> Result<Tag, Cause>
+    ensures { result ≡ tag_after version last field.now }
 {
     let tag = read_name(field)?;
-    let rule = tag.rule();
+    let rule = tag.rule(version);
     let at = place_of(last);
     if rule.from <= at && at <= rule.to {
         Ok(tag)

@@ -1,14 +1,15 @@
-//! What each row after the heading adds to the draft.
+//! What each row adds to the draft.
 
-ghost use Rattle.std.specs.Prelude.{◌≡◌, ◌+◌, ◌<◌, ◌≤◌, ◌&&◌, nat_lt, nat_le, ◌∷◌, ◌++◌, [], length, map, false, if◌then◌else◌, OnOk, OnErr};
+ghost use Rattle.std.specs.Prelude.{◌≡◌, ◌+◌, ◌<◌, ◌≤◌, ◌&&◌, nat_lt, nat_le, ◌∷◌, ◌++◌, [], length, map, false, None, if◌then◌else◌, OnOk, OnErr};
 ghost use Rattle.reg_base.specs.declared.limits.TheConstants.{MOST_ACCOUNTS, MOST_RETIRED, MOST_INSTRUCTIONS, MOST_RECORD, MOST_ROWS};
 ghost use Rattle.csv.specs.Records.{fields_of};
 ghost use Rattle.reg_base.specs.Rising.{IsRising};
 ghost use Rattle.reg_account.specs.Rows.{retired_in};
 ghost use Rattle.reg_book.specs.Book.{has_row_ahead, with_account};
+ghost use Rattle.reg_text.specs.Lasts.{as_list};
 ghost use Rattle.reg_text.specs.Drafts.{draft_of, block_closed};
 ghost use Rattle.reg_text.specs.DraftLimits.{FitsSoFar, IsDraft};
-ghost use Rattle.reg_text.specs.Faults.{Takes, is_sum_left, with_row, next_draft};
+ghost use Rattle.reg_text.specs.Faults.{Takes, next_in, is_recorded, is_sum_left, is_number_left, with_row, next_draft};
 ghost use Rattle.reg_text.specs.declared.reading.tag.Tag.TheVariants as tag;
 
 use crate::cause::{Cause, RowError};
@@ -18,6 +19,9 @@ use crate::reading::block_rows::{
     read_trusted_row,
 };
 use crate::reading::draft::Draft;
+use crate::reading::heading_rows::{
+    read_current_row, read_day_row, read_format_row, read_lags_row, read_period_row,
+};
 use crate::reading::instruction_row::read_instruction_row;
 use crate::reading::list_rows::{comes_after, read_admin_row, read_surrender_row, read_work_row};
 use crate::reading::row::{field_at, has_fields};
@@ -25,10 +29,79 @@ use crate::reading::tag::{Tag, read_tag};
 use csv::ByteRecord;
 use reg_account::{Account, Lists, RetirementRow};
 use reg_base::{
-    Instruction, MOST_ACCOUNTS, MOST_ADMINISTRATORS, MOST_INSTRUCTIONS, MOST_RECORD, MOST_RETIRED,
+    Day, Instruction, MOST_ACCOUNTS, MOST_ADMINISTRATORS, MOST_INSTRUCTIONS, MOST_RECORD, MOST_RETIRED,
     MOST_ROWS, MOST_TRUSTED, MOST_USERS, NoMemory,
 };
 use reg_book::{BookDraft, BookFault};
+use std::alloc::Global;
+
+// INTERIM
+const MOST_PERIODS: u8 = 1;
+
+#[tactic(auto, unfolding(crate::specs::Faults::with_row))]
+fn take_format(draft: &mut Draft, row: &ByteRecord) -> Result<(), RowError>
+    requires { (draft_of draft.old).versions ≡ [] }
+    ensures { Takes (draft_of draft.new) result (with_row tag.Format (draft_of draft.old) (fields_of row.now)) }
+{
+    let version = read_format_row(row)?;
+    draft.version = Some(version);
+    draft.last = Some(Tag::Format);
+    Ok(())
+}
+
+#[tactic(auto, unfolding(crate::specs::Faults::with_row))]
+fn take_day(alloc: Global, draft: &mut Draft, row: &ByteRecord) -> Result<(), RowError>
+    requires none { (draft_of draft.old).days ≡ [] }
+    requires no_accounts { (draft_of draft.old).accounts ≡ [] }
+    requires unopened { draft.old.head ≡ None }
+    ensures { Takes (draft_of draft.new) result (with_row tag.Day (draft_of draft.old) (fields_of row.now)) }
+{
+    let (day, next) = read_day_row(row)?;
+    draft.book = BookDraft::new(alloc, next);
+    draft.day = Some((day, next));
+    draft.last = Some(Tag::Day);
+    Ok(())
+}
+
+#[tactic(auto, unfolding(crate::specs::Faults::with_row))]
+fn take_period(draft: &mut Draft, row: &ByteRecord) -> Result<(), RowError>
+    ensures { Takes (draft_of draft.new) result (with_row tag.Period (draft_of draft.old) (fields_of row.now)) }
+{
+    let period = read_period_row(row)?;
+    if let Some(before) = draft.periods.last().copied() {
+        if period.0 <= before.1 {
+            return Err(RowError::Fault(Cause::Order));
+        }
+    }
+    if draft.periods.len() >= usize::from(MOST_PERIODS) {
+        return Err(RowError::Fault(Cause::Limit));
+    }
+    draft.periods.push(period)?;
+    draft.last = Some(Tag::Period);
+    Ok(())
+}
+
+#[tactic(auto, unfolding(crate::specs::Faults::with_row))]
+fn take_current(draft: &mut Draft, row: &ByteRecord) -> Result<(), RowError>
+    requires { (draft_of draft.old).current ≡ [] }
+    ensures { Takes (draft_of draft.new) result (with_row tag.Current (draft_of draft.old) (fields_of row.now)) }
+{
+    let current = read_current_row(draft.scope(), row)?;
+    draft.current = Some(current);
+    draft.last = Some(Tag::Current);
+    Ok(())
+}
+
+#[tactic(auto, unfolding(crate::specs::Faults::with_row))]
+fn take_lags(draft: &mut Draft, row: &ByteRecord) -> Result<(), RowError>
+    requires { (draft_of draft.old).lags ≡ [] }
+    ensures { Takes (draft_of draft.new) result (with_row tag.Lags (draft_of draft.old) (fields_of row.now)) }
+{
+    let lags = read_lags_row(row)?;
+    draft.lags = Some(lags);
+    draft.last = Some(Tag::Lags);
+    Ok(())
+}
 
 #[tactic(auto, unfolding(crate::specs::Faults::with_row))]
 fn take_surrender(draft: &mut Draft, row: &ByteRecord) -> Result<(), RowError>
@@ -39,7 +112,7 @@ fn take_surrender(draft: &mut Draft, row: &ByteRecord) -> Result<(), RowError>
         return Err(RowError::Fault(Cause::Order));
     }
     draft.surrender.push(pair)?;
-    draft.last = Tag::Surrender;
+    draft.last = Some(Tag::Surrender);
     Ok(())
 }
 
@@ -57,7 +130,7 @@ fn take_admin(draft: &mut Draft, row: &ByteRecord) -> Result<(), RowError>
         return Err(RowError::Fault(Cause::Limit));
     }
     draft.admins.push(admin)?;
-    draft.last = Tag::Admin;
+    draft.last = Some(Tag::Admin);
     Ok(())
 }
 
@@ -72,7 +145,7 @@ fn take_work(draft: &mut Draft, row: &ByteRecord) -> Result<(), RowError>
         }
     }
     draft.work.push(day)?;
-    draft.last = Tag::Work;
+    draft.last = Some(Tag::Work);
     Ok(())
 }
 
@@ -126,7 +199,7 @@ fn take_account(draft: &mut Draft, row: &ByteRecord) -> Result<(), RowError>
     close_account(draft)?;
     draft.head = Some(head);
     draft.count += 1;
-    draft.last = Tag::Account;
+    draft.last = Some(Tag::Account);
     Ok(())
 }
 
@@ -144,7 +217,7 @@ fn take_user(draft: &mut Draft, row: &ByteRecord) -> Result<(), RowError>
         return Err(RowError::Fault(Cause::Limit));
     }
     draft.lists.push_user(representative)?;
-    draft.last = Tag::User;
+    draft.last = Some(Tag::User);
     Ok(())
 }
 
@@ -162,7 +235,7 @@ fn take_trusted(draft: &mut Draft, row: &ByteRecord) -> Result<(), RowError>
         return Err(RowError::Fault(Cause::Limit));
     }
     draft.lists.push_trusted(entry)?;
-    draft.last = Tag::Trusted;
+    draft.last = Some(Tag::Trusted);
     Ok(())
 }
 
@@ -181,12 +254,22 @@ fn is_sum_left(lists: &Lists, row: RetirementRow) -> bool
     lists.sum(row.retirement, row.kind) + u128::from(counted(row)) <= u128::from(MOST_RETIRED)
 }
 
-// Whether there is a place for one more row, its number is below the next one, and the sum is within the limit with it.
-fn has_row_room(lists: &Lists, next: u64, row: RetirementRow) -> bool
-    requires { retired_in row.retirement row.kind lists.now.rows ≤ MOST_RETIRED }
-    ensures { result ≡ (nat_lt (length lists.now.rows) MOST_ROWS && (nat_lt row.number next && is_sum_left lists.now.rows row)) }
+// Whether the number of a row is below the next one, if that is known.
+fn is_recorded(day: Option<(Day, u64)>, row: &RetirementRow) -> bool
+    ensures { result ≡ is_recorded (next_in (as_list day)) row.now }
 {
-    lists.rows().len() < MOST_ROWS && (row.number.get() < next && is_sum_left(lists, row))
+    match day {
+        Some((_, next)) => row.number.get() < next,
+        None => true,
+    }
+}
+
+// Whether there is a place for one more row, its number is below the next one, and the sum is within the limit with it.
+fn has_row_room(lists: &Lists, day: Option<(Day, u64)>, row: RetirementRow) -> bool
+    requires { retired_in row.retirement row.kind lists.now.rows ≤ MOST_RETIRED }
+    ensures { result ≡ (nat_lt (length lists.now.rows) MOST_ROWS && (is_recorded (next_in (as_list day)) row && is_sum_left lists.now.rows row)) }
+{
+    lists.rows().len() < MOST_ROWS && (is_recorded(day, &row) && is_sum_left(lists, row))
 }
 
 #[tactic(auto, unfolding(crate::specs::Faults::with_row))]
@@ -200,11 +283,11 @@ fn take_retired(draft: &mut Draft, row: &ByteRecord) -> Result<(), RowError>
             return Err(RowError::Fault(Cause::Order));
         }
     }
-    if !has_row_room(&draft.lists, draft.heading.next, retired) {
+    if !has_row_room(&draft.lists, draft.day, retired) {
         return Err(RowError::Fault(Cause::Limit));
     }
     draft.lists.push_row(retired)?;
-    draft.last = Tag::Retired;
+    draft.last = Some(Tag::Retired);
     Ok(())
 }
 
@@ -219,7 +302,7 @@ fn take_emissions(draft: &mut Draft, row: &ByteRecord) -> Result<(), RowError>
         }
     }
     draft.lists.push_emission(emission)?;
-    draft.last = Tag::Emissions;
+    draft.last = Some(Tag::Emissions);
     Ok(())
 }
 
@@ -234,15 +317,26 @@ fn take_figure(draft: &mut Draft, row: &ByteRecord) -> Result<(), RowError>
         }
     }
     draft.lists.push_figure(figure)?;
-    draft.last = Tag::Figure;
+    draft.last = Some(Tag::Figure);
     Ok(())
 }
 
-// Whether there is a place and a record number for one more instruction.
-fn has_number(next: u64, count: usize) -> bool
-    ensures { result ≡ (nat_lt count MOST_INSTRUCTIONS && nat_le (next + count) MOST_RECORD) }
+// Whether there is a record number for one more of so many instructions, if the next number is known.
+fn is_number_left(day: Option<(Day, u64)>, count: usize) -> bool
+    requires { count < MOST_INSTRUCTIONS }
+    ensures { result ≡ is_number_left (next_in (as_list day)) count }
 {
-    count < MOST_INSTRUCTIONS && next <= MOST_RECORD - count as u64
+    match day {
+        Some((_, next)) => next <= MOST_RECORD - count as u64,
+        None => true,
+    }
+}
+
+// Whether there is a place and a record number for one more instruction.
+fn has_number(day: Option<(Day, u64)>, count: usize) -> bool
+    ensures { result ≡ (nat_lt count MOST_INSTRUCTIONS && is_number_left (next_in (as_list day)) count) }
+{
+    count < MOST_INSTRUCTIONS && is_number_left(day, count)
 }
 
 #[tactic(auto, unfolding(crate::specs::Faults::with_row))]
@@ -255,7 +349,7 @@ fn take_instruction(draft: &mut Draft, row: &ByteRecord) -> Result<(), RowError>
         approver,
         act,
     } = read_instruction_row(row)?;
-    if !has_number(draft.heading.next, draft.instructions.len()) {
+    if !has_number(draft.day, draft.instructions.len()) {
         return Err(RowError::Fault(Cause::Limit));
     }
     draft.instructions.push(Instruction {
@@ -264,7 +358,7 @@ fn take_instruction(draft: &mut Draft, row: &ByteRecord) -> Result<(), RowError>
         approver,
         act,
     })?;
-    draft.last = Tag::Do;
+    draft.last = Some(Tag::Do);
     Ok(())
 }
 
@@ -275,21 +369,24 @@ fn take_end(draft: &mut Draft, row: &ByteRecord) -> Result<(), RowError>
     if !has_fields(row, 1) {
         return Err(RowError::Fault(Cause::Fields));
     }
-    draft.last = Tag::End;
+    draft.last = Some(Tag::End);
     Ok(())
 }
 
 /// Adds what a row says, or answers the first cause that applies to it.
-pub(crate) fn take_row(draft: &mut Draft, row: &ByteRecord) -> Result<(), RowError>
+pub(crate) fn take_row(alloc: Global, draft: &mut Draft, row: &ByteRecord) -> Result<(), RowError>
     requires { IsDraft (draft_of draft.old) }
     ensures { Takes (draft_of draft.new) result (next_draft (draft_of draft.old) (fields_of row.now)) }
 {
-    if draft.last == Tag::End {
+    if draft.last == Some(Tag::End) {
         return Err(RowError::Fault(Cause::End));
     }
-    match read_tag(Some(draft.last), field_at(row, 0))? {
-        // The heading has been read.
-        Tag::Format | Tag::Day | Tag::Period | Tag::Lags => unreachable!(),
+    match read_tag(draft.scope().version, draft.last, field_at(row, 0))? {
+        Tag::Format => take_format(draft, row),
+        Tag::Day => take_day(alloc, draft, row),
+        Tag::Period => take_period(draft, row),
+        Tag::Current => take_current(draft, row),
+        Tag::Lags => take_lags(draft, row),
         Tag::Surrender => take_surrender(draft, row),
         Tag::Admin => take_admin(draft, row),
         Tag::Work => take_work(draft, row),

@@ -9,6 +9,7 @@ ghost use Rattle.reg_text.specs.declared.writing.row.TheConstants.{MOST_FIELD};
 ghost use Rattle.reg_text.specs.Plain.{IsPlain, with_commas};
 ghost use Rattle.reg_text.specs.Numbers.{number};
 ghost use Rattle.reg_text.specs.Tags.{tag_word};
+ghost use Rattle.reg_text.specs.Scopes.{widest};
 ghost use Rattle.reg_text.specs.Grammar.{Said, row as codec, row_text};
 ghost use Rattle.reg_text.specs.Report.{text_of};
 
@@ -54,7 +55,7 @@ pub(crate) trait Tagged {
     /// Adds the fields behind the tag.
     fn put_fields(&self, row: &mut RowText)
         requires { row.old ≡ 10 ∷ [] }
-        ensures text { row.new ≡ with_commas ((codec tag).spell (said self.now)) row.old }
+        ensures text { row.new ≡ with_commas ((codec widest tag).spell (said self.now)) row.old }
         ensures short { length row.new ≤ length row.old + 9 * MOST_FIELD };
 }
 

@@ -1,18 +1,18 @@
-use Rattle.std.proofs.Common.{subst, Option, map, ◌++◌}
+use Rattle.std.proofs.Common.{subst, sym, Option, map, ◌++◌}
 use Rattle.std.specs.List.{AllByRecursion}
-use Rattle.reg_text.proofs.Names.{IsRising, AccountValue, AccountHead, as_list, row, account_with}
+use Rattle.reg_text.proofs.Names.{IsRising, IsSection, AccountValue, AccountHead, as_list, row, account_with, draft_of, scope_of}
 use Rattle.reg_text.specs.declared.reading.tag.Tag.TheVariants as tag
-use Rattle.reg_text.proofs.RowLaws.{FitLists, account-fits}
-use Rattle.reg_text.proofs.Retirements.{not-ahead}
+use Rattle.reg_text.proofs.RowLaws.{account-fits}
+use Rattle.reg_text.proofs.DraftSteps.{at-tag, day-known, lists-within}
+use Rattle.reg_text.proofs.Retirements.{not-ahead, opened-below}
 use Rattle.reg_text.proofs.reading.take.close_account.Goals as goal
 
 pub make_account-account-requires : goal.make_account-account-requires
 make_account-account-requires c =
-    let draft = c.args.draft.now in
-    let head = c.requires.within.1.1.1.1.1.1.1.1.0 in
-    let behind = c.requires.within.1.1.1.1.1.1.1.1.1 in
-    let lists : FitLists draft.lists = record { users = behind.0; trusted = behind.1.0; rows = behind.1.1.0; emissions = behind.1.1.1.0; figures = behind.1.1.1.1.0 } in
-    let fits = account-fits draft.lists c.in-Some.head (subst (λ (o : Option AccountHead). AllByRecursion (row tag.Account).Fits (as_list o)) c.in-Some.is head.fits).0 lists c.requires.retired in
+    let d = draft_of c.args.draft.now in
+    let scope = scope_of d in
+    let head = at-tag (IsSection scope) d tag.Account c.requires.within in
+    let fits = account-fits scope d.lists c.in-Some.head (subst (λ (o : Option AccountHead). AllByRecursion (row scope tag.Account).Fits (as_list o)) c.in-Some.is head.fits).0 (lists-within d c.requires.within) c.requires.retired in
     rw c.take.ensures.taken fits
 
 pub insert_account-requires-clause-rising : goal.insert_account-requires-clause-rising
@@ -23,4 +23,5 @@ insert_account-requires-clause-rising c =
 pub insert_account-requires-clause-behind : goal.insert_account-requires-clause-behind
 insert_account-requires-clause-behind c =
     let draft = c.args.draft.now in
-    rw (c.make_account-account.ensures, c.take.ensures.taken) (not-ahead draft.book.next draft.lists.rows (rw draft.next_is c.requires.recorded.opened))
+    let some = day-known (draft_of draft) c.in-Some.head c.requires c.in-Some.is in
+    rw (c.make_account-account.ensures, c.take.ensures.taken) (not-ahead draft.book.next draft.lists.rows (opened-below draft.day draft.book.next draft.book.accounts draft.lists.rows some draft.next_is c.requires.recorded))
