@@ -1,13 +1,13 @@
 -- The row that a fault names is the first with which no day text begins, and its cause is the first of the table's.
 use Rattle.std.proofs.Common.{◌≡◌, ◌⊎◌, inl, inr, ℕ, suc, ◌+◌, ◌-◌, ◌<◌, ◌≤◌, Bool, false, not, true, List, [], ◌∷◌, ◌++◌, length, take, get_or, Option, Some, None, Result, Ok, Err, refl, sym, ap, subst, ◌∙◌, arith, append_assoc}
 use Rattle.std.proofs.lemmas.List.{append-nil}
-use Rattle.reg_text.proofs.Names.{MOST_LAG, FIRST_DAY, FIRST_YEAR, Cause, Tag, Record, Said, row, DraftValue, nothing_read, DayValue, is_text_over, day_said, IsDraft, IsReading, Begins, IsFirstFaulty, fault_of, with, in_order, has_room, next_draft, drafted, at_row, at_end, after_rows, day_of_rows, IsCauseOf}
+use Rattle.reg_text.proofs.Names.{MOST_LAG, FIRST_DAY, FIRST_YEAR, Cause, Tag, Version, One, Two, SectionStandsAt, place, scope_of, Record, Said, row, DraftValue, nothing_read, DayValue, is_text_over, day_said, IsDraft, IsReading, Begins, IsFirstFaulty, fault_of, with, in_order, has_room, next_draft, drafted, at_row, at_end, after_rows, day_of_rows, IsCauseOf}
 use Rattle.reg_text.specs.declared.cause.Cause.TheVariants as cause
 use Rattle.reg_text.specs.declared.reading.tag.Tag.TheVariants as tag
 use Rattle.reg_text.specs.Grammar.{row_text}
 use Rattle.reg_text.proofs.TagLaws.{MayFollow}
 use Rattle.reg_text.proofs.GrammarLaws.{ranged}
-use Rattle.reg_text.proofs.DraftSteps.{rows_so_far, grows, grows-with, nothing-fits}
+use Rattle.reg_text.proofs.DraftSteps.{rows_so_far, at-tag, grows, grows-with, nothing-fits}
 use Rattle.reg_text.proofs.Readings.{closes, reading-to}
 use Rattle.std.specs.Prelude.{is_ok}
 use Rattle.reg_text.proofs.CauseLaws.{next, refused, once, only-named, only-bind, only-test}
@@ -23,22 +23,26 @@ placed-fault false room x = refl
 
 row-fault : (t : Tag) (d : DraftValue) (r : Record) → fault_of (with_row t d r) ≡ first_cause (tagged_tests (Ok t) d r)
 unfolding with_row
-row-fault t d r = next ((row t).read r) _ ((row t).tests r) (said_tests t d ((row t).read r)) ((each-row t).fault r) (λ x e.
+row-fault t d r =
+    let c = row (scope_of d) t in
+    next (c.read r) _ (c.tests r) (said_tests t d (c.read r)) ((each-row (scope_of d) t).fault r) (λ x e.
     placed-fault (in_order t d x) (has_room t d x) (with t d x) ∙ ap (λ (y : Result (Said t) Cause). first_cause (said_tests t d y)) (sym e))
 
-tag-once : (last : Option Tag) (f : List ℕ) → fault_of (tag_after last f) ≡ first_cause (when (not (is_ok (tag_after last f))) cause.Tag ∷ [])
-tag-once last f = once cause.Tag (tag_after last f) (only-bind cause.Tag (named cause.Tag tag_word all_tags f) _ (only-named cause.Tag tag_word all_tags f) (λ t. only-test (may_follow last t) cause.Tag t))
+tag-once : (version : Version) (last : Option Tag) (f : List ℕ) → fault_of (tag_after version last f) ≡ first_cause (when (not (is_ok (tag_after version last f))) cause.Tag ∷ [])
+tag-once version last f = once cause.Tag (tag_after version last f) (only-bind cause.Tag (named cause.Tag tag_word all_tags f) _ (only-named cause.Tag tag_word all_tags f) (λ t. only-test (may_follow version last t) cause.Tag t))
 
 -- the first cause of the table that applies to a row
 pub first-fault : (d : DraftValue) (r : Record) → fault_of (next_draft d r) ≡ first_cause (tests_of d r)
-first-fault d r = refused (is_text_over d.last) cause.End _ _ (λ h.
-    next (tag_after d.last (field r 0)) (λ t. with_row t d r) (when (not (is_ok (tag_after d.last (field r 0)))) cause.Tag ∷ []) (tagged_tests (tag_after d.last (field r 0)) d r) (tag-once d.last (field r 0)) (λ t e.
+first-fault d r =
+    let read = tag_after (scope_of d).version d.last (field r 0) in
+    refused (is_text_over d.last) cause.End _ _ (λ h.
+    next read (λ t. with_row t d r) (when (not (is_ok read)) cause.Tag ∷ []) (tagged_tests read d r) (tag-once (scope_of d).version d.last (field r 0)) (λ t e.
     row-fault t d r ∙ ap (λ (x : Result Tag Cause). first_cause (tagged_tests x d r)) (sym e)))
 
 -- ---- the rows of a draft begin a day text
 
 -- one row more
-with-one : (t : Tag) (d : DraftValue) (x : Said t) → IsDraft d → MayFollow d.last t → (row t).Fits x → in_order t d x ≡ true → has_room t d x ≡ true
+with-one : (t : Tag) (d : DraftValue) (x : Said t) → IsDraft d → MayFollow (scope_of d).version d.last t → (row (scope_of d) t).Fits x → in_order t d x ≡ true → has_room t d x ≡ true
     → (IsDraft (with t d x) → Begins (rows_so_far (with t d x))) → Begins (rows_so_far d)
 with-one t d x h may fits order room more =
     let g = grows-with t d x h may fits order room in
@@ -49,27 +53,45 @@ with-one t d x h may fits order room more =
 over-begins : (d : DraftValue) → IsDraft d → is_text_over d.last ≡ true → Begins (rows_so_far d)
 over-begins d h over = let c = closes d h.fits over in ([], c.day, subst (λ (text : List Record). IsReading text c.day) (sym (append-nil (rows_so_far d))) c.reading)
 
-from-lags : (d : DraftValue) → IsDraft d → MayFollow d.last tag.End → Begins (rows_so_far d)
+from-lags : (d : DraftValue) → IsDraft d → MayFollow (scope_of d).version d.last tag.End → Begins (rows_so_far d)
 from-lags d h may = with-one tag.End d tt h may tt refl refl (λ k. over-begins (with tag.End d tt) k refl)
 
-from-period : (d : DraftValue) → IsDraft d → MayFollow d.last tag.Lags → Begins (rows_so_far d)
-from-period d h may =
+before-lags : (d : DraftValue) → IsDraft d → MayFollow (scope_of d).version d.last tag.Lags → Begins (rows_so_far d)
+before-lags d h may =
     with-one tag.Lags d (record { trusted = 0; other = 0; list = 0; reversal = 0 }) h may (ranged 0 MOST_LAG 0 refl, (ranged 0 MOST_LAG 0 refl, (ranged 0 MOST_LAG 0 refl, ranged 0 MOST_LAG 0 refl))) refl refl (λ k. from-lags _ k refl)
 
-from-day : (d : DraftValue) → IsDraft d → MayFollow d.last tag.Period → Begins (rows_so_far d)
-from-day d h may = with-one tag.Period d (FIRST_YEAR, FIRST_YEAR) h may ((ranged _ _ FIRST_YEAR refl, ranged _ _ FIRST_YEAR refl), refl) refl refl (λ k. from-period _ k refl)
+from-current : (version : Version) (d : DraftValue) → (scope_of d).version ≡ version → d.last ≡ Some tag.Current → IsDraft d → Begins (rows_so_far d)
+from-current One d is at h = let known = rw (is, at) at h.fits.known in absurd cc
+from-current Two d is at h = before-lags d h (rw (is, at) refl)
 
-from-format : (d : DraftValue) → IsDraft d → MayFollow d.last tag.Day → Begins (rows_so_far d)
+from-period : (version : Version) (d : DraftValue) → (scope_of d).version ≡ version → d.last ≡ Some tag.Period → IsDraft d → Begins (rows_so_far d)
+from-period One d is at h = before-lags d h (rw (is, at) refl)
+from-period Two d is at h =
+    let here : place d.last ≡ 30 = ap place at in
+    let some = (at-tag (SectionStandsAt (scope_of d).version (place d.last)) d tag.Period h.fits.stand).come (omega (arith, here)) refl in
+    with-one tag.Current d 1 h (rw (is, at) refl) (record { low = omega arith; high = some }, omega arith) refl refl (λ k. from-current Two (with tag.Current d 1) is refl k)
+
+from-day : (d : DraftValue) → IsDraft d → d.last ≡ Some tag.Day → Begins (rows_so_far d)
+from-day d h at =
+    let here : place d.last ≡ 20 = ap place at in
+    let none = (at-tag (SectionStandsAt (scope_of d).version (place d.last)) d tag.Period h.fits.stand).begun (omega (arith, here)) in
+    with-one tag.Period d (FIRST_YEAR, FIRST_YEAR) h (may-come (scope_of d).version d.last at) ((ranged _ _ FIRST_YEAR refl, ranged _ _ FIRST_YEAR refl), refl) (rw none refl) (rw none refl) (λ k. from-period (scope_of d).version _ refl refl k) where
+  may-come : (version : Version) (last : Option Tag) → last ≡ Some tag.Day → MayFollow version last tag.Period
+  may-come One last e = rw e refl
+  may-come Two last e = rw e refl
+
+from-format : (d : DraftValue) → IsDraft d → MayFollow (scope_of d).version d.last tag.Day → Begins (rows_so_far d)
 from-format d h may = with-one tag.Day d (FIRST_DAY, 1) h may (ranged _ _ FIRST_DAY refl, ranged _ _ 1 refl) refl refl (λ k. from-day _ k refl)
 
-from-nothing : (d : DraftValue) → IsDraft d → MayFollow d.last tag.Format → Begins (rows_so_far d)
-from-nothing d h may = with-one tag.Format d 1 h may refl refl refl (λ k. from-format _ k refl)
+from-nothing : (d : DraftValue) → IsDraft d → MayFollow (scope_of d).version d.last tag.Format → Begins (rows_so_far d)
+from-nothing d h may = with-one tag.Format d One h may tt refl refl (λ k. from-format _ k refl)
 
 begins-by : (last : Option Tag) (d : DraftValue) → d.last ≡ last → IsDraft d → Begins (rows_so_far d)
 begins-by None d e h = from-nothing d h (rw e refl)
 begins-by (Some tag.Format) d e h = from-format d h (rw e refl)
-begins-by (Some tag.Day) d e h = from-day d h (rw e refl)
-begins-by (Some tag.Period) d e h = from-period d h (rw e refl)
+begins-by (Some tag.Day) d e h = from-day d h e
+begins-by (Some tag.Period) d e h = from-period (scope_of d).version d refl e h
+begins-by (Some tag.Current) d e h = from-current (scope_of d).version d refl e h
 begins-by (Some tag.End) d e h = over-begins d h (rw e refl)
 begins-by last d e h = from-lags d h (rw e refl)
 

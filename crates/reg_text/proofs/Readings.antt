@@ -1,17 +1,18 @@
 -- The laws of reading: the rows read as a day exactly where they are its spelling.
-use Rattle.std.proofs.Common.{◌≡◌, ℕ, ◌+◌, Bool, true, false, cond, List, [], ◌∷◌, ◌++◌, Option, Some, None, Result, Ok, Err, refl, sym, ap, subst, ◌∙◌, arith, append_assoc}
+use Rattle.std.proofs.Common.{◌≡◌, ℕ, ◌+◌, ◌^◌, ◌<◌, ◌≤◌, length, Bool, true, false, cond, List, [], ◌∷◌, ◌++◌, Option, Some, None, Result, Ok, Err, refl, sym, ap, subst, ◌∙◌, arith, append_assoc}
 use Rattle.std.proofs.lemmas.Bool.{leb-true}
 use Rattle.std.proofs.lemmas.List.{append-nil}
 use mathlib.Core.List.{map-id}
 use Rattle.std.specs.Prelude.{All}
 use Rattle.std.proofs.lemmas.List.Elements.{All-from_recursion}
 use Rattle.std.specs.List.{AllByRecursion}
-use Rattle.reg_text.proofs.Names.{IsRising, Instruction, IsShared, Cause, Tag, Record, place, Said, row, DraftValue, accounts_in, block_closed, nothing_read, DayValue, day_with, is_text_over, day_said, day_text, IsUserNo, IsDayNo, IsInstruction, AccountValue, IsAccount, IsBehind, IsPair, CanBeSaid, IsReading, FitsSoFar, IsDraft, next_draft, at_row, at_end, after_rows}
+use Rattle.reg_text.proofs.Names.{IsRising, IsWithin, IsSection, SectionStandsAt, Instruction, IsShared, Cause, Tag, Version, One, Two, Record, place, is_known, Said, row, widest, items_said, scope_of, version_in, current_said, current_rows, current_in, periods_in, IsVersionOf, DraftValue, accounts_in, block_closed, nothing_read, DayValue, day_with, is_text_over, day_said, day_text, IsUserNo, IsDayNo, IsInstruction, AccountValue, IsAccount, IsBehind, IsPair, CanBeSaid, IsReading, FitsSoFar, IsDraft, next_draft, at_row, at_end, after_rows}
 use Rattle.reg_text.proofs.Names.{day_of_rows}
+use Rattle.reg_text.specs.Day.{day_headed, first_period}
 use Rattle.reg_text.specs.declared.reading.tag.Tag.TheVariants as tag
 use Rattle.reg_text.proofs.ListFacts.{all-weaker}
 use Rattle.reg_text.proofs.RowLaws.{lags-fit, instruction-fits, instruction-shared}
-use Rattle.reg_text.proofs.DraftSteps.{rows_so_far, closed-rows, closed-fits, grows, nothing-fits}
+use Rattle.reg_text.proofs.DraftSteps.{rows_so_far, at-tag, at-blocks, closed-rows, closed-fits, grows, nothing-fits}
 use Rattle.reg_text.proofs.Taken.{text-taken}
 
 -- ---- what a closed draft says
@@ -20,42 +21,97 @@ over-last : (last : Option Tag) → is_text_over last ≡ true → last ≡ Some
 over-last (Some tag.End) e = refl
 over-last last e = absurd cc
 
--- the rows of the heading of a closed draft, each of which has come once
+-- a list of one
+the-one : {X : Type 0} (xs : List X) → 1 ≤ length xs → length xs ≤ 1 → (x : X) × (xs ≡ x ∷ [])
+the-one [] some few = absurd (omega arith)
+the-one (x ∷ []) some few = (x, refl)
+the-one (x ∷ y ∷ xs) some few = absurd (omega arith)
+
+-- the row of the current period has come if the version has one
+current-came : (version : Version) (current : List ℕ) → (is_known version tag.Current ≡ true → (n : ℕ) × (current ≡ n ∷ [])) → (is_known version tag.Current ≡ false → current ≡ []) → (n : ℕ) × (current_said version current ≡ Some n) × (current ≡ current_rows version n)
+current-came One current come none = (1, refl, none refl)
+current-came Two current come none = let one = come refl in (one.0, rw one.1 refl, one.1)
+
+-- the rows of the heading of a closed draft, each of which has come once, and those of the periods
 record IsHeaded (d : DraftValue) : Type 0 where
-  version : ℕ
+  version : Version
   day : ℕ × ℕ
-  period : ℕ × ℕ
+  current : ℕ
   lags : Said tag.Lags
   one_version : d.versions ≡ version ∷ []
   one_day : d.days ≡ day ∷ []
-  one_period : d.periods ≡ period ∷ []
   one_lags : d.lags ≡ lags ∷ []
+  some_periods : 1 ≤ length d.periods
+  one_period : version ≡ One → length d.periods ≡ 1
+  said : current_said version d.current ≡ Some current
+  current_is : d.current ≡ current_rows version current
 
 headed : (d : DraftValue) → FitsSoFar d → is_text_over d.last ≡ true → IsHeaded d
 headed d h over =
     let at : place d.last ≡ 100 = ap place (over-last d.last over) in
-    let f = h.stand.0.come (omega (arith, at)) refl in
-    let a = h.stand.1.0.come (omega (arith, at)) refl in
-    let p = h.stand.1.1.0.come (omega (arith, at)) refl in
-    let l = h.stand.1.1.1.0.come (omega (arith, at)) refl in
-    record { version = f.0; day = a.0; period = p.0; lags = l.0; one_version = f.1; one_day = a.1; one_period = p.1; one_lags = l.1 }
+    let of : (t : Tag) → SectionStandsAt (scope_of d).version (place d.last) (Some t, items_said t d) = λ t. at-tag (SectionStandsAt (scope_of d).version (place d.last)) d t h.stand in
+    let f = the-one d.versions ((of tag.Format).come (omega (arith, at)) refl) ((of tag.Format).once refl) in
+    let a = the-one d.days ((of tag.Day).come (omega (arith, at)) refl) ((of tag.Day).once refl) in
+    let p = (of tag.Period).come (omega (arith, at)) refl in
+    let l = the-one d.lags ((of tag.Lags).come (omega (arith, at)) refl) (once-lags (scope_of d).version d (of tag.Lags)) in
+    let same : (scope_of d).version ≡ f.0 = ap version_in f.1 in
+    let c = current-came (scope_of d).version d.current (λ known. the-one d.current ((of tag.Current).come (omega (arith, at)) known) (once-current (scope_of d).version d known (of tag.Current))) (of tag.Current).known in
+    record {
+      version = f.0;
+      day = a.0;
+      current = c.0;
+      lags = l.0;
+      one_version = f.1;
+      one_day = a.1;
+      one_lags = l.1;
+      some_periods = p;
+      one_period = λ one. omega (arith, p, once-period (scope_of d).version d (same ∙ one) (of tag.Period));
+      said = rw (sym same) c.1;
+      current_is = rw (sym same) c.2;
+    } where
+  once-lags : (version : Version) (d : DraftValue) → SectionStandsAt version (place d.last) (Some tag.Lags, d.lags) → length d.lags ≤ 1
+  once-lags One d s = s.once refl
+  once-lags Two d s = s.once refl
+  once-current : (version : Version) (d : DraftValue) → is_known version tag.Current ≡ true → SectionStandsAt version (place d.last) (Some tag.Current, d.current) → length d.current ≤ 1
+  once-current One d known s = absurd cc
+  once-current Two d known s = s.once refl
+  once-period : (version : Version) (d : DraftValue) → version ≡ One → SectionStandsAt version (place d.last) (Some tag.Period, d.periods) → length d.periods ≤ 1
+  once-period One d is s = s.once refl
+  once-period Two d is s = absurd cc
 
 -- what is said of each value of a section is said of each in a day
 each-one : {X : Type 0} (P Q : X → Type 0) → ((x : X) → P x → Q x) → (xs : List X) → AllByRecursion P xs → All Q xs
 each-one P Q follow xs h = All-from_recursion Q xs (all-weaker P Q follow xs h)
 
+-- INTERIM
+first-fits : (periods : List (ℕ × ℕ)) → 1 ≤ length periods → AllByRecursion (row widest tag.Period).Fits periods → (row widest tag.Period).Fits (first_period periods)
+first-fits [] some h = absurd (omega arith)
+first-fits (p ∷ ps) some h = h.0
+
+first-only : (periods : List (ℕ × ℕ)) → 1 ≤ length periods → length periods ≤ 1 → periods ≡ (first_period periods) ∷ []
+first-only [] some few = absurd (omega arith)
+first-only (p ∷ []) some few = refl
+first-only (p ∷ q ∷ ps) some few = absurd (omega arith)
+
+current-one : (version : Version) (current : List ℕ) (n count : ℕ) → count ≤ 1 → AllByRecursion (λ (m : ℕ). IsWithin 1 count m × (m < 2 ^ 64)) current → current_said version current ≡ Some n → n ≡ 1
+current-one One current n count few h e = cc
+current-one Two [] n count few h e = absurd cc
+current-one Two (m ∷ []) n count few h e = let same : m ≡ n = cc in omega (arith, h.0.0.low, h.0.0.high, same)
+current-one Two (m ∷ k ∷ ms) n count few h e = absurd cc
+
 -- it says a day within the limits
-says-a-day : (d : DraftValue) (h : FitsSoFar d) (k : IsHeaded d) → CanBeSaid (day_with k.day k.period k.lags (accounts_in d) d)
+says-a-day : (d : DraftValue) (h : FitsSoFar d) (k : IsHeaded d) → CanBeSaid (day_with k.day d.periods k.current k.lags (accounts_in d) d)
 says-a-day d h k =
-    let day = (rw k.one_day at h.within.1.0.fits).0 in
-    let period = (rw k.one_period at h.within.1.1.0.fits).0 in
-    let lags = lags-fit k.lags ((rw k.one_lags at h.within.1.1.1.0.fits).0) in
-    let surrender = h.within.1.1.1.1.0 in
-    let admins = h.within.1.1.1.1.1.0 in
-    let work = h.within.1.1.1.1.1.1.0 in
+    let scope = scope_of d in
+    let of : (t : Tag) → IsSection scope (Some t, items_said t d) = λ t. at-tag (IsSection scope) d t h.within in
+    let day = (rw k.one_day at (of tag.Day).fits).0 in
+    let period = first-fits d.periods k.some_periods (of tag.Period).fits in
+    let lags = lags-fit k.lags ((rw k.one_lags at (of tag.Lags).fits).0) in
+    let admins = of tag.Admin in
+    let work = of tag.Work in
+    let due = of tag.Do in
     let over = closed-fits d h in
-    let due = h.within.1.1.1.1.1.1.1.1.1.1.1.1.1.1.0 in
-    let blocks = over.within.1.1.1.1.1.1.1.0.fits in
+    let blocks = (at-blocks (IsSection scope) (block_closed d) over.within).fits in
     let numbered = rw k.one_day at h.numbered in
     let from = day.1.low in
     let recorded = rw k.one_day at over.recorded in
@@ -71,15 +127,15 @@ says-a-day d h k =
         };
         batch = record {
           settlement_day = day.0;
-          each = each-one (row tag.Do).Fits IsInstruction instruction-fits d.instructions due.fits;
+          each = each-one (row scope tag.Do).Fits IsInstruction instruction-fits d.instructions due.fits;
           few = due.listed.few;
           numbered = omega (arith, numbered, from);
         };
         follows = omega arith;
       };
-      shares = each-one (row tag.Do).Fits (λ (i : Instruction). IsShared i.act) instruction-shared d.instructions due.fits;
-      pairs = each-one (row tag.Surrender).Fits IsPair (λ p f. f.1) d.surrender surrender.fits;
-      pairs_rise = surrender.listed.ordered;
+      shares = each-one (row scope tag.Do).Fits (λ (i : Instruction). IsShared i.act) instruction-shared d.instructions due.fits;
+      pairs = each-one (row scope tag.Surrender).Fits IsPair (λ p f. f.1) d.surrender (of tag.Surrender).fits;
+      pairs_rise = (of tag.Surrender).listed.ordered;
     }
 
 -- a closed draft says a day, and stands for the day's rows
@@ -89,27 +145,56 @@ pub record Closes (d : DraftValue) : Type 0 where
   pub reading : IsReading (rows_so_far d) day
 
 -- what a draft says whose heading is this, and what it stands for
-said-by : (d : DraftValue) (version : ℕ) (day period : ℕ × ℕ) (lags : Said tag.Lags) → d.last ≡ Some tag.End → d.versions ≡ version ∷ [] → d.days ≡ day ∷ [] → d.periods ≡ period ∷ [] → d.lags ≡ lags ∷ []
-    → (day_said d ≡ Some (day_with day period lags (accounts_in d) d)) × (rows_so_far (block_closed d) ≡ day_text version (day_with day period lags (accounts_in d) d))
-said-by d version day period lags over v a p l = (rw (over, v, a, p, l) refl, rw (over, v, a, p, l) refl)
+said-by : (d : DraftValue) (k : IsHeaded d) → d.last ≡ Some tag.End → day_said d ≡ Some (day_with k.day d.periods k.current k.lags (accounts_in d) d)
+said-by d k over = rw (over, k.one_day, k.one_lags) (said-in k.version d.versions k.one_version k.said) where
+  said-in : (version : Version) (versions : List Version) → versions ≡ version ∷ [] → current_said version d.current ≡ Some k.current
+      → day_headed versions (k.day ∷ []) (current_said (version_in versions) d.current) (k.lags ∷ []) (accounts_in d) d ≡ Some (day_with k.day d.periods k.current k.lags (accounts_in d) d)
+  said-in version versions one said = rw (one, said) refl
+
+stands-by : (d : DraftValue) (k : IsHeaded d) → d.last ≡ Some tag.End → d.periods ≡ periods_in (day_with k.day d.periods k.current k.lags (accounts_in d) d).rules → k.current ≡ current_in (day_with k.day d.periods k.current k.lags (accounts_in d) d).rules
+    → rows_so_far (block_closed d) ≡ day_text k.version (day_with k.day d.periods k.current k.lags (accounts_in d) d)
+stands-by d k over p c = rw (over, k.one_version, k.one_day, k.current_is, k.one_lags) (rw (← p) (rw (← c) refl))
+
+-- the heading of the draft with all blocks over
+closed-headed : (d : DraftValue) → IsHeaded d → IsHeaded (block_closed d)
+closed-headed d k = record {
+  version = k.version;
+  day = k.day;
+  current = k.current;
+  lags = k.lags;
+  one_version = k.one_version;
+  one_day = k.one_day;
+  one_lags = k.one_lags;
+  some_periods = k.some_periods;
+  one_period = k.one_period;
+  said = k.said;
+  current_is = k.current_is;
+}
 
 -- the draft with all blocks over says the same
 pub closed-says : (d : DraftValue) → FitsSoFar d → is_text_over d.last ≡ true → day_said (block_closed d) ≡ day_said d
 closed-says d h over =
     let k = headed d h over in
     let last = over-last d.last over in
-    let all = ap (λ (l : List AccountValue). Some (day_with k.day k.period k.lags l d)) (append-nil (accounts_in d)) in
-    (said-by (block_closed d) k.version k.day k.period k.lags last k.one_version k.one_day k.one_period k.one_lags).0 ∙ all
-    ∙ sym (said-by d k.version k.day k.period k.lags last k.one_version k.one_day k.one_period k.one_lags).0
+    let all = ap (λ (l : List AccountValue). Some (day_with k.day d.periods k.current k.lags l d)) (append-nil (accounts_in d)) in
+    said-by (block_closed d) (closed-headed d k) last ∙ all ∙ sym (said-by d k last)
+
+version-of : (version : Version) (v : DayValue) → (version ≡ One → length (periods_in v.rules) ≡ 1) → IsVersionOf v version
+version-of One v one = one refl
+version-of Two v one = tt
 
 pub closes : (d : DraftValue) → FitsSoFar d → is_text_over d.last ≡ true → Closes d
 closes d h over =
     let k = headed d h over in
-    let said = said-by d k.version k.day k.period k.lags (over-last d.last over) k.one_version k.one_day k.one_period k.one_lags in
+    let last = over-last d.last over in
+    let v = day_with k.day d.periods k.current k.lags (accounts_in d) d in
+    let periods = at-tag (IsSection (scope_of d)) d tag.Period h.within in
+    let only = first-only d.periods k.some_periods periods.listed.few in
+    let one = current-one k.version d.current k.current (length d.periods) periods.listed.few (at-tag (IsSection (scope_of d)) d tag.Current h.within).fits k.said in
     record {
-      day = day_with k.day k.period k.lags (accounts_in d) d;
-      said = said.0;
-      reading = record { version = k.version; is_known = (rw k.one_version at h.within.0.fits).0; spelled = sym (closed-rows d h) ∙ said.1; fits = says-a-day d h k };
+      day = v;
+      said = said-by d k last;
+      reading = record { version = k.version; is_known = version-of k.version v (λ e. refl); spelled = sym (closed-rows d h) ∙ stands-by d k last only one; fits = says-a-day d h k };
     }
 
 -- ---- from rows to the day

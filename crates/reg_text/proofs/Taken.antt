@@ -1,16 +1,16 @@
 -- What is spelled is taken: the rows of a day text read as its day.
-use Rattle.std.proofs.Common.{◌≡◌, ℕ, ◌+◌, ◌-◌, ◌<◌, ◌≤◌, true, List, [], ◌∷◌, ◌++◌, map, length, Option, Some, None, Ok, refl, sym, ap, subst, ◌∙◌, arith, length-append, append_assoc}
+use Rattle.std.proofs.Common.{◌≡◌, ℕ, ◌+◌, ◌-◌, ◌^◌, ◌<◌, ◌≤◌, true, List, [], ◌∷◌, ◌++◌, map, length, Option, Some, None, Ok, refl, sym, ap, subst, ◌∙◌, arith, length-append, append_assoc}
 use mathlib.Core.List.{map-id}
 use Rattle.std.specs.List.{AllByRecursion, flat_map}
 use Rattle.std.proofs.lemmas.List.Elements.{recursion_from_All}
 use Rattle.std.proofs.lemmas.Bool.{le-leb, lt-ltb}
 use Rattle.std.proofs.lemmas.List.{append-nil, map-append}
-use Rattle.reg_text.proofs.Names.{MOST_ACCOUNTS, Instruction, IsShared, MOST_RECORD, IsUserNo, IsDayNo, IsInstruction, IsRising, AccountValue, IsAccount, IsBehind, AreBelow, RetiredFits, RetirementRow, ListsValue, row_numbers, no_lists, AccountHead, Tag, Record, tag_word, last_item, as_list, Said, row, account_head, lists_of, account_with, account_block, each_row, section_rows, all_rows, key, follows, most, IsSection, DraftValue, items_said, accounts_in, account_count, nothing_read, DayValue}
-use Rattle.reg_text.proofs.Names.{lags_in, day_text, IsPair, CanBeSaid, with, in_order, has_room, with_row, next_in, next_draft, after_rows}
+use Rattle.reg_text.proofs.Names.{MOST_ACCOUNTS, Instruction, IsShared, MOST_RECORD, IsUserNo, IsDayNo, IsInstruction, IsRising, AccountValue, IsAccount, IsBehind, AreBelow, RetiredFits, RetirementRow, ListsValue, row_numbers, no_lists, AccountHead, IsWithin, Version, One, Two, Scope, widest, Tag, Record, tag_word, last_item, as_list, Said, row, account_head, lists_of, account_with, account_block, each_row, section_rows, all_rows, key, follows, IsOrdered, most, IsSection, DraftValue, items_said, accounts_in, account_count, nothing_read, scope_of, DayValue}
+use Rattle.reg_text.proofs.Names.{lags_in, current_rows, current_in, periods_in, day_text, current_said, IsPair, CanBeSaid, IsVersionOf, with, in_order, has_room, with_row, next_in, next_draft, after_rows}
 use Rattle.reg_text.specs.declared.reading.tag.Tag.TheVariants as tag
 use Rattle.reg_text.specs.Grammar.{row_text}
 use Rattle.reg_text.proofs.ListFacts.{all-both, all-weaker, all-rest}
-use Rattle.reg_text.proofs.GrammarLaws.{each-row}
+use Rattle.reg_text.proofs.GrammarLaws.{each-row, same-spelling}
 use Rattle.reg_text.proofs.RowLaws.{fit-lags, fit-account, fit-lists, fit-instruction}
 use Rattle.reg_text.proofs.Retirements.{below-at, sum-left}
 use Rattle.reg_text.proofs.RisingFacts.{rising-above, last_of-append}
@@ -25,39 +25,61 @@ Reach d rows v = (number : ℕ) → after_rows number d rows ≡ Ok v
 reach-row : (d e : DraftValue) (r : Record) (rows : List Record) (v : DayValue) → next_draft d r ≡ Ok e → Reach e rows v → Reach d (r ∷ rows) v
 reach-row d e r rows v step more number = rw step (more (number + 1))
 
-by_row : (t : Tag) (d : DraftValue) (x : Said t) → (row t).Fits x → in_order t d x ≡ true → has_room t d x ≡ true → with_row t d (row_text t x) ≡ Ok (with t d x)
+by_row : (t : Tag) (d : DraftValue) (x : Said t) → (row (scope_of d) t).Fits x → in_order t d x ≡ true → has_room t d x ≡ true → with_row t d (row_text t x) ≡ Ok (with t d x)
 unfolding with_row
-by_row t d x fits ordered room = rw ((each-row t).again (tag_word t) x fits, ordered, room) refl
+by_row t d x fits ordered room =
+    let again = ap (λ (fields : Record). (row (scope_of d) t).read (tag_word t ∷ fields)) (sym (same-spelling (scope_of d) t x)) ∙ (each-row (scope_of d) t).again (tag_word t) x fits in
+    rw (again, ordered, room) refl
 
 -- a row that may stand here, is in order and has room is taken
-pub taken : (t : Tag) (d : DraftValue) (x : Said t) → MayFollow d.last t → (row t).Fits x → in_order t d x ≡ true → has_room t d x ≡ true → next_draft d (row_text t x) ≡ Ok (with t d x)
-taken t d x may fits ordered room = rw (goes_on d.last t may, tag-again d.last t may) (by_row t d x fits ordered room)
+pub taken : (t : Tag) (d : DraftValue) (x : Said t) → MayFollow (scope_of d).version d.last t → (row (scope_of d) t).Fits x → in_order t d x ≡ true → has_room t d x ≡ true → next_draft d (row_text t x) ≡ Ok (with t d x)
+taken t d x may fits ordered room = rw (goes_on (scope_of d).version d.last t may, tag-again (scope_of d).version d.last t may) (by_row t d x fits ordered room)
 
 -- ---- a section: rows of a list, each of which is taken while the whole list is as it should be
 
 -- a draft as a function of its last tag and of the section of a tag
-pub record Grown (t : Tag) (state : Option Tag → List (Said t) → DraftValue) : Type 0 where
+pub record Grown (version : Version) (t : Tag) (state : Option Tag → List (Said t) → DraftValue) : Type 0 where
+  pub version_is : (last : Option Tag) (xs : List (Said t)) → (scope_of (state last xs)).version ≡ version
   pub last : (last : Option Tag) (xs : List (Said t)) → (state last xs).last ≡ last
   pub list : (last : Option Tag) (xs : List (Said t)) → items_said t (state last xs) ≡ xs
   pub more : (last : Option Tag) (xs : List (Said t)) (x : Said t) → with t (state last xs) x ≡ state (Some t) (xs ++ x ∷ [])
 
-section-step : (t : Tag) (state : Option Tag → List (Said t) → DraftValue) → Grown t state → (last : Option Tag) (xs : List (Said t)) (x : Said t) (others : List (Said t)) → MayFollow last t → IsSection (Some t, xs ++ x ∷ others)
-    → has_room t (state last xs) x ≡ true → next_draft (state last xs) (row_text t x) ≡ Ok (state (Some t) (xs ++ x ∷ []))
-section-step t state g last xs x others may whole room =
-    let order : in_order t (state last xs) x ≡ true = ap (λ (l : List (Said t)). follows (key t) (last_item l) x) (g.list last xs) ∙ ordered-at (key t) xs x others whole.listed.ordered in
-    taken t (state last xs) x (subst (λ (l : Option Tag). MayFollow l t) (sym (g.last last xs)) may) (all-rest (row t).Fits xs (x ∷ others) whole.fits).0 order room ∙ ap (λ (d : DraftValue). Ok d) (g.more last xs x)
+-- one row of such a list fits, and there is room for it
+pub record IsNext (t : Tag) (d : DraftValue) (x : Said t) : Type 0 where
+  pub fits : (row (scope_of d) t).Fits x
+  pub room : has_room t d x ≡ true
 
-pub section-taken : (t : Tag) (state : Option Tag → List (Said t) → DraftValue) → Grown t state → MayFollow (Some t) t
-    → (Whole : List (Said t) → Type 0) → ((l : List (Said t)) → Whole l → IsSection (Some t, l))
-    → ((last : Option Tag) (xs : List (Said t)) (x : Said t) (others : List (Said t)) → Whole (xs ++ x ∷ others) → has_room t (state last xs) x ≡ true)
-    → (others : List (Said t)) (last : Option Tag) (xs : List (Said t)) (rest : List Record) (v : DayValue) → MayFollow last t → Whole (xs ++ others)
-    → ((after : Option Tag) → MayFollow after t → Reach (state after (xs ++ others)) rest v) → Reach (state last xs) (section_rows (Some t, others) ++ rest) v
-section-taken t state g again Whole is room [] last xs rest v may whole more = let then = more last may in rw append-nil at then
-section-taken t state g again Whole is room (x ∷ others) last xs rest v may whole more =
+section-step : (version : Version) (t : Tag) (state : Option Tag → List (Said t) → DraftValue) → Grown version t state → (last : Option Tag) (xs : List (Said t)) (x : Said t) (others : List (Said t)) → MayFollow version last t → IsOrdered (key t) (xs ++ x ∷ others)
+    → IsNext t (state last xs) x → next_draft (state last xs) (row_text t x) ≡ Ok (state (Some t) (xs ++ x ∷ []))
+section-step version t state g last xs x others may ordered one =
+    let order : in_order t (state last xs) x ≡ true = ap (λ (l : List (Said t)). follows (key t) (last_item l) x) (g.list last xs) ∙ ordered-at (key t) xs x others ordered in
+    let may_here = subst (λ (v : Version). MayFollow v (state last xs).last t) (sym (g.version_is last xs)) (subst (λ (l : Option Tag). MayFollow version l t) (sym (g.last last xs)) may) in
+    taken t (state last xs) x may_here one.fits order one.room ∙ ap (λ (d : DraftValue). Ok d) (g.more last xs x)
+
+pub section-taken : (version : Version) (t : Tag) (state : Option Tag → List (Said t) → DraftValue) → Grown version t state
+    → (Stands : Option Tag → Type 0) → ((last : Option Tag) → Stands last → MayFollow version last t) → Stands (Some t)
+    → (Whole : List (Said t) → Type 0) → ((l : List (Said t)) → Whole l → IsOrdered (key t) l)
+    → ((last : Option Tag) (xs : List (Said t)) (x : Said t) (others : List (Said t)) → Whole (xs ++ x ∷ others) → IsNext t (state last xs) x)
+    → (others : List (Said t)) (last : Option Tag) (xs : List (Said t)) (rest : List Record) (v : DayValue) → Stands last → Whole (xs ++ others)
+    → ((after : Option Tag) → Stands after → Reach (state after (xs ++ others)) rest v) → Reach (state last xs) (section_rows (Some t, others) ++ rest) v
+section-taken version t state g Stands may again Whole is next [] last xs rest v stands whole more = let then = more last stands in rw append-nil at then
+section-taken version t state g Stands may again Whole is next (x ∷ others) last xs rest v stands whole more =
     let same : (xs ++ x ∷ []) ++ others ≡ xs ++ x ∷ others = append_assoc xs (x ∷ []) others in
-    reach-row (state last xs) (state (Some t) (xs ++ x ∷ [])) (row_text t x) (section_rows (Some t, others) ++ rest) v (section-step t state g last xs x others may (is (xs ++ x ∷ others) whole) (room last xs x others whole))
-    (section-taken t state g again Whole is room others (Some t) (xs ++ x ∷ []) rest v again (subst Whole (sym same) whole)
-    (λ after may'. subst (λ (l : List (Said t)). Reach (state after l) rest v) (sym same) (more after may')))
+    reach-row (state last xs) (state (Some t) (xs ++ x ∷ [])) (row_text t x) (section_rows (Some t, others) ++ rest) v (section-step version t state g last xs x others (may last stands) (is (xs ++ x ∷ others) whole) (next last xs x others whole))
+    (section-taken version t state g Stands may again Whole is next others (Some t) (xs ++ x ∷ []) rest v again (subst Whole (sym same) whole)
+    (λ after there. subst (λ (l : List (Said t)). Reach (state after l) rest v) (sym same) (more after there)))
+
+-- the same of a section in a scope that its rows do not change
+pub list-taken : (scope : Scope) (t : Tag) (state : Option Tag → List (Said t) → DraftValue) → Grown scope.version t state → ((last : Option Tag) (xs : List (Said t)) → scope_of (state last xs) ≡ scope) → MayFollow scope.version (Some t) t
+    → (Whole : List (Said t) → Type 0) → ((l : List (Said t)) → Whole l → IsSection scope (Some t, l))
+    → ((last : Option Tag) (xs : List (Said t)) (x : Said t) (others : List (Said t)) → Whole (xs ++ x ∷ others) → has_room t (state last xs) x ≡ true)
+    → (others : List (Said t)) (last : Option Tag) (xs : List (Said t)) (rest : List Record) (v : DayValue) → MayFollow scope.version last t → Whole (xs ++ others)
+    → ((after : Option Tag) → MayFollow scope.version after t → Reach (state after (xs ++ others)) rest v) → Reach (state last xs) (section_rows (Some t, others) ++ rest) v
+list-taken scope t state g here again Whole is room others last xs rest v may whole more =
+    section-taken scope.version t state g (λ l. MayFollow scope.version l t) (λ l m. m) again Whole (λ l w. (is l w).listed.ordered) (λ last' ys x zs w. record {
+      fits = subst (λ (s : Scope). (row s t).Fits x) (sym (here last' ys)) (all-rest (row scope t).Fits ys (x ∷ zs) (is (ys ++ x ∷ zs) w).fits).0;
+      room = room last' ys x zs w;
+    }) others last xs rest v may whole more
 
 -- ---- the blocks of accounts
 
@@ -65,15 +87,16 @@ abbrev account_number : AccountValue → ℕ
 account_number a = a.number
 
 -- surrenders and deletions of an account, recorded under numbers below the next one
-abbrev AreRetired : ℕ → List RetirementRow → Type 0
-AreRetired next rows = IsSection (Some tag.Retired, rows) × (AreBelow next (row_numbers rows) × RetiredFits rows)
+abbrev AreRetired : Scope → ℕ → List RetirementRow → Type 0
+AreRetired scope next rows = IsSection scope (Some tag.Retired, rows) × (AreBelow next (row_numbers rows) × RetiredFits rows)
 
 -- behind the row of an account the rows of its lists are taken
 lists-taken : (d : DraftValue) (next : ℕ) (a : AccountValue) (rest : List Record) (v : DayValue) → next_in d.days ≡ Some next → IsAccount a → IsBehind next a
-    → ((last : Option Tag) → MayFollow last tag.Figure → Reach (record d { last = last; lists = lists_of a }) rest v)
+    → ((last : Option Tag) → MayFollow (scope_of d).version last tag.Figure → Reach (record d { last = last; lists = lists_of a }) rest v)
     → Reach (record d { last = Some tag.Account; lists = no_lists }) (each_row tag.User a.users ++ (each_row tag.Trusted a.trusted ++ (each_row tag.Retired a.rows ++ (each_row tag.Emissions a.emissions ++ (each_row tag.Figure a.figures ++ rest))))) v
 lists-taken d next a rest v is h behind more =
-    let fit = fit-lists a h in
+    let scope = scope_of d in
+    let fit = fit-lists scope a h in
     let l1 : ListsValue = record no_lists { users = a.users } in
     let l2 : ListsValue = record l1 { trusted = a.trusted } in
     let l3 : ListsValue = record l2 { rows = a.rows } in
@@ -82,17 +105,17 @@ lists-taken d next a rest v is h behind more =
     let rows3 : List Record = section_rows (Some tag.Emissions, a.emissions) ++ rows4 in
     let rows2 : List Record = section_rows (Some tag.Retired, a.rows) ++ rows3 in
     let rows1 : List Record = section_rows (Some tag.Trusted, a.trusted) ++ rows2 in
-    section-taken tag.User (λ last l. record d { last = last; lists = record no_lists { users = l } }) (record { last = λ last xs. refl; list = λ last xs. refl; more = λ last xs x. refl }) refl (λ l. IsSection (Some tag.User, l)) (λ l whole. whole) (λ last xs x others whole. room-at (most tag.User) xs x others whole.listed.few)
+    list-taken scope tag.User (λ last l. record d { last = last; lists = record no_lists { users = l } }) (record { version_is = λ last xs. refl; last = λ last xs. refl; list = λ last xs. refl; more = λ last xs x. refl }) (λ last xs. refl) refl (λ l. IsSection scope (Some tag.User, l)) (λ l whole. whole) (λ last xs x others whole. room-at (most tag.User) xs x others whole.listed.few)
     a.users (Some tag.Account) [] rows1 v refl fit.users (λ last1 may1.
-    section-taken tag.Trusted (λ last l. record d { last = last; lists = record l1 { trusted = l } }) (record { last = λ last xs. refl; list = λ last xs. refl; more = λ last xs x. refl }) refl (λ l. IsSection (Some tag.Trusted, l)) (λ l whole. whole) (λ last xs x others whole. room-at (most tag.Trusted) xs x others whole.listed.few)
-    a.trusted last1 [] rows2 v (later last1 tag.User tag.Trusted (omega arith) (omega arith) may1) fit.trusted (λ last2 may2.
-    section-taken tag.Retired (λ last l. record d { last = last; lists = record l2 { rows = l } }) (record { last = λ last xs. refl; list = λ last xs. refl; more = λ last xs x. refl }) refl (AreRetired next) (λ l whole. whole.0)
+    list-taken scope tag.Trusted (λ last l. record d { last = last; lists = record l1 { trusted = l } }) (record { version_is = λ last xs. refl; last = λ last xs. refl; list = λ last xs. refl; more = λ last xs x. refl }) (λ last xs. refl) refl (λ l. IsSection scope (Some tag.Trusted, l)) (λ l whole. whole) (λ last xs x others whole. room-at (most tag.Trusted) xs x others whole.listed.few)
+    a.trusted last1 [] rows2 v (later scope.version last1 tag.User tag.Trusted (omega arith) (omega arith) may1) fit.trusted (λ last2 may2.
+    list-taken scope tag.Retired (λ last l. record d { last = last; lists = record l2 { rows = l } }) (record { version_is = λ last xs. refl; last = λ last xs. refl; list = λ last xs. refl; more = λ last xs x. refl }) (λ last xs. refl) refl (AreRetired scope next) (λ l whole. whole.0)
     (λ last xs x others whole. rw (room-at (most tag.Retired) xs x others whole.0.listed.few, is, below-at next xs x others whole.1.0, sum-left xs x others whole.1.1) refl)
-    a.rows last2 [] rows3 v (later last2 tag.Trusted tag.Retired (omega arith) (omega arith) may2) (fit.rows, (behind, h.retired_fits)) (λ last3 may3.
-    section-taken tag.Emissions (λ last l. record d { last = last; lists = record l3 { emissions = l } }) (record { last = λ last xs. refl; list = λ last xs. refl; more = λ last xs x. refl }) refl (λ l. IsSection (Some tag.Emissions, l)) (λ l whole. whole) (λ last xs x others whole. refl)
-    a.emissions last3 [] rows4 v (later last3 tag.Retired tag.Emissions (omega arith) (omega arith) may3) fit.emissions (λ last4 may4.
-    section-taken tag.Figure (λ last l. record d { last = last; lists = record l4 { figures = l } }) (record { last = λ last xs. refl; list = λ last xs. refl; more = λ last xs x. refl }) refl (λ l. IsSection (Some tag.Figure, l)) (λ l whole. whole) (λ last xs x others whole. refl)
-    a.figures last4 [] rest v (later last4 tag.Emissions tag.Figure (omega arith) (omega arith) may4) fit.figures more))))
+    a.rows last2 [] rows3 v (later scope.version last2 tag.Trusted tag.Retired (omega arith) (omega arith) may2) (fit.rows, (behind, h.retired_fits)) (λ last3 may3.
+    list-taken scope tag.Emissions (λ last l. record d { last = last; lists = record l3 { emissions = l } }) (record { version_is = λ last xs. refl; last = λ last xs. refl; list = λ last xs. refl; more = λ last xs x. refl }) (λ last xs. refl) refl (λ l. IsSection scope (Some tag.Emissions, l)) (λ l whole. whole) (λ last xs x others whole. refl)
+    a.emissions last3 [] rows4 v (later scope.version last3 tag.Retired tag.Emissions (omega arith) (omega arith) may3) fit.emissions (λ last4 may4.
+    list-taken scope tag.Figure (λ last l. record d { last = last; lists = record l4 { figures = l } }) (record { version_is = λ last xs. refl; last = λ last xs. refl; list = λ last xs. refl; more = λ last xs x. refl }) (λ last xs. refl) refl (λ l. IsSection scope (Some tag.Figure, l)) (λ l whole. whole) (λ last xs x others whole. refl)
+    a.figures last4 [] rest v (later scope.version last4 tag.Emissions tag.Figure (omega arith) (omega arith) may4) fit.figures more))))
 
 -- an account that is above the ones before it comes after the open one
 next-account : (accounts : List AccountValue) (head : Option AccountHead) (l : ListsValue) (a : AccountValue) (others : List AccountValue) → IsRising (map account_number ((accounts ++ map (account_with l) (as_list head)) ++ a ∷ others)) → follows (key tag.Account) (last_item (as_list head)) (account_head a) ≡ true
@@ -101,13 +124,14 @@ next-account accounts (Some h) l a others rises =
     let all = rising-above (map account_number (accounts ++ account_with l h ∷ [])) a.number (map account_number others) (rw map-append at rises) in
     rw (map-append account_number accounts (account_with l h ∷ []), last_of-append (map account_number accounts) h.number) at all
 
-pub blocks-taken : (d : DraftValue) (next : ℕ) (others : List AccountValue) (last : Option Tag) (accounts : List AccountValue) (head : Option AccountHead) (l : ListsValue) (rest : List Record) (v : DayValue) → next_in d.days ≡ Some next → MayFollow last tag.Account
+pub blocks-taken : (d : DraftValue) (next : ℕ) (others : List AccountValue) (last : Option Tag) (accounts : List AccountValue) (head : Option AccountHead) (l : ListsValue) (rest : List Record) (v : DayValue) → next_in d.days ≡ Some next → MayFollow (scope_of d).version last tag.Account
     → AllByRecursion IsAccount others → AllByRecursion (IsBehind next) others
     → IsRising (map account_number ((accounts ++ map (account_with l) (as_list head)) ++ others)) → length ((accounts ++ map (account_with l) (as_list head)) ++ others) ≤ MOST_ACCOUNTS
-    → ((after : Option Tag) (all : List AccountValue) (opened : Option AccountHead) (m : ListsValue) → MayFollow after tag.Account → all ++ map (account_with m) (as_list opened) ≡ (accounts ++ map (account_with l) (as_list head)) ++ others → Reach (record d { last = after; accounts = all; head = opened; lists = m }) rest v)
+    → ((after : Option Tag) (all : List AccountValue) (opened : Option AccountHead) (m : ListsValue) → MayFollow (scope_of d).version after tag.Account → all ++ map (account_with m) (as_list opened) ≡ (accounts ++ map (account_with l) (as_list head)) ++ others → Reach (record d { last = after; accounts = all; head = opened; lists = m }) rest v)
     → Reach (record d { last = last; accounts = accounts; head = head; lists = l }) (flat_map account_block others ++ rest) v
 blocks-taken d next [] last accounts head l rest v is may fit behind rises few more = more last accounts head l may (sym (append-nil (accounts ++ map (account_with l) (as_list head))))
 blocks-taken d next (a ∷ others) last accounts head l rest v is may fit behind rises few more =
+    let scope = scope_of d in
     let now = record d { last = last; accounts = accounts; head = head; lists = l } in
     let all = accounts_in now in
     let same : (all ++ a ∷ []) ++ others ≡ all ++ a ∷ others = append_assoc all (a ∷ []) others in
@@ -116,68 +140,108 @@ blocks-taken d next (a ∷ others) last accounts head l rest v is may fit behind
     let lists : List Record = each_row tag.User a.users ++ (each_row tag.Trusted a.trusted ++ (each_row tag.Retired a.rows ++ (each_row tag.Emissions a.emissions ++ (each_row tag.Figure a.figures ++ behind_it)))) in
     let split : flat_map account_block (a ∷ others) ++ rest ≡ row_text tag.Account (account_head a) ∷ lists = simp append_assoc in
     subst (λ (rs : List Record). Reach now rs v) (sym split)
-    (reach-row now (with tag.Account now (account_head a)) (row_text tag.Account (account_head a)) lists v (taken tag.Account now (account_head a) may (fit-account a fit.0) (next-account accounts head l a others rises) (lt-ltb _ _ room))
+    (reach-row now (with tag.Account now (account_head a)) (row_text tag.Account (account_head a)) lists v (taken tag.Account now (account_head a) may (fit-account scope a fit.0) (next-account accounts head l a others rises) (lt-ltb _ _ room))
     (lists-taken (record d { accounts = all; head = Some (account_head a) }) next a behind_it v is fit.0 behind.0 (λ last1 may1.
-    blocks-taken d next others last1 all (Some (account_head a)) (lists_of a) rest v is (later last1 tag.Figure tag.Account (omega arith) (omega arith) may1) fit.1 behind.1 (rw same rises) (rw same few) (λ after ones opened m may' equal. more after ones opened m may' (equal ∙ same)))))
+    blocks-taken d next others last1 all (Some (account_head a)) (lists_of a) rest v is (later scope.version last1 tag.Figure tag.Account (omega arith) (omega arith) may1) fit.1 behind.1 (rw same rises) (rw same few) (λ after ones opened m may' equal. more after ones opened m may' (equal ∙ same)))))
 
 -- ---- the sections of a day
 
-surrender-section : (v : DayValue) → CanBeSaid v → IsSection (Some tag.Surrender, v.rules.surrender)
-surrender-section v h = record { fits = all-weaker IsPair (row tag.Surrender).Fits (λ p is. ((tt, tt), is)) v.rules.surrender (recursion_from_All IsPair v.rules.surrender h.pairs); listed = record { ordered = h.pairs_rise; few = tt } }
+surrender-section : (scope : Scope) (v : DayValue) → CanBeSaid v → IsSection scope (Some tag.Surrender, v.rules.surrender)
+surrender-section scope v h = record { fits = all-weaker IsPair (row scope tag.Surrender).Fits (λ p is. ((tt, tt), is)) v.rules.surrender (recursion_from_All IsPair v.rules.surrender h.pairs); listed = record { ordered = h.pairs_rise; few = tt } }
 
-admin-section : (v : DayValue) → CanBeSaid v → IsSection (Some tag.Admin, v.rules.admins)
-admin-section v h = record { fits = recursion_from_All IsUserNo v.rules.admins h.day.rules.each_admin; listed = record { ordered = subst IsRising (sym (map-id v.rules.admins)) h.day.rules.fit.admins_rise; few = h.day.rules.fit.few_admins } }
+admin-section : (scope : Scope) (v : DayValue) → CanBeSaid v → IsSection scope (Some tag.Admin, v.rules.admins)
+admin-section scope v h = record { fits = recursion_from_All IsUserNo v.rules.admins h.day.rules.each_admin; listed = record { ordered = subst IsRising (sym (map-id v.rules.admins)) h.day.rules.fit.admins_rise; few = h.day.rules.fit.few_admins } }
 
-work-section : (v : DayValue) → CanBeSaid v → IsSection (Some tag.Work, v.rules.calendar)
-work-section v h = let days = h.day.rules.working_days in record { fits = recursion_from_All IsDayNo v.rules.calendar days.each_day; listed = record { ordered = subst IsRising (sym (map-id v.rules.calendar)) days.rising; few = tt } }
+work-section : (scope : Scope) (v : DayValue) → CanBeSaid v → IsSection scope (Some tag.Work, v.rules.calendar)
+work-section scope v h = let days = h.day.rules.working_days in record { fits = recursion_from_All IsDayNo v.rules.calendar days.each_day; listed = record { ordered = subst IsRising (sym (map-id v.rules.calendar)) days.rising; few = tt } }
 
-do-section : (v : DayValue) → CanBeSaid v → IsSection (Some tag.Do, v.batch.instructions)
-do-section v h = record { fits = all-both IsInstruction (λ (i : Instruction). IsShared i.act) (row tag.Do).Fits fit-instruction v.batch.instructions (recursion_from_All IsInstruction v.batch.instructions h.day.batch.each) (recursion_from_All (λ (i : Instruction). IsShared i.act) v.batch.instructions h.shares); listed = record { ordered = tt; few = h.day.batch.few } }
+do-section : (scope : Scope) (v : DayValue) → CanBeSaid v → IsSection scope (Some tag.Do, v.batch.instructions)
+do-section scope v h = record { fits = all-both IsInstruction (λ (i : Instruction). IsShared i.act) (row scope tag.Do).Fits fit-instruction v.batch.instructions (recursion_from_All IsInstruction v.batch.instructions h.day.batch.each) (recursion_from_All (λ (i : Instruction). IsShared i.act) v.batch.instructions h.shares); listed = record { ordered = tt; few = h.day.batch.few } }
 
 accounts : (v : DayValue) → CanBeSaid v → AllByRecursion IsAccount v.book.accounts
 accounts v h = recursion_from_All IsAccount v.book.accounts h.day.book.within_limits
 
+period-section : (scope : Scope) (v : DayValue) → CanBeSaid v → IsSection scope (Some tag.Period, periods_in v.rules)
+period-section scope v h = record { fits = (((h.day.rules.from_year, h.day.rules.to_year), le-leb _ _ h.day.rules.fit.period), tt); listed = record { ordered = λ k lt. absurd (omega arith); few = omega arith } }
+
+-- in the first version one row of a period is taken, and in the second one or more
+periods-taken : (version : Version) (d : DraftValue) (periods : List (ℕ × ℕ)) (rest : List Record) (v : DayValue) → (scope_of d).version ≡ version → (version ≡ One → length periods ≡ 1) → 1 ≤ length periods → IsSection (scope_of d) (Some tag.Period, periods)
+    → Reach (record d { last = Some tag.Period; periods = periods }) rest v → Reach (record d { last = Some tag.Day; periods = [] }) (section_rows (Some tag.Period, periods) ++ rest) v
+periods-taken version d [] rest v is one some within more = absurd (omega arith)
+periods-taken One d (p ∷ []) rest v is one some within more =
+    reach-row (record d { last = Some tag.Day; periods = [] }) (record d { last = Some tag.Period; periods = p ∷ [] }) (row_text tag.Period p) rest v (taken tag.Period (record d { last = Some tag.Day; periods = [] }) p (rw is refl) within.fits.0 refl refl) more
+periods-taken One d (p ∷ q ∷ ps) rest v is one some within more = let size = one refl in absurd (omega arith)
+periods-taken Two d (p ∷ ps) rest v is one some within more =
+    let state : Option Tag → List (ℕ × ℕ) → DraftValue = λ last l. record d { last = last; periods = l } in
+    reach-row (state (Some tag.Day) []) (state (Some tag.Period) (p ∷ [])) (row_text tag.Period p) (section_rows (Some tag.Period, ps) ++ rest) v (taken tag.Period (state (Some tag.Day) []) p (rw is refl) within.fits.0 refl refl)
+    (section-taken Two tag.Period state (record { version_is = λ last xs. is; last = λ last xs. refl; list = λ last xs. refl; more = λ last xs x. refl }) (λ last. last ≡ Some tag.Period) (λ last e. rw e refl) refl
+    (λ l. IsSection (scope_of d) (Some tag.Period, l)) (λ l whole. whole.listed.ordered)
+    (λ last xs x others whole. record { fits = (all-rest (row widest tag.Period).Fits xs (x ∷ others) whole.fits).0; room = room-at (most tag.Period) xs x others whole.listed.few })
+    ps (Some tag.Period) (p ∷ []) rest v refl within (λ after e. subst (λ (l : Option Tag). Reach (state l (p ∷ ps)) rest v) (sym e) more))
+
+-- the row of the current period, where the version has one, and that of the lags
+lags-taken : (version : Version) (d : DraftValue) (current : ℕ) (lags : Said tag.Lags) (rest : List Record) (v : DayValue) → (scope_of d).version ≡ version → d.current ≡ [] → d.lags ≡ [] → IsWithin 1 (length d.periods) current → current < 2 ^ 64 → (row widest tag.Lags).Fits lags
+    → Reach (record d { last = Some tag.Lags; current = current_rows version current; lags = lags ∷ [] }) rest v → Reach (record d { last = Some tag.Period }) (section_rows (Some tag.Current, current_rows version current) ++ row_text tag.Lags lags ∷ rest) v
+lags-taken One d current lags rest v is none no_lags fit small fits more =
+    let from = record d { last = Some tag.Period } in
+    reach-row from (record d { last = Some tag.Lags; lags = d.lags ++ lags ∷ [] }) (row_text tag.Lags lags) rest v (taken tag.Lags from lags (rw is refl) fits refl refl) (rw (no_lags, none) more)
+lags-taken Two d current lags rest v is none no_lags fit small fits more =
+    let from = record d { last = Some tag.Period } in
+    let then = record d { last = Some tag.Current; current = d.current ++ current ∷ [] } in
+    reach-row from then (row_text tag.Current current) (row_text tag.Lags lags ∷ rest) v (taken tag.Current from current (rw is refl) (fit, small) refl refl)
+    (reach-row then (record then { last = Some tag.Lags; lags = d.lags ++ lags ∷ [] }) (row_text tag.Lags lags) rest v (taken tag.Lags then lags (rw is refl) fits refl refl) (rw (no_lags, none) more))
+
 -- the drafts on the way
-abbrev headed : ℕ → DayValue → DraftValue
+abbrev headed : Version → DayValue → DraftValue
 headed version v = record nothing_read {
   last = Some tag.Lags;
   versions = version ∷ [];
   days = (v.batch.day, v.book.next) ∷ [];
-  periods = (v.rules.first_year, v.rules.last_year) ∷ [];
+  periods = periods_in v.rules;
+  current = current_rows version (current_in v.rules);
   lags = lags_in v.rules ∷ [];
 }
 
-head-taken : (version : ℕ) (v : DayValue) (rest : List Record) → version ≡ 1 → CanBeSaid v → Reach (headed version v) rest v
-    → Reach nothing_read (row_text tag.Format version ∷ row_text tag.Day (v.batch.day, v.book.next) ∷ row_text tag.Period (v.rules.first_year, v.rules.last_year) ∷ row_text tag.Lags (lags_in v.rules) ∷ rest) v
+one-period : (version : Version) (v : DayValue) → IsVersionOf v version → version ≡ One → length (periods_in v.rules) ≡ 1
+one-period One v known e = known
+one-period Two v known e = absurd cc
+
+head-taken : (version : Version) (v : DayValue) (rest : List Record) → IsVersionOf v version → CanBeSaid v → Reach (headed version v) rest v
+    → Reach nothing_read (row_text tag.Format version ∷ row_text tag.Day (v.batch.day, v.book.next) ∷ section_rows (Some tag.Period, periods_in v.rules) ++ (section_rows (Some tag.Current, current_rows version (current_in v.rules)) ++ row_text tag.Lags (lags_in v.rules) ∷ rest)) v
 head-taken version v rest known h more =
     let lags = h.day.rules.fit.lags_fit in
     let next_in = h.day.book.next in
     let fits = fit-lags (lags_in v.rules) (record { trusted = lags.trusted; other = lags.other; listed = lags.listed; reversal = lags.reversal }) in
     let day : ℕ × ℕ = (v.batch.day, v.book.next) in
-    let period : ℕ × ℕ = (v.rules.first_year, v.rules.last_year) in
     let d1 = with tag.Format nothing_read version in
     let d2 = with tag.Day d1 day in
-    let d3 = with tag.Period d2 period in
-    let rows3 : List Record = row_text tag.Lags (lags_in v.rules) ∷ rest in
-    let rows2 : List Record = row_text tag.Period period ∷ rows3 in
+    let d3 = record d2 { last = Some tag.Period; periods = periods_in v.rules } in
+    let rows3 : List Record = section_rows (Some tag.Current, current_rows version (current_in v.rules)) ++ row_text tag.Lags (lags_in v.rules) ∷ rest in
+    let rows2 : List Record = section_rows (Some tag.Period, periods_in v.rules) ++ rows3 in
     let rows1 : List Record = row_text tag.Day day ∷ rows2 in
-    reach-row nothing_read d1 (row_text tag.Format version) rows1 v (taken tag.Format nothing_read version refl known refl refl)
+    reach-row nothing_read d1 (row_text tag.Format version) rows1 v (taken tag.Format nothing_read version refl tt refl refl)
     (reach-row d1 d2 (row_text tag.Day day) rows2 v (taken tag.Day d1 day refl (h.day.batch.settlement_day, record { low = next_in.from_one; high = next_in.to_the_end }) refl refl)
-    (reach-row d2 d3 (row_text tag.Period period) rows3 v (taken tag.Period d2 period refl ((h.day.rules.from_year, h.day.rules.to_year), le-leb _ _ h.day.rules.fit.period) refl refl)
-    (reach-row d3 (headed version v) (row_text tag.Lags (lags_in v.rules)) rest v (taken tag.Lags d3 (lags_in v.rules) refl fits refl refl) more)))
+    (periods-taken version d2 (periods_in v.rules) rows3 v refl (one-period version v known) (omega arith) (period-section (scope_of d2) v h)
+    (lags-taken version d3 (current_in v.rules) (lags_in v.rules) rest v refl refl refl (record { low = omega arith; high = omega arith }) (omega arith) fits more)))
 
 -- the instructions, each with a record number
-abbrev AreNumbered : DayValue → List (Said tag.Do) → Type 0
-AreNumbered v l = IsSection (Some tag.Do, l) × (v.book.next + length l ≤ MOST_RECORD + 1)
+abbrev AreNumbered : Scope → DayValue → List (Said tag.Do) → Type 0
+AreNumbered scope v l = IsSection scope (Some tag.Do, l) × (v.book.next + length l ≤ MOST_RECORD + 1)
 
-whole : (version : ℕ) (v : DayValue) (accounts : List AccountValue) (head : Option AccountHead) (l : ListsValue) → v.book.next - 1 ≡ v.batch.base → accounts ++ map (account_with l) (as_list head) ≡ v.book.accounts
+-- what was said of the current period
+said-again : (version : Version) (v : DayValue) → IsVersionOf v version → CanBeSaid v → current_said version (current_rows version (current_in v.rules)) ≡ Some (current_in v.rules)
+said-again One v known h = refl
+said-again Two v known h = refl
+
+whole : (version : Version) (v : DayValue) (accounts : List AccountValue) (head : Option AccountHead) (l : ListsValue) → IsVersionOf v version → CanBeSaid v → v.book.next - 1 ≡ v.batch.base → accounts ++ map (account_with l) (as_list head) ≡ v.book.accounts
     → Reach (record (headed version v) { last = Some tag.End; surrender = v.rules.surrender; admins = v.rules.admins; work = v.rules.calendar; accounts = accounts; head = head; lists = l; instructions = v.batch.instructions }) [] v
-whole version v accounts head l base all number = rw all (ap (λ (n : ℕ). Ok (record v { batch = record v.batch { base = n } })) base)
+whole version v accounts head l known h base all number = rw (said-again version v known h, all) (ap (λ (n : ℕ). Ok (record v { batch = record v.batch { base = n } })) base)
 
-pub text-taken : (version : ℕ) (v : DayValue) → version ≡ 1 → CanBeSaid v → Reach nothing_read (day_text version v) v
+pub text-taken : (version : Version) (v : DayValue) → IsVersionOf v version → CanBeSaid v → Reach nothing_read (day_text version v) v
 text-taken version v known h =
     let base : v.book.next - 1 ≡ v.batch.base = omega (arith, h.day.follows) in
     let d0 = headed version v in
+    let scope = scope_of d0 in
     let d1 = record d0 { surrender = v.rules.surrender } in
     let d2 = record d1 { admins = v.rules.admins } in
     let d3 = record d2 { work = v.rules.calendar } in
@@ -187,15 +251,15 @@ text-taken version v known h =
     let rows2 : List Record = section_rows (Some tag.Work, v.rules.calendar) ++ rows3 in
     let rows1 : List Record = section_rows (Some tag.Admin, v.rules.admins) ++ rows2 in
     head-taken version v (section_rows (Some tag.Surrender, v.rules.surrender) ++ rows1) known h
-    (section-taken tag.Surrender (λ last l. record d0 { last = last; surrender = l }) (record { last = λ last xs. refl; list = λ last xs. refl; more = λ last xs x. refl }) refl (λ l. IsSection (Some tag.Surrender, l)) (λ l whole. whole) (λ last xs x others whole. refl)
-    v.rules.surrender (Some tag.Lags) [] rows1 v refl (surrender-section v h) (λ last1 may1.
-    section-taken tag.Admin (λ last l. record d1 { last = last; admins = l }) (record { last = λ last xs. refl; list = λ last xs. refl; more = λ last xs x. refl }) refl (λ l. IsSection (Some tag.Admin, l)) (λ l whole. whole) (λ last xs x others whole. room-at (most tag.Admin) xs x others whole.listed.few)
-    v.rules.admins last1 [] rows2 v (later last1 tag.Surrender tag.Admin (omega arith) (omega arith) may1) (admin-section v h) (λ last2 may2.
-    section-taken tag.Work (λ last l. record d2 { last = last; work = l }) (record { last = λ last xs. refl; list = λ last xs. refl; more = λ last xs x. refl }) refl (λ l. IsSection (Some tag.Work, l)) (λ l whole. whole) (λ last xs x others whole. refl)
-    v.rules.calendar last2 [] rows3 v (later last2 tag.Admin tag.Work (omega arith) (omega arith) may2) (work-section v h) (λ last3 may3.
-    blocks-taken d3 v.book.next v.book.accounts last3 [] None no_lists rows4 v refl (later last3 tag.Work tag.Account (omega arith) (omega arith) may3) (accounts v h) (recursion_from_All (IsBehind v.book.next) v.book.accounts h.day.book.behind) h.day.book.rising h.day.book.few (λ last4 accounts head lists may4 all.
+    (list-taken scope tag.Surrender (λ last l. record d0 { last = last; surrender = l }) (record { version_is = λ last xs. refl; last = λ last xs. refl; list = λ last xs. refl; more = λ last xs x. refl }) (λ last xs. refl) refl (λ l. IsSection scope (Some tag.Surrender, l)) (λ l whole. whole) (λ last xs x others whole. refl)
+    v.rules.surrender (Some tag.Lags) [] rows1 v refl (surrender-section scope v h) (λ last1 may1.
+    list-taken scope tag.Admin (λ last l. record d1 { last = last; admins = l }) (record { version_is = λ last xs. refl; last = λ last xs. refl; list = λ last xs. refl; more = λ last xs x. refl }) (λ last xs. refl) refl (λ l. IsSection scope (Some tag.Admin, l)) (λ l whole. whole) (λ last xs x others whole. room-at (most tag.Admin) xs x others whole.listed.few)
+    v.rules.admins last1 [] rows2 v (later scope.version last1 tag.Surrender tag.Admin (omega arith) (omega arith) may1) (admin-section scope v h) (λ last2 may2.
+    list-taken scope tag.Work (λ last l. record d2 { last = last; work = l }) (record { version_is = λ last xs. refl; last = λ last xs. refl; list = λ last xs. refl; more = λ last xs x. refl }) (λ last xs. refl) refl (λ l. IsSection scope (Some tag.Work, l)) (λ l whole. whole) (λ last xs x others whole. refl)
+    v.rules.calendar last2 [] rows3 v (later scope.version last2 tag.Admin tag.Work (omega arith) (omega arith) may2) (work-section scope v h) (λ last3 may3.
+    blocks-taken d3 v.book.next v.book.accounts last3 [] None no_lists rows4 v refl (later scope.version last3 tag.Work tag.Account (omega arith) (omega arith) may3) (accounts v h) (recursion_from_All (IsBehind v.book.next) v.book.accounts h.day.book.behind) h.day.book.rising h.day.book.few (λ last4 accounts head lists may4 all.
     let d4 = record d3 { accounts = accounts; head = head; lists = lists } in
     let d5 = record d4 { instructions = v.batch.instructions } in
-    section-taken tag.Do (λ last l. record d4 { last = last; instructions = l }) (record { last = λ last xs. refl; list = λ last xs. refl; more = λ last xs x. refl }) refl (AreNumbered v) (λ l whole. whole.0) (λ last xs x others whole. rw (room-at (most tag.Do) xs x others whole.0.listed.few, le-leb (v.book.next + length xs) MOST_RECORD (omega (arith, length-append xs (x ∷ others), whole.1))) refl)
-    v.batch.instructions last4 [] rows5 v (later last4 tag.Account tag.Do (omega arith) (omega arith) may4) (do-section v h, omega (arith, h.day.follows, h.day.batch.numbered)) (λ last5 may5.
-    reach-row (record d5 { last = last5 }) (record d5 { last = Some tag.End }) (row_text tag.End tt) [] v (taken tag.End (record d5 { last = last5 }) tt (later last5 tag.Do tag.End (omega arith) (omega arith) may5) tt refl refl) (whole version v accounts head lists base all)))))))
+    list-taken scope tag.Do (λ last l. record d4 { last = last; instructions = l }) (record { version_is = λ last xs. refl; last = λ last xs. refl; list = λ last xs. refl; more = λ last xs x. refl }) (λ last xs. refl) refl (AreNumbered scope v) (λ l whole. whole.0) (λ last xs x others whole. rw (room-at (most tag.Do) xs x others whole.0.listed.few, le-leb (v.book.next + length xs) MOST_RECORD (omega (arith, length-append xs (x ∷ others), whole.1))) refl)
+    v.batch.instructions last4 [] rows5 v (later scope.version last4 tag.Account tag.Do (omega arith) (omega arith) may4) (do-section scope v h, omega (arith, h.day.follows, h.day.batch.numbered)) (λ last5 may5.
+    reach-row (record d5 { last = last5 }) (record d5 { last = Some tag.End }) (row_text tag.End tt) [] v (taken tag.End (record d5 { last = last5 }) tt (later scope.version last5 tag.Do tag.End (omega arith) (omega arith) may5) tt refl refl) (whole version v accounts head lists known h base all)))))))
