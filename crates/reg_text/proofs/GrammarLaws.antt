@@ -3,7 +3,7 @@ use Rattle.std.proofs.Common.{◌≡◌, ℕ, ℤ, pos, unsigned_abs, Bool, ◌^
 use Rattle.std.specs.Prelude.{IfSome, is_ok, ◌↔◌}
 use Rattle.std.proofs.lemmas.Bool.{and_parts, ltb-true, leb-true, le-leb}
 use Rattle.reg_text.proofs.Names.{MOST_NUMBER, Act, ActName, Transfer, Tag, IsCodec, AreFields}
-use Rattle.reg_text.proofs.Names.{within_limits, a_period, any_number, a_no, factor, a_figure, a_date, an_approver, IsRow, row_with, act_names, act_word, act_name, form, said, an_act_name, act_fields, instruction_fields_of, Scope}
+use Rattle.reg_text.proofs.Names.{within_limits, a_period, any_number, a_no, factor, later_factor, a_figure, a_date, an_approver, IsRow, row_with, act_names, act_word, act_name, form, said, an_act_name, act_fields, instruction_fields_of, Scope}
 use Rattle.reg_text.proofs.Names.{row, Said, widest, Cause, Codec, IsWithin, IsUserNo, CorrectionFits, FigureFits, ◌>>=◌, test, when, first_cause, fault_of, number, signed, plain_number_of, date_of, signed_of, correction_of, signed_figure_of, bounded_of, user_no_of, approver_of, approver_text, number_tests, correction_tests, figure_tests, approver_tests, IsPlain}
 use Rattle.reg_base.specs.declared.act.Act.TheVariants as act
 use Rattle.reg_text.specs.declared.reading.instruction_row.ActName.TheVariants.{Distribute}
@@ -11,14 +11,17 @@ use Rattle.reg_text.specs.Words.{kind_word, kinds}
 use Rattle.reg_text.specs.declared.cause.Cause.TheVariants as cause
 use Rattle.reg_text.specs.declared.reading.tag.Tag.TheVariants as tag
 use Rattle.reg_text.proofs.Binds.{bind_ok, test_ok, ok_is}
-use Rattle.reg_text.proofs.CauseLaws.{done, limited, once, only-number, only-signed, by_result}
+use Rattle.reg_text.proofs.CauseLaws.{tested, done, limited, once, only-number, only-signed, by_result}
 use Rattle.reg_text.proofs.NumberLaws.{number-spelled, number-again, digit-first, signed-spelled, signed-again, signed-range, digits-range}
 use Rattle.reg_text.proofs.DateLaws.{date-spelled, date-again}
 use Rattle.reg_text.proofs.WordLaws.{is-version, is-word, own-kind, own-account_kind, own-status, own-right, own-retirement, own-yes_no, own-act_word}
 use Rattle.reg_text.proofs.PlainFacts.{plain-decimal, plain-signed, plain-date}
 use Rattle.reg_text.proofs.ShareLaws.{are_shares}
 use Rattle.reg_text.proofs.MaybeLaws.{are_maybe}
-use Rattle.reg_text.proofs.CodecLaws.{are_none, are_last, are_then, are_made, are_provided, are_forms, is_row, is_named_row, Form}
+use Rattle.reg_text.proofs.FateLaws.{row-again, row-back}
+use Rattle.reg_text.specs.Grammar.{retired_fields, row_made, row_parts}
+use Rattle.std.specs.Ordering.{int_eq}
+use Rattle.reg_text.proofs.CodecLaws.{then-tested, are_none, are_last, are_then, are_made, are_provided, are_forms, is_row, is_named_row, Form}
 
 -- ---- the fields
 
@@ -70,6 +73,10 @@ unfolding correction_of
 is-factor = signed-limited 1_000_000_000_000_000 CorrectionFits correction_tests (omega arith) (λ z h. let r = signed-range 1_000_000_000_000_000 z h in record { low = r.0; high = r.1 }) (λ z h. digits-range 1_000_000_000_000_000 z h.low h.high)
     (λ f. limited cause.Number _ (pos 0) (signed_of f) (only-signed f))
 
+pub is-later_factor : IsCodec later_factor
+is-later_factor = is-limited factor (λ z. not (int_eq z (pos 0))) later_factor.tests later_factor.Fits is-factor (λ z fits e. (fits, e)) (λ z h. (h.1, h.0))
+    (λ f. then-tested (correction_of f) _ (correction_tests f) _ (is-factor.fault f) (λ z. tested (not (int_eq z (pos 0))) cause.Limit z))
+
 pub is-figure : IsCodec a_figure
 unfolding signed_figure_of
 is-figure = signed-limited 4_000_000_000_000_000 FigureFits figure_tests (omega arith) (λ z h. let r = signed-range 4_000_000_000_000_000 z h in record { low = r.0; high = r.1 }) (λ z h. digits-range 4_000_000_000_000_000 z h.low h.high)
@@ -117,7 +124,7 @@ one-spelling {c = c} h f x = (h.spelled f x, λ is. ap c.read is.0 ∙ h.again x
 
 -- ---- the acts: a line each
 
-ruleset codecs = (is-version, is-number, is-within, is-period, is-factor, is-figure, is-date, is-approver, is-word, own-kind, own-account_kind, own-status, own-right, own-retirement, own-yes_no, are_none, are_last, are_maybe, are_then, are_made, are_provided)
+ruleset codecs = (is-version, is-number, is-within, is-period, is-factor, is-later_factor, is-figure, is-date, is-approver, is-word, own-kind, own-account_kind, own-status, own-right, own-retirement, own-yes_no, are_none, are_last, are_maybe, are_then, are_made, are_provided)
 
 each-act : (n : ActName) → AreFields (form n).fields
 each-act Transfer = search codecs depth 14
@@ -145,6 +152,10 @@ pub same-spelling : (scope : Scope) (t : Tag) (x : Said t) → (row scope t).spe
 same-spelling scope tag.Format x = refl
 same-spelling scope t x = refl
 
+are-retired : (scope : Scope) → AreFields (retired_fields scope)
+are-retired scope = are_made row_made row_parts _ (search codecs depth 14) (λ p fits. row-again scope p fits.1 fits.0.1.1.1.1.1.1) row-back
+
 pub each-row : (scope : Scope) (t : Tag) → IsRow (row scope t)
 each-row scope tag.Do = is_named_row 4 an_act_name (row_with instruction_fields_of) (λ i. act_name i.act) (is-word act_word act_names own-act_word) (is_row _ are-instructions) (λ tag i fits. (omega arith, refl, tt))
+each-row scope tag.Retired = is_row _ (are-retired scope)
 each-row scope t = search (codecs, is_row) depth 24

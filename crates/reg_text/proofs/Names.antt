@@ -8,6 +8,8 @@ pub use Rattle.reg_account.specs.Trusted.{EntryIsInRange}
 pub use Rattle.reg_account.specs.Rows.{AreBelow, RetiredFits, amount_in, retired_in, row_numbers}
 pub use Rattle.reg_account.specs.Years.{FigureFits}
 pub use Rattle.reg_account.specs.declared.rows.RetirementRow.{RetirementRow}
+pub use Rattle.reg_account.specs.declared.rows.Fate.{Fate}
+pub use Rattle.reg_account.specs.declared.corrections.Correction.{Correction}
 pub use Rattle.reg_base.specs.declared.kinds.Retirement.{Retirement}
 pub use Rattle.reg_base.specs.declared.kinds.Retirement.TheVariants.{Deleted, Surrendered}
 pub use Rattle.reg_account.specs.declared.years.Figure.{Figure}
@@ -15,8 +17,8 @@ pub use Rattle.reg_rules.specs.Effect.{IsBehind}
 pub use Rattle.reg_rules.specs.declared.reply.LogRow.{LogRow}
 pub use Rattle.reg_book.specs.Book.{BookValue, first_fault, has_row_ahead, total_held, total_retired}
 pub use Rattle.reg_text.specs.Records.{Record, field}
-pub use Rattle.reg_text.specs.Sections.{AreAtMost, Key, by, IsOrdered, IsSection, Item, Section, account_block, account_with, all_rows, each_row, follows, account_head, is_room, item_rows, key, lists_of, most, section_rows}
-pub use Rattle.reg_text.specs.Spelling.{account_row, book_rows, closing_sections, day_sections, current_rows, current_in, periods_in, day_text, end_row, heading, instruction_fields, lags_in}
+pub use Rattle.reg_text.specs.Sections.{AreAtMost, FateIsOf, Fits, IsOfPeriods, Key, by, IsOrdered, IsSection, Item, Section, account_block, account_with, all_rows, each_row, follows, account_head, is_room, item_rows, key, lists_of, most, section_rows}
+pub use Rattle.reg_text.specs.Spelling.{account_row, book_rows, closing_sections, day_sections, current_rows, day_text, end_row, heading, instruction_fields, lags_in}
 pub use Rattle.reg_text.specs.Log.{answer_fields, closing_fields, figure_field, holding_fields, log_row}
 pub use Rattle.reg_text.specs.Report.{log_rows, report_rows, text_of, totals_row, written_book}
 pub use Rattle.csv.specs.Writing.{default_writer}
@@ -30,19 +32,19 @@ unfoldable pub use Rattle.reg_text.specs.Words.{word_of}
 pub use Rattle.reg_text.specs.Grammar.{Said, row, row_read, row_text}
 pub use Rattle.reg_text.specs.Plain.{IsPlain, with_commas}
 pub use Rattle.reg_text.specs.Written.{EachBookIsWritten, EachReportIsWritten, EachTextSplits, HasField}
-pub use Rattle.reg_base.specs.declared.limits.TheConstants.{FIRST_DAY, FIRST_YEAR, LAST_DAY, MOST_ACCOUNTS, MOST_INSTRUCTIONS, MOST_LAG, MOST_NUMBER, MOST_RECORD, MOST_ROWS}
+pub use Rattle.reg_base.specs.declared.limits.TheConstants.{FIRST_DAY, FIRST_YEAR, LAST_DAY, MOST_ACCOUNTS, MOST_INSTRUCTIONS, MOST_LAG, MOST_NUMBER, MOST_PERIODS, MOST_RECORD, MOST_ROWS}
 pub use Rattle.reg_base.specs.Numbers.{IsAccountNo, IsWithin, IsDayNo, IsRecordNo, IsUserNo, IsYearNo}
 pub use Rattle.reg_base.specs.Instructions.{IsInstruction}
 pub use Rattle.reg_base.specs.Refusals.{refusal_name}
-pub use Rattle.reg_base.specs.Rising.{IsRising}
+pub use Rattle.reg_base.specs.Rising.{AreAbove, IsRising}
 pub use Rattle.reg_text.specs.declared.reading.account_row.AccountHead.{AccountHead}
 pub use Rattle.reg_text.specs.declared.reading.tag.Tag.{Tag}
 pub use Rattle.reg_text.specs.declared.reading.scope.Version.{Version}
 pub use Rattle.reg_text.specs.declared.reading.scope.Version.TheVariants.{One, Two}
 pub use Rattle.reg_text.specs.declared.reading.scope.Scope.{Scope}
-pub use Rattle.reg_text.specs.Scopes.{MOST_PERIODS, widest}
+pub use Rattle.reg_text.specs.Scopes.{by_version, widest}
 pub use Rattle.reg_text.specs.Tags.{all_tags, is_known, is_needed, is_once, may_follow, place, rule, tag_after, tag_place, tag_word}
-pub use Rattle.reg_text.specs.Lasts.{AreAbove, as_list, is_above, last_item}
+pub use Rattle.reg_text.specs.Lasts.{as_list, is_above, last_item}
 pub use Rattle.reg_text.specs.Drafts.{DraftValue, account_count, accounts_in, block_closed, draft_of, ended, items_said, nothing_read, scope_of, sections, sections_to, version_in}
 pub use Rattle.reg_text.specs.Day.{DayValue, current_said, day_said, day_with, is_text_over}
 pub use Rattle.reg_text.specs.Reading.{Begins, CanBeSaid, IsFirstFaulty, IsPair, IsReading, IsVersionOf}
@@ -57,7 +59,7 @@ unfoldable pub use Rattle.csv.specs.Reading.{Reached, records_from, strip_bom}
 pub use Rattle.reg_text.specs.Rows.{IsOfMemory, IsOpen, known_rest, records_in, rest_of, rows_left, rows_in_text}
 pub use Rattle.reg_text.specs.declared.reading.instruction_row.ActName.{ActName}
 pub use Rattle.reg_text.specs.declared.reading.instruction_row.ActName.TheVariants.{Transfer}
-pub use Rattle.reg_text.specs.Codecs.{AreFields, Codec, Fields, IsCodec, IsRow, Row, a_date, a_figure, a_no, a_period, a_word, an_approver, any_number, factor, forms, holds_of, last, made, named_row, none, provided, row_with, tests_then, within_limits, ◌▸◌}
+pub use Rattle.reg_text.specs.Codecs.{AreFields, Codec, Fields, IsCodec, IsRow, Row, a_date, a_figure, a_no, a_period, a_word, an_approver, any_number, factor, later_factor, forms, holds_of, last, made, named_row, none, provided, row_with, tests_then, within_limits, ◌▸◌}
 pub use Rattle.reg_text.specs.Acts.{IsShared, act_fields, act_name, act_names, act_word, an_act_name, form, instruction_fields_of, said}
 pub use Rattle.reg_text.specs.FieldTests.{approver_tests, correction_tests, fault_of, figure_tests, first_cause, number_tests, when}
 pub use Rattle.reg_text.specs.Table.{IsCauseOf, said_tests, tagged_tests, tests_of}

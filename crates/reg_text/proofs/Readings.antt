@@ -3,12 +3,12 @@ use Rattle.std.proofs.Common.{◌≡◌, ℕ, ◌+◌, ◌^◌, ◌<◌, ◌≤�
 use Rattle.std.proofs.lemmas.Bool.{leb-true}
 use Rattle.std.proofs.lemmas.List.{append-nil}
 use mathlib.Core.List.{map-id}
-use Rattle.std.specs.Prelude.{All}
+use Rattle.std.specs.Prelude.{All, if◌then◌else◌}
 use Rattle.std.proofs.lemmas.List.Elements.{All-from_recursion}
 use Rattle.std.specs.List.{AllByRecursion}
-use Rattle.reg_text.proofs.Names.{IsRising, IsWithin, IsSection, SectionStandsAt, Instruction, IsShared, Cause, Tag, Version, One, Two, Record, place, is_known, Said, row, widest, items_said, scope_of, version_in, current_said, current_rows, current_in, periods_in, IsVersionOf, DraftValue, accounts_in, block_closed, nothing_read, DayValue, day_with, is_text_over, day_said, day_text, IsUserNo, IsDayNo, IsInstruction, AccountValue, IsAccount, IsBehind, IsPair, CanBeSaid, IsReading, FitsSoFar, IsDraft, next_draft, at_row, at_end, after_rows}
+use Rattle.reg_text.proofs.Names.{IsRising, IsWithin, IsSection, SectionStandsAt, Instruction, IsShared, Cause, Tag, Version, One, Two, Record, place, is_known, Said, row, widest, items_said, scope_of, version_in, current_said, current_rows, Fits, IsOfPeriods, IsYearNo, IsVersionOf, DraftValue, accounts_in, block_closed, nothing_read, DayValue, day_with, is_text_over, day_said, day_text, IsUserNo, IsDayNo, IsInstruction, AccountValue, IsAccount, IsBehind, IsPair, CanBeSaid, IsReading, FitsSoFar, IsDraft, next_draft, at_row, at_end, after_rows}
 use Rattle.reg_text.proofs.Names.{day_of_rows}
-use Rattle.reg_text.specs.Day.{day_headed, first_period}
+use Rattle.reg_text.specs.Day.{day_headed}
 use Rattle.reg_text.specs.declared.reading.tag.Tag.TheVariants as tag
 use Rattle.reg_text.proofs.ListFacts.{all-weaker}
 use Rattle.reg_text.proofs.RowLaws.{lags-fit, instruction-fits, instruction-shared}
@@ -17,12 +17,12 @@ use Rattle.reg_text.proofs.Taken.{text-taken}
 
 -- ---- what a closed draft says
 
-over-last : (last : Option Tag) → is_text_over last ≡ true → last ≡ Some tag.End
+pub over-last : (last : Option Tag) → is_text_over last ≡ true → last ≡ Some tag.End
 over-last (Some tag.End) e = refl
 over-last last e = absurd cc
 
 -- a list of one
-the-one : {X : Type 0} (xs : List X) → 1 ≤ length xs → length xs ≤ 1 → (x : X) × (xs ≡ x ∷ [])
+pub the-one : {X : Type 0} (xs : List X) → 1 ≤ length xs → length xs ≤ 1 → (x : X) × (xs ≡ x ∷ [])
 the-one [] some few = absurd (omega arith)
 the-one (x ∷ []) some few = (x, refl)
 the-one (x ∷ y ∷ xs) some few = absurd (omega arith)
@@ -33,20 +33,20 @@ current-came One current come none = (1, refl, none refl)
 current-came Two current come none = let one = come refl in (one.0, rw one.1 refl, one.1)
 
 -- the rows of the heading of a closed draft, each of which has come once, and those of the periods
-record IsHeaded (d : DraftValue) : Type 0 where
-  version : Version
-  day : ℕ × ℕ
-  current : ℕ
-  lags : Said tag.Lags
-  one_version : d.versions ≡ version ∷ []
-  one_day : d.days ≡ day ∷ []
-  one_lags : d.lags ≡ lags ∷ []
-  some_periods : 1 ≤ length d.periods
-  one_period : version ≡ One → length d.periods ≡ 1
-  said : current_said version d.current ≡ Some current
-  current_is : d.current ≡ current_rows version current
+pub record IsHeaded (d : DraftValue) : Type 0 where
+  pub version : Version
+  pub day : ℕ × ℕ
+  pub current : ℕ
+  pub lags : Said tag.Lags
+  pub one_version : d.versions ≡ version ∷ []
+  pub one_day : d.days ≡ day ∷ []
+  pub one_lags : d.lags ≡ lags ∷ []
+  pub some_periods : 1 ≤ length d.periods
+  pub one_period : version ≡ One → length d.periods ≡ 1
+  pub said : current_said version d.current ≡ Some current
+  pub current_is : d.current ≡ current_rows version current
 
-headed : (d : DraftValue) → FitsSoFar d → is_text_over d.last ≡ true → IsHeaded d
+pub headed : (d : DraftValue) → FitsSoFar d → is_text_over d.last ≡ true → IsHeaded d
 headed d h over =
     let at : place d.last ≡ 100 = ap place (over-last d.last over) in
     let of : (t : Tag) → SectionStandsAt (scope_of d).version (place d.last) (Some t, items_said t d) = λ t. at-tag (SectionStandsAt (scope_of d).version (place d.last)) d t h.stand in
@@ -83,21 +83,12 @@ headed d h over =
 each-one : {X : Type 0} (P Q : X → Type 0) → ((x : X) → P x → Q x) → (xs : List X) → AllByRecursion P xs → All Q xs
 each-one P Q follow xs h = All-from_recursion Q xs (all-weaker P Q follow xs h)
 
--- INTERIM
-first-fits : (periods : List (ℕ × ℕ)) → 1 ≤ length periods → AllByRecursion (row widest tag.Period).Fits periods → (row widest tag.Period).Fits (first_period periods)
-first-fits [] some h = absurd (omega arith)
-first-fits (p ∷ ps) some h = h.0
-
-first-only : (periods : List (ℕ × ℕ)) → 1 ≤ length periods → length periods ≤ 1 → periods ≡ (first_period periods) ∷ []
-first-only [] some few = absurd (omega arith)
-first-only (p ∷ []) some few = refl
-first-only (p ∷ q ∷ ps) some few = absurd (omega arith)
-
-current-one : (version : Version) (current : List ℕ) (n count : ℕ) → count ≤ 1 → AllByRecursion (λ (m : ℕ). IsWithin 1 count m × (m < 2 ^ 64)) current → current_said version current ≡ Some n → n ≡ 1
-current-one One current n count few h e = cc
-current-one Two [] n count few h e = absurd cc
-current-one Two (m ∷ []) n count few h e = let same : m ≡ n = cc in omega (arith, h.0.0.low, h.0.0.high, same)
-current-one Two (m ∷ k ∷ ms) n count few h e = absurd cc
+-- the current period is one of so many
+pub current-within : (version : Version) (current : List ℕ) (n count : ℕ) → 1 ≤ count → AllByRecursion (λ (m : ℕ). IsWithin 1 count m × (m < 2 ^ 64)) current → current_said version current ≡ Some n → IsWithin 1 count n
+current-within One current n count some h e = let same : 1 ≡ n = cc in rw (← same) (record { low = omega arith; high = some })
+current-within Two [] n count some h e = absurd cc
+current-within Two (m ∷ []) n count some h e = let same : m ≡ n = cc in rw (← same) h.0.0
+current-within Two (m ∷ k ∷ ms) n count some h e = absurd cc
 
 -- it says a day within the limits
 says-a-day : (d : DraftValue) (h : FitsSoFar d) (k : IsHeaded d) → CanBeSaid (day_with k.day d.periods k.current k.lags (accounts_in d) d)
@@ -105,7 +96,7 @@ says-a-day d h k =
     let scope = scope_of d in
     let of : (t : Tag) → IsSection scope (Some t, items_said t d) = λ t. at-tag (IsSection scope) d t h.within in
     let day = (rw k.one_day at (of tag.Day).fits).0 in
-    let period = first-fits d.periods k.some_periods (of tag.Period).fits in
+    let periods = of tag.Period in
     let lags = lags-fit k.lags ((rw k.one_lags at (of tag.Lags).fits).0) in
     let admins = of tag.Admin in
     let work = of tag.Work in
@@ -117,13 +108,18 @@ says-a-day d h k =
     let recorded = rw k.one_day at over.recorded in
     record {
       day = record {
-        book = record { rising = h.rising; few = omega (arith, over.few); within_limits = All-from_recursion IsAccount (accounts_in d) blocks; next = record { from_one = day.1.low; to_the_end = day.1.high }; behind = All-from_recursion (IsBehind k.day.1) (accounts_in d) recorded.closed };
+        book = record { rising = h.rising; few = omega (arith, over.few); within_limits = each-one (Fits scope None) IsAccount (λ a f. f.0) (accounts_in d) blocks; next = record { from_one = day.1.low; to_the_end = day.1.high }; behind = All-from_recursion (IsBehind k.day.1) (accounts_in d) recorded.closed };
         rules = record {
           working_days = record { rising = subst IsRising (map-id d.work) work.listed.ordered; each_day = All-from_recursion IsDayNo d.work work.fits };
           each_admin = All-from_recursion IsUserNo d.admins admins.fits;
-          from_year = period.0.0;
-          to_year = period.0.1;
-          fit = record { few_admins = admins.listed.few; admins_rise = subst IsRising (map-id d.admins) admins.listed.ordered; lags_fit = record { trusted = lags.trusted; other = lags.other; listed = lags.listed; reversal = lags.reversal }; period = leb-true _ _ period.1 };
+          each_year = each-one (row scope tag.Period).Fits (λ (p : ℕ × ℕ). IsYearNo p.0 × IsYearNo p.1) (λ p f. f.0) d.periods periods.fits;
+          fit = record {
+            few_admins = admins.listed.few;
+            admins_rise = subst IsRising (map-id d.admins) admins.listed.ordered;
+            lags_fit = record { trusted = lags.trusted; other = lags.other; listed = lags.listed; reversal = lags.reversal };
+            periods_fit = record { some = k.some_periods; few = periods.listed.few; each = all-weaker (row scope tag.Period).Fits (λ (p : ℕ × ℕ). p.0 ≤ p.1) (λ p f. leb-true p.0 p.1 f.1) d.periods periods.fits; rise = periods.listed.ordered };
+            current_fits = current-within k.version d.current k.current (length d.periods) k.some_periods (of tag.Current).fits k.said;
+          };
         };
         batch = record {
           settlement_day = day.0;
@@ -133,6 +129,7 @@ says-a-day d h k =
         };
         follows = omega arith;
       };
+      periods = each-one (Fits scope None) (IsOfPeriods (length d.periods)) (λ a f. f.1) (accounts_in d) blocks;
       shares = each-one (row scope tag.Do).Fits (λ (i : Instruction). IsShared i.act) instruction-shared d.instructions due.fits;
       pairs = each-one (row scope tag.Surrender).Fits IsPair (λ p f. f.1) d.surrender (of tag.Surrender).fits;
       pairs_rise = (of tag.Surrender).listed.ordered;
@@ -145,31 +142,15 @@ pub record Closes (d : DraftValue) : Type 0 where
   pub reading : IsReading (rows_so_far d) day
 
 -- what a draft says whose heading is this, and what it stands for
+pub said-in : (d : DraftValue) (accounts : List AccountValue) (last : Option Tag) (versions : List Version) (days : List (ℕ × ℕ)) (current : List ℕ) (lags : List (Said tag.Lags)) (version : Version) (day : ℕ × ℕ) (n : ℕ) (one : Said tag.Lags) → last ≡ Some tag.End → versions ≡ version ∷ [] → days ≡ day ∷ [] → lags ≡ one ∷ [] → current_said version current ≡ Some n
+    → (if is_text_over last then day_headed versions days (current_said (version_in versions) current) lags accounts d else None) ≡ Some (day_with day d.periods n one accounts d)
+said-in d accounts last versions days current lags version day n one over v a l said = rw (over, v, a, l, said) refl
+
 said-by : (d : DraftValue) (k : IsHeaded d) → d.last ≡ Some tag.End → day_said d ≡ Some (day_with k.day d.periods k.current k.lags (accounts_in d) d)
-said-by d k over = rw (over, k.one_day, k.one_lags) (said-in k.version d.versions k.one_version k.said) where
-  said-in : (version : Version) (versions : List Version) → versions ≡ version ∷ [] → current_said version d.current ≡ Some k.current
-      → day_headed versions (k.day ∷ []) (current_said (version_in versions) d.current) (k.lags ∷ []) (accounts_in d) d ≡ Some (day_with k.day d.periods k.current k.lags (accounts_in d) d)
-  said-in version versions one said = rw (one, said) refl
+said-by d k over = said-in d (accounts_in d) d.last d.versions d.days d.current d.lags k.version k.day k.current k.lags over k.one_version k.one_day k.one_lags k.said
 
-stands-by : (d : DraftValue) (k : IsHeaded d) → d.last ≡ Some tag.End → d.periods ≡ periods_in (day_with k.day d.periods k.current k.lags (accounts_in d) d).rules → k.current ≡ current_in (day_with k.day d.periods k.current k.lags (accounts_in d) d).rules
-    → rows_so_far (block_closed d) ≡ day_text k.version (day_with k.day d.periods k.current k.lags (accounts_in d) d)
-stands-by d k over p c = rw (over, k.one_version, k.one_day, k.current_is, k.one_lags) (rw (← p) (rw (← c) refl))
-
--- the heading of the draft with all blocks over
-closed-headed : (d : DraftValue) → IsHeaded d → IsHeaded (block_closed d)
-closed-headed d k = record {
-  version = k.version;
-  day = k.day;
-  current = k.current;
-  lags = k.lags;
-  one_version = k.one_version;
-  one_day = k.one_day;
-  one_lags = k.one_lags;
-  some_periods = k.some_periods;
-  one_period = k.one_period;
-  said = k.said;
-  current_is = k.current_is;
-}
+stands-by : (d : DraftValue) (k : IsHeaded d) → d.last ≡ Some tag.End → rows_so_far (block_closed d) ≡ day_text k.version (day_with k.day d.periods k.current k.lags (accounts_in d) d)
+stands-by d k over = rw (over, k.one_version, k.one_day, k.current_is, k.one_lags) refl
 
 -- the draft with all blocks over says the same
 pub closed-says : (d : DraftValue) → FitsSoFar d → is_text_over d.last ≡ true → day_said (block_closed d) ≡ day_said d
@@ -177,9 +158,9 @@ closed-says d h over =
     let k = headed d h over in
     let last = over-last d.last over in
     let all = ap (λ (l : List AccountValue). Some (day_with k.day d.periods k.current k.lags l d)) (append-nil (accounts_in d)) in
-    said-by (block_closed d) (closed-headed d k) last ∙ all ∙ sym (said-by d k last)
+    said-in (block_closed d) (accounts_in (block_closed d)) d.last d.versions d.days d.current d.lags k.version k.day k.current k.lags last k.one_version k.one_day k.one_lags k.said ∙ all ∙ sym (said-by d k last)
 
-version-of : (version : Version) (v : DayValue) → (version ≡ One → length (periods_in v.rules) ≡ 1) → IsVersionOf v version
+version-of : (version : Version) (v : DayValue) → (version ≡ One → length v.rules.periods ≡ 1) → IsVersionOf v version
 version-of One v one = one refl
 version-of Two v one = tt
 
@@ -188,13 +169,10 @@ closes d h over =
     let k = headed d h over in
     let last = over-last d.last over in
     let v = day_with k.day d.periods k.current k.lags (accounts_in d) d in
-    let periods = at-tag (IsSection (scope_of d)) d tag.Period h.within in
-    let only = first-only d.periods k.some_periods periods.listed.few in
-    let one = current-one k.version d.current k.current (length d.periods) periods.listed.few (at-tag (IsSection (scope_of d)) d tag.Current h.within).fits k.said in
     record {
       day = v;
       said = said-by d k last;
-      reading = record { version = k.version; is_known = version-of k.version v (λ e. refl); spelled = sym (closed-rows d h) ∙ stands-by d k last only one; fits = says-a-day d h k };
+      reading = record { version = k.version; is_known = version-of k.version v k.one_period; spelled = sym (closed-rows d h) ∙ stands-by d k last; fits = says-a-day d h k };
     }
 
 -- ---- from rows to the day

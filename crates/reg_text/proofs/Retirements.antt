@@ -16,8 +16,8 @@ sum-more : (way : Retirement) (kind : AllowanceKind) (rows : List RetirementRow)
 sum-more way kind rows x others = omega (arith, sum_by-append (amount_in way kind) rows (x ∷ others), sum_by-cons (amount_in way kind) x others)
 
 -- a row adds to no sum but its own
-other-amount : (way : Retirement) (kind : AllowanceKind) (x : RetirementRow) → (amount_in way kind x ≡ 0) ⊎ ((way ≡ x.retirement) × (kind ≡ x.kind))
-other-amount way kind x = by way x.retirement kind x.kind where
+other-amount : (way : Retirement) (kind : AllowanceKind) (x : RetirementRow) → (amount_in way kind x ≡ 0) ⊎ ((way ≡ (retirement_of x.fate)) × (kind ≡ x.kind))
+other-amount way kind x = by way (retirement_of x.fate) kind x.kind where
   by : (w r : Retirement) (k l : AllowanceKind) → (cond (is_same_retirement r w && (is_same_kind l k && not x.reversed)) x.amount 0 ≡ 0) ⊎ ((w ≡ r) × (k ≡ l))
   by Surrendered Deleted k l = inl refl
   by Deleted Surrendered k l = inl refl
@@ -38,9 +38,9 @@ fits-push rows x h left = record {
 -- a row of rows whose sums are within their limit
 pub sum-left : (rows : List RetirementRow) (x : RetirementRow) (others : List RetirementRow) → RetiredFits (rows ++ x ∷ others) → is_sum_left rows x ≡ true
 sum-left rows x others h =
-    let one = sum-more x.retirement x.kind rows x [] in
-    let all = sum-more x.retirement x.kind rows x others in
-    let most = h.at x.retirement x.kind in
+    let one = sum-more (retirement_of x.fate) x.kind rows x [] in
+    let all = sum-more (retirement_of x.fate) x.kind rows x others in
+    let most = h.at (retirement_of x.fate) x.kind in
     le-leb _ _ (omega (arith, one, all, most))
 
 -- ---- the numbers

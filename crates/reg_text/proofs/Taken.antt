@@ -5,13 +5,14 @@ use Rattle.std.specs.List.{AllByRecursion, flat_map}
 use Rattle.std.proofs.lemmas.List.Elements.{recursion_from_All}
 use Rattle.std.proofs.lemmas.Bool.{le-leb, lt-ltb}
 use Rattle.std.proofs.lemmas.List.{append-nil, map-append}
-use Rattle.reg_text.proofs.Names.{MOST_ACCOUNTS, Instruction, IsShared, MOST_RECORD, IsUserNo, IsDayNo, IsInstruction, IsRising, AccountValue, IsAccount, IsBehind, AreBelow, RetiredFits, RetirementRow, ListsValue, row_numbers, no_lists, AccountHead, IsWithin, Version, One, Two, Scope, widest, Tag, Record, tag_word, last_item, as_list, Said, row, account_head, lists_of, account_with, account_block, each_row, section_rows, all_rows, key, follows, IsOrdered, most, IsSection, DraftValue, items_said, accounts_in, account_count, nothing_read, scope_of, DayValue}
-use Rattle.reg_text.proofs.Names.{lags_in, current_rows, current_in, periods_in, day_text, current_said, IsPair, CanBeSaid, IsVersionOf, with, in_order, has_room, with_row, next_in, next_draft, after_rows}
+use Rattle.reg_text.proofs.Names.{MOST_ACCOUNTS, Instruction, IsShared, MOST_RECORD, IsUserNo, IsDayNo, IsInstruction, IsRising, AccountValue, IsAccount, IsBehind, AreBelow, RetiredFits, RetirementRow, ListsValue, row_numbers, no_lists, AccountHead, IsWithin, IsYearNo, Fits, IsOfPeriods, Correction, Version, One, Two, Scope, widest, Tag, Record, tag_word, last_item, as_list, Said, row, account_head, lists_of, account_with, account_block, each_row, section_rows, all_rows, key, follows, IsOrdered, most, IsSection, DraftValue, items_said, accounts_in, account_count, nothing_read, scope_of, DayValue}
+use Rattle.reg_text.proofs.Names.{lags_in, current_rows, day_text, current_said, IsPair, CanBeSaid, IsVersionOf, with, in_order, has_room, with_row, next_in, next_draft, after_rows}
 use Rattle.reg_text.specs.declared.reading.tag.Tag.TheVariants as tag
+use Rattle.reg_account.specs.Corrections.{LaterFits}
 use Rattle.reg_text.specs.Grammar.{row_text}
 use Rattle.reg_text.proofs.ListFacts.{all-both, all-weaker, all-rest}
 use Rattle.reg_text.proofs.GrammarLaws.{each-row, same-spelling}
-use Rattle.reg_text.proofs.RowLaws.{fit-lags, fit-account, fit-lists, fit-instruction}
+use Rattle.reg_text.proofs.RowLaws.{ArePeriodsOf, fit-lags, fit-account, fit-lists, fit-instruction}
 use Rattle.reg_text.proofs.Retirements.{below-at, sum-left}
 use Rattle.reg_text.proofs.RisingFacts.{rising-above, last_of-append}
 use Rattle.reg_text.proofs.SectionLaws.{ordered-at, room-at}
@@ -90,14 +91,35 @@ account_number a = a.number
 abbrev AreRetired : Scope → ℕ → List RetirementRow → Type 0
 AreRetired scope next rows = IsSection scope (Some tag.Retired, rows) × (AreBelow next (row_numbers rows) × RetiredFits rows)
 
--- behind the row of an account the rows of its lists are taken
-lists-taken : (d : DraftValue) (next : ℕ) (a : AccountValue) (rest : List Record) (v : DayValue) → next_in d.days ≡ Some next → IsAccount a → IsBehind next a
-    → ((last : Option Tag) → MayFollow (scope_of d).version last tag.Figure → Reach (record d { last = last; lists = lists_of a }) rest v)
-    → Reach (record d { last = Some tag.Account; lists = no_lists }) (each_row tag.User a.users ++ (each_row tag.Trusted a.trusted ++ (each_row tag.Retired a.rows ++ (each_row tag.Emissions a.emissions ++ (each_row tag.Figure a.figures ++ rest))))) v
-lists-taken d next a rest v is h behind more =
+-- the first version has no correction factors of later periods
+no-corrections : (count : ℕ) (xs : List Correction) → AllByRecursion LaterFits xs → AllByRecursion (λ (c : Correction). c.period ≤ count) xs → count ≤ 1 → xs ≡ []
+no-corrections count [] fits of few = refl
+no-corrections count (c ∷ xs) fits of few = absurd (omega (arith, fits.0.later.low, of.0))
+
+corrections-taken : (version : Version) (d : DraftValue) (a : AccountValue) (rest : List Record) (v : DayValue) → (scope_of d).version ≡ version → ArePeriodsOf (scope_of d) → Fits (scope_of d) None a
+    → ((last : Option Tag) → MayFollow (scope_of d).version last tag.User → Reach (record d { last = last; lists = record no_lists { corrections = a.corrections } }) rest v)
+    → Reach (record d { last = Some tag.Account; lists = no_lists }) (each_row tag.Correction a.corrections ++ rest) v
+corrections-taken One d a rest v is p h more =
+    let none = no-corrections (scope_of d).periods a.corrections h.0.corrections_fit.each h.1.corrections (p.one is) in
+    let then = more (Some tag.Account) refl in
+    rw none (rw none at then)
+corrections-taken Two d a rest v is p h more =
     let scope = scope_of d in
-    let fit = fit-lists scope a h in
-    let l1 : ListsValue = record no_lists { users = a.users } in
+    list-taken scope tag.Correction (λ last l. record d { last = last; lists = record no_lists { corrections = l } }) (record { version_is = λ last xs. refl; last = λ last xs. refl; list = λ last xs. refl; more = λ last xs x. refl }) (λ last xs. refl) (rw is refl) (λ l. IsSection scope (Some tag.Correction, l)) (λ l whole. whole) (λ last xs x others whole. refl)
+    a.corrections (Some tag.Account) [] rest v (rw is refl) (fit-lists scope p a h).corrections (λ last may. more last (behind-correction scope.version last is may)) where
+  behind-correction : (version : Version) (last : Option Tag) → version ≡ Two → MayFollow version last tag.Correction → MayFollow version last tag.User
+  behind-correction One last is may = absurd cc
+  behind-correction Two last is may = later Two last tag.Correction tag.User (omega arith) (omega arith) may
+
+-- behind the row of an account the rows of its lists are taken
+lists-taken : (d : DraftValue) (next : ℕ) (a : AccountValue) (rest : List Record) (v : DayValue) → next_in d.days ≡ Some next → ArePeriodsOf (scope_of d) → Fits (scope_of d) None a → IsBehind next a
+    → ((last : Option Tag) → MayFollow (scope_of d).version last tag.Figure → Reach (record d { last = last; lists = lists_of a }) rest v)
+    → Reach (record d { last = Some tag.Account; lists = no_lists }) (each_row tag.Correction a.corrections ++ (each_row tag.User a.users ++ (each_row tag.Trusted a.trusted ++ (each_row tag.Retired a.rows ++ (each_row tag.Emissions a.emissions ++ (each_row tag.Figure a.figures ++ rest)))))) v
+lists-taken d next a rest v is p h behind more =
+    let scope = scope_of d in
+    let fit = fit-lists scope p a h in
+    let l0 : ListsValue = record no_lists { corrections = a.corrections } in
+    let l1 : ListsValue = record l0 { users = a.users } in
     let l2 : ListsValue = record l1 { trusted = a.trusted } in
     let l3 : ListsValue = record l2 { rows = a.rows } in
     let l4 : ListsValue = record l3 { emissions = a.emissions } in
@@ -105,17 +127,19 @@ lists-taken d next a rest v is h behind more =
     let rows3 : List Record = section_rows (Some tag.Emissions, a.emissions) ++ rows4 in
     let rows2 : List Record = section_rows (Some tag.Retired, a.rows) ++ rows3 in
     let rows1 : List Record = section_rows (Some tag.Trusted, a.trusted) ++ rows2 in
-    list-taken scope tag.User (λ last l. record d { last = last; lists = record no_lists { users = l } }) (record { version_is = λ last xs. refl; last = λ last xs. refl; list = λ last xs. refl; more = λ last xs x. refl }) (λ last xs. refl) refl (λ l. IsSection scope (Some tag.User, l)) (λ l whole. whole) (λ last xs x others whole. room-at (most tag.User) xs x others whole.listed.few)
-    a.users (Some tag.Account) [] rows1 v refl fit.users (λ last1 may1.
+    let rows0 : List Record = section_rows (Some tag.User, a.users) ++ rows1 in
+    corrections-taken scope.version d a rows0 v refl p h (λ last0 may0.
+    list-taken scope tag.User (λ last l. record d { last = last; lists = record l0 { users = l } }) (record { version_is = λ last xs. refl; last = λ last xs. refl; list = λ last xs. refl; more = λ last xs x. refl }) (λ last xs. refl) refl (λ l. IsSection scope (Some tag.User, l)) (λ l whole. whole) (λ last xs x others whole. room-at (most tag.User) xs x others whole.listed.few)
+    a.users last0 [] rows1 v may0 fit.users (λ last1 may1.
     list-taken scope tag.Trusted (λ last l. record d { last = last; lists = record l1 { trusted = l } }) (record { version_is = λ last xs. refl; last = λ last xs. refl; list = λ last xs. refl; more = λ last xs x. refl }) (λ last xs. refl) refl (λ l. IsSection scope (Some tag.Trusted, l)) (λ l whole. whole) (λ last xs x others whole. room-at (most tag.Trusted) xs x others whole.listed.few)
     a.trusted last1 [] rows2 v (later scope.version last1 tag.User tag.Trusted (omega arith) (omega arith) may1) fit.trusted (λ last2 may2.
     list-taken scope tag.Retired (λ last l. record d { last = last; lists = record l2 { rows = l } }) (record { version_is = λ last xs. refl; last = λ last xs. refl; list = λ last xs. refl; more = λ last xs x. refl }) (λ last xs. refl) refl (AreRetired scope next) (λ l whole. whole.0)
     (λ last xs x others whole. rw (room-at (most tag.Retired) xs x others whole.0.listed.few, is, below-at next xs x others whole.1.0, sum-left xs x others whole.1.1) refl)
-    a.rows last2 [] rows3 v (later scope.version last2 tag.Trusted tag.Retired (omega arith) (omega arith) may2) (fit.rows, (behind, h.retired_fits)) (λ last3 may3.
+    a.rows last2 [] rows3 v (later scope.version last2 tag.Trusted tag.Retired (omega arith) (omega arith) may2) (fit.rows, (behind, h.0.retired_fits)) (λ last3 may3.
     list-taken scope tag.Emissions (λ last l. record d { last = last; lists = record l3 { emissions = l } }) (record { version_is = λ last xs. refl; last = λ last xs. refl; list = λ last xs. refl; more = λ last xs x. refl }) (λ last xs. refl) refl (λ l. IsSection scope (Some tag.Emissions, l)) (λ l whole. whole) (λ last xs x others whole. refl)
     a.emissions last3 [] rows4 v (later scope.version last3 tag.Retired tag.Emissions (omega arith) (omega arith) may3) fit.emissions (λ last4 may4.
     list-taken scope tag.Figure (λ last l. record d { last = last; lists = record l4 { figures = l } }) (record { version_is = λ last xs. refl; last = λ last xs. refl; list = λ last xs. refl; more = λ last xs x. refl }) (λ last xs. refl) refl (λ l. IsSection scope (Some tag.Figure, l)) (λ l whole. whole) (λ last xs x others whole. refl)
-    a.figures last4 [] rest v (later scope.version last4 tag.Emissions tag.Figure (omega arith) (omega arith) may4) fit.figures more))))
+    a.figures last4 [] rest v (later scope.version last4 tag.Emissions tag.Figure (omega arith) (omega arith) may4) fit.figures more)))))
 
 -- an account that is above the ones before it comes after the open one
 next-account : (accounts : List AccountValue) (head : Option AccountHead) (l : ListsValue) (a : AccountValue) (others : List AccountValue) → IsRising (map account_number ((accounts ++ map (account_with l) (as_list head)) ++ a ∷ others)) → follows (key tag.Account) (last_item (as_list head)) (account_head a) ≡ true
@@ -125,24 +149,24 @@ next-account accounts (Some h) l a others rises =
     rw (map-append account_number accounts (account_with l h ∷ []), last_of-append (map account_number accounts) h.number) at all
 
 pub blocks-taken : (d : DraftValue) (next : ℕ) (others : List AccountValue) (last : Option Tag) (accounts : List AccountValue) (head : Option AccountHead) (l : ListsValue) (rest : List Record) (v : DayValue) → next_in d.days ≡ Some next → MayFollow (scope_of d).version last tag.Account
-    → AllByRecursion IsAccount others → AllByRecursion (IsBehind next) others
+    → ArePeriodsOf (scope_of d) → AllByRecursion (Fits (scope_of d) None) others → AllByRecursion (IsBehind next) others
     → IsRising (map account_number ((accounts ++ map (account_with l) (as_list head)) ++ others)) → length ((accounts ++ map (account_with l) (as_list head)) ++ others) ≤ MOST_ACCOUNTS
     → ((after : Option Tag) (all : List AccountValue) (opened : Option AccountHead) (m : ListsValue) → MayFollow (scope_of d).version after tag.Account → all ++ map (account_with m) (as_list opened) ≡ (accounts ++ map (account_with l) (as_list head)) ++ others → Reach (record d { last = after; accounts = all; head = opened; lists = m }) rest v)
     → Reach (record d { last = last; accounts = accounts; head = head; lists = l }) (flat_map account_block others ++ rest) v
-blocks-taken d next [] last accounts head l rest v is may fit behind rises few more = more last accounts head l may (sym (append-nil (accounts ++ map (account_with l) (as_list head))))
-blocks-taken d next (a ∷ others) last accounts head l rest v is may fit behind rises few more =
+blocks-taken d next [] last accounts head l rest v is may p fit behind rises few more = more last accounts head l may (sym (append-nil (accounts ++ map (account_with l) (as_list head))))
+blocks-taken d next (a ∷ others) last accounts head l rest v is may p fit behind rises few more =
     let scope = scope_of d in
     let now = record d { last = last; accounts = accounts; head = head; lists = l } in
     let all = accounts_in now in
     let same : (all ++ a ∷ []) ++ others ≡ all ++ a ∷ others = append_assoc all (a ∷ []) others in
     let room : account_count now < MOST_ACCOUNTS = omega (arith, few, length-append all (a ∷ others), count-accounts accounts head l) in
     let behind_it : List Record = flat_map account_block others ++ rest in
-    let lists : List Record = each_row tag.User a.users ++ (each_row tag.Trusted a.trusted ++ (each_row tag.Retired a.rows ++ (each_row tag.Emissions a.emissions ++ (each_row tag.Figure a.figures ++ behind_it)))) in
+    let lists : List Record = each_row tag.Correction a.corrections ++ (each_row tag.User a.users ++ (each_row tag.Trusted a.trusted ++ (each_row tag.Retired a.rows ++ (each_row tag.Emissions a.emissions ++ (each_row tag.Figure a.figures ++ behind_it))))) in
     let split : flat_map account_block (a ∷ others) ++ rest ≡ row_text tag.Account (account_head a) ∷ lists = simp append_assoc in
     subst (λ (rs : List Record). Reach now rs v) (sym split)
-    (reach-row now (with tag.Account now (account_head a)) (row_text tag.Account (account_head a)) lists v (taken tag.Account now (account_head a) may (fit-account scope a fit.0) (next-account accounts head l a others rises) (lt-ltb _ _ room))
-    (lists-taken (record d { accounts = all; head = Some (account_head a) }) next a behind_it v is fit.0 behind.0 (λ last1 may1.
-    blocks-taken d next others last1 all (Some (account_head a)) (lists_of a) rest v is (later scope.version last1 tag.Figure tag.Account (omega arith) (omega arith) may1) fit.1 behind.1 (rw same rises) (rw same few) (λ after ones opened m may' equal. more after ones opened m may' (equal ∙ same)))))
+    (reach-row now (with tag.Account now (account_head a)) (row_text tag.Account (account_head a)) lists v (taken tag.Account now (account_head a) may (fit-account scope a fit.0.0) (next-account accounts head l a others rises) (lt-ltb _ _ room))
+    (lists-taken (record d { accounts = all; head = Some (account_head a) }) next a behind_it v is p fit.0 behind.0 (λ last1 may1.
+    blocks-taken d next others last1 all (Some (account_head a)) (lists_of a) rest v is (later scope.version last1 tag.Figure tag.Account (omega arith) (omega arith) may1) p fit.1 behind.1 (rw same rises) (rw same few) (λ after ones opened m may' equal. more after ones opened m may' (equal ∙ same)))))
 
 -- ---- the sections of a day
 
@@ -158,11 +182,20 @@ work-section scope v h = let days = h.day.rules.working_days in record { fits = 
 do-section : (scope : Scope) (v : DayValue) → CanBeSaid v → IsSection scope (Some tag.Do, v.batch.instructions)
 do-section scope v h = record { fits = all-both IsInstruction (λ (i : Instruction). IsShared i.act) (row scope tag.Do).Fits fit-instruction v.batch.instructions (recursion_from_All IsInstruction v.batch.instructions h.day.batch.each) (recursion_from_All (λ (i : Instruction). IsShared i.act) v.batch.instructions h.shares); listed = record { ordered = tt; few = h.day.batch.few } }
 
-accounts : (v : DayValue) → CanBeSaid v → AllByRecursion IsAccount v.book.accounts
-accounts v h = recursion_from_All IsAccount v.book.accounts h.day.book.within_limits
+both : (scope : Scope) (xs : List AccountValue) → AllByRecursion IsAccount xs → AllByRecursion (IsOfPeriods scope.periods) xs → AllByRecursion (Fits scope None) xs
+both scope [] h k = tt
+both scope (a ∷ xs) h k = ((h.0, k.0), both scope xs h.1 k.1)
 
-period-section : (scope : Scope) (v : DayValue) → CanBeSaid v → IsSection scope (Some tag.Period, periods_in v.rules)
-period-section scope v h = record { fits = (((h.day.rules.from_year, h.day.rules.to_year), le-leb _ _ h.day.rules.fit.period), tt); listed = record { ordered = λ k lt. absurd (omega arith); few = omega arith } }
+accounts : (scope : Scope) (v : DayValue) → scope.periods ≡ length v.rules.periods → CanBeSaid v → AllByRecursion (Fits scope None) v.book.accounts
+accounts scope v is h = both scope v.book.accounts (recursion_from_All IsAccount v.book.accounts h.day.book.within_limits) (rw is (recursion_from_All (IsOfPeriods (length v.rules.periods)) v.book.accounts h.periods))
+
+period-section : (scope : Scope) (v : DayValue) → CanBeSaid v → IsSection scope (Some tag.Period, v.rules.periods)
+period-section scope v h =
+    let periods = h.day.rules.fit.periods_fit in
+    record {
+      fits = all-both (λ (p : ℕ × ℕ). IsYearNo p.0 × IsYearNo p.1) (λ (p : ℕ × ℕ). p.0 ≤ p.1) (row scope tag.Period).Fits (λ p years le. (years, le-leb p.0 p.1 le)) v.rules.periods (recursion_from_All (λ (p : ℕ × ℕ). IsYearNo p.0 × IsYearNo p.1) v.rules.periods h.day.rules.each_year) periods.each;
+      listed = record { ordered = periods.rise; few = periods.few };
+    }
 
 -- in the first version one row of a period is taken, and in the second one or more
 periods-taken : (version : Version) (d : DraftValue) (periods : List (ℕ × ℕ)) (rest : List Record) (v : DayValue) → (scope_of d).version ≡ version → (version ≡ One → length periods ≡ 1) → 1 ≤ length periods → IsSection (scope_of d) (Some tag.Period, periods)
@@ -197,17 +230,17 @@ headed version v = record nothing_read {
   last = Some tag.Lags;
   versions = version ∷ [];
   days = (v.batch.day, v.book.next) ∷ [];
-  periods = periods_in v.rules;
-  current = current_rows version (current_in v.rules);
+  periods = v.rules.periods;
+  current = current_rows version v.rules.current;
   lags = lags_in v.rules ∷ [];
 }
 
-one-period : (version : Version) (v : DayValue) → IsVersionOf v version → version ≡ One → length (periods_in v.rules) ≡ 1
+one-period : (version : Version) (v : DayValue) → IsVersionOf v version → version ≡ One → length (v.rules.periods) ≡ 1
 one-period One v known e = known
 one-period Two v known e = absurd cc
 
 head-taken : (version : Version) (v : DayValue) (rest : List Record) → IsVersionOf v version → CanBeSaid v → Reach (headed version v) rest v
-    → Reach nothing_read (row_text tag.Format version ∷ row_text tag.Day (v.batch.day, v.book.next) ∷ section_rows (Some tag.Period, periods_in v.rules) ++ (section_rows (Some tag.Current, current_rows version (current_in v.rules)) ++ row_text tag.Lags (lags_in v.rules) ∷ rest)) v
+    → Reach nothing_read (row_text tag.Format version ∷ row_text tag.Day (v.batch.day, v.book.next) ∷ section_rows (Some tag.Period, v.rules.periods) ++ (section_rows (Some tag.Current, current_rows version v.rules.current) ++ row_text tag.Lags (lags_in v.rules) ∷ rest)) v
 head-taken version v rest known h more =
     let lags = h.day.rules.fit.lags_fit in
     let next_in = h.day.book.next in
@@ -215,27 +248,33 @@ head-taken version v rest known h more =
     let day : ℕ × ℕ = (v.batch.day, v.book.next) in
     let d1 = with tag.Format nothing_read version in
     let d2 = with tag.Day d1 day in
-    let d3 = record d2 { last = Some tag.Period; periods = periods_in v.rules } in
-    let rows3 : List Record = section_rows (Some tag.Current, current_rows version (current_in v.rules)) ++ row_text tag.Lags (lags_in v.rules) ∷ rest in
-    let rows2 : List Record = section_rows (Some tag.Period, periods_in v.rules) ++ rows3 in
+    let d3 = record d2 { last = Some tag.Period; periods = v.rules.periods } in
+    let rows3 : List Record = section_rows (Some tag.Current, current_rows version v.rules.current) ++ row_text tag.Lags (lags_in v.rules) ∷ rest in
+    let rows2 : List Record = section_rows (Some tag.Period, v.rules.periods) ++ rows3 in
     let rows1 : List Record = row_text tag.Day day ∷ rows2 in
     reach-row nothing_read d1 (row_text tag.Format version) rows1 v (taken tag.Format nothing_read version refl tt refl refl)
     (reach-row d1 d2 (row_text tag.Day day) rows2 v (taken tag.Day d1 day refl (h.day.batch.settlement_day, record { low = next_in.from_one; high = next_in.to_the_end }) refl refl)
-    (periods-taken version d2 (periods_in v.rules) rows3 v refl (one-period version v known) (omega arith) (period-section (scope_of d2) v h)
-    (lags-taken version d3 (current_in v.rules) (lags_in v.rules) rest v refl refl refl (record { low = omega arith; high = omega arith }) (omega arith) fits more)))
+    (periods-taken version d2 (v.rules.periods) rows3 v refl (one-period version v known) h.day.rules.fit.periods_fit.some (period-section (scope_of d2) v h)
+    (lags-taken version d3 v.rules.current (lags_in v.rules) rest v refl refl refl h.day.rules.fit.current_fits (omega (arith, h.day.rules.fit.current_fits.high, h.day.rules.fit.periods_fit.few)) fits more)))
 
 -- the instructions, each with a record number
 abbrev AreNumbered : Scope → DayValue → List (Said tag.Do) → Type 0
 AreNumbered scope v l = IsSection scope (Some tag.Do, l) × (v.book.next + length l ≤ MOST_RECORD + 1)
 
 -- what was said of the current period
-said-again : (version : Version) (v : DayValue) → IsVersionOf v version → CanBeSaid v → current_said version (current_rows version (current_in v.rules)) ≡ Some (current_in v.rules)
-said-again One v known h = refl
+said-again : (version : Version) (v : DayValue) → IsVersionOf v version → CanBeSaid v → current_said version (current_rows version v.rules.current) ≡ Some v.rules.current
+said-again One v known h =
+    let fit = h.day.rules.fit.current_fits in
+    let one : 1 ≡ v.rules.current = omega (arith, known, fit.low, fit.high) in
+    ap (λ (n : ℕ). Some n) one
 said-again Two v known h = refl
 
 whole : (version : Version) (v : DayValue) (accounts : List AccountValue) (head : Option AccountHead) (l : ListsValue) → IsVersionOf v version → CanBeSaid v → v.book.next - 1 ≡ v.batch.base → accounts ++ map (account_with l) (as_list head) ≡ v.book.accounts
     → Reach (record (headed version v) { last = Some tag.End; surrender = v.rules.surrender; admins = v.rules.admins; work = v.rules.calendar; accounts = accounts; head = head; lists = l; instructions = v.batch.instructions }) [] v
 whole version v accounts head l known h base all number = rw (said-again version v known h, all) (ap (λ (n : ℕ). Ok (record v { batch = record v.batch { base = n } })) base)
+
+periods-of : (version : Version) (v : DayValue) → IsVersionOf v version → CanBeSaid v → ArePeriodsOf (scope_of (headed version v))
+periods-of version v known h = let periods = h.day.rules.fit.periods_fit in record { some = periods.some; few = periods.few; one = λ is. let one = one-period version v known is in omega (arith, one) }
 
 pub text-taken : (version : Version) (v : DayValue) → IsVersionOf v version → CanBeSaid v → Reach nothing_read (day_text version v) v
 text-taken version v known h =
@@ -257,7 +296,7 @@ text-taken version v known h =
     v.rules.admins last1 [] rows2 v (later scope.version last1 tag.Surrender tag.Admin (omega arith) (omega arith) may1) (admin-section scope v h) (λ last2 may2.
     list-taken scope tag.Work (λ last l. record d2 { last = last; work = l }) (record { version_is = λ last xs. refl; last = λ last xs. refl; list = λ last xs. refl; more = λ last xs x. refl }) (λ last xs. refl) refl (λ l. IsSection scope (Some tag.Work, l)) (λ l whole. whole) (λ last xs x others whole. refl)
     v.rules.calendar last2 [] rows3 v (later scope.version last2 tag.Admin tag.Work (omega arith) (omega arith) may2) (work-section scope v h) (λ last3 may3.
-    blocks-taken d3 v.book.next v.book.accounts last3 [] None no_lists rows4 v refl (later scope.version last3 tag.Work tag.Account (omega arith) (omega arith) may3) (accounts v h) (recursion_from_All (IsBehind v.book.next) v.book.accounts h.day.book.behind) h.day.book.rising h.day.book.few (λ last4 accounts head lists may4 all.
+    blocks-taken d3 v.book.next v.book.accounts last3 [] None no_lists rows4 v refl (later scope.version last3 tag.Work tag.Account (omega arith) (omega arith) may3) (periods-of version v known h) (accounts scope v refl h) (recursion_from_All (IsBehind v.book.next) v.book.accounts h.day.book.behind) h.day.book.rising h.day.book.few (λ last4 accounts head lists may4 all.
     let d4 = record d3 { accounts = accounts; head = head; lists = lists } in
     let d5 = record d4 { instructions = v.batch.instructions } in
     list-taken scope tag.Do (λ last l. record d4 { last = last; instructions = l }) (record { version_is = λ last xs. refl; last = λ last xs. refl; list = λ last xs. refl; more = λ last xs x. refl }) (λ last xs. refl) refl (AreNumbered scope v) (λ l whole. whole.0) (λ last xs x others whole. rw (room-at (most tag.Do) xs x others whole.0.listed.few, le-leb (v.book.next + length xs) MOST_RECORD (omega (arith, length-append xs (x ∷ others), whole.1))) refl)

@@ -2,7 +2,7 @@
 use Rattle.std.specs.Prelude.{◌≡◌, ℕ, ◌+◌, Bool, true, ◌&&◌, nat_lt, nat_le, List, [], ◌∷◌, ◌++◌, length, Option, Some, None, Result, Ok, Err, if◌then◌else◌}
 use Rattle.reg_base.specs.declared.limits.TheConstants.{MOST_ACCOUNTS, MOST_RETIRED, MOST_INSTRUCTIONS, MOST_RECORD}
 use Rattle.reg_account.specs.declared.rows.RetirementRow.{RetirementRow}
-use Rattle.reg_account.specs.Rows.{retired_in}
+use Rattle.reg_account.specs.Rows.{retired_in, retirement_of}
 use Rattle.reg_text.specs.declared.cause.Cause.{Cause}
 use Rattle.reg_text.specs.declared.cause.Cause.TheVariants as cause
 use Rattle.reg_text.specs.declared.cause.DayFault.{DayFault}
@@ -33,6 +33,7 @@ with tag.Surrender d x = record d { last = Some tag.Surrender; surrender = d.sur
 with tag.Admin d x = record d { last = Some tag.Admin; admins = d.admins ++ x ∷ [] }
 with tag.Work d x = record d { last = Some tag.Work; work = d.work ++ x ∷ [] }
 with tag.Account d x = record (block_closed d) { last = Some tag.Account; head = Some x }
+with tag.Correction d x = record d { last = Some tag.Correction; lists = record d.lists { corrections = d.lists.corrections ++ x ∷ [] } }
 with tag.User d x = record d { last = Some tag.User; lists = record d.lists { users = d.lists.users ++ x ∷ [] } }
 with tag.Trusted d x = record d { last = Some tag.Trusted; lists = record d.lists { trusted = d.lists.trusted ++ x ∷ [] } }
 with tag.Retired d x = record d { last = Some tag.Retired; lists = record d.lists { rows = d.lists.rows ++ x ∷ [] } }
@@ -62,7 +63,7 @@ is_recorded (Some next) row = nat_lt row.number next
 
 -- with it, what was surrendered (or deleted) of its kind is within the limit
 abbrev pub is_sum_left : List RetirementRow → RetirementRow → Bool
-is_sum_left rows row = nat_le (retired_in row.retirement row.kind (rows ++ row ∷ [])) MOST_RETIRED
+is_sum_left rows row = nat_le (retired_in (retirement_of row.fate) row.kind (rows ++ row ∷ [])) MOST_RETIRED
 
 -- its section may have one more row, an instruction has a record number, and a surrender or a deletion is one of before the day, and
 -- not too much

@@ -1,13 +1,19 @@
 -- The rows of a day text: of each tag what its row says, and its fields.
-use Rattle.std.specs.Prelude.{[], ◌∷◌, ℕ, Bool, true, false, not, is_ok, nat_le, ◌+◌, Result}
+use Rattle.std.specs.Prelude.{[], ◌∷◌, ℕ, Bool, true, false, not, is_ok, nat_le, ◌+◌, ◌==◌, if◌then◌else◌, Option, Some, None, Result}
 use Rattle.reg_base.specs.declared.limits.TheConstants.{MOST_EMISSIONS, MOST_HELD, MOST_RETIRED, MOST_LAG, MOST_RECORD, FIRST_YEAR, LAST_YEAR}
 use Rattle.reg_base.specs.declared.kinds.AccountKind.{AccountKind}
 use Rattle.reg_base.specs.declared.kinds.AccountKind.TheVariants.{Total, Allocation, Operator, Aircraft, Trading}
 use Rattle.reg_base.specs.declared.kinds.AllowanceKind.{AllowanceKind}
 use Rattle.reg_base.specs.declared.instruction.Instruction.{Instruction}
+use Rattle.reg_base.specs.declared.kinds.Retirement.{Retirement}
+use Rattle.reg_base.specs.declared.kinds.Retirement.TheVariants.{Surrendered, Deleted}
+use Rattle.reg_account.specs.declared.corrections.Correction.{Correction}
 use Rattle.reg_account.specs.declared.users.Representative.{Representative}
 use Rattle.reg_account.specs.declared.trusted.TrustedEntry.{TrustedEntry}
 use Rattle.reg_account.specs.declared.rows.RetirementRow.{RetirementRow}
+use Rattle.reg_account.specs.declared.rows.Fate.{Fate}
+use Rattle.reg_account.specs.declared.rows.Fate.TheVariants as fate
+use Rattle.reg_account.specs.Rows.{retirement_of as retirement_in}
 use Rattle.reg_account.specs.declared.years.Emission.{Emission}
 use Rattle.reg_account.specs.declared.years.Figure.{Figure}
 use Rattle.reg_text.specs.declared.cause.Cause.{Cause}
@@ -18,13 +24,13 @@ use Rattle.reg_text.specs.declared.reading.account_row.AccountHead.{AccountHead}
 use Rattle.reg_text.specs.declared.reading.heading_rows.Lags.{Lags}
 use Rattle.reg_text.specs.declared.reading.scope.Version.{Version}
 use Rattle.reg_text.specs.declared.reading.scope.Scope.{Scope}
-use Rattle.reg_text.specs.Scopes.{version_word, version_of, widest}
+use Rattle.reg_text.specs.Scopes.{by_version, version_word, version_of, widest}
 use Rattle.reg_text.specs.Records.{Record}
 use Rattle.reg_text.specs.Words.{kind_word, kind_of, account_kind_word, account_kind_of, status_word, status_of, right_word, right_of, retirement_word, retirement_of, yes_no_word, yes_no_of}
 use Rattle.reg_text.specs.Tags.{tag_word}
 use Rattle.reg_text.specs.FieldTests.{when}
 use Rattle.reg_text.specs.Acts.{instruction_row}
-use Rattle.reg_text.specs.Codecs.{Codec, Fields, within_limits, a_no, a_period, factor, a_figure, a_date, a_word, none, last, ◌▸◌, made, provided, Row, row_with}
+use Rattle.reg_text.specs.Codecs.{Codec, Fields, within_limits, a_no, a_period, factor, later_factor, a_figure, a_date, a_word, none, last, maybe, ◌▸◌, made, provided, Row, row_with}
 
 -- ---- fields of one kind of row
 
@@ -96,12 +102,43 @@ user_fields = made (λ p. record { user = p.0; right = p.1 }) (λ u. (u.user, u.
 abbrev pub trusted_fields : Fields TrustedEntry
 trusted_fields = made (λ p. record { account = p.0; effective = p.1 }) (λ t. (t.account, t.effective)) (a_no ▸ last a_date)
 
--- NUMBER,WHAT,KIND,AMOUNT,DATE,REVERSED
-abbrev pub retired_fields : Fields RetirementRow
-retired_fields = made
-    (λ p. record { number = p.0; retirement = p.1.0; kind = p.1.1.0; amount = p.1.1.1.0; day = p.1.1.1.1.0; reversed = p.1.1.1.1.1 })
-    (λ r. (r.number, (r.retirement, (r.kind, (r.amount, (r.day, r.reversed))))))
-    (a_record ▸ a_word retirement_word retirement_of ▸ a_word kind_word kind_of ▸ an_amount ▸ a_date ▸ last yes_or_no)
+-- PERIOD,FACTOR
+abbrev pub correction_fields : ℕ → Fields Correction
+correction_fields periods = made (λ p. record { period = p.0; factor = p.1 }) (λ c. (c.period, c.factor)) (a_period 2 periods ▸ last later_factor)
+
+-- what became of allowances, by the word and by the period, which is left out where it is the first
+abbrev pub fate_said : Retirement → Option ℕ → Fate
+fate_said Surrendered None = fate.Surrendered 1
+fate_said Surrendered (Some period) = fate.Surrendered period
+fate_said Deleted period = fate.Deleted
+
+abbrev pub period_said : Fate → Option ℕ
+period_said (fate.Surrendered period) = if period == 1 then None else Some period
+period_said fate.Deleted = None
+
+-- NUMBER,WHAT,KIND,AMOUNT,DATE,REVERSED and PERIOD or none
+abbrev pub RowSaid : Type 0
+RowSaid = ℕ × (Retirement × (AllowanceKind × (ℕ × (ℕ × (Bool × Option ℕ)))))
+
+-- only a surrender names a period
+abbrev pub may_name : Retirement → Option ℕ → Bool
+may_name Deleted (Some period) = false
+may_name what period = true
+
+abbrev pub row_made : RowSaid → RetirementRow
+row_made p = record { number = p.0; fate = fate_said p.1.0 p.1.1.1.1.1.1; kind = p.1.1.0; amount = p.1.1.1.0; day = p.1.1.1.1.0; reversed = p.1.1.1.1.1.0 }
+
+abbrev pub row_parts : RetirementRow → RowSaid
+row_parts r = (r.number, (retirement_in r.fate, (r.kind, (r.amount, (r.day, (r.reversed, period_said r.fate))))))
+
+-- the period is one after the first, and there is no such field in the first version
+abbrev pub row_period : Scope → Fields (Option ℕ)
+row_period scope = maybe (by_version false true scope.version) (a_period 2 scope.periods)
+
+abbrev pub retired_fields : Scope → Fields RetirementRow
+retired_fields scope = made row_made row_parts
+    (provided (λ p. may_name p.1.0 p.1.1.1.1.1.1) cause.Limit
+    (a_record ▸ a_word retirement_word retirement_of ▸ a_word kind_word kind_of ▸ an_amount ▸ a_date ▸ yes_or_no ▸ row_period scope))
 
 -- YEAR,TONNES
 abbrev pub emissions_fields : Fields Emission
@@ -124,6 +161,7 @@ Said tag.Surrender = AccountKind × AllowanceKind
 Said tag.Admin = ℕ
 Said tag.Work = ℕ
 Said tag.Account = AccountHead
+Said tag.Correction = Correction
 Said tag.User = Representative
 Said tag.Trusted = TrustedEntry
 Said tag.Retired = RetirementRow
@@ -143,9 +181,10 @@ row scope tag.Surrender = row_with pair_fields
 row scope tag.Admin = row_with (last a_no)
 row scope tag.Work = row_with (last a_date)
 row scope tag.Account = row_with account_fields
+row scope tag.Correction = row_with (correction_fields scope.periods)
 row scope tag.User = row_with user_fields
 row scope tag.Trusted = row_with trusted_fields
-row scope tag.Retired = row_with retired_fields
+row scope tag.Retired = row_with (retired_fields scope)
 row scope tag.Emissions = row_with emissions_fields
 row scope tag.Figure = row_with figure_fields
 row scope tag.Do = instruction_row

@@ -1,15 +1,12 @@
 -- The versions of the format, and what earlier rows of a text decide of later ones.
 use Rattle.std.specs.Prelude.{ℕ, List, [], ◌∷◌, Result, codes}
+use Rattle.reg_base.specs.declared.limits.TheConstants.{MOST_PERIODS}
 use Rattle.reg_text.specs.declared.cause.Cause.{Cause}
 use Rattle.reg_text.specs.declared.cause.Cause.TheVariants as cause
 use Rattle.reg_text.specs.declared.reading.scope.Version.{Version}
 use Rattle.reg_text.specs.declared.reading.scope.Version.TheVariants.{One, Two}
 use Rattle.reg_text.specs.declared.reading.scope.Scope.{Scope}
 use Rattle.reg_text.specs.Words.{named}
-
--- INTERIM
-abbrev pub MOST_PERIODS : ℕ
-MOST_PERIODS = 1
 
 -- the word of a version, and the version that a field names
 abbrev pub version_word : Version → List ℕ

@@ -1,13 +1,15 @@
 -- Sections: the rows of one tag one after another, or whole blocks of accounts; their order, and how many there may be.
 use Rattle.std.specs.Prelude.{ℕ, Bool, true, ◌≤◌, nat_lt, List, [], ◌∷◌, ◌++◌, map, length, Option, option_map, Some, None}
 use Rattle.std.specs.List.{AllByRecursion, flat_map}
-use Rattle.reg_base.specs.declared.limits.TheConstants.{MOST_ADMINISTRATORS, MOST_INSTRUCTIONS, MOST_USERS, MOST_TRUSTED, MOST_ROWS}
+use Rattle.reg_base.specs.declared.limits.TheConstants.{MOST_ADMINISTRATORS, MOST_INSTRUCTIONS, MOST_PERIODS, MOST_USERS, MOST_TRUSTED, MOST_ROWS}
 use Rattle.reg_base.specs.declared.kinds.AccountKind.{AccountKind}
 use Rattle.reg_base.specs.declared.kinds.AccountKind.TheVariants.{Aircraft}
 use Rattle.reg_base.specs.declared.kinds.AllowanceKind.{AllowanceKind}
 use Rattle.reg_base.specs.declared.kinds.AllowanceKind.TheVariants.{General, Aviation}
-use Rattle.reg_text.specs.Lasts.{AreAbove}
+use Rattle.reg_base.specs.Rising.{AreAbove}
 use Rattle.reg_account.specs.Account.{AccountValue, IsAccount}
+use Rattle.reg_account.specs.declared.rows.Fate.{Fate}
+use Rattle.reg_account.specs.declared.rows.Fate.TheVariants as fate
 use Rattle.reg_account.specs.Lists.{ListsValue}
 use Rattle.reg_text.specs.declared.reading.account_row.AccountHead.{AccountHead}
 use Rattle.reg_text.specs.declared.reading.tag.Tag.{Tag}
@@ -15,7 +17,6 @@ use Rattle.reg_text.specs.declared.reading.tag.Tag.TheVariants as tag
 use Rattle.reg_text.specs.Records.{Record}
 use Rattle.reg_text.specs.Lasts.{is_above}
 use Rattle.reg_text.specs.declared.reading.scope.Scope.{Scope}
-use Rattle.reg_text.specs.Scopes.{MOST_PERIODS}
 use Rattle.reg_text.specs.Grammar.{Said, row, row_text}
 
 -- ---- an account's block
@@ -26,11 +27,11 @@ account_head a = record { number = a.number; kind = a.kind; holder = a.holder; s
 
 -- and what its lists have
 abbrev pub lists_of : AccountValue → ListsValue
-lists_of a = record { users = a.users; trusted = a.trusted; rows = a.rows; emissions = a.emissions; figures = a.figures }
+lists_of a = record { corrections = a.corrections; users = a.users; trusted = a.trusted; rows = a.rows; emissions = a.emissions; figures = a.figures }
 
 -- the account of this row, with these lists
 abbrev pub account_with : ListsValue → AccountHead → AccountValue
-account_with l h = record { number = h.number; kind = h.kind; holder = h.holder; status = h.status; outside = h.outside; waiver = h.waiver; correction = h.correction; held = h.held; users = l.users; trusted = l.trusted; rows = l.rows; emissions = l.emissions; figures = l.figures }
+account_with l h = record { number = h.number; kind = h.kind; holder = h.holder; status = h.status; outside = h.outside; waiver = h.waiver; correction = h.correction; held = h.held; corrections = l.corrections; users = l.users; trusted = l.trusted; rows = l.rows; emissions = l.emissions; figures = l.figures }
 
 -- a row with this tag for each of these
 abbrev pub each_row : (t : Tag) → List (Said t) → List Record
@@ -38,7 +39,7 @@ each_row t xs = flat_map (λ x. row_text t x ∷ []) xs
 
 -- the rows of an account: its own, and then those of its lists
 abbrev pub account_block : AccountValue → List Record
-account_block a = row_text tag.Account (account_head a) ∷ each_row tag.User a.users ++ (each_row tag.Trusted a.trusted ++ (each_row tag.Retired a.rows ++ (each_row tag.Emissions a.emissions ++ each_row tag.Figure a.figures)))
+account_block a = row_text tag.Account (account_head a) ∷ each_row tag.Correction a.corrections ++ (each_row tag.User a.users ++ (each_row tag.Trusted a.trusted ++ (each_row tag.Retired a.rows ++ (each_row tag.Emissions a.emissions ++ each_row tag.Figure a.figures))))
 
 -- ---- sections
 
@@ -87,6 +88,7 @@ key tag.Surrender = by pair_place
 key tag.Admin = by (λ n. n)
 key tag.Work = by (λ day. day)
 key tag.Account = by (λ h. h.number)
+key tag.Correction = by (λ c. c.period)
 key tag.User = by (λ u. u.user)
 key tag.Trusted = by (λ t. t.account)
 key tag.Retired = by (λ r. r.number)
@@ -131,8 +133,18 @@ pub record IsList (t : Tag) (xs : List (Said t)) : Type 0 where
   pub ordered : IsOrdered (key t) xs
   pub few : AreAtMost (most t) (length xs)
 
+-- a surrender for one of so many periods
+abbrev pub FateIsOf : ℕ → Fate → Type 0
+FateIsOf count (fate.Surrendered period) = period ≤ count
+FateIsOf count fate.Deleted = Unit {0}
+
+-- the correction factors and the surrenders of an account are for so many periods at most
+pub record IsOfPeriods (count : ℕ) (a : AccountValue) : Type 0 where
+  pub corrections : AllByRecursion (λ c. c.period ≤ count) a.corrections
+  pub rows : AllByRecursion (λ row. FateIsOf count row.fate) a.rows
+
 abbrev pub Fits : Scope → (part : Option Tag) → Item part → Type 0
-Fits scope None a = IsAccount a
+Fits scope None a = IsAccount a × IsOfPeriods scope.periods a
 Fits scope (Some t) x = (row scope t).Fits x
 
 abbrev pub Lists : (part : Option Tag) → List (Item part) → Type 0

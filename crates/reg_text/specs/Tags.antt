@@ -4,7 +4,7 @@ use Rattle.reg_text.specs.declared.cause.Cause.{Cause}
 use Rattle.reg_text.specs.declared.cause.Cause.TheVariants as cause
 use Rattle.reg_text.specs.declared.reading.tag.Rule.{Rule}
 use Rattle.reg_text.specs.declared.reading.tag.Tag.{Tag}
-use Rattle.reg_text.specs.declared.reading.tag.Tag.TheVariants.{Format, Day, Period, Current, Lags, Surrender, Admin, Work, Account, User, Trusted, Retired, Emissions, Figure, Do, End}
+use Rattle.reg_text.specs.declared.reading.tag.Tag.TheVariants.{Format, Day, Period, Current, Lags, Surrender, Admin, Work, Account, Correction, User, Trusted, Retired, Emissions, Figure, Do, End}
 use Rattle.reg_text.specs.declared.reading.scope.Version.{Version}
 use Rattle.reg_text.specs.Causes.{◌>>=◌, test}
 use Rattle.reg_text.specs.Words.{named}
@@ -12,7 +12,7 @@ use Rattle.reg_text.specs.Scopes.{by_version}
 
 -- all tags, frequent ones first
 abbrev pub all_tags : List Tag
-all_tags = Account ∷ User ∷ Trusted ∷ Retired ∷ Emissions ∷ Figure ∷ Do ∷ Work ∷ Admin ∷ Surrender ∷ Format ∷ Day ∷ Period ∷ Current ∷ Lags ∷ End ∷ []
+all_tags = Account ∷ User ∷ Trusted ∷ Retired ∷ Emissions ∷ Figure ∷ Do ∷ Correction ∷ Work ∷ Admin ∷ Surrender ∷ Format ∷ Day ∷ Period ∷ Current ∷ Lags ∷ End ∷ []
 
 -- the place of a row with a tag, between which places the row before it stands in a version, and the word of the tag
 pub record TagRow : Type 0 where
@@ -42,6 +42,7 @@ tag_row Surrender = tag_at 50 (between 40 50) (codes "surrender")
 tag_row Admin = tag_at 60 (between 40 60) (codes "admin")
 tag_row Work = tag_at 70 (between 40 70) (codes "work")
 tag_row Account = tag_at 80 (between 40 89) (codes "account")
+tag_row Correction = tag_at 81 (by_version nowhere (80, 81)) (codes "correction")
 tag_row User = tag_at 82 (between 80 82) (codes "user")
 tag_row Trusted = tag_at 83 (between 80 83) (codes "trusted")
 tag_row Retired = tag_at 84 (between 80 84) (codes "retired")

@@ -31,6 +31,8 @@ pub enum Tag {
     Work,
     /// An account.
     Account,
+    /// The account's correction factor for a later period.
+    Correction,
     /// A representative of the account.
     User,
     /// An entry of the account's trusted account list.
@@ -61,6 +63,7 @@ macro_rules! tags {
             Emissions 85 (80 85) (80 85) b"emissions",
             Figure 86 (80 86) (80 86) b"figure",
             Do 90 (40 90) (40 90) b"do",
+            Correction 81 (101 0) (80 81) b"correction",
             Work 70 (40 70) (40 70) b"work",
             Admin 60 (40 60) (40 60) b"admin",
             Surrender 50 (40 50) (40 50) b"surrender",

@@ -4,7 +4,7 @@ ghost use Rattle.std.specs.Prelude.{◌≡◌, ◌+◌, ◌<◌, ◌≤◌, ◌&
 ghost use Rattle.reg_base.specs.declared.limits.TheConstants.{MOST_ACCOUNTS, MOST_RETIRED, MOST_INSTRUCTIONS, MOST_RECORD, MOST_ROWS};
 ghost use Rattle.csv.specs.Records.{fields_of};
 ghost use Rattle.reg_base.specs.Rising.{IsRising};
-ghost use Rattle.reg_account.specs.Rows.{retired_in};
+ghost use Rattle.reg_account.specs.Rows.{retired_in, retirement_of};
 ghost use Rattle.reg_book.specs.Book.{has_row_ahead, with_account};
 ghost use Rattle.reg_text.specs.Lasts.{as_list};
 ghost use Rattle.reg_text.specs.Drafts.{draft_of, block_closed};
@@ -15,8 +15,8 @@ ghost use Rattle.reg_text.specs.declared.reading.tag.Tag.TheVariants as tag;
 use crate::cause::{Cause, RowError};
 use crate::reading::account_row::{make_account, read_account_row};
 use crate::reading::block_rows::{
-    read_emissions_row, read_figure_row, read_representative_row, read_retired_row,
-    read_trusted_row,
+    read_correction_row, read_emissions_row, read_figure_row, read_representative_row,
+    read_retired_row, read_trusted_row,
 };
 use crate::reading::draft::Draft;
 use crate::reading::heading_rows::{
@@ -29,14 +29,11 @@ use crate::reading::tag::{Tag, read_tag};
 use csv::ByteRecord;
 use reg_account::{Account, Lists, RetirementRow};
 use reg_base::{
-    Day, Instruction, MOST_ACCOUNTS, MOST_ADMINISTRATORS, MOST_INSTRUCTIONS, MOST_RECORD, MOST_RETIRED,
-    MOST_ROWS, MOST_TRUSTED, MOST_USERS, NoMemory,
+    Day, Instruction, MOST_ACCOUNTS, MOST_ADMINISTRATORS, MOST_INSTRUCTIONS, MOST_PERIODS, MOST_RECORD,
+    MOST_RETIRED, MOST_ROWS, MOST_TRUSTED, MOST_USERS, NoMemory,
 };
 use reg_book::{BookDraft, BookFault};
 use std::alloc::Global;
-
-// INTERIM
-const MOST_PERIODS: u8 = 1;
 
 #[tactic(auto, unfolding(crate::specs::Faults::with_row))]
 fn take_format(draft: &mut Draft, row: &ByteRecord) -> Result<(), RowError>
@@ -204,6 +201,21 @@ fn take_account(draft: &mut Draft, row: &ByteRecord) -> Result<(), RowError>
 }
 
 #[tactic(auto, unfolding(crate::specs::Faults::with_row))]
+fn take_correction(draft: &mut Draft, row: &ByteRecord) -> Result<(), RowError>
+    ensures { Takes (draft_of draft.new) result (with_row tag.Correction (draft_of draft.old) (fields_of row.now)) }
+{
+    let correction = read_correction_row(draft.scope(), row)?;
+    if let Some(before) = draft.lists.corrections().last().copied() {
+        if correction.period <= before.period {
+            return Err(RowError::Fault(Cause::Order));
+        }
+    }
+    draft.lists.push_correction(correction)?;
+    draft.last = Some(Tag::Correction);
+    Ok(())
+}
+
+#[tactic(auto, unfolding(crate::specs::Faults::with_row))]
 fn take_user(draft: &mut Draft, row: &ByteRecord) -> Result<(), RowError>
     ensures { Takes (draft_of draft.new) result (with_row tag.User (draft_of draft.old) (fields_of row.now)) }
 {
@@ -248,10 +260,10 @@ fn counted(row: RetirementRow) -> u64
 
 // Whether what was surrendered (or deleted) of a kind is within the limit with this row.
 fn is_sum_left(lists: &Lists, row: RetirementRow) -> bool
-    requires { retired_in row.retirement row.kind lists.now.rows ≤ MOST_RETIRED }
+    requires { retired_in (retirement_of row.fate) row.kind lists.now.rows ≤ MOST_RETIRED }
     ensures { result ≡ is_sum_left lists.now.rows row }
 {
-    lists.sum(row.retirement, row.kind) + u128::from(counted(row)) <= u128::from(MOST_RETIRED)
+    lists.sum(row.fate.retirement(), row.kind) + u128::from(counted(row)) <= u128::from(MOST_RETIRED)
 }
 
 // Whether the number of a row is below the next one, if that is known.
@@ -266,7 +278,7 @@ fn is_recorded(day: Option<(Day, u64)>, row: &RetirementRow) -> bool
 
 // Whether there is a place for one more row, its number is below the next one, and the sum is within the limit with it.
 fn has_row_room(lists: &Lists, day: Option<(Day, u64)>, row: RetirementRow) -> bool
-    requires { retired_in row.retirement row.kind lists.now.rows ≤ MOST_RETIRED }
+    requires { retired_in (retirement_of row.fate) row.kind lists.now.rows ≤ MOST_RETIRED }
     ensures { result ≡ (nat_lt (length lists.now.rows) MOST_ROWS && (is_recorded (next_in (as_list day)) row && is_sum_left lists.now.rows row)) }
 {
     lists.rows().len() < MOST_ROWS && (is_recorded(day, &row) && is_sum_left(lists, row))
@@ -277,7 +289,7 @@ fn take_retired(draft: &mut Draft, row: &ByteRecord) -> Result<(), RowError>
     requires { IsDraft (draft_of draft.old) }
     ensures { Takes (draft_of draft.new) result (with_row tag.Retired (draft_of draft.old) (fields_of row.now)) }
 {
-    let retired = read_retired_row(row)?;
+    let retired = read_retired_row(draft.scope(), row)?;
     if let Some(before) = draft.lists.rows().last().copied() {
         if retired.number <= before.number {
             return Err(RowError::Fault(Cause::Order));
@@ -391,6 +403,7 @@ pub(crate) fn take_row(alloc: Global, draft: &mut Draft, row: &ByteRecord) -> Re
         Tag::Admin => take_admin(draft, row),
         Tag::Work => take_work(draft, row),
         Tag::Account => take_account(draft, row),
+        Tag::Correction => take_correction(draft, row),
         Tag::User => take_user(draft, row),
         Tag::Trusted => take_trusted(draft, row),
         Tag::Retired => take_retired(draft, row),

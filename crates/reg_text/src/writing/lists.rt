@@ -1,12 +1,48 @@
 //! Writing the rows of an account's lists.
 
+ghost use Rattle.std.specs.Prelude.{◌≡◌, ◌+◌, ◌≤◌, length};
+ghost use Rattle.reg_text.specs.declared.writing.row.TheConstants.{ROOM, MOST_FIELD};
+ghost use Rattle.reg_text.specs.Plain.{with_commas};
+ghost use Rattle.reg_text.specs.Scopes.{widest};
+ghost use Rattle.reg_text.specs.Grammar.{period_said, row_period};
+
 use crate::fields::words::Word;
 use crate::reading::tag::Tag;
 use crate::writing::row::RowText;
 use crate::writing::rows::{Rows, Tagged, put_row};
 use crate::writing::text::Text;
-use reg_account::{Emission, Figure, Representative, RetirementRow, TrustedEntry};
+use reg_account::{
+    Correction, Emission, Fate, Figure, Representative, RetirementRow, TrustedEntry,
+};
 use reg_base::NoMemory;
+
+impl Tagged for Correction {
+    ghost use Rattle.reg_text.specs.declared.reading.tag.Tag.TheVariants as tag;
+
+    ghost tag = { tag.Correction };
+
+    ghost said = { λ correction. correction };
+
+    fn tag_word() -> &'static [u8] {
+        Tag::Correction.word()
+    }
+
+    fn put_fields(&self, row: &mut RowText) {
+        row.signed(self.factor);
+        row.number(self.period.into());
+    }
+}
+
+impl Rows for Correction {
+    ghost use Rattle.std.specs.Prelude.{[], ◌∷◌};
+    ghost use Rattle.reg_text.specs.Spelling.{correction_row};
+
+    ghost rows = { λ value. correction_row value ∷ [] };
+
+    fn put(&self, text: &mut Text, row: &mut RowText) -> Result<(), NoMemory> {
+        put_row(text, row, self)
+    }
+}
 
 impl Tagged for Representative {
     ghost use Rattle.reg_text.specs.declared.reading.tag.Tag.TheVariants as tag;
@@ -64,6 +100,33 @@ impl Rows for TrustedEntry {
     }
 }
 
+// The period that the row of a surrender names: one after the first.
+fn period_of(fate: Fate) -> Option<u8>
+    ensures { result ≡ period_said fate }
+{
+    match fate {
+        Fate::Surrendered { period } => {
+            if period == 1 {
+                None
+            } else {
+                Some(period)
+            }
+        }
+        Fate::Deleted => None,
+    }
+}
+
+// Adds the period that the row of a surrender or a deletion names, if it names one.
+fn put_period(row: &mut RowText, fate: Fate)
+    requires { length row.old + MOST_FIELD ≤ ROOM }
+    ensures text { row.new ≡ with_commas ((row_period widest).spell (period_said fate)) row.old }
+    ensures short { length row.new ≤ length row.old + MOST_FIELD }
+{
+    if let Some(period) = period_of(fate) {
+        row.number(period.into());
+    }
+}
+
 impl Tagged for RetirementRow {
     ghost use Rattle.reg_text.specs.declared.reading.tag.Tag.TheVariants as tag;
 
@@ -76,11 +139,12 @@ impl Tagged for RetirementRow {
     }
 
     fn put_fields(&self, row: &mut RowText) {
+        put_period(row, self.fate);
         row.word(self.reversed.word());
         row.date(self.day);
         row.number(self.amount);
         row.word(self.kind.word());
-        row.word(self.retirement.word());
+        row.word(self.fate.retirement().word());
         row.number(self.number.get());
     }
 }

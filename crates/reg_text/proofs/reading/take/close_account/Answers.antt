@@ -3,7 +3,7 @@ use Rattle.std.specs.List.{AllByRecursion}
 use Rattle.reg_text.proofs.Names.{IsRising, IsSection, AccountValue, AccountHead, as_list, row, account_with, draft_of, scope_of}
 use Rattle.reg_text.specs.declared.reading.tag.Tag.TheVariants as tag
 use Rattle.reg_text.proofs.RowLaws.{account-fits}
-use Rattle.reg_text.proofs.DraftSteps.{at-tag, day-known, lists-within}
+use Rattle.reg_text.proofs.DraftSteps.{at-tag, day-known, lists-within, periods-known}
 use Rattle.reg_text.proofs.Retirements.{not-ahead, opened-below}
 use Rattle.reg_text.proofs.reading.take.close_account.Goals as goal
 
@@ -12,8 +12,9 @@ make_account-account-requires c =
     let d = draft_of c.args.draft.now in
     let scope = scope_of d in
     let head = at-tag (IsSection scope) d tag.Account c.requires.within in
-    let fits = account-fits scope d.lists c.in-Some.head (subst (λ (o : Option AccountHead). AllByRecursion (row scope tag.Account).Fits (as_list o)) c.in-Some.is head.fits).0 (lists-within d c.requires.within) c.requires.retired in
-    rw c.take.ensures.taken fits
+    let periods = periods-known d c.in-Some.head c.requires.within c.requires.stand c.in-Some.is in
+    let fits = account-fits scope periods d.lists c.in-Some.head (subst (λ (o : Option AccountHead). AllByRecursion (row scope tag.Account).Fits (as_list o)) c.in-Some.is head.fits).0 (lists-within d c.requires.within) c.requires.retired in
+    rw c.take.ensures.taken fits.0
 
 pub insert_account-requires-clause-rising : goal.insert_account-requires-clause-rising
 insert_account-requires-clause-rising c =
