@@ -135,10 +135,11 @@ row_parts r = (r.number, (retirement_in r.fate, (r.kind, (r.amount, (r.day, (r.r
 abbrev pub row_period : Scope → Fields (Option ℕ)
 row_period scope = maybe (by_version false true scope.version) (a_period 2 scope.periods)
 
+abbrev pub row_fields : Scope → Fields RowSaid
+row_fields scope = provided (λ p. may_name p.1.0 p.1.1.1.1.1.1) cause.Limit (a_record ▸ a_word retirement_word retirement_of ▸ a_word kind_word kind_of ▸ an_amount ▸ a_date ▸ yes_or_no ▸ row_period scope)
+
 abbrev pub retired_fields : Scope → Fields RetirementRow
-retired_fields scope = made row_made row_parts
-    (provided (λ p. may_name p.1.0 p.1.1.1.1.1.1) cause.Limit
-    (a_record ▸ a_word retirement_word retirement_of ▸ a_word kind_word kind_of ▸ an_amount ▸ a_date ▸ yes_or_no ▸ row_period scope))
+retired_fields scope = made row_made row_parts (row_fields scope)
 
 -- YEAR,TONNES
 abbrev pub emissions_fields : Fields Emission
