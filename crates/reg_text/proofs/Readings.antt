@@ -3,10 +3,10 @@ use Rattle.std.proofs.Common.{◌≡◌, ℕ, ◌+◌, ◌^◌, ◌<◌, ◌≤�
 use Rattle.std.proofs.lemmas.Bool.{leb-true}
 use Rattle.std.proofs.lemmas.List.{append-nil}
 use mathlib.Core.List.{map-id}
-use Rattle.std.specs.Prelude.{All, if◌then◌else◌}
+use Rattle.std.specs.Prelude.{All, unwrap_or, if◌then◌else◌}
 use Rattle.std.proofs.lemmas.List.Elements.{All-from_recursion}
 use Rattle.std.specs.List.{AllByRecursion}
-use Rattle.reg_text.proofs.Names.{IsRising, IsWithin, IsSection, SectionStandsAt, Instruction, IsShared, Cause, Tag, Version, One, Two, Record, place, is_known, Said, row, widest, items_said, scope_of, version_in, current_said, current_rows, Fits, IsOfPeriods, IsYearNo, IsVersionOf, DraftValue, accounts_in, block_closed, nothing_read, DayValue, day_with, is_text_over, day_said, day_text, IsUserNo, IsDayNo, IsInstruction, AccountValue, IsAccount, IsBehind, IsPair, CanBeSaid, IsReading, FitsSoFar, IsDraft, next_draft, at_row, at_end, after_rows}
+use Rattle.reg_text.proofs.Names.{IsRising, IsWithin, IsSection, SectionStandsAt, Instruction, IsShared, Cause, Tag, Version, One, Two, Record, place, is_known, Said, row, widest, as_list, items_said, scope_of, version_in, current_said, current_rows, Fits, IsOfPeriods, IsYearNo, IsVersionOf, DraftValue, accounts_in, block_closed, nothing_read, DayValue, day_with, is_text_over, day_said, day_text, IsUserNo, IsDayNo, IsInstruction, AccountValue, IsAccount, IsBehind, IsPair, CanBeSaid, IsReading, FitsSoFar, IsDraft, next_draft, at_row, at_end, after_rows}
 use Rattle.reg_text.proofs.Names.{day_of_rows}
 use Rattle.reg_text.specs.Day.{day_headed}
 use Rattle.reg_text.specs.declared.reading.tag.Tag.TheVariants as tag
@@ -91,7 +91,7 @@ current-within Two (m ∷ []) n count some h e = let same : m ≡ n = cc in rw (
 current-within Two (m ∷ k ∷ ms) n count some h e = absurd cc
 
 -- it says a day within the limits
-says-a-day : (d : DraftValue) (h : FitsSoFar d) (k : IsHeaded d) → CanBeSaid (day_with k.day d.periods k.current k.lags (accounts_in d) d)
+pub says-a-day : (d : DraftValue) (h : FitsSoFar d) (k : IsHeaded d) → CanBeSaid (day_with k.day d.periods k.current k.lags (accounts_in d) d)
 says-a-day d h k =
     let scope = scope_of d in
     let of : (t : Tag) → IsSection scope (Some t, items_said t d) = λ t. at-tag (IsSection scope) d t h.within in
@@ -174,6 +174,19 @@ closes d h over =
       said = said-by d k last;
       reading = record { version = k.version; is_known = version-of k.version v k.one_period; spelled = sym (closed-rows d h) ∙ stands-by d k last; fits = says-a-day d h k };
     }
+
+-- ---- the parts of a closed draft
+
+pub some-of : {X : Type 0} (o : Option X) (x : X) → as_list o ≡ x ∷ [] → o ≡ Some x
+some-of None x e = absurd cc
+some-of (Some y) x e = cc
+
+-- the current period is that of its row, or the first where the version has no such row
+pub current-or : (version : Version) (o : Option ℕ) (n : ℕ) → as_list o ≡ current_rows version n → current_said version (as_list o) ≡ Some (unwrap_or o 1)
+current-or One None n e = refl
+current-or One (Some m) n e = absurd cc
+current-or Two None n e = absurd cc
+current-or Two (Some m) n e = refl
 
 -- ---- from rows to the day
 
