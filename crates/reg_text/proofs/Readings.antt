@@ -69,15 +69,17 @@ headed d h over =
       said = rw (sym same) c.1;
       current_is = rw (sym same) c.2;
     } where
-  once-lags : (version : Version) (d : DraftValue) → SectionStandsAt version (place d.last) (Some tag.Lags, d.lags) → length d.lags ≤ 1
-  once-lags One d s = s.once refl
-  once-lags Two d s = s.once refl
-  once-current : (version : Version) (d : DraftValue) → is_known version tag.Current ≡ true → SectionStandsAt version (place d.last) (Some tag.Current, d.current) → length d.current ≤ 1
-  once-current One d known s = absurd cc
-  once-current Two d known s = s.once refl
-  once-period : (version : Version) (d : DraftValue) → version ≡ One → SectionStandsAt version (place d.last) (Some tag.Period, d.periods) → length d.periods ≤ 1
-  once-period One d is s = s.once refl
-  once-period Two d is s = absurd cc
+      once-lags : (version : Version) (d : DraftValue) → SectionStandsAt version (place d.last) (Some tag.Lags, d.lags) → length d.lags ≤ 1
+      once-lags One d s = s.once refl
+      once-lags Two d s = s.once refl
+
+      once-current : (version : Version) (d : DraftValue) → is_known version tag.Current ≡ true → SectionStandsAt version (place d.last) (Some tag.Current, d.current) → length d.current ≤ 1
+      once-current One d known s = absurd cc
+      once-current Two d known s = s.once refl
+
+      once-period : (version : Version) (d : DraftValue) → version ≡ One → SectionStandsAt version (place d.last) (Some tag.Period, d.periods) → length d.periods ≤ 1
+      once-period One d is s = s.once refl
+      once-period Two d is s = absurd cc
 
 -- what is said of each value of a section is said of each in a day
 each-one : {X : Type 0} (P Q : X → Type 0) → ((x : X) → P x → Q x) → (xs : List X) → AllByRecursion P xs → All Q xs
