@@ -1,10 +1,11 @@
 //! Writing the rows of an account's lists.
 
 ghost use Rattle.std.specs.Prelude.{◌≡◌, ◌+◌, ◌≤◌, length};
+ghost use Rattle.reg_account.specs.declared.rows.Fate.TheVariants as fate;
 ghost use Rattle.reg_text.specs.declared.writing.row.TheConstants.{ROOM, MOST_FIELD};
 ghost use Rattle.reg_text.specs.Plain.{with_commas};
 ghost use Rattle.reg_text.specs.Scopes.{widest};
-ghost use Rattle.reg_text.specs.Grammar.{period_said, row_period};
+ghost use Rattle.reg_text.specs.Grammar.{period_said, retired_period};
 
 use crate::fields::words::Word;
 use crate::reading::tag::Tag;
@@ -100,18 +101,19 @@ impl Rows for TrustedEntry {
     }
 }
 
-// The period that the row of a surrender names: one after the first.
+// The period, unless it is the first, which no row names.
+fn named_period(period: u8) -> Option<u8>
+    ensures { result ≡ period_said (fate.Surrendered period) }
+{
+    if period == 1 { None } else { Some(period) }
+}
+
+// The period that the row of a surrender or a deletion names.
 fn period_of(fate: Fate) -> Option<u8>
     ensures { result ≡ period_said fate }
 {
     match fate {
-        Fate::Surrendered { period } => {
-            if period == 1 {
-                None
-            } else {
-                Some(period)
-            }
-        }
+        Fate::Surrendered { period } => named_period(period),
         Fate::Deleted => None,
     }
 }
@@ -119,7 +121,7 @@ fn period_of(fate: Fate) -> Option<u8>
 // Adds the period that the row of a surrender or a deletion names, if it names one.
 fn put_period(row: &mut RowText, fate: Fate)
     requires { length row.old + MOST_FIELD ≤ ROOM }
-    ensures text { row.new ≡ with_commas ((row_period widest).spell (period_said fate)) row.old }
+    ensures text { row.new ≡ with_commas ((retired_period widest).spell (period_said fate)) row.old }
     ensures short { length row.new ≤ length row.old + MOST_FIELD }
 {
     if let Some(period) = period_of(fate) {

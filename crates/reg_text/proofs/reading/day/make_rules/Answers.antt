@@ -16,8 +16,8 @@ unreachable-requires-in_default-new c =
       other_lag = lags.other;
       list_lag = lags.list;
       reversal_window = lags.reversal;
-      first_year = c.args.first_year;
-      last_year = c.args.last_year;
+      periods = c.args.periods.items;
+      current = c.args.current;
     } in
     no-fault _ _ (ap result_err (sym c.in_default-new.is) ∙ c.new-2.ensures.fault)
-    (c.fit_rules_have_no_fault.ensures rules (record { few_admins = c.requires.admins_few; admins_rise = c.requires.admins_rise; lags_fit = record { trusted = fits.trusted; other = fits.other; listed = fits.listed; reversal = fits.reversal }; period = c.requires.period }))
+    (c.fit_rules_have_no_fault.ensures rules (record { few_admins = c.requires.admins_few; admins_rise = c.requires.admins_rise; lags_fit = record { trusted = fits.trusted; other = fits.other; listed = fits.listed; reversal = fits.reversal }; periods_fit = c.requires.periods; current_fits = c.requires.current }))
