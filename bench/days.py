@@ -1,12 +1,13 @@
 #!/usr/bin/env python3
 """Writes a large day text: accounts, and transfers between different pairs of them.
 
-usage: days.py [--accounts N] [--instructions N] [--years N] > day.csv
+usage: days.py [--accounts N] [--instructions N] [--years N] [--periods N] > day.csv
 
 The same arguments always give the same bytes. Each account has a user who proposes and one who
 approves. Each transfer is done: it is due, and the account holds enough. The pairs are all different
 if there are twice as many accounts as instructions; with fewer accounts they repeat. With --years,
-each operator and aircraft operator has that many surrenders, emissions and determined figures.
+each operator and aircraft operator has that many surrenders, emissions and determined figures. With --periods
+above 1 the text is in version 2: each period but the last is one year, and each surrender is of the period of its year.
 """
 
 import argparse
@@ -23,7 +24,8 @@ FIRST_YEAR = 2021
 # The limits of a day text, and what is written where nothing is said.
 FEWEST_ACCOUNTS, MOST_ACCOUNTS = 2, 100_000
 MOST_INSTRUCTIONS = 16_384
-MOST_YEARS = 10  # those of the period
+MOST_YEARS = 10  # those of all periods together
+MOST_PERIODS = 8
 
 
 def number(index):
@@ -41,11 +43,15 @@ def amount(place):
     return 1 + place * 613 % 1_000
 
 
-def heading():
-    """The rows before the accounts. Every weekday of 2025 is a working day."""
-    yield "format,1"
+def heading(periods):
+    """The rows before the accounts. Every weekday of 2025 is a working day. The last period is the current one."""
+    yield f"format,{1 if periods == 1 else 2}"
     yield f"day,{SETTLEMENT_DAY},{FIRST_RECORD}"
-    yield "period,2021,2030"
+    for place in range(periods - 1):
+        yield f"period,{FIRST_YEAR + place},{FIRST_YEAR + place}"
+    yield f"period,{FIRST_YEAR + periods - 1},{FIRST_YEAR + MOST_YEARS - 1}"
+    if periods > 1:
+        yield f"current,{periods}"
     yield "lags,0,2,2,60"
     first = datetime.date(2025, 1, 1)
     for days in range(365):
@@ -83,11 +89,18 @@ def surrendered(place):
     return 10_000 + 37 * place
 
 
-def lists(index, years):
+def of_period(place, periods):
+    """What comes behind a surrender for the year at a place: its period, if it is a later one."""
+    period = min(place + 1, periods)
+    return f",{period}" if period > 1 else ""
+
+
+def lists(index, years, periods):
     """The rows of the lists of one account. All its figures are 0."""
     if has_years(index):
         for place in range(years):
-            yield f"retired,{1 + MOST_YEARS * index + place},surrender,general,{surrendered(place)},2025-03-03,no"
+            row = f"retired,{1 + MOST_YEARS * index + place},surrender,general,{surrendered(place)},2025-03-03,no"
+            yield row + of_period(place, periods)
         for place in range(years):
             yield f"emissions,{FIRST_YEAR + place},{surrendered(place)}"
         for place in range(years):
@@ -112,13 +125,13 @@ def transfer(place, source, target):
             f"transfer,{number(source)},{number(target)},general,{amount(place)}")
 
 
-def day_text(accounts, instructions, years=0):
+def day_text(accounts, instructions, years=0, periods=1):
     """The rows of a whole day text."""
-    yield from heading()
+    yield from heading(periods)
     for index in range(accounts):
         yield account(index)
         yield from representatives(index)
-        yield from lists(index, years)
+        yield from lists(index, years, periods)
     for place, (source, target) in zip(range(instructions), pairs(accounts)):
         yield transfer(place, source, target)
     yield "end"
@@ -148,6 +161,7 @@ def main():
     words.add_argument("--accounts", type=int, default=MOST_ACCOUNTS)
     words.add_argument("--instructions", type=int, default=MOST_INSTRUCTIONS)
     words.add_argument("--years", type=int, default=0)
+    words.add_argument("--periods", type=int, default=1)
     given = words.parse_args()
     if not FEWEST_ACCOUNTS <= given.accounts <= MOST_ACCOUNTS:
         sys.exit(f"days.py: accounts are {FEWEST_ACCOUNTS} to {MOST_ACCOUNTS}")
@@ -155,7 +169,10 @@ def main():
         sys.exit(f"days.py: instructions are 0 to {MOST_INSTRUCTIONS}")
     if not 0 <= given.years <= MOST_YEARS:
         sys.exit(f"days.py: years are 0 to {MOST_YEARS}")
-    sys.stdout.writelines(f"{row}\n" for row in day_text(given.accounts, given.instructions, given.years))
+    if not 1 <= given.periods <= MOST_PERIODS:
+        sys.exit(f"days.py: periods are 1 to {MOST_PERIODS}")
+    rows = day_text(given.accounts, given.instructions, given.years, given.periods)
+    sys.stdout.writelines(f"{row}\n" for row in rows)
 
 
 if __name__ == "__main__":
