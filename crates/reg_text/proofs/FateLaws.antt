@@ -5,11 +5,7 @@ use Rattle.std.proofs.lemmas.Bool.{cases_lt, eqb-true, eq-eqb, ne_eqb}
 use Rattle.reg_text.proofs.Names.{MOST_PERIODS, IsWithin, Retirement, Surrendered, Deleted, RetirementRow, Fate, FateIsOf, Version, One, Two, Scope, by_version}
 use Rattle.reg_account.specs.declared.rows.Fate.TheVariants as fate
 use Rattle.reg_account.specs.Rows.{retirement_of, FateFits}
-<<<<<<< HEAD
-use Rattle.reg_text.specs.Grammar.{RowSaid, fate_said, period_said, may_name, row_made, row_parts}
-=======
 use Rattle.reg_text.specs.Grammar.{RetiredSaid, fate_said, period_said, may_name, retired_made, retired_parts}
->>>>>>> 5f4ac01c9908bf9375e1978e69110a4de39506e4
 
 -- what is said of a fate says it again
 fate-again : (f : Fate) → fate_said (retirement_of f) (period_said f) ≡ f
@@ -19,11 +15,7 @@ fate-again (fate.Surrendered period) = by period (eqb period 1) refl where
   by period false e = refl
 fate-again fate.Deleted = refl
 
-<<<<<<< HEAD
-pub row-back : (row : RetirementRow) → row_made (row_parts row) ≡ row
-=======
 pub row-back : (row : RetirementRow) → retired_made (retired_parts row) ≡ row
->>>>>>> 5f4ac01c9908bf9375e1978e69110a4de39506e4
 row-back row = rw (fate-again row.fate) refl
 
 -- a period after the first, which only a surrender names, is said again
@@ -41,11 +33,7 @@ later-than-one : (scope : Scope) (o : Option ℕ) → PeriodFits scope o → IfS
 later-than-one scope None h = tt
 later-than-one scope (Some n) h = h.1.0.low
 
-<<<<<<< HEAD
-pub row-again : (scope : Scope) (p : RowSaid) → may_name p.1.0 p.1.1.1.1.1.1 ≡ true → PeriodFits scope p.1.1.1.1.1.1 → row_parts (row_made p) ≡ p
-=======
 pub row-again : (scope : Scope) (p : RetiredSaid) → may_name p.1.0 p.1.1.1.1.1.1 ≡ true → PeriodFits scope p.1.1.1.1.1.1 → retired_parts (retired_made p) ≡ p
->>>>>>> 5f4ac01c9908bf9375e1978e69110a4de39506e4
 row-again scope p may fits = let s = said-again p.1.0 p.1.1.1.1.1.1 may (later-than-one scope p.1.1.1.1.1.1 fits) in rw (s.0, s.1) refl
 
 -- ---- the fate of a row that fits

@@ -76,15 +76,9 @@ from-day d h at =
     let here : place d.last ≡ 20 = ap place at in
     let none = (at-tag (SectionStandsAt (scope_of d).version (place d.last)) d tag.Period h.fits.stand).begun (omega (arith, here)) in
     with-one tag.Period d (FIRST_YEAR, FIRST_YEAR) h (may-come (scope_of d).version d.last at) ((ranged _ _ FIRST_YEAR refl, ranged _ _ FIRST_YEAR refl), refl) (rw none refl) (rw none refl) (λ k. from-period (scope_of d).version _ refl refl k) where
-<<<<<<< HEAD
-  may-come : (version : Version) (last : Option Tag) → last ≡ Some tag.Day → MayFollow version last tag.Period
-  may-come One last e = rw e refl
-  may-come Two last e = rw e refl
-=======
       may-come : (version : Version) (last : Option Tag) → last ≡ Some tag.Day → MayFollow version last tag.Period
       may-come One last e = rw e refl
       may-come Two last e = rw e refl
->>>>>>> 5f4ac01c9908bf9375e1978e69110a4de39506e4
 
 from-format : (d : DraftValue) → IsDraft d → MayFollow (scope_of d).version d.last tag.Day → Begins (rows_so_far d)
 from-format d h may = with-one tag.Day d (FIRST_DAY, 1) h may (ranged _ _ FIRST_DAY refl, ranged _ _ 1 refl) refl refl (λ k. from-day _ k refl)

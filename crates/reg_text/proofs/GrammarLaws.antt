@@ -19,11 +19,7 @@ use Rattle.reg_text.proofs.PlainFacts.{plain-decimal, plain-signed, plain-date}
 use Rattle.reg_text.proofs.ShareLaws.{are_shares}
 use Rattle.reg_text.proofs.MaybeLaws.{are_maybe}
 use Rattle.reg_text.proofs.FateLaws.{row-again, row-back}
-<<<<<<< HEAD
-use Rattle.reg_text.specs.Grammar.{retired_fields, row_made, row_parts}
-=======
 use Rattle.reg_text.specs.Grammar.{retired_fields, retired_said, retired_made, retired_parts}
->>>>>>> 5f4ac01c9908bf9375e1978e69110a4de39506e4
 use Rattle.std.specs.Ordering.{int_eq}
 use Rattle.reg_text.proofs.CodecLaws.{then-tested, are_none, are_last, are_then, are_made, are_provided, are_forms, is_row, is_named_row, Form}
 
@@ -157,11 +153,7 @@ same-spelling scope tag.Format x = refl
 same-spelling scope t x = refl
 
 are-retired : (scope : Scope) → AreFields (retired_fields scope)
-<<<<<<< HEAD
-are-retired scope = are_made row_made row_parts _ (search codecs depth 14) (λ p fits. row-again scope p fits.1 fits.0.1.1.1.1.1.1) row-back
-=======
 are-retired scope = are_made retired_made retired_parts (retired_said scope) (search codecs depth 14) (λ p fits. row-again scope p fits.1 fits.0.1.1.1.1.1.1) row-back
->>>>>>> 5f4ac01c9908bf9375e1978e69110a4de39506e4
 
 pub each-row : (scope : Scope) (t : Tag) → IsRow (row scope t)
 each-row scope tag.Do = is_named_row 4 an_act_name (row_with instruction_fields_of) (λ i. act_name i.act) (is-word act_word act_names own-act_word) (is_row _ are-instructions) (λ tag i fits. (omega arith, refl, tt))

@@ -3,17 +3,10 @@ use Rattle.std.proofs.Common.{◌≡◌, ℕ, ◌+◌, ◌^◌, ◌<◌, ◌≤�
 use Rattle.std.proofs.lemmas.Bool.{leb-true}
 use Rattle.std.proofs.lemmas.List.{append-nil}
 use mathlib.Core.List.{map-id}
-<<<<<<< HEAD
-use Rattle.std.specs.Prelude.{All, if◌then◌else◌}
-use Rattle.std.proofs.lemmas.List.Elements.{All-from_recursion}
-use Rattle.std.specs.List.{AllByRecursion}
-use Rattle.reg_text.proofs.Names.{IsRising, IsWithin, IsSection, SectionStandsAt, Instruction, IsShared, Cause, Tag, Version, One, Two, Record, place, is_known, Said, row, widest, items_said, scope_of, version_in, current_said, current_rows, Fits, IsOfPeriods, IsYearNo, IsVersionOf, DraftValue, accounts_in, block_closed, nothing_read, DayValue, day_with, is_text_over, day_said, day_text, IsUserNo, IsDayNo, IsInstruction, AccountValue, IsAccount, IsBehind, IsPair, CanBeSaid, IsReading, FitsSoFar, IsDraft, next_draft, at_row, at_end, after_rows}
-=======
 use Rattle.std.specs.Prelude.{All, unwrap_or, if◌then◌else◌}
 use Rattle.std.proofs.lemmas.List.Elements.{All-from_recursion}
 use Rattle.std.specs.List.{AllByRecursion}
 use Rattle.reg_text.proofs.Names.{IsRising, IsWithin, IsSection, SectionStandsAt, Instruction, IsShared, Cause, Tag, Version, One, Two, Record, place, is_known, Said, row, widest, as_list, items_said, scope_of, version_in, current_said, current_rows, Fits, IsOfPeriods, IsYearNo, IsVersionOf, DraftValue, accounts_in, block_closed, nothing_read, DayValue, day_with, is_text_over, day_said, day_text, IsUserNo, IsDayNo, IsInstruction, AccountValue, IsAccount, IsBehind, IsPair, CanBeSaid, IsReading, FitsSoFar, IsDraft, next_draft, at_row, at_end, after_rows}
->>>>>>> 5f4ac01c9908bf9375e1978e69110a4de39506e4
 use Rattle.reg_text.proofs.Names.{day_of_rows}
 use Rattle.reg_text.specs.Day.{day_headed}
 use Rattle.reg_text.specs.declared.reading.tag.Tag.TheVariants as tag
@@ -76,17 +69,6 @@ headed d h over =
       said = rw (sym same) c.1;
       current_is = rw (sym same) c.2;
     } where
-<<<<<<< HEAD
-  once-lags : (version : Version) (d : DraftValue) → SectionStandsAt version (place d.last) (Some tag.Lags, d.lags) → length d.lags ≤ 1
-  once-lags One d s = s.once refl
-  once-lags Two d s = s.once refl
-  once-current : (version : Version) (d : DraftValue) → is_known version tag.Current ≡ true → SectionStandsAt version (place d.last) (Some tag.Current, d.current) → length d.current ≤ 1
-  once-current One d known s = absurd cc
-  once-current Two d known s = s.once refl
-  once-period : (version : Version) (d : DraftValue) → version ≡ One → SectionStandsAt version (place d.last) (Some tag.Period, d.periods) → length d.periods ≤ 1
-  once-period One d is s = s.once refl
-  once-period Two d is s = absurd cc
-=======
       once-lags : (version : Version) (d : DraftValue) → SectionStandsAt version (place d.last) (Some tag.Lags, d.lags) → length d.lags ≤ 1
       once-lags One d s = s.once refl
       once-lags Two d s = s.once refl
@@ -98,7 +80,6 @@ headed d h over =
       once-period : (version : Version) (d : DraftValue) → version ≡ One → SectionStandsAt version (place d.last) (Some tag.Period, d.periods) → length d.periods ≤ 1
       once-period One d is s = s.once refl
       once-period Two d is s = absurd cc
->>>>>>> 5f4ac01c9908bf9375e1978e69110a4de39506e4
 
 -- what is said of each value of a section is said of each in a day
 each-one : {X : Type 0} (P Q : X → Type 0) → ((x : X) → P x → Q x) → (xs : List X) → AllByRecursion P xs → All Q xs
@@ -112,11 +93,7 @@ current-within Two (m ∷ []) n count some h e = let same : m ≡ n = cc in rw (
 current-within Two (m ∷ k ∷ ms) n count some h e = absurd cc
 
 -- it says a day within the limits
-<<<<<<< HEAD
-says-a-day : (d : DraftValue) (h : FitsSoFar d) (k : IsHeaded d) → CanBeSaid (day_with k.day d.periods k.current k.lags (accounts_in d) d)
-=======
 pub says-a-day : (d : DraftValue) (h : FitsSoFar d) (k : IsHeaded d) → CanBeSaid (day_with k.day d.periods k.current k.lags (accounts_in d) d)
->>>>>>> 5f4ac01c9908bf9375e1978e69110a4de39506e4
 says-a-day d h k =
     let scope = scope_of d in
     let of : (t : Tag) → IsSection scope (Some t, items_said t d) = λ t. at-tag (IsSection scope) d t h.within in

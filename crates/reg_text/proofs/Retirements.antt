@@ -6,11 +6,7 @@ use Rattle.std.proofs.lemmas.Bool.{leb-true, le-leb, lt-leb, ltb-true, lt-ltb}
 use Rattle.std.proofs.lemmas.List.{append-nil}
 use Rattle.std.proofs.lemmas.List.Sums.{sum_by-append, sum_by-cons}
 use Rattle.reg_text.proofs.Names.{AllowanceKind, General, Aviation, Retirement, Surrendered, Deleted, RetirementRow, RetiredFits, AreBelow, AccountValue, AccountHead, ListsValue, IsBehind, AreRecorded, amount_in, retired_in, row_numbers, as_list, account_with, next_in, is_recorded, is_sum_left}
-<<<<<<< HEAD
-use Rattle.reg_account.specs.Rows.{is_same_kind, is_same_retirement}
-=======
 use Rattle.reg_account.specs.Rows.{retirement_of, is_same_kind, is_same_retirement}
->>>>>>> 5f4ac01c9908bf9375e1978e69110a4de39506e4
 use Rattle.reg_text.proofs.ListFacts.{all-push}
 
 -- ---- the sums

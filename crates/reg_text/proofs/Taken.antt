@@ -107,15 +107,9 @@ corrections-taken Two d a rest v is p h more =
     let scope = scope_of d in
     list-taken scope tag.Correction (λ last l. record d { last = last; lists = record no_lists { corrections = l } }) (record { version_is = λ last xs. refl; last = λ last xs. refl; list = λ last xs. refl; more = λ last xs x. refl }) (λ last xs. refl) (rw is refl) (λ l. IsSection scope (Some tag.Correction, l)) (λ l whole. whole) (λ last xs x others whole. refl)
     a.corrections (Some tag.Account) [] rest v (rw is refl) (fit-lists scope p a h).corrections (λ last may. more last (behind-correction scope.version last is may)) where
-<<<<<<< HEAD
-  behind-correction : (version : Version) (last : Option Tag) → version ≡ Two → MayFollow version last tag.Correction → MayFollow version last tag.User
-  behind-correction One last is may = absurd cc
-  behind-correction Two last is may = later Two last tag.Correction tag.User (omega arith) (omega arith) may
-=======
       behind-correction : (version : Version) (last : Option Tag) → version ≡ Two → MayFollow version last tag.Correction → MayFollow version last tag.User
       behind-correction One last is may = absurd cc
       behind-correction Two last is may = later Two last tag.Correction tag.User (omega arith) (omega arith) may
->>>>>>> 5f4ac01c9908bf9375e1978e69110a4de39506e4
 
 -- behind the row of an account the rows of its lists are taken
 lists-taken : (d : DraftValue) (next : ℕ) (a : AccountValue) (rest : List Record) (v : DayValue) → next_in d.days ≡ Some next → ArePeriodsOf (scope_of d) → Fits (scope_of d) None a → IsBehind next a

@@ -117,35 +117,14 @@ period_said (fate.Surrendered period) = if period == 1 then None else Some perio
 period_said fate.Deleted = None
 
 -- NUMBER,WHAT,KIND,AMOUNT,DATE,REVERSED and PERIOD or none
-<<<<<<< HEAD
-abbrev pub RowSaid : Type 0
-RowSaid = ℕ × (Retirement × (AllowanceKind × (ℕ × (ℕ × (Bool × Option ℕ)))))
-=======
 abbrev pub RetiredSaid : Type 0
 RetiredSaid = ℕ × (Retirement × (AllowanceKind × (ℕ × (ℕ × (Bool × Option ℕ)))))
->>>>>>> 5f4ac01c9908bf9375e1978e69110a4de39506e4
 
 -- only a surrender names a period
 abbrev pub may_name : Retirement → Option ℕ → Bool
 may_name Deleted (Some period) = false
 may_name what period = true
 
-<<<<<<< HEAD
-abbrev pub row_made : RowSaid → RetirementRow
-row_made p = record { number = p.0; fate = fate_said p.1.0 p.1.1.1.1.1.1; kind = p.1.1.0; amount = p.1.1.1.0; day = p.1.1.1.1.0; reversed = p.1.1.1.1.1.0 }
-
-abbrev pub row_parts : RetirementRow → RowSaid
-row_parts r = (r.number, (retirement_in r.fate, (r.kind, (r.amount, (r.day, (r.reversed, period_said r.fate))))))
-
--- the period is one after the first, and there is no such field in the first version
-abbrev pub row_period : Scope → Fields (Option ℕ)
-row_period scope = maybe (by_version false true scope.version) (a_period 2 scope.periods)
-
-abbrev pub retired_fields : Scope → Fields RetirementRow
-retired_fields scope = made row_made row_parts
-    (provided (λ p. may_name p.1.0 p.1.1.1.1.1.1) cause.Limit
-    (a_record ▸ a_word retirement_word retirement_of ▸ a_word kind_word kind_of ▸ an_amount ▸ a_date ▸ yes_or_no ▸ row_period scope))
-=======
 abbrev pub retired_made : RetiredSaid → RetirementRow
 retired_made p = record { number = p.0; fate = fate_said p.1.0 p.1.1.1.1.1.1; kind = p.1.1.0; amount = p.1.1.1.0; day = p.1.1.1.1.0; reversed = p.1.1.1.1.1.0 }
 
@@ -161,7 +140,6 @@ retired_said scope = provided (λ p. may_name p.1.0 p.1.1.1.1.1.1) cause.Limit (
 
 abbrev pub retired_fields : Scope → Fields RetirementRow
 retired_fields scope = made retired_made retired_parts (retired_said scope)
->>>>>>> 5f4ac01c9908bf9375e1978e69110a4de39506e4
 
 -- YEAR,TONNES
 abbrev pub emissions_fields : Fields Emission

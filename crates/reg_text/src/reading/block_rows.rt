@@ -6,11 +6,7 @@ ghost use Rattle.reg_text.specs.Causes.{test};
 ghost use Rattle.reg_text.specs.declared.cause.Cause.TheVariants as cause;
 ghost use Rattle.reg_text.specs.declared.reading.tag.Tag.TheVariants as tag;
 ghost use Rattle.reg_text.specs.Scopes.{widest};
-<<<<<<< HEAD
-ghost use Rattle.reg_text.specs.Grammar.{row_read, retired_fields, row_period, may_name, fate_said};
-=======
 ghost use Rattle.reg_text.specs.Grammar.{row_read, retired_fields, retired_period, may_name, fate_said};
->>>>>>> 5f4ac01c9908bf9375e1978e69110a4de39506e4
 
 use crate::cause::Cause;
 use crate::fields::dates::read_date;
@@ -64,24 +60,15 @@ pub(crate) fn read_trusted_row(row: &ByteRecord) -> Result<TrustedEntry, Cause>
 }
 
 // Whether the row of a surrender or a deletion has as many fields as it needs: in the second version there may be one more.
-<<<<<<< HEAD
-fn has_row_fields(scope: Scope, row: &ByteRecord) -> bool
-=======
 fn has_retired_fields(scope: Scope, row: &ByteRecord) -> bool
->>>>>>> 5f4ac01c9908bf9375e1978e69110a4de39506e4
     ensures { result ≡ (retired_fields scope).ends 1 (fields_of row.now) }
 {
     has_fields(row, 7) || (scope.version == Version::Two && has_fields(row, 8))
 }
 
 // The period that the last field names, if there is such a field.
-<<<<<<< HEAD
-fn read_row_period(scope: Scope, row: &ByteRecord) -> Result<Option<u8>, Cause>
-    ensures { result ≡ (row_period scope).read 7 (fields_of row.now) }
-=======
 fn read_retired_period(scope: Scope, row: &ByteRecord) -> Result<Option<u8>, Cause>
     ensures { result ≡ (retired_period scope).read 7 (fields_of row.now) }
->>>>>>> 5f4ac01c9908bf9375e1978e69110a4de39506e4
 {
     if has_fields(row, 7) {
         return Ok(None);
@@ -109,11 +96,7 @@ fn read_fate(what: Retirement, period: Option<u8>) -> Result<Fate, Cause>
 pub(crate) fn read_retired_row(scope: Scope, row: &ByteRecord) -> Result<RetirementRow, Cause>
     ensures { result ≡ row_read scope tag.Retired (fields_of row.now) }
 {
-<<<<<<< HEAD
-    if !has_row_fields(scope, row) {
-=======
     if !has_retired_fields(scope, row) {
->>>>>>> 5f4ac01c9908bf9375e1978e69110a4de39506e4
         return Err(Cause::Fields);
     }
     let number = read_record_no(field_at(row, 1))?;
@@ -122,11 +105,7 @@ pub(crate) fn read_retired_row(scope: Scope, row: &ByteRecord) -> Result<Retirem
     let amount = read_retired_amount(field_at(row, 4))?;
     let day = read_date(field_at(row, 5))?;
     let reversed = read_word(field_at(row, 6))?;
-<<<<<<< HEAD
-    let period = read_row_period(scope, row)?;
-=======
     let period = read_retired_period(scope, row)?;
->>>>>>> 5f4ac01c9908bf9375e1978e69110a4de39506e4
     let fate = read_fate(what, period)?;
     Ok(RetirementRow {
         number,

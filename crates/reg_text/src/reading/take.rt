@@ -29,13 +29,8 @@ use crate::reading::tag::{Tag, read_tag};
 use csv::ByteRecord;
 use reg_account::{Account, Lists, RetirementRow};
 use reg_base::{
-<<<<<<< HEAD
-    Day, Instruction, MOST_ACCOUNTS, MOST_ADMINISTRATORS, MOST_INSTRUCTIONS, MOST_PERIODS, MOST_RECORD,
-    MOST_RETIRED, MOST_ROWS, MOST_TRUSTED, MOST_USERS, NoMemory,
-=======
     Day, Instruction, MOST_ACCOUNTS, MOST_ADMINISTRATORS, MOST_INSTRUCTIONS, MOST_PERIODS,
     MOST_RECORD, MOST_RETIRED, MOST_ROWS, MOST_TRUSTED, MOST_USERS, NoMemory,
->>>>>>> 5f4ac01c9908bf9375e1978e69110a4de39506e4
 };
 use reg_book::{BookDraft, BookFault};
 use std::alloc::Global;
@@ -268,12 +263,8 @@ fn is_sum_left(lists: &Lists, row: RetirementRow) -> bool
     requires { retired_in (retirement_of row.fate) row.kind lists.now.rows ≤ MOST_RETIRED }
     ensures { result ≡ is_sum_left lists.now.rows row }
 {
-<<<<<<< HEAD
-    lists.sum(row.fate.retirement(), row.kind) + u128::from(counted(row)) <= u128::from(MOST_RETIRED)
-=======
     lists.sum(row.fate.retirement(), row.kind) + u128::from(counted(row))
         <= u128::from(MOST_RETIRED)
->>>>>>> 5f4ac01c9908bf9375e1978e69110a4de39506e4
 }
 
 // Whether the number of a row is below the next one, if that is known.
