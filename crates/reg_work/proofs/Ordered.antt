@@ -1,10 +1,13 @@
 -- What one worker ran: each place, once.
-use Rattle.std.proofs.Common.{arith, ◌≡◌, ℕ, zero, suc, ◌+◌, ◌==◌, ◌≤◌, List, [], ◌∷◌, ◌++◌, map, refl, sym, ap, ◌∙◌}
+use Rattle.std.proofs.Common.{arith, add-one, ◌≡◌, ℕ, zero, suc, ◌+◌, ◌==◌, ◌≤◌, List, [], ◌∷◌, ◌++◌, map, take, Some, refl, sym, ap, ◌∙◌}
+use Rattle.std.specs.Prelude.{slice_get}
+use Rattle.std.proofs.lemmas.Option.{same_Some}
 use Rattle.std.proofs.lemmas.List.{map-append}
 use mathlib.Core.Logic.{dite}
 use native.Mathlib.Decide.{ℕ_discrete, dec_le}
 use Rattle.reg_counting.specs.Counting.{times, once, one_if}
 use Rattle.reg_claim.proofs.Numbers.{equal-one, apart-none, once-yes, once-past, once-zero}
+use Rattle.reg_rules.specs.declared.reply.LogRow.{LogRow}
 use Rattle.reg_tasks.specs.declared.outcome.Ran.{Ran}
 use Rattle.reg_work.specs.declared.shift.Shift.{Shift}
 use Rattle.reg_work.specs.Shifts.{AreShifts, places_ran}
@@ -54,3 +57,12 @@ shift-alone n shifts s items worker each = rw items (record {
   workers_are = ap (λ w. w ∷ []) worker;
   each_once = λ p. let one = each p in omega arith;
 })
+
+-- one row more of a log
+pub row-more : (log : List LogRow) (n : ℕ) (rows now : List LogRow) (row : LogRow) → now ≡ rows ++ row ∷ [] → rows ≡ take n log → slice_get log n ≡ Some row → now ≡ take (n + 1) log
+row-more log n rows now row items before at = items ∙ ap (λ rs. rs ++ row ∷ []) before ∙ rw add-one (sym (next log n at))
+  where
+    next : (rs : List LogRow) (k : ℕ) → slice_get rs k ≡ Some row → take (suc k) rs ≡ take k rs ++ row ∷ []
+    next [] k e = absurd cc
+    next (r ∷ rs) zero e = ap (λ x. x ∷ []) (same_Some r row e)
+    next (r ∷ rs) (suc k) e = ap (λ xs. r ∷ xs) (next rs k e)

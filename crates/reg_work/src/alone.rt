@@ -4,6 +4,8 @@ ghost use Rattle.std.specs.Prelude.{◌≡◌, ℕ, ◌≤◌, [], ◌∷◌, �
 ghost use Rattle.reg_book.specs.Day.{settled_day};
 ghost use Rattle.reg_book.specs.Settled.{IsOfBook};
 ghost use Rattle.reg_counting.specs.Counting.{times, once};
+ghost use Rattle.reg_tasks.specs.Names.{IsRowOfDay};
+ghost use Rattle.reg_tasks.specs.Gathering.{AreFirstRows};
 ghost use Rattle.reg_work.specs.Shifts.{AreShifts, places_ran};
 
 use crate::fault::Shortage;
@@ -11,30 +13,32 @@ use crate::gate::Gate;
 use crate::shift::Shift;
 use reg_base::NoMemory;
 use reg_book::Settled;
-use reg_tasks::{Context, Done, Naming, Ran, Slots};
+use reg_rules::LogRow;
+use reg_tasks::{Context, Naming, Ran, Slots};
 use std::alloc::Global;
 
-// Takes the task of a place, passes the gate, runs the task, and lays back what it leaves.
+// Takes the task of a place, passes the gate, runs the task, and lays back what it leaves. Answers the row of the place.
 fn run_place<N: Naming, G: Gate>(
     alloc: Global,
     slots: &mut Slots<'_, '_, N>,
     gate: &G,
     place: u32,
-) -> Result<(Ran<N>, Done<N>), Shortage>
+) -> Result<(Ran<N>, LogRow), Shortage>
     requires from_one { 1 ≤ place }
     requires within { place ≤ length slots.old.context.now.batch.now.instructions }
     ensures context { slots.new.context.now ≡ slots.old.context.now }
     ensures place { IfOk result (λ kept. kept.0.place ≡ place) }
+    ensures row { IfOk result (λ kept. IsRowOfDay N.day place kept.1) }
 {
     let task = slots.take(alloc, place)?;
     gate.enter(0, &task);
     let Ok(outcome) = task.run(alloc, slots.context()) else {
         return Err(Shortage::Memory);
     };
-    match slots.lay(outcome) {
-        Ok(kept) => Ok(kept),
-        Err(_) => Err(Shortage::Memory),
-    }
+    let Ok((ran, done)) = slots.lay(outcome) else {
+        return Err(Shortage::Memory);
+    };
+    Ok((ran, done.into_row()))
 }
 
 // Puts one more item behind those that are there.
@@ -45,24 +49,25 @@ fn keep<T: Drop>(items: &mut Vec<T>, item: T) -> Result<(), NoMemory>
     Ok(())
 }
 
-// Runs the instructions in the order of the batch.
+// Runs the instructions in the order of the batch, and answers the log.
 fn run_in_order<N: Naming, G: Gate>(
     alloc: Global,
     slots: &mut Slots<'_, '_, N>,
     gate: &G,
-) -> Result<(Vec<Ran<N>>, Vec<Done<N>>), Shortage>
+) -> Result<(Vec<Ran<N>>, Vec<LogRow>), Shortage>
     ensures context { slots.new.context.now ≡ slots.old.context.now }
     ensures each_once { IfOk result (λ kept. (p : ℕ) → times p (places_ran kept.0.items) ≡ once (length slots.old.context.now.batch.now.instructions) p) }
+    ensures log { IfOk result (λ kept. AreFirstRows N.day (length slots.old.context.now.batch.now.instructions) kept.1.items) }
 {
     let places = slots.context().batch().len();
     let mut ran = Vec::with_capacity(alloc, places as usize)?;
-    let mut done = Vec::with_capacity(alloc, places as usize)?;
+    let mut log = Vec::with_capacity(alloc, places as usize)?;
     for before in 0..places {
         let (one, row) = run_place(alloc, slots, gate, before + 1)?;
         keep(&mut ran, one)?;
-        keep(&mut done, row)?;
+        keep(&mut log, row)?;
     }
-    Ok((ran, done))
+    Ok((ran, log))
 }
 
 /// Settles the day of a context by one worker, which is the calling thread. Nobody else needs what an instruction leaves, so
@@ -80,9 +85,9 @@ pub(crate) fn settle_alone<N: Naming, G: Gate>(
     ensures shifts { IfOk result (λ s. AreShifts 1 (length context.now.batch.now.instructions) s.1.items) }
 {
     let mut slots = Slots::open(alloc, context)?;
-    let (ran, done) = run_in_order(alloc, &mut slots, gate)?;
+    let (ran, log) = run_in_order(alloc, &mut slots, gate)?;
     let mut shifts = Vec::with_capacity(alloc, 1)?;
     keep(&mut shifts, Shift { worker: 0, ran })?;
-    let settled = slots.close(alloc, done)?;
+    let settled = slots.close_log(alloc, log)?;
     Ok((settled, shifts))
 }

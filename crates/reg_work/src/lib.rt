@@ -1,4 +1,5 @@
-//! Workers: the instructions of a day, run level by level in threads.
+//! Workers: the instructions of a day, run in threads: by workers that take them as soon as what they wait for is there, or
+//! level by level.
 #![tactic(auto)]
 
 mod alone;

@@ -2,6 +2,7 @@
 
 ghost use Rattle.std.specs.Prelude.{◌≡◌, ◌≤◌, [], length};
 ghost use Rattle.reg_claim.specs.Seats.{known, seat_table};
+ghost use Rattle.reg_schedules.specs.Pool.{leads_on};
 ghost use Rattle.reg_tasks.specs.Gathering.{places_of};
 ghost use Rattle.reg_deques.specs.Yards.{deques_of_pass};
 ghost use Rattle.reg_work.specs.Shifts.{places_ran};
@@ -40,7 +41,16 @@ pub(crate) struct Post<N: Naming, B: Room> {
 }
 
 impl<N: Naming, B: Room> Post<N, B> {
-    ghost use Rattle.std.specs.Prelude.{true, IfOk, IfSome, OnOk};
+    ghost use Rattle.std.specs.Prelude.{true, Some, None, ◌++◌, ◌∷◌, IfOk, IfSome, IfNone, OnOk};
+    ghost use Rattle.reg_plan.specs.Plans.{inward};
+    ghost use Rattle.reg_schedules.specs.Pool.{run_at};
+    ghost use Rattle.reg_tasks.specs.Contexts.{the_day};
+    ghost use Rattle.reg_tasks.specs.Parcels.{values_of};
+    ghost use Rattle.reg_deques.specs.Views.{with_put};
+    ghost use Rattle.reg_deques.specs.Steps.{TakesOwn};
+    ghost use Rattle.reg_deques.specs.Passes.{owned};
+    ghost use Rattle.reg_deques.specs.Yards.{views};
+    ghost use Rattle.reg_yard.specs.Parcels.{parcel_of, goes_to};
     ghost use Rattle.reg_work.specs.Ends.{sees_end, IsToFinish};
 
     pub(crate) fn new(alloc: Global, owner: Owner<N>, pass: Pass<N>, seat: Seat) -> Post<N, B>
@@ -49,6 +59,8 @@ impl<N: Naming, B: Room> Post<N, B> {
         requires fresh { (known seat).finished ≡ [] }
         requires deques { deques_of_pass pass ≡ B.deques }
         ensures same { known result.seat ≡ known seat }
+        ensures parts { (result.owner ≡ owner) × (result.pass ≡ pass) }
+        ensures none { (result.ran.items ≡ []) × (result.done.items ≡ []) × (result.closing.items ≡ []) }
     {
         Post {
             owner,
@@ -87,6 +99,7 @@ impl<N: Naming, B: Room> Post<N, B> {
         board: &Board<'_, N, B>,
     ) -> Result<bool, NoMemory>
         ensures seat { self.new.seat ≡ self.old.seat }
+        ensures work { (self.new.ran ≡ self.old.ran) × (self.new.done ≡ self.old.done) × (self.new.closing ≡ self.old.closing) }
     {
         let count = board.context.batch().len();
         if board.opened.load(Ordering::SeqCst) >= count {
@@ -111,6 +124,8 @@ impl<N: Naming, B: Room> Post<N, B> {
         requires from_one { 1 ≤ place }
         requires within { place ≤ length board.now.context.now.batch.now.instructions }
         ensures seat { self.new.seat ≡ self.old.seat }
+        ensures work { (self.new.ran ≡ self.old.ran) × (self.new.done ≡ self.old.done) × (self.new.closing ≡ self.old.closing) }
+        ensures task { OnOk result (length (inward board.now.context.now.plan.arrows place) ≡ 0 → owned self.new.owner ≡ with_put (place ∷ []) (owned self.old.owner)) }
     {
         if let Some(task) = Task::open(alloc, board.context, place)? {
             return self.put(task);
@@ -126,6 +141,8 @@ impl<N: Naming, B: Room> Post<N, B> {
     // Puts a task into the worker's own deque.
     fn put(&mut self, task: Task<N>) -> Result<(), NoMemory>
         ensures seat { self.new.seat ≡ self.old.seat }
+        ensures work { (self.new.ran ≡ self.old.ran) × (self.new.done ≡ self.old.done) × (self.new.closing ≡ self.old.closing) }
+        ensures task { OnOk result (owned self.new.owner ≡ with_put (task.place ∷ []) (owned self.old.owner)) }
     {
         if self.owner.put(task).is_err() {
             return Err(NoMemory);
@@ -142,6 +159,7 @@ impl<N: Naming, B: Room> Post<N, B> {
         parcel: Parcel<N>,
     ) -> Result<(), NoMemory>
         ensures seat { self.new.seat ≡ self.old.seat }
+        ensures work { (self.new.ran ≡ self.old.ran) × (self.new.done ≡ self.old.done) × (self.new.closing ≡ self.old.closing) }
     {
         match board.docks.deliver(rt, parcel) {
             Ok(complete) => self.put_complete(complete),
@@ -152,6 +170,8 @@ impl<N: Naming, B: Room> Post<N, B> {
     // Puts a task that a dock gave out, if it did, into the worker's own deque.
     fn put_complete(&mut self, complete: Option<Task<N>>) -> Result<(), NoMemory>
         ensures seat { self.new.seat ≡ self.old.seat }
+        ensures work { (self.new.ran ≡ self.old.ran) × (self.new.done ≡ self.old.done) × (self.new.closing ≡ self.old.closing) }
+        ensures task { OnOk result (IfSome complete (λ t. owned self.new.owner ≡ with_put (t.place ∷ []) (owned self.old.owner))) }
     {
         match complete {
             Some(task) => self.put(task),
@@ -162,12 +182,20 @@ impl<N: Naming, B: Room> Post<N, B> {
     /// The first task of its own deque.
     pub(crate) fn take_own(&mut self) -> Option<Task<N>>
         ensures seat { self.new.seat ≡ self.old.seat }
+        ensures work { (self.new.ran ≡ self.old.ran) × (self.new.done ≡ self.old.done) × (self.new.closing ≡ self.old.closing) }
+        ensures some { IfSome result (λ t. TakesOwn (owned self.old.owner) t.place (owned self.new.owner)) }
+        ensures none { IfNone result (owned self.new.owner ≡ owned self.old.owner) }
     {
         self.owner.take_own()
     }
 
     /// The first task of another worker's deque, in rising number.
-    pub(crate) fn steal(&mut self, board: &Board<'_, N, B>) -> Option<Task<N>> {
+    pub(crate) fn steal(&mut self, board: &Board<'_, N, B>) -> Option<Task<N>>
+        ensures seat { self.new.seat ≡ self.old.seat }
+        ensures work { (self.new.ran ≡ self.old.ran) × (self.new.done ≡ self.old.done) × (self.new.closing ≡ self.old.closing) }
+        ensures owner { self.new.owner ≡ self.old.owner }
+        ensures none { IfNone result (views self.new.pass ≡ views self.old.pass) }
+    {
         let own = self.pass.worker();
         let workers = board.yard.workers();
         for from in 0..MOST_WORKERS {
@@ -195,6 +223,11 @@ impl<N: Naming, B: Room> Post<N, B> {
         task: Task<N>,
     ) -> Result<Option<Turn<N>>, NoMemory>
         ensures turn { IfOk result (λ turn. IfSome turn (λ t. IsToFinish t.ran.place (known self.new.seat))) }
+        ensures work { (self.new.ran ≡ self.old.ran) × (self.new.done ≡ self.old.done) × (self.new.closing ≡ self.old.closing) }
+        ensures owner { self.new.owner ≡ self.old.owner }
+        ensures place { IfOk result (λ turn. IfSome turn (λ t. t.ran.place ≡ task.place)) }
+        ensures made { IfOk result (λ turn. IfSome turn (λ t. run_at (the_day board.now.context.now) task.place (values_of task.parcels.items) ≡ Some (values_of t.left.items, t.done.row))) }
+        ensures none { IfOk result (λ turn. IfNone turn (known self.new.seat ≡ known self.old.seat)) }
     {
         let place = task.place();
         if place == 0 || place > board.context.batch().len() {
@@ -223,7 +256,8 @@ impl<N: Naming, B: Room> Post<N, B> {
         turn: &mut Turn<N>,
     ) -> Result<(), NoMemory>
         ensures seat { self.new.seat ≡ self.old.seat }
-        ensures ran { turn.new.ran ≡ turn.old.ran }
+        ensures work { (self.new.ran ≡ self.old.ran) × (self.new.done ≡ self.old.done) }
+        ensures ran { (turn.new.ran ≡ turn.old.ran) × (turn.new.done ≡ turn.old.done) }
         ensures all { OnOk result (turn.new.left.items ≡ []) }
     {
         while let Some(parcel) = turn.left.pop() {
@@ -242,6 +276,8 @@ impl<N: Naming, B: Room> Post<N, B> {
         parcel: Parcel<N>,
     ) -> Result<(), NoMemory>
         ensures seat { self.new.seat ≡ self.old.seat }
+        ensures work { (self.new.ran ≡ self.old.ran) × (self.new.done ≡ self.old.done) }
+        ensures last { OnOk result (goes_to board.now.context.now.plan (parcel_of parcel) ≡ None → self.new.closing.items ≡ self.old.closing.items ++ parcel ∷ []) }
     {
         match board.docks.deliver(rt, parcel) {
             Ok(complete) => self.put_complete(complete),
@@ -257,6 +293,9 @@ impl<N: Naming, B: Room> Post<N, B> {
         parcel: Parcel<N>,
     ) -> Result<(), NoMemory>
         ensures seat { self.new.seat ≡ self.old.seat }
+        ensures work { (self.new.ran ≡ self.old.ran) × (self.new.done ≡ self.old.done) }
+        ensures owner { self.new.owner ≡ self.old.owner }
+        ensures kept { OnOk result (self.new.closing.items ≡ self.old.closing.items ++ parcel ∷ []) }
     {
         if leads_on(board, place, &parcel) {
             return Err(NoMemory);
@@ -272,6 +311,10 @@ impl<N: Naming, B: Room> Post<N, B> {
     pub(crate) fn finish(&mut self, board: &Board<'_, N, B>, turn: Turn<N>) -> Result<(), NoMemory>
         requires claimed { IsToFinish turn.ran.place (known self.old.seat) }
         requires handed { turn.left.items ≡ [] }
+        ensures ran { OnOk result (self.new.ran.items ≡ self.old.ran.items ++ turn.ran ∷ []) }
+        ensures done { OnOk result (self.new.done.items ≡ self.old.done.items ++ turn.done ∷ []) }
+        ensures closing { self.new.closing ≡ self.old.closing }
+        ensures owner { self.new.owner ≡ self.old.owner }
     {
         self.ran.reserve(1)?;
         self.done.reserve(1)?;
@@ -284,7 +327,9 @@ impl<N: Naming, B: Room> Post<N, B> {
 }
 
 // Whether another instruction needs a parcel that the instruction at a place left.
-fn leads_on<N: Naming, B: Room>(board: &Board<'_, N, B>, place: u32, parcel: &Parcel<N>) -> bool {
+fn leads_on<N: Naming, B: Room>(board: &Board<'_, N, B>, place: u32, parcel: &Parcel<N>) -> bool
+    ensures { 1 ≤ place → place ≤ length board.now.context.now.batch.now.instructions → result ≡ leads_on board.now.context.now.plan place parcel.now.value.number }
+{
     let context = board.context;
     if place == 0 || place > context.batch().len() {
         return false;

@@ -1,9 +1,9 @@
 //! Counting up what the workers did.
 
-ghost use Rattle.std.specs.Prelude.{◌≡◌, ◌+◌, ◌<◌, [], vec_len, IfOk};
+ghost use Rattle.std.specs.Prelude.{◌≡◌, ◌+◌, ◌<◌, ◌++◌, [], vec_len, IfOk, OnOk};
 ghost use Rattle.reg_claim.specs.Seats.{known, seat_table, table_id, places};
 ghost use Rattle.reg_work.specs.Shifts.{AreShifts, workers_of, times_in};
-ghost use Rattle.reg_work.specs.Stints.{stint_workers};
+ghost use Rattle.reg_work.specs.Stints.{stint_workers, all_done, all_closing};
 ghost use Rattle.reg_work.specs.Shifts.{numbers_below};
 
 use crate::post::Post;
@@ -24,13 +24,13 @@ pub(crate) struct Work<N: Naming> {
 }
 
 impl<N: Naming> Work<N> {
-    ghost use Rattle.std.specs.Prelude.{ℕ, ◌++◌, ◌∷◌, OnOk};
+    ghost use Rattle.std.specs.Prelude.{ℕ, ◌∷◌};
     ghost use Rattle.reg_counting.specs.Counting.{times};
     ghost use Rattle.reg_work.specs.Shifts.{places_ran};
 
     // Nobody did anything yet.
     fn new(alloc: Global) -> Work<N>
-        ensures { result.shifts.items ≡ [] }
+        ensures { (result.shifts.items ≡ []) × (result.done.items ≡ []) × (result.closing.items ≡ []) }
     {
         Work {
             shifts: Vec::new(alloc),
@@ -47,6 +47,9 @@ impl<N: Naming> Work<N> {
         done: Vec<Done<N>>,
         closing: Vec<Parcel<N>>,
     ) -> Result<(), NoMemory>
+        ensures done { OnOk result (self.new.done.items ≡ self.old.done.items ++ done.items) }
+        ensures closing { OnOk result (self.new.closing.items ≡ self.old.closing.items ++ closing.items) }
+        ensures shifts { OnOk result (self.new.shifts.items ≡ self.old.shifts.items ++ record { worker = worker; ran = ran } ∷ []) }
         ensures workers { OnOk result (workers_of self.new.shifts.items ≡ workers_of self.old.shifts.items ++ worker ∷ []) }
         ensures times { OnOk result ((p : ℕ) → times_in p self.new.shifts.items ≡ times_in p self.old.shifts.items + times p (places_ran ran.items)) }
     {
@@ -58,7 +61,9 @@ impl<N: Naming> Work<N> {
 }
 
 // Puts items behind those that are there. If none are there, no item is moved.
-fn append_all<T: Drop>(items: &mut Vec<T>, more: Vec<T>) -> Result<(), NoMemory> {
+fn append_all<T: Drop>(items: &mut Vec<T>, more: Vec<T>) -> Result<(), NoMemory>
+    ensures { OnOk result (items.new.items ≡ items.old.items ++ more.items) }
+{
     let mut more = more;
     if items.is_empty() {
         *items = more;
@@ -84,6 +89,8 @@ pub(crate) fn count_up<N: Naming, B: Room>(
     requires some { 0 < vec_len stints }
     requires workers { stint_workers stints.items ≡ numbers_below (vec_len stints) }
     ensures shifts { IfOk result (λ w. AreShifts (vec_len stints) B.count w.shifts.items) }
+    ensures done { IfOk result (λ w. w.done.items ≡ all_done stints.items) }
+    ensures closing { IfOk result (λ w. w.closing.items ≡ all_closing stints.items) }
 {
     let mut rest = seat;
     let mut work: Work<N> = Work::new(alloc);

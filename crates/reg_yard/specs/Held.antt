@@ -1,6 +1,6 @@
 -- What a dock holds, and what becomes of a parcel that is delivered to it. While parcels wait in a dock, it is seen as their
 -- list; once its task has gone out, nothing is in it any more, since all that the place awaits has come.
-use Rattle.std.specs.Prelude.{◌≡◌, ℕ, ◌+◌, ◌≤◌, Bool, true, List, length, Option, Some, None, is_some, vec_capacity, if◌then◌else◌}
+use Rattle.std.specs.Prelude.{◌≡◌, ℕ, ◌+◌, ◌≤◌, Bool, true, false, List, length, Option, Some, None, is_some, vec_capacity, if◌then◌else◌}
 use Rattle.std.specs.declared.vec.Vec.{Vec}
 use Rattle.std.proofs.Common.{Global}
 use Rattle.reg_plan.specs.Plans.{PlanValue}
@@ -24,6 +24,14 @@ left_of (came, task) = (if is_some task then None else Some came, task)
 abbrev pub delivered : Day → PlanValue → ℕ → Option (List ParcelValue) → ParcelValue → Option (List ParcelValue) × Option TaskValue
 delivered day plan place None p = (None, None)
 delivered day plan place (Some came) p = left_of (received day plan place came p)
+
+-- the parcel was awaited after these came, and it is among those that are there now, unless the task went out with it
+abbrev pub Takes : Day → PlanValue → ℕ → Option (List ParcelValue) → ParcelValue → Option (List ParcelValue) → Option TaskValue → Type 0
+Takes day plan place before p after task = (is_refused day plan place before p ≡ false) × ◌≡◌ {A = Option (List ParcelValue) × Option TaskValue} (after, task) (delivered day plan place before p)
+
+-- so it was at the dock of the place where the parcel goes. What was there before, and is now, stands behind a lock
+abbrev pub IsTaken : Option ℕ → ParcelValue → Option TaskValue → Type 0
+IsTaken goes p task = (day : Day) × (plan : PlanValue) × (place : ℕ) × (before : Option (List ParcelValue)) × (after : Option (List ParcelValue)) × (goes ≡ Some place) × Takes day plan place before p after task
 
 -- those that came and those that are still awaited are no more than the accounts that the place's instruction touches
 abbrev pub AreFew : Day → PlanValue → ℕ → List ParcelValue → Type 0

@@ -30,7 +30,7 @@ impl<'c, 'a, N: Naming> Dock<'c, 'a, N> {
     ghost use Rattle.reg_tasks.specs.Tasks.{task_of};
     ghost use Rattle.reg_yard.specs.AtOnce.{task_at_once};
     ghost use Rattle.reg_yard.specs.Parcels.{parcel_of};
-    ghost use Rattle.reg_yard.specs.Held.{is_refused, left_of, delivered};
+    ghost use Rattle.reg_yard.specs.Held.{is_refused, left_of, delivered, Takes};
     ghost use Rattle.reg_yard.specs.Dock.{came_to};
 
     /// The dock of a place, to which nothing has come yet, and its task, exactly if the instruction touches no account.
@@ -142,7 +142,9 @@ impl<'c, 'a, N: Naming> Dock<'c, 'a, N> {
     ) -> Result<Option<Task<N>>, Parcel<N>>
         ensures at { IfOk result (λ task. IfSome task (λ t. t.place ≡ place)) }
         ensures has { IfOk result (λ task. IfSome task (λ t. Contains t.parcels.items parcel)) }
+        ensures taken { IfOk result (λ task. Takes (the_day self.old.context.now) self.old.context.now.plan place (came_to self.old) (parcel_of parcel) (came_to self.new) (option_map task_of task)) }
         ensures back { IfErr result (λ p. p ≡ parcel) }
+        ensures unchanged { OnErr result (self.new ≡ self.old) }
     {
         if self.place != place {
             return Err(parcel);

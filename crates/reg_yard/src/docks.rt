@@ -20,10 +20,12 @@ pub struct Docks<'c, 'a, N: Naming> {
 
 impl<'c, 'a, N: Naming> Docks<'c, 'a, N> {
     ghost use Rattle.std.specs.Prelude.{None, Some, true, is_err, map, Contains, IfOk, IfErr, IfSome};
+    ghost use Rattle.std.specs.Option.{option_map};
     ghost use Rattle.reg_tasks.specs.Contexts.{the_day};
     ghost use Rattle.reg_tasks.specs.Tasks.{task_of};
     ghost use Rattle.reg_yard.specs.AtOnce.{tasks_at_once};
     ghost use Rattle.reg_yard.specs.Parcels.{parcel_of, goes_to};
+    ghost use Rattle.reg_yard.specs.Held.{IsTaken};
 
     /// A dock for each instruction, to which nothing has come yet, and the tasks of those that touch no account, by rising
     /// place.
@@ -82,6 +84,7 @@ impl<'c, 'a, N: Naming> Docks<'c, 'a, N> {
         ensures nowhere { goes_to self.now.context.now.plan (parcel_of parcel) ≡ None → is_err result ≡ true }
         ensures place { IfOk result (λ task. IfSome task (λ t. goes_to self.now.context.now.plan (parcel_of parcel) ≡ Some t.place)) }
         ensures has { IfOk result (λ task. IfSome task (λ t. Contains t.parcels.items parcel)) }
+        ensures taken { IfOk result (λ task. IsTaken (goes_to self.now.context.now.plan (parcel_of parcel)) (parcel_of parcel) (option_map task_of task)) }
         ensures back { IfErr result (λ p. p ≡ parcel) }
     {
         let Some(place) = place_for(self.context, &parcel) else {

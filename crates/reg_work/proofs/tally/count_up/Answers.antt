@@ -4,7 +4,7 @@ use Rattle.reg_counting.specs.Counting.{times, once}
 use Rattle.reg_claim.specs.declared.views.View.{View}
 use Rattle.reg_claim.specs.Seats.{known}
 use Rattle.reg_work.specs.Shifts.{workers_of, places_ran}
-use Rattle.reg_work.specs.Stints.{stint_workers}
+use Rattle.reg_work.specs.Stints.{stint_workers, all_done, all_closing}
 use Rattle.reg_work.proofs.Counting.{times-append}
 use Rattle.reg_work.proofs.Ending.{joined-sees, all-finished, was-there}
 use Rattle.reg_work.proofs.tally.count_up.Goals as goal
@@ -33,6 +33,14 @@ loop-stint-preserved g c =
           ∙ append_assoc (workers_of c.loop-stint.work.shifts.items) (c.in-Some.stint.worker ∷ []) (stint_workers c.next.new.self.rest.items)
           ∙ ap (λ ss. workers_of c.loop-stint.work.shifts.items ++ stint_workers ss) (sym items)
           ∙ i.workers;
+      done = ap (λ ds. ds ++ all_done c.next.new.self.rest.items) c.in_ok-add.ensures.done
+          ∙ append_assoc c.loop-stint.work.done.items post.done.items (all_done c.next.new.self.rest.items)
+          ∙ ap (λ ss. c.loop-stint.work.done.items ++ all_done ss) (sym items)
+          ∙ i.done;
+      closing = ap (λ ps. ps ++ all_closing c.next.new.self.rest.items) c.in_ok-add.ensures.closing
+          ∙ append_assoc c.loop-stint.work.closing.items post.closing.items (all_closing c.next.new.self.rest.items)
+          ∙ ap (λ ss. c.loop-stint.work.closing.items ++ all_closing ss) (sym items)
+          ∙ i.closing;
     }
 
 pub returns : goal.returns
@@ -48,4 +56,6 @@ returns g c =
         workers_are = sym (append-nil (workers_of c.loop-stint.work.shifts.items)) ∙ ap (λ ss. workers_of c.loop-stint.work.shifts.items ++ stint_workers ss) (sym none) ∙ i.workers ∙ c.requires.workers;
         each_once = λ p. sym (i.times p) ∙ all.all whole p ∙ ap (λ n. once n p) places_are;
       };
+      done = sym (append-nil c.loop-stint.work.done.items) ∙ ap (λ ss. c.loop-stint.work.done.items ++ all_done ss) (sym none) ∙ i.done;
+      closing = sym (append-nil c.loop-stint.work.closing.items) ∙ ap (λ ss. c.loop-stint.work.closing.items ++ all_closing ss) (sym none) ∙ i.closing;
     }

@@ -5,7 +5,8 @@ use Rattle.reg_work.proofs.post.Post.hand_on.Given as goal
 abbrev pub invariant-loop-parcel : goal.invariant-loop-parcel
 invariant-loop-parcel g l = record {
   seat : l.self.seat ≡ l.initial.self.seat;
-  ran : l.turn.ran ≡ l.initial.turn.ran;
+  work : (l.self.ran ≡ l.initial.self.ran) × (l.self.done ≡ l.initial.self.done);
+  ran : (l.turn.ran ≡ l.initial.turn.ran) × (l.turn.done ≡ l.initial.turn.done);
 }
 
 abbrev pub decreases-loop-parcel : goal.decreases-loop-parcel
