@@ -1,5 +1,5 @@
 -- Counting places in shifts.
-use Rattle.std.proofs.Common.{arith, add-one, ◌≡◌, ℕ, ◌+◌, ◌==◌, List, [], ◌∷◌, ◌++◌, map, refl, ap, sym, ◌∙◌}
+use Rattle.std.proofs.Common.{arith, add-one, ◌≡◌, ℕ, ◌+◌, ◌==◌, List, [], ◌∷◌, ◌++◌, map, append_assoc, refl, ap, sym, ◌∙◌}
 use Rattle.std.proofs.lemmas.List.{map-append}
 use Rattle.reg_counting.specs.Counting.{total, times, one_if}
 use Rattle.reg_counting.proofs.Totals.{total-append}
@@ -27,3 +27,13 @@ one-numbered f all before x n m items numbered is next =
     ∙ ap (λ k. numbers_below n ++ k ∷ []) is
     ∙ sym (numbers-next n)
     ∙ sym (ap numbers_below next)
+
+-- an item that was moved out of one list is behind the others of another
+pub one-moved : {X Y : Type 0} (f : X → Y) (all before : List X) (x : X) (y : Y) (rest left whole : List Y) → all ≡ before ++ x ∷ [] → f x ≡ y → rest ≡ y ∷ left → map f before ++ rest ≡ whole → map f all ++ left ≡ whole
+one-moved f all before x y rest left whole items is moved same =
+    ap (λ xs. map f xs ++ left) items
+    ∙ ap (λ ys. ys ++ left) (map-append f before (x ∷ []))
+    ∙ append_assoc (map f before) (f x ∷ []) left
+    ∙ ap (λ z. map f before ++ z ∷ left) is
+    ∙ ap (λ ys. map f before ++ ys) (sym moved)
+    ∙ same

@@ -46,7 +46,6 @@ fn make_posts<N: Naming, B: Room>(
     ensures share { IfOk result (λ r. (known r.0).share + vec_len r.1 ≡ 16) }
     ensures fresh { IfOk result (λ r. ((known r.0).finished ≡ []) × ((known r.0).seen ≡ 0)) }
     ensures each { IfOk result (λ r. vec_len r.1 ≡ vec_len passes) }
-    ensures owners { IfOk result (λ r. map (λ p. p.owner) r.1.items ≡ owners.items) }
     ensures passes { IfOk result (λ r. map (λ p. p.pass) r.1.items ≡ passes.items) }
 {
     let mut rest = seat;

@@ -2,6 +2,7 @@ use Rattle.std.proofs.Common.{arith, ◌≡◌, ℕ, ◌+◌, All, length, vec_l
 use Rattle.std.proofs.lemmas.List.Elements.{All-tail}
 use Rattle.reg_claim.specs.declared.views.View.{View}
 use Rattle.reg_deques.specs.Yards.{deques_of_pass}
+use Rattle.reg_work.proofs.Counting.{one-moved}
 use Rattle.reg_work.proofs.crewed.make_posts.Goals as goal
 
 pub loop-pass-preserved : goal.loop-pass-preserved
@@ -24,4 +25,5 @@ loop-pass-preserved g c =
       unseen = ap (λ (v : View). v.seen) first ∙ i.unseen;
       whole = omega arith;
       deques = All-tail (λ p. deques_of_pass p ≡ g.B.Room.deques) c.in-Some.pass c.next.new.self.rest.items (subst (All (λ p. deques_of_pass p ≡ g.B.Room.deques)) items i.deques);
+      passes = one-moved (λ p. p.pass) c.push.new.self.items c.loop-pass.posts.items _ c.in-Some.pass c.loop-pass.pass-iterator.rest.items c.next.new.self.rest.items c.args.passes.items c.in_ok-push.ensures.items c.new.ensures.parts.1 items i.passes;
     }

@@ -1,9 +1,9 @@
-use Rattle.std.proofs.Common.{arith, rules, ◌≡◌, ℕ, ◌+◌, ◌++◌, ◌∷◌, [], append-nil, append_assoc, length, vec_len, ap, sym, ◌∙◌, inl, inr}
+use Rattle.std.proofs.Common.{arith, ◌≡◌, ◌++◌, ◌∷◌, [], append-nil, append_assoc, length, ap, sym, ◌∙◌, inr}
 use Rattle.std.proofs.lemmas.List.{nil_from_length}
 use Rattle.reg_counting.specs.Counting.{times, once}
 use Rattle.reg_claim.specs.declared.views.View.{View}
 use Rattle.reg_claim.specs.Seats.{known}
-use Rattle.reg_work.specs.Shifts.{workers_of, places_ran}
+use Rattle.reg_work.specs.Shifts.{workers_of}
 use Rattle.reg_work.specs.Stints.{stint_workers, all_done, all_closing}
 use Rattle.reg_work.proofs.Counting.{times-append}
 use Rattle.reg_work.proofs.Ending.{joined-sees, all-finished, was-there}

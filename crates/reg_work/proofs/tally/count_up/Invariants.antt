@@ -1,4 +1,4 @@
-use Rattle.std.proofs.Common.{◌≡◌, ◌⊎◌, ◌+◌, ◌++◌, ℕ, [], true, length, vec_len}
+use Rattle.std.proofs.Common.{◌≡◌, ◌⊎◌, ◌+◌, ◌++◌, ℕ, true, length, vec_len}
 use Rattle.reg_counting.specs.Counting.{times}
 use Rattle.reg_claim.specs.Seats.{known, seat_table}
 use Rattle.reg_work.specs.Ends.{sees_end}
