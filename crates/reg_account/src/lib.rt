@@ -1,5 +1,25 @@
 //! One account: what it is, who represents it, which accounts it trusts, what it holds, what it has surrendered and
 //! deleted, its compliance, and how a settlement changes it.
+//!
+//! A use of it, proved in `registry_uses/src/account.rt`:
+//!
+//! ```rust
+//! /// Moves allowances of a kind from one account to another, if the first holds them and the second has room for them.
+//! /// Answers whether it did. Nothing else changes.
+//! pub fn pass_on(from: &mut Account, to: &mut Account, kind: AllowanceKind, amount: u64) -> bool
+//!     ensures answer { result ≡ (nat_le amount (held_by from.old kind) && nat_le (held_by to.old kind + amount) MOST_HELD) }
+//!     ensures accounts { MatchBool result
+//!         ((from.new ≡ debited from.old kind amount) × (to.new ≡ credited to.old kind amount))
+//!         ((from.new ≡ from.old) × (to.new ≡ to.old)) }
+//! {
+//!     if amount > from.held(kind) || amount > MOST_HELD - to.held(kind) {
+//!         return false;
+//!     }
+//!     from.debit(kind, amount);
+//!     to.credit(kind, amount);
+//!     true
+//! }
+//! ```
 #![tactic(auto)]
 
 mod account;

@@ -1,6 +1,24 @@
 //! What a settlement day is made of: numbers within their limits, the working calendar, the rules,
 //! the directory of accounts, and the batch of due instructions with the accounts that each touches.
 //!
+//! A use of it, proved in `registry_uses/src/base.rt`:
+//!
+//! ```rust
+//! /// The day on which an instruction falls due that was proposed on `proposed`: the working day with exactly `lag` working
+//! /// days from `proposed` up to it, if these working days have such a day.
+//! ///
+//! /// # Errors
+//! /// `NotRising` if the days are no calendar.
+//! pub fn due_day(days: Vec<Day>, proposed: Day, lag: u16) -> Result<Option<Day>, CalendarFault>
+//!     ensures { MatchResult result
+//!         (λ day. (day ≡ due days.items proposed lag) × IsCalendar days.items)
+//!         (λ fault. (place : ℕ) × (fault ≡ NotRising place) × FirstNotRising days.items place) }
+//! {
+//!     let calendar = Calendar::new(days)?;
+//!     Ok(calendar.due(proposed, lag))
+//! }
+//! ```
+//!
 //! A value of these types is within its limits. Nothing here takes memory except [`Directory::insert`], and a
 //! constructor that refuses drops what it was given.
 #![tactic(auto)]

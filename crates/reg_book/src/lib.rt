@@ -1,4 +1,30 @@
 //! The book of all accounts, and the plain settlement of a day, which executes the instructions one after another.
+//!
+//! A use of it, proved in `registry_uses/src/book.rt`:
+//!
+//! ```rust
+//! /// Settles a day, puts it into the book, and answers its log.
+//! ///
+//! /// # Errors
+//! /// As [`settle_plain`]. The book stays as it is.
+//! pub fn close_day(
+//!     alloc: Global,
+//!     book: &mut Book,
+//!     rules: &Rules,
+//!     batch: &Batch,
+//! ) -> Result<Vec<LogRow>, SettleFault>
+//!     ensures book { OnOk result (book.new ≡ committed book.old (settled_day (day_of book.old rules.now batch.now))) }
+//!     ensures log { IfOk result (λ rows. rows.items ≡ log_of (day_of book.old rules.now batch.now)) }
+//!     ensures fault { IfErr result (IsSettleFault book.old batch.now) }
+//!     ensures unchanged { OnErr result (book.new ≡ book.old) }
+//! {
+//!     let settled = settle_plain(alloc, book, rules, batch)?;
+//!     match book.commit(settled) {
+//!         Ok(rows) => Ok(rows),
+//!         Err((_, stale)) => Err(SettleFault::WrongBase { next: stale.next }),
+//!     }
+//! }
+//! ```
 #![tactic(auto)]
 
 mod book;

@@ -1,3 +1,14 @@
 //! Words for counting in lists, for definitions and proofs: the sum of a number over a list, how often a number stands in
 //! one. There is no code here.
+//!
+//! A use of it, proved in `registry_uses/src/counting.rt`:
+//!
+//! ```rust
+//! /// How often a number stands in a list.
+//! pub fn count(numbers: &[u32], wanted: u32) -> usize
+//!     ensures { result ≡ times wanted numbers.now }
+//! {
+//!     numbers.iter().filter(|number| **number == wanted).count()
+//! }
+//! ```
 #![tactic(auto)]

@@ -1,5 +1,18 @@
 //! Deques of ready tasks: one for each worker, who puts tasks behind and takes the first, while the others steal the first.
 //!
+//! A use of it, proved in `registry_uses/src/deques.rt`:
+//!
+//! ```rust
+//! /// Puts a task behind those of a worker's deque, and takes the first one, which is this task only if no other is there.
+//! /// `None` if the deque has no room for it.
+//! pub fn put_and_take<N: Naming>(owner: &mut Owner<N>, task: Task<N>) -> Option<Task<N>>
+//!     ensures { IfSome result (λ t. TakesOwn (with_put (task.place ∷ []) (owned owner.old)) t.place (owned owner.new)) }
+//! {
+//!     owner.put(task).ok()?;
+//!     owner.take_own()
+//! }
+//! ```
+//!
 //! A [`Yard`] has a deque for each worker. Its [`Owner`] puts and takes tasks. A worker steals from the others by its [`Pass`],
 //! which says what it knows of each deque: the positions that it took, and the places that it saw to be put. What is known
 //! exists in proofs alone, and takes no bytes. The rule of a deque (`specs/Deques.antt`) holds between any two steps of any

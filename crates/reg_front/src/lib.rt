@@ -1,5 +1,26 @@
 //! The engine of the registry, from bytes to bytes: reads a day text, carries out a command on the day,
 //! and writes the command's text.
+//!
+//! A use of it, proved in `registry_uses/src/front.rt`:
+//!
+//! ```rust
+//! /// Settles the day of a text, and writes the totals after it.
+//! ///
+//! /// # Errors
+//! /// As [`run`].
+//! pub fn write_totals<T: Threads + Wait + Sync, W: Sink>(
+//!     rt: &T,
+//!     alloc: Global,
+//!     text: &[u8],
+//!     writer: &mut W,
+//! ) -> Result<(), FrontFault>
+//!     requires { CanFail (W.stream writer.old) }
+//!     ensures { OnOk result (WritesText Totals (Some text.now) (W.stream writer.old).bytes (W.stream writer.new).bytes) }
+//! {
+//!     let mut reader = Counted::new(text);
+//!     run(rt, alloc, &mut reader, writer, Command::Totals)
+//! }
+//! ```
 #![tactic(auto)]
 
 mod calls;

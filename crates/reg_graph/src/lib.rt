@@ -1,5 +1,25 @@
 //! The workers' world: lists of tasks, docks in which parcels wait for each other, and the events that move them. All of
 //! `reg_tasks` is passed on.
+//!
+//! A use of it, proved in `registry_uses/src/graph.rt`:
+//!
+//! ```rust
+//! /// Carries out these events of two workers. The day is settled if all instructions are done then, whatever the events
+//! /// were. `None` if an event is not possible, if something is left to do, or if memory ran out.
+//! pub fn run_schedule<N: Naming>(
+//!     alloc: Global,
+//!     context: &Context<N>,
+//!     events: &[Event],
+//! ) -> Option<Settled>
+//!     ensures { IfSome result (λ s. s ≡ settled_day (the_day context.now)) }
+//! {
+//!     let mut world = World::new(alloc, context, 2).ok()?;
+//!     for event in events {
+//!         world.event(*event).ok()?;
+//!     }
+//!     world.into_settled().ok()
+//! }
+//! ```
 #![tactic(auto)]
 
 mod delivery;

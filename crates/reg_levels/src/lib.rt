@@ -1,4 +1,24 @@
 //! A day's instructions level by level: those of one level touch no account in common, so they may run at the same time.
+//!
+//! A use of it, proved in `registry_uses/src/levels.rt`:
+//!
+//! ```rust
+//! /// Settles a day level by level. `None` if memory ran out, or, if no day is named, if a value is not of this day.
+//! pub fn settle_by_levels<N: Naming>(alloc: Global, context: &Context<N>) -> Option<Settled>
+//!     ensures { IfSome result (λ s. IfSome N.day (λ day. s ≡ settled_day day)) }
+//! {
+//!     let mut levels = Levels::open(alloc, context).ok()?;
+//!     while levels.are_left() {
+//!         let mut outcomes = Vec::new(alloc);
+//!         for task in levels.take(alloc, 256).ok()? {
+//!             // No two of these touch the same account, so they may run at the same time.
+//!             outcomes.push(task.run(alloc, context).ok()?).ok()?;
+//!         }
+//!         levels.lay(outcomes).ok()?;
+//!     }
+//!     levels.close(alloc).ok()
+//! }
+//! ```
 #![tactic(auto)]
 
 mod levels;

@@ -1,5 +1,37 @@
 //! The rules of the registry: which instructions are refused and why, what an accepted instruction does, and its
 //! row in the log.
+//!
+//! A use of it, proved in `registry_uses/src/rules.rt`:
+//!
+//! ```rust
+//! /// Carries an instruction out on the accounts that it touches, or refuses it, and answers its row in the log. If it is
+//! /// refused, the accounts stay as they are.
+//! ///
+//! /// # Errors
+//! /// `NoMemory` if memory ran out. The accounts stay as they are.
+//! pub fn carry_out(
+//!     alloc: Global,
+//!     setting: &Setting,
+//!     number: RecordNo,
+//!     instruction: &Instruction,
+//!     accounts: &mut [Account],
+//! ) -> Result<LogRow, NoMemory>
+//!     requires own { numbers accounts.old ≡ footprint setting.now.directory instruction.now.act }
+//!     requires behind { All (IsBehind number) accounts.old }
+//!     ensures row { IfOk result (λ row. row ≡ row_of setting.now number instruction.now (reply_to setting.now accounts.old number instruction.now)) }
+//!     ensures after { OnOk result (accounts.new ≡ after_step setting.now accounts.old number instruction.now) }
+//!     ensures refused { IfOk result (λ row. (q : Refusal) → row.reply ≡ Refused q → accounts.new ≡ accounts.old) }
+//!     ensures err { OnErr result (accounts.new ≡ accounts.old) }
+//! {
+//!     let Setting {
+//!         rules,
+//!         day,
+//!         directory,
+//!     } = *setting;
+//!     let reply = execute(alloc, rules, day, number, instruction, directory, accounts)?;
+//!     Ok(log_row(number, day, *instruction, reply))
+//! }
+//! ```
 #![tactic(auto)]
 
 mod amounts;

@@ -1,5 +1,20 @@
 //! What the orders and the workers' schedules of a day's instructions mean, as definitions, and what is true of all of
 //! them, as laws. There are no values here: a pool, docks, lists and hands are plain data.
+//!
+//! A use of it, proved in `registry_uses/src/schedules.rt`:
+//!
+//! ```rust
+//! /// Two legal orders of a day's instructions leave the same accounts. This function does nothing: a function whose proof
+//! /// needs the law calls it, as this one calls `every_order`.
+//! pub fn orders_agree()
+//!     ensures { (day : Day) (plan : PlanValue) (one other : List ℕ) (p q : Progress) → IsPlanOf day plan
+//!         → IsLegalOrder plan one → IsLegalOrder plan other
+//!         → meaning_of day plan one ≡ Some p → meaning_of day plan other ≡ Some q
+//!         → (account : ℕ) → p.closing account ≡ q.closing account }
+//! {
+//!     every_order();
+//! }
+//! ```
 #![tactic(auto)]
 
 mod event;

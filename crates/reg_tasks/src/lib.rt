@@ -1,5 +1,27 @@
 //! A day's instructions as tasks: each instruction is carried out on the values of its own accounts alone, in any order
 //! that keeps to the plan's arrows.
+//!
+//! A use of it, proved in `registry_uses/src/tasks.rt`:
+//!
+//! ```rust
+//! /// Runs the instruction at a place on these values of accounts, if they are those that it needs. If a day is named, its
+//! /// row is the day's. `None` if they are others, or memory ran out.
+//! pub fn run_on<N: Naming>(
+//!     alloc: Global,
+//!     context: &Context<N>,
+//!     place: u32,
+//!     parcels: Vec<Parcel<N>>,
+//! ) -> Option<Outcome<N>>
+//!     requires from_one { 1 ≤ place }
+//!     requires within { place ≤ length context.now.batch.now.instructions }
+//!     ensures needed { IfSome result (λ _. has_names (names_of parcels.items) (names_needed (inward context.now.plan.arrows place) (footprint_at (the_day context.now) place)) ≡ true) }
+//!     ensures row { IfSome result (λ o. IsRowOfDay N.day place o.row) }
+//!     ensures left { IfSome result (λ o. AreLeft N.day place (names_of o.parcels.items)) }
+//! {
+//!     let task = Task::assemble(context, place, parcels).ok()?;
+//!     task.run(alloc, context).ok()
+//! }
+//! ```
 #![tactic(auto)]
 
 mod arrows;

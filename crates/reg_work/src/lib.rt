@@ -1,5 +1,29 @@
 //! Workers: the instructions of a day, run in threads: by workers that take them as soon as what they wait for is there, or
 //! level by level.
+//!
+//! A use of it, proved in `registry_uses/src/work.rt`:
+//!
+//! ```rust
+//! /// Settles a day by four workers, each in a thread of its own. The settled day is that of the instructions one after
+//! /// another.
+//! ///
+//! /// # Errors
+//! /// As [`settle_with`].
+//! pub fn settle_by_four<R: Threads + Wait + Sync>(
+//!     rt: &R,
+//!     alloc: Global,
+//!     book: &Book,
+//!     rules: &Rules,
+//!     batch: &Batch,
+//! ) -> Result<Settled, WorkFault>
+//!     ensures { MatchResult result
+//!         (λ s. (batch.now.base + 1 ≡ book.now.next) × (s ≡ settled_day (day_of book.now rules.now batch.now)))
+//!         (IsWorkFault 4 book.now batch.now) }
+//! {
+//!     let (settled, _) = settle_with(rt, alloc, book, rules, batch, 4, &OpenGate)?;
+//!     Ok(settled)
+//! }
+//! ```
 #![tactic(auto)]
 
 mod alone;

@@ -1,4 +1,23 @@
 //! The yard in which workers meet: a dock for each instruction, in which the values that it needs come together.
+//!
+//! A use of it, proved in `registry_uses/src/yard.rt`:
+//!
+//! ```rust
+//! /// Delivers the value of an account to the instruction that needs it next, and runs that one if it was the last value that
+//! /// it awaited. `None` if it awaits more, if no instruction awaits the value, or if memory ran out.
+//! pub fn deliver_and_run<N: Naming, R: Wait>(
+//!     wait: &R,
+//!     alloc: Global,
+//!     context: &Context<N>,
+//!     docks: &Docks<N>,
+//!     parcel: Parcel<N>,
+//! ) -> Option<Outcome<N>>
+//!     ensures { IfSome result (λ o. goes_to docks.now.context.now.plan (parcel_of parcel) ≡ Some o.place) }
+//! {
+//!     let task = docks.deliver(wait, parcel).ok()??;
+//!     task.run(alloc, context).ok()
+//! }
+//! ```
 #![tactic(auto)]
 
 mod assemble;

@@ -1,0 +1,22 @@
+//! A use of `reg_base`.
+
+ghost use Rattle.std.specs.Prelude.{◌≡◌, ℕ, MatchResult};
+ghost use Rattle.reg_base.specs.Rising.{FirstNotRising};
+ghost use Rattle.reg_base.specs.Calendar.{IsCalendar, due};
+ghost use Rattle.reg_base.specs.declared.calendar.CalendarFault.TheVariants.{NotRising};
+
+use reg_base::{Calendar, CalendarFault, Day};
+
+/// The day on which an instruction falls due that was proposed on `proposed`: the working day with exactly `lag` working
+/// days from `proposed` up to it, if these working days have such a day.
+///
+/// # Errors
+/// `NotRising` if the days are no calendar.
+pub fn due_day(days: Vec<Day>, proposed: Day, lag: u16) -> Result<Option<Day>, CalendarFault>
+    ensures { MatchResult result
+        (λ day. (day ≡ due days.items proposed lag) × IsCalendar days.items)
+        (λ fault. (place : ℕ) × (fault ≡ NotRising place) × FirstNotRising days.items place) }
+{
+    let calendar = Calendar::new(days)?;
+    Ok(calendar.due(proposed, lag))
+}

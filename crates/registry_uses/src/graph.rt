@@ -1,0 +1,25 @@
+//! A use of `reg_graph`.
+
+ghost use Rattle.std.specs.Prelude.{◌≡◌, IfSome};
+ghost use Rattle.reg_book.specs.Day.{settled_day};
+ghost use Rattle.reg_tasks.specs.Contexts.{the_day};
+
+use reg_book::Settled;
+use reg_graph::{Context, Event, Naming, World};
+use std::alloc::Global;
+
+/// Carries out these events of two workers. The day is settled if all instructions are done then, whatever the events
+/// were. `None` if an event is not possible, if something is left to do, or if memory ran out.
+pub fn run_schedule<N: Naming>(
+    alloc: Global,
+    context: &Context<N>,
+    events: &[Event],
+) -> Option<Settled>
+    ensures { IfSome result (λ s. s ≡ settled_day (the_day context.now)) }
+{
+    let mut world = World::new(alloc, context, 2).ok()?;
+    for event in events {
+        world.event(*event).ok()?;
+    }
+    world.into_settled().ok()
+}

@@ -1,0 +1,19 @@
+//! A first use of each library crate: one function a crate, which its callers can copy.
+#![tactic(auto)]
+
+pub mod account;
+pub mod base;
+pub mod book;
+pub mod claim;
+pub mod counting;
+pub mod deques;
+pub mod front;
+pub mod graph;
+pub mod levels;
+pub mod plan;
+pub mod rules;
+pub mod schedules;
+pub mod tasks;
+pub mod text;
+pub mod work;
+pub mod yard;

@@ -1,0 +1,32 @@
+//! A use of `reg_work`.
+
+ghost use Rattle.std.specs.Prelude.{◌≡◌, ◌+◌, MatchResult};
+ghost use Rattle.reg_book.specs.Day.{day_of, settled_day};
+ghost use Rattle.reg_work.specs.Faults.{IsWorkFault};
+
+use reg_base::{Batch, Rules};
+use reg_book::{Book, Settled};
+use reg_work::{OpenGate, WorkFault, settle_with};
+use std::alloc::Global;
+use std::sync::Wait;
+use std::thread::Threads;
+
+/// Settles a day by four workers, each in a thread of its own. The settled day is that of the instructions one after
+/// another.
+///
+/// # Errors
+/// As [`settle_with`].
+pub fn settle_by_four<R: Threads + Wait + Sync>(
+    rt: &R,
+    alloc: Global,
+    book: &Book,
+    rules: &Rules,
+    batch: &Batch,
+) -> Result<Settled, WorkFault>
+    ensures { MatchResult result
+        (λ s. (batch.now.base + 1 ≡ book.now.next) × (s ≡ settled_day (day_of book.now rules.now batch.now)))
+        (IsWorkFault 4 book.now batch.now) }
+{
+    let (settled, _) = settle_with(rt, alloc, book, rules, batch, 4, &OpenGate)?;
+    Ok(settled)
+}
