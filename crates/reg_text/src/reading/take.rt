@@ -6,10 +6,11 @@ ghost use Rattle.csv.specs.Records.{fields_of};
 ghost use Rattle.reg_base.specs.Rising.{IsRising};
 ghost use Rattle.reg_account.specs.Rows.{retired_in, retirement_of};
 ghost use Rattle.reg_book.specs.Book.{has_row_ahead, with_account};
-ghost use Rattle.reg_text.specs.Lasts.{as_list};
+ghost use Rattle.reg_text.specs.Lasts.{as_list, last_item};
+ghost use Rattle.reg_text.specs.Sections.{key, follows};
 ghost use Rattle.reg_text.specs.Drafts.{draft_of, block_closed};
 ghost use Rattle.reg_text.specs.DraftLimits.{FitsSoFar, IsDraft};
-ghost use Rattle.reg_text.specs.Faults.{Takes, next_in, is_recorded, is_sum_left, is_number_left, with_row, next_draft};
+ghost use Rattle.reg_text.specs.Faults.{Takes, placed, next_in, is_recorded, is_sum_left, is_number_left, with_row, next_draft};
 ghost use Rattle.reg_text.specs.declared.reading.tag.Tag.TheVariants as tag;
 
 use crate::cause::{Cause, RowError};
@@ -285,20 +286,43 @@ fn has_row_room(lists: &Lists, day: Option<(Day, u64)>, row: RetirementRow) -> b
     lists.rows().len() < MOST_ROWS && (is_recorded(day, &row) && is_sum_left(lists, row))
 }
 
-#[tactic(auto, unfolding(crate::specs::Faults::with_row))]
+// Whether the number of a row is above that of the one before it, if there is one.
+fn is_later_row(before: Option<RetirementRow>, row: &RetirementRow) -> bool
+    ensures { result ≡ follows (key tag.Retired) before row.now }
+{
+    match before {
+        Some(before) => before.number < row.number,
+        None => true,
+    }
+}
+
+// Whether the number of a row is above those of the rows in the lists.
+fn comes_last(lists: &Lists, row: &RetirementRow) -> bool
+    ensures { result ≡ follows (key tag.Retired) (last_item lists.now.rows) row.now }
+{
+    is_later_row(lists.rows().last().copied(), row)
+}
+
+// Whether a row comes behind those in the lists, and there is room for it.
+fn check_row(lists: &Lists, day: Option<(Day, u64)>, row: &RetirementRow) -> Result<(), Cause>
+    requires { retired_in (retirement_of row.now.fate) row.now.kind lists.now.rows ≤ MOST_RETIRED }
+    ensures { result ≡ placed (follows (key tag.Retired) (last_item lists.now.rows) row.now) (nat_lt (length lists.now.rows) MOST_ROWS && (is_recorded (next_in (as_list day)) row.now && is_sum_left lists.now.rows row.now)) tt }
+{
+    if !comes_last(lists, row) {
+        return Err(Cause::Order);
+    }
+    if !has_row_room(lists, day, *row) {
+        return Err(Cause::Limit);
+    }
+    Ok(())
+}
+
 fn take_retired(draft: &mut Draft, row: &ByteRecord) -> Result<(), RowError>
     requires { IsDraft (draft_of draft.old) }
     ensures { Takes (draft_of draft.new) result (with_row tag.Retired (draft_of draft.old) (fields_of row.now)) }
 {
     let retired = read_retired_row(draft.scope(), row)?;
-    if let Some(before) = draft.lists.rows().last().copied() {
-        if retired.number <= before.number {
-            return Err(RowError::Fault(Cause::Order));
-        }
-    }
-    if !has_row_room(&draft.lists, draft.day, retired) {
-        return Err(RowError::Fault(Cause::Limit));
-    }
+    check_row(&draft.lists, draft.day, &retired)?;
     draft.lists.push_row(retired)?;
     draft.last = Some(Tag::Retired);
     Ok(())
