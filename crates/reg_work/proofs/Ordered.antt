@@ -8,6 +8,7 @@ use native.Mathlib.Decide.{ℕ_discrete, dec_le}
 use Rattle.reg_counting.specs.Counting.{times, once, one_if}
 use Rattle.reg_claim.proofs.Numbers.{equal-one, apart-none, once-yes, once-past, once-zero}
 use Rattle.reg_rules.specs.declared.reply.LogRow.{LogRow}
+use Rattle.reg_book.specs.Day.{Day, row_at, log_of}
 use Rattle.reg_tasks.specs.declared.outcome.Ran.{Ran}
 use Rattle.reg_work.specs.declared.shift.Shift.{Shift}
 use Rattle.reg_work.specs.Shifts.{AreShifts, places_ran}
@@ -66,3 +67,7 @@ row-more log n rows now row items before at = items ∙ ap (λ rs. rs ++ row ∷
     next [] k e = absurd cc
     next (r ∷ rs) zero e = ap (λ x. x ∷ []) (same_Some r row e)
     next (r ∷ rs) (suc k) e = ap (λ xs. r ∷ xs) (next rs k e)
+
+-- the row of the next place, as a row of the log
+pub row-next : (d : Day) (n : ℕ) (row : LogRow) → row_at d (n + 1) ≡ Some row → slice_get (log_of d) n ≡ Some row
+row-next d n row e = let one : suc n ≡ n + 1 = omega arith in ap (row_at d) one ∙ e
