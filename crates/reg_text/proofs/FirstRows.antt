@@ -1,6 +1,6 @@
 -- What has not come before a row that comes once, and what comes of a row that was read.
-use Rattle.std.proofs.Common.{◌≡◌, ℕ, Bool, true, false, ◌<◌, List, [], Option, Some, None, Result, Ok, Err, refl, arith}
-use Rattle.reg_text.proofs.Names.{Tag, Version, One, Two, Record, DraftValue, IsDraft, Said, row_read, scope_of, place, rule, is_once, items_said, as_list, tag_after, SectionStandsAt, in_order, has_room, placed, with, with_row, Cause}
+use Rattle.std.proofs.Common.{◌≡◌, ℕ, Bool, true, false, List, [], Option, Some, None, Result, Ok, Err, refl, arith}
+use Rattle.reg_text.proofs.Names.{Tag, Version, One, Two, Record, DraftValue, IsDraft, Said, row_read, scope_of, place, is_once, as_list, tag_after, SectionStandsAt, in_order, has_room, placed, with, with_row, Cause}
 use Rattle.std.specs.Result.{IsErrAnd}
 use Rattle.reg_text.specs.declared.cause.RowError.{RowError}
 use Rattle.reg_text.specs.declared.cause.RowError.TheVariants as failure

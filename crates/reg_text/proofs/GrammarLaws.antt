@@ -1,5 +1,5 @@
 -- The laws of the codecs of fields, and of the rows made of them.
-use Rattle.std.proofs.Common.{◌≡◌, ℕ, ℤ, pos, unsigned_abs, Bool, ◌^◌, ◌<◌, ◌≤◌, true, not, ◌&&◌, nat_lt, nat_le, codes, List, [], ◌∷◌, length, Option, Some, None, Ok, refl, sym, ap, ◌∙◌, subst, arith}
+use Rattle.std.proofs.Common.{◌≡◌, ℕ, ℤ, pos, unsigned_abs, Bool, ◌^◌, ◌<◌, ◌≤◌, true, not, ◌&&◌, nat_lt, nat_le, List, [], ◌∷◌, length, Option, Some, None, Ok, refl, ap, ◌∙◌, subst, arith}
 use Rattle.std.specs.Prelude.{IfSome, is_ok, ◌↔◌}
 use Rattle.std.proofs.lemmas.Bool.{and_parts, ltb-true, leb-true, le-leb}
 use Rattle.reg_text.proofs.Names.{MOST_NUMBER, Act, ActName, Transfer, Tag, IsCodec, AreFields}

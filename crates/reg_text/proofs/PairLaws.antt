@@ -1,5 +1,5 @@
 -- The laws of pairs of fields, one pair after another to the end of a record.
-use Rattle.std.proofs.Common.{Bool, true, false, ◌≡◌, ◌⊎◌, inl, inr, ⊎_elim, ℕ, zero, suc, ◌+◌, ◌*◌, ◌<◌, ◌≤◌, ◌==◌, ◌||◌, eqb, List, [], ◌∷◌, ◌++◌, length, drop, Ok, refl, ap, subst, ◌∙◌, arith, length-append}
+use Rattle.std.proofs.Common.{Bool, true, false, ◌≡◌, ◌⊎◌, inl, inr, ⊎_elim, ℕ, zero, suc, ◌+◌, ◌*◌, ◌<◌, ◌≤◌, ◌==◌, ◌||◌, List, [], ◌∷◌, ◌++◌, length, drop, Ok, refl, ap, subst, arith, length-append}
 use Rattle.std.specs.List.{AllByRecursion, list_any}
 use Rattle.std.proofs.Math.Seq.{drop-append_seam}
 use Rattle.std.proofs.lemmas.Bool.{eqb-true, eq-eqb}
@@ -7,7 +7,7 @@ use Rattle.std.proofs.lemmas.List.{length-drop}
 use mathlib.Core.Logic.{dite}
 use native.Mathlib.Decide.{ℕ_discrete}
 use Rattle.reg_base.specs.Rising.{count_up}
-use Rattle.reg_text.proofs.Names.{◌>>=◌, Record, first_cause, fault_of, Codec, IsCodec, AreFields, IsPlain}
+use Rattle.reg_text.proofs.Names.{Record, first_cause, fault_of, Codec, IsCodec, AreFields, IsPlain}
 use Rattle.reg_text.specs.Codecs.{pairs_spelled, pairs_read, pairs_tests, pairs}
 use Rattle.reg_text.proofs.Binds.{bind_ok, ok_is}
 use Rattle.reg_text.proofs.ListFacts.{cons}

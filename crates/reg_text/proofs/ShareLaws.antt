@@ -1,10 +1,10 @@
 -- The shares of a distribution, as pairs of fields.
-use Rattle.std.proofs.Common.{◌≡◌, ℕ, suc, ◌+◌, ◌*◌, ◌^◌, ◌<◌, ◌≤◌, true, List, [], ◌∷◌, ◌++◌, length, map, drop, take, Result, Ok, Err, refl, sym, ap, ◌∙◌, arith}
+use Rattle.std.proofs.Common.{◌≡◌, ℕ, suc, ◌+◌, ◌^◌, ◌<◌, List, [], ◌∷◌, ◌++◌, length, map, drop, Result, Ok, Err, refl, ap, arith}
 use Rattle.std.specs.List.{AllByRecursion}
 use Rattle.std.specs.Prelude.{MatchResult}
 use Rattle.reg_base.specs.declared.limits.TheConstants.{MOST_SHARES}
 use Rattle.reg_base.specs.declared.shares.Share.{Share}
-use Rattle.reg_text.proofs.Names.{Cause, MOST_NUMBER, IsAccountNo, IsWithin, Record, field, a_no, any_number, IsCodec, AreFields, ◌>>=◌}
+use Rattle.reg_text.proofs.Names.{Cause, IsAccountNo, Record, field, a_no, any_number, IsCodec, AreFields, ◌>>=◌}
 use Rattle.reg_text.specs.Codecs.{pairs, pairs_read}
 use Rattle.reg_text.specs.Acts.{share_made, share_parts, share_fields, share_pair}
 use Rattle.reg_text.proofs.CodecLaws.{are_made, field-drop}

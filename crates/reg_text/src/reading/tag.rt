@@ -200,6 +200,7 @@ fn likely_tag(field: &[u8]) -> Tag {
         Some(b'e') => Tag::Emissions,
         Some(b'f') => Tag::Figure,
         Some(b'w') => Tag::Work,
+        Some(b'c') => Tag::Correction,
         _ => Tag::Do,
     }
 }

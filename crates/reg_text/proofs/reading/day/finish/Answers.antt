@@ -1,4 +1,4 @@
-use Rattle.std.proofs.Common.{◌∙◌, Some, ap, sym}
+use Rattle.std.proofs.Common.{◌∙◌, ap, sym}
 use Rattle.reg_text.proofs.Names.{is_text_over, day_said}
 use Rattle.reg_text.proofs.DraftSteps.{closed-fits}
 use Rattle.reg_text.proofs.Readings.{closed-says}

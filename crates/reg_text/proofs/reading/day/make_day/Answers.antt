@@ -1,6 +1,6 @@
 use Rattle.std.proofs.Common.{ap}
-use Rattle.reg_text.proofs.Names.{DraftValue, FitsSoFar, CanBeSaid, accounts_in, day_with, draft_of, is_text_over}
-use Rattle.reg_text.proofs.Readings.{IsHeaded, headed, says-a-day}
+use Rattle.reg_text.proofs.Names.{draft_of, is_text_over}
+use Rattle.reg_text.proofs.Readings.{headed, says-a-day}
 use Rattle.reg_text.proofs.reading.day.make_day.Goals as goal
 
 pub make_rules-rules-requires-clause-admins_rise : goal.make_rules-rules-requires-clause-admins_rise

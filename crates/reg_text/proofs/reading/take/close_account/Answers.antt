@@ -1,4 +1,4 @@
-use Rattle.std.proofs.Common.{subst, sym, Option, map, ◌++◌}
+use Rattle.std.proofs.Common.{subst, Option, map, ◌++◌}
 use Rattle.std.specs.List.{AllByRecursion}
 use Rattle.reg_text.proofs.Names.{IsRising, IsSection, AccountValue, AccountHead, as_list, row, account_with, draft_of, scope_of}
 use Rattle.reg_text.specs.declared.reading.tag.Tag.TheVariants as tag
