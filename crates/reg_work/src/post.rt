@@ -277,7 +277,7 @@ impl<N: Naming, B: Room> Post<N, B> {
     ) -> Result<(), NoMemory>
         ensures seat { self.new.seat ≡ self.old.seat }
         ensures work { (self.new.ran ≡ self.old.ran) × (self.new.done ≡ self.old.done) }
-        ensures last { OnOk result (goes_to board.now.context.now.plan (parcel_of parcel) ≡ None → self.new.closing.items ≡ self.old.closing.items ++ parcel ∷ []) }
+        ensures last { OnOk result (goes_to board.now.docks.context.now.plan (parcel_of parcel) ≡ None → self.new.closing.items ≡ self.old.closing.items ++ parcel ∷ []) }
     {
         match board.docks.deliver(rt, parcel) {
             Ok(complete) => self.put_complete(complete),
