@@ -1,7 +1,6 @@
 pub mod Numbers
 pub mod Limits
 pub mod Rising
-pub mod RisesFrom
 pub mod Calendar
 pub mod Refusals
 pub mod Rules

@@ -11,7 +11,6 @@ pub mod Marks
 pub mod Orders
 pub mod Overlays
 pub mod Ranks
-pub mod RisesFrom
 pub mod Turns
 pub mod Values
 pub mod Conserved

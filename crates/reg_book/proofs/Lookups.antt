@@ -3,7 +3,7 @@ use Rattle.std.proofs.Common.{◌≡◌, ℕ, zero, suc, ◌<◌, Bool, true, fa
 use Rattle.std.specs.Prelude.{Contains, MatchOption, IsSome}
 use Rattle.std.proofs.lemmas.Map.Keys.{IsDistinct-cons}
 use Rattle.reg_base.specs.Rising.{IsRising}
-use Rattle.reg_book.proofs.RisesFrom.{RisesFrom, rises_from}
+use Rattle.reg_base.proofs.RisesFrom.{RisesFrom, rises_from}
 use Rattle.std.specs.List.{IsDistinct, AllByRecursion, HoldsAt}
 use Rattle.std.specs.Ordering.{nat_cmp}
 use Rattle.std.specs.declared.cmp.Ordering.TheVariants.{Equal}

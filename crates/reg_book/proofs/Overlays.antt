@@ -11,7 +11,7 @@ use Rattle.std.proofs.lemmas.List.{take-append-drop, take_at, drop_at, get_or-ta
 use Rattle.std.proofs.lemmas.Option.{same_Some}
 use Rattle.reg_base.specs.declared.kinds.AccountKind.{AccountKind}
 use Rattle.reg_base.specs.Rising.{IsRising}
-use Rattle.reg_book.proofs.RisesFrom.{RisesFrom, rises_from}
+use Rattle.reg_base.proofs.RisesFrom.{RisesFrom, rises_from}
 use Rattle.reg_account.specs.Rows.{row_numbers, AreBelow}
 use Rattle.reg_account.specs.Account.{AccountValue, IsAccount}
 use Rattle.reg_rules.specs.Effect.{IsBehind}
