@@ -214,16 +214,6 @@ fails c e i check.YearOutsidePeriod = names_year_outside c.rules (change_of i.ac
 fails c e i check.AmountTooLarge = enters_too_much (change_of i.act)
 fails c e i check.EmissionsMissing = lacks_emissions c.rules (change_of i.act) e
 
--- the check needs only the accounts and their representatives; the checks of this sort come first
-abbrev pub is_of_parties : Refusal → Bool
-is_of_parties check.UnknownAccount = true
-is_of_parties check.SameAccount = true
-is_of_parties check.WrongAccountKind = true
-is_of_parties check.SourceStatus = true
-is_of_parties check.DestinationStatus = true
-is_of_parties check.NotProposer = true
-is_of_parties later = false
-
 -- the first check that fails, or none
 abbrev pub refusal : Setting → State → Instruction → Option Refusal
 refusal c s i = find (fails c (seen s i.act) i) checks

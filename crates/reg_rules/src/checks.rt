@@ -1,14 +1,13 @@
 //! The checks of an instruction, in the order of the table of checks.
 
-ghost use Rattle.std.specs.Prelude.{◌≡◌, ◌&&◌, false, nat_lt, find, take, drop};
+ghost use Rattle.std.specs.Prelude.{◌≡◌, false, nat_lt, find};
 ghost use Rattle.std.specs.Option.{option_map_or};
 ghost use Rattle.reg_base.specs.Acts.{movement_of};
 ghost use Rattle.reg_base.specs.Footprint.{footprint};
 ghost use Rattle.reg_base.specs.Refusals.{checks};
 ghost use Rattle.reg_rules.specs.State.{numbers, seen, seen_by};
-ghost use Rattle.reg_rules.specs.declared.checks.TheConstants.{OF_PARTIES};
 ghost use Rattle.reg_rules.specs.Trust.{trusts_receivers, due_day};
-ghost use Rattle.reg_rules.specs.Checks.{row_to_reverse, fails, is_of_parties, refusal};
+ghost use Rattle.reg_rules.specs.Checks.{row_to_reverse, fails, refusal};
 
 use crate::amounts::{
     are_rows_full, is_kind_not_allowed, is_retired_too_large, is_short, overfills_first,
@@ -28,9 +27,6 @@ use crate::trust::{
 };
 use reg_account::{Account, RetirementRow};
 use reg_base::{CHECKS, Day, Directory, Instruction, Movement, RecordNo, Refusal, Rules};
-
-// How many checks need only the accounts and their representatives. These come first.
-const OF_PARTIES: usize = 6;
 
 /// The first check that fails, or `None` if no check fails. Takes no memory.
 ///
@@ -68,50 +64,12 @@ pub(crate) fn first_failing(
     requires movement { movement.now ≡ movement_of instruction.now.act }
     ensures { result ≡ find (fails setting.now (seen accounts.now instruction.now.act) instruction.now) checks }
 {
-    let early = first_of_parties(setting, instruction, movement, accounts);
-    if early.is_some() {
-        return early;
-    }
-    first_of_others(setting, instruction, movement, accounts)
-}
-
-// The first check that fails among those that need only the accounts and their representatives.
-fn first_of_parties(
-    setting: &Setting,
-    instruction: &Instruction,
-    movement: &Movement,
-    accounts: &[Account],
-) -> Option<Refusal>
-    requires own { numbers accounts.now ≡ footprint setting.now.directory instruction.now.act }
-    requires movement { movement.now ≡ movement_of instruction.now.act }
-    ensures { result ≡ find (λ check. is_of_parties check && fails setting.now (seen accounts.now instruction.now.act) instruction.now check) (take OF_PARTIES checks) }
-{
-    CHECKS[..OF_PARTIES].iter().copied().find(|check| refuses_parties(
-        *check,
-        setting,
-        instruction,
-        movement,
-        accounts,
-    ))
-}
-
-// The first check that fails among the others.
-fn first_of_others(
-    setting: &Setting,
-    instruction: &Instruction,
-    movement: &Movement,
-    accounts: &[Account],
-) -> Option<Refusal>
-    requires own { numbers accounts.now ≡ footprint setting.now.directory instruction.now.act }
-    requires movement { movement.now ≡ movement_of instruction.now.act }
-    ensures { result ≡ find (fails setting.now (seen accounts.now instruction.now.act) instruction.now) (drop OF_PARTIES checks) }
-{
     // Several checks read whether the destination is trusted, the due day, or the row that is to be reversed. Each is
     // searched for once.
     let trusted = trusts_receivers(setting.day, movement, accounts);
     let due = due_day(setting, instruction, trusted);
     let row = row_to_reverse(movement, accounts);
-    CHECKS[OF_PARTIES..].iter().copied().find(|check| refuses(
+    CHECKS.iter().copied().find(|check| refuses(
         *check,
         setting,
         instruction,
@@ -121,31 +79,6 @@ fn first_of_others(
         row,
         accounts,
     ))
-}
-
-// Whether this check fails, if it needs only the accounts and their representatives.
-fn refuses_parties(
-    check: Refusal,
-    setting: &Setting,
-    instruction: &Instruction,
-    movement: &Movement,
-    accounts: &[Account],
-) -> bool
-    requires own { numbers accounts.now ≡ footprint setting.now.directory instruction.now.act }
-    requires movement { movement.now ≡ movement_of instruction.now.act }
-    ensures { result ≡ (is_of_parties check && fails setting.now (seen accounts.now instruction.now.act) instruction.now check) }
-{
-    use Refusal::*;
-    match check {
-        // The footprint is empty exactly if an account that must be known is not.
-        UnknownAccount => accounts.is_empty(),
-        SameAccount => names_one_twice(movement),
-        WrongAccountKind => !has_right_kinds(rule_of(&instruction.act), movement, accounts),
-        SourceStatus => !source_allows(rule_of(&instruction.act), movement, accounts),
-        DestinationStatus => !destination_allows(rule_of(&instruction.act), movement, accounts),
-        NotProposer => is_not_proposer(setting.rules, instruction, movement, accounts),
-        _ => false,
-    }
 }
 
 // Whether this check fails.
@@ -168,12 +101,13 @@ fn refuses(
 {
     use Refusal::*;
     match check {
-        UnknownAccount
-        | SameAccount
-        | WrongAccountKind
-        | SourceStatus
-        | DestinationStatus
-        | NotProposer => refuses_parties(check, setting, instruction, movement, accounts),
+        // The footprint is empty exactly if an account that must be known is not.
+        UnknownAccount => accounts.is_empty(),
+        SameAccount => names_one_twice(movement),
+        WrongAccountKind => !has_right_kinds(rule_of(&instruction.act), movement, accounts),
+        SourceStatus => !source_allows(rule_of(&instruction.act), movement, accounts),
+        DestinationStatus => !destination_allows(rule_of(&instruction.act), movement, accounts),
+        NotProposer => is_not_proposer(setting.rules, instruction, movement, accounts),
         ApprovalMissing => lacks_approval(setting, instruction, movement, trusted, accounts),
         SameRepresentative => is_same_representative(instruction),
         NotApprover => is_not_approver(setting.rules, instruction, movement, accounts),
