@@ -15,8 +15,8 @@ use Rattle.reg_book.specs.Day.{Day, IsDay, setting, settled_day}
 use Rattle.reg_book.proofs.Commits.{committed-closing}
 use Rattle.reg_book.proofs.Days.{closing-all, directory-fold}
 use Rattle.reg_book.proofs.Directories.{length-numbers}
+use Rattle.reg_book.proofs.Lookups.{written_whole}
 use Rattle.reg_book.proofs.Folds.{numbers-fold}
-use Rattle.reg_book.proofs.Ranks.{written_whole}
 use Rattle.reg_book.proofs.Values.{numbered-day, ready-fold, ready-book}
 
 -- all accounts after the day

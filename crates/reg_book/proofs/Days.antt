@@ -24,9 +24,8 @@ use Rattle.reg_book.specs.Fold.{state_after, rows_of, touched_of}
 use Rattle.reg_book.specs.Settled.{SettledValue, IsSettled, IsOfBook}
 use Rattle.reg_book.specs.Day.{Day, IsDay, setting, log_of, closing_state, settled_day}
 use Rattle.reg_book.proofs.Directories.{listing, length-numbers, get-directory_of}
-use Rattle.reg_book.proofs.Lookups.{account-filter, numbers-filter, rising-distinct}
+use Rattle.reg_book.proofs.Lookups.{account-filter, numbers-filter, rising-distinct, written_whole}
 use Rattle.reg_book.proofs.Folds.{size-rows_of, count-rows_of, numbers-fold, others-fold, fold-local, rows-local}
-use Rattle.reg_book.proofs.Ranks.{written_whole}
 use Rattle.reg_book.proofs.Turns.{same-state}
 use Rattle.reg_book.proofs.Values.{numbered-day, ready-fold, ready-book}
 use Rattle.std.proofs.lemmas.List.Elements.{All-filter, recursion_from_All}
@@ -35,11 +34,6 @@ use Rattle.std.proofs.lemmas.List.Elements.{All-filter, recursion_from_All}
 pub touched-rising : (directory : DirectoryValue) (is : List Instruction) (s : State) → IsRising (numbers s) → IsRising (numbers (touched_of directory is s))
 touched-rising directory is s rising =
     subst IsRising (sym (numbers-filter (is_touched directory is) s)) (IsStrictlyIncreasing-filter (is_touched directory is) (numbers s) rising)
-
--- and they differ
-pub touched-distinct : (directory : DirectoryValue) (is : List Instruction) (s table : State) → IsRising (numbers s) → table ≡ touched_of directory is s → IsDistinct eqb (numbers table)
-touched-distinct directory is s table rising copied =
-    rising-distinct table (subst (λ (t : State). IsRising (numbers t)) (sym copied) (touched-rising directory is s rising))
 
 -- a touched account is among them as it is among all
 pub touched-account : (directory : DirectoryValue) (is : List Instruction) (s : State) (a : ℕ) → is_touched directory is a ≡ true → account (touched_of directory is s) a ≡ account s a

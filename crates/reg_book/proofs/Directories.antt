@@ -24,9 +24,9 @@ use Rattle.reg_base.specs.Rising.{IsRising}
 use Rattle.reg_base.proofs.RisesFrom.{RisesFrom, rises_from}
 use Rattle.reg_rules.specs.State.{State, account, numbers}
 use Rattle.reg_book.specs.declared.draft.BookFault.{BookFault}
-use Rattle.reg_book.specs.declared.draft.BookFault.TheVariants.{Repeated, RowAhead, Full, NoMemory}
+use Rattle.reg_book.specs.declared.draft.BookFault.TheVariants.{Repeated, RowAhead, Full}
 use Rattle.reg_rules.specs.Effect.{IsBehind}
-use Rattle.reg_book.specs.Book.{BookValue, entry_of, directory_of, IsNext, IsBookDraft, has_row_ahead, first_fault, IsBookFault}
+use Rattle.reg_book.specs.Book.{BookValue, entry_of, directory_of, IsNext, IsBookDraft, has_row_ahead, first_fault}
 
 -- the kind and the holder of an account
 abbrev pub listing : AccountValue → AccountKind × ℕ
@@ -277,18 +277,6 @@ pub full_fault : (b : BookValue) (v : AccountValue) → is_among (numbers b.acco
 full_fault b v h a =
     full_by (nat_le MOST_ACCOUNTS (length b.accounts))
     ∙ sym (ap (λ r. fault_by r (has_row_ahead b.next v) (nat_le MOST_ACCOUNTS (length b.accounts))) h ∙ ap (λ r. fault_by false r (nat_le MOST_ACCOUNTS (length b.accounts))) a)
-
-pub fault_of_book : (b : BookValue) (v : AccountValue) (q : BookFault) → Some q ≡ first_fault b v → IsBookFault b v q
-fault_of_book b v Repeated e = sym e
-fault_of_book b v RowAhead e = sym e
-fault_of_book b v Full e = sym e
-fault_of_book b v NoMemory e = absurd (no_memory (is_among (numbers b.accounts) v.number) (has_row_ahead b.next v) (nat_le MOST_ACCOUNTS (length b.accounts)) e)
-  where
-    no_memory : (r a f : Bool) → Some NoMemory ≡ fault_by r a f → ⊥
-    no_memory true a f e = cc
-    no_memory false true f e = cc
-    no_memory false false true e = cc
-    no_memory false false false e = cc
 
 -- a draft of one account more
 pub more_draft : (xs ys : State) (v : AccountValue) (directory new : DirectoryValue) (next : ℕ) → IsBookDraft xs directory next → ys ≡ xs ++ v ∷ [] → new ≡ directory_of (xs ++ v ∷ [])

@@ -1,10 +1,10 @@
 -- The accounts of an instruction are looked up once each: whether all are known, and where they stand.
-use Rattle.std.proofs.Common.{◌≡◌, ℕ, zero, suc, ◌+◌, ◌<◌, ◌&&◌, Bool, true, false, cond, eqb, not, List, [], ◌∷◌, filter, length, get_or, take, drop, Option, Some, None, refl, sym, ap, ◌∙◌, arith}
+use Rattle.std.proofs.Common.{◌≡◌, ℕ, ◌+◌, ◌<◌, ◌&&◌, Bool, true, false, cond, eqb, not, List, [], ◌∷◌, filter, length, get_or, take, Option, Some, None, refl, sym, ap, ◌∙◌, arith}
 use Rattle.std.specs.Prelude.{option_map, is_some}
 use Rattle.std.specs.Option.{option_map_or, option_to_list}
 use Rattle.std.specs.List.{list_all}
 use Rattle.std.proofs.lemmas.Bool.{eqb-true}
-use Rattle.std.proofs.lemmas.List.{length-map, get_or_default}
+use Rattle.std.proofs.lemmas.List.{get_or_default}
 use Rattle.std.proofs.lemmas.List.Folds.{list_all-append, list_all_at, list_all_more}
 use Rattle.reg_base.specs.declared.act.Act.{Act}
 use Rattle.reg_base.specs.Acts.{parties, also_known}
@@ -13,9 +13,9 @@ use Rattle.reg_base.specs.Footprint.{footprint, all_known, each_once}
 use Rattle.reg_account.specs.Account.{AccountValue}
 use Rattle.reg_rules.specs.State.{State, account, numbers}
 use Rattle.reg_book.specs.Book.{directory_of}
-use Rattle.reg_book.specs.Places.{StandsAt, StandAt}
 use Rattle.reg_book.proofs.Directories.{listing, get-directory_of, known-among, length-numbers}
 use Rattle.reg_book.proofs.Lookups.{is_among-contained}
+use Rattle.reg_book.proofs.Standing.{StandsAt}
 
 -- an account that stands somewhere is known, and one that is not there is not
 pub known-there : (s : State) (p a : ℕ) → StandsAt s p a → is_known (directory_of s) a ≡ true
@@ -79,30 +79,3 @@ footprint-known d act other known =
 pub footprint-unknown : (d : DirectoryValue) (act : Act) → list_all (is_known d) (each_once (parties act)) ≡ false → [] ≡ footprint d act
 footprint-unknown d act unknown =
     sym (ap (λ b. cond b (each_once (parties act)) []) (known-in_two d act ∙ ap (λ b. b && option_map_or (is_known d) (also_known act) true) unknown))
-
-pub footprint-other_unknown : (d : DirectoryValue) (act : Act) → option_map_or (is_known d) (also_known act) true ≡ false → [] ≡ footprint d act
-footprint-other_unknown d act unknown =
-    sym (ap (λ b. cond b (each_once (parties act)) []) (known-in_two d act ∙ ap (λ b. list_all (is_known d) (each_once (parties act)) && b) unknown ∙ by (list_all (is_known d) (each_once (parties act))))) where
-      by : (b : Bool) → (b && false) ≡ false
-      by true = refl
-      by false = refl
-
--- the place of each wanted number
-pub stands-one : (s : State) (ps wanted : List ℕ) (j p : ℕ) → StandAt (numbers s) ps wanted → j < length ps → p ≡ get_or ps j 0
-    → (j < length wanted) × StandsAt s p (get_or wanted j 0)
-stands-one s [] wanted j p stand lt at = absurd (omega arith)
-stands-one s (q ∷ ps) [] j p stand lt at = absurd (let e = stand.are_there in cc)
-stands-one s (q ∷ ps) (w ∷ ws) zero p stand lt at = (
-  omega arith,
-  record {
-    within = omega (arith, stand.within.0, at, length-numbers s);
-    has_number = ap (λ k. get_or (numbers s) k 0) at ∙ ap (λ (ns : List ℕ). get_or ns 0 0) stand.are_there;
-  },
-)
-stands-one s (q ∷ ps) (w ∷ ws) (suc j) p stand lt at =
-    let rest : StandAt (numbers s) ps ws = record { within = stand.within.1; are_there = ap (λ (ns : List ℕ). drop 1 ns) stand.are_there } in
-    let (within, there) = stands-one s ps ws j p rest (omega arith) at in
-    (omega (arith, within), there)
-
-pub stands-size : (ns ps wanted : List ℕ) → StandAt ns ps wanted → length wanted ≡ length ps
-stands-size ns ps wanted stand = ap length (sym stand.are_there) ∙ length-map ps (λ p. get_or ns p 0)

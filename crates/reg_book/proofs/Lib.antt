@@ -10,6 +10,7 @@ pub mod Lookups
 pub mod Marks
 pub mod Orders
 pub mod Overlays
+pub mod Standing
 pub mod Ranks
 pub mod Turns
 pub mod Values

@@ -1,27 +1,15 @@
--- Finding accounts in lists made from other lists.
-use Rattle.std.proofs.Common.{◌≡◌, ℕ, zero, suc, ◌<◌, Bool, true, false, cond, eqb, ◌||◌, List, [], ◌∷◌, ◌++◌, filter, length, get_or, Option, Some, None, refl, sym, ap, subst, ◌∙◌, arith}
-use Rattle.std.specs.Prelude.{Contains, MatchOption, IsSome}
+-- Finding accounts in lists made from other lists, and what a list is after its slice was written.
+use Rattle.std.proofs.Common.{◌≡◌, ℕ, zero, suc, ◌<◌, Bool, true, false, cond, eqb, ◌||◌, List, [], ◌∷◌, ◌++◌, filter, length, take, drop, Option, Some, None, refl, ap, ◌∙◌, arith}
+use Rattle.std.specs.Prelude.{Contains}
+use Rattle.std.proofs.lemmas.List.{append-nil, take_all, drop_all}
 use Rattle.std.proofs.lemmas.Map.Keys.{IsDistinct-cons}
 use Rattle.reg_base.specs.Rising.{IsRising}
 use Rattle.reg_base.proofs.RisesFrom.{RisesFrom, rises_from}
-use Rattle.std.specs.List.{IsDistinct, AllByRecursion, HoldsAt}
-use Rattle.std.specs.Ordering.{nat_cmp}
-use Rattle.std.specs.declared.cmp.Ordering.TheVariants.{Equal}
-use Rattle.std.specs.Cmp.{ranked}
+use Rattle.std.specs.List.{IsDistinct, AllByRecursion}
 use Rattle.std.proofs.lemmas.Bool.{eq-eqb, ne_eqb, eqb-true}
-use Rattle.std.proofs.lemmas.List.{get_or-map}
 use Rattle.reg_account.specs.Account.{AccountValue}
 use Rattle.reg_rules.specs.State.{State, account, numbers}
-use Rattle.reg_book.specs.Places.{StandsAt}
 use Rattle.reg_base.specs.Footprint.{is_among}
-
--- the place that a binary search found
-pub searched_place : (s : State) (a p : ℕ) → p < length s → HoldsAt (λ y. nat_cmp y.number a ≡ Equal) s p → StandsAt s p a
-searched_place [] a p lt found = absurd (omega arith)
-searched_place (v ∷ vs) a p lt found = record {
-  within = lt;
-  has_number = get_or-map (λ (o : AccountValue). o.number) (v ∷ vs) p v 0 lt ∙ ranked (get_or (v ∷ vs) p v).number a Equal (sym (found v));
-}
 
 pub account-append_left : (xs ys : State) (a : ℕ) → is_among (numbers xs) a ≡ true → account (xs ++ ys) a ≡ account xs a
 account-append_left [] ys a among = absurd cc
@@ -60,15 +48,6 @@ all_among P (n ∷ ns) holds = (
   holds n (or_true_left (eqb n n) (is_among ns n) (eq-eqb n n refl)),
   all_among P ns (λ a h. holds a (or_true_right (eqb n a) (is_among ns a) h)),
 )
-
--- what holds of all holds of each that stands in the list
-pub at_among : (P : ℕ → Type 0) (ns : List ℕ) (a : ℕ) → AllByRecursion P ns → is_among ns a ≡ true → P a
-at_among P [] a all h = absurd cc
-at_among P (n ∷ ns) a all h = by (eqb n a) refl h (at_among P ns a all.1)
-  where
-    by : (b : Bool) → eqb n a ≡ b → (b || is_among ns a) ≡ true → (is_among ns a ≡ true → P a) → P a
-    by true same there more = subst P (eqb-true n a same) all.0
-    by false other there more = more there
 
 -- the accounts that pass a test of their numbers
 pub account-filter : (p : ℕ → Bool) (s : State) (a : ℕ) → account (filter (λ v. p v.number) s) a ≡ cond (p a) (account s a) None
@@ -122,21 +101,8 @@ rises-distinct low (x ∷ xs) rises =
 pub rising-distinct : (s : State) → IsRising (numbers s) → IsDistinct eqb (numbers s)
 rising-distinct s rising = rises-distinct 0 (numbers s) (rises_from 0 (numbers s) rising (λ some. omega arith))
 
-none_there : (s : State) (a : ℕ) → is_among (numbers s) a ≡ true → account s a ≡ None → ⊥
-none_there [] a among none = cc
-none_there (x ∷ xs) a among none = by (eqb x.number a) among none (none_there xs a)
-  where
-    by : (b : Bool) → (b || is_among (numbers xs) a) ≡ true → cond b (Some x) (account xs a) ≡ None → (is_among (numbers xs) a ≡ true → account xs a ≡ None → ⊥) → ⊥
-    by true h e more = cc
-    by false h e more = more h e
-
--- a number that stands in the list is an account's
-pub is_there : (s : State) (a : ℕ) (r : Option ℕ) → is_among (numbers s) a ≡ true → MatchOption r (account s a ≡ None) (λ place. StandsAt s place a) → IsSome r
-is_there s a (Some place) there found = refl
-is_there s a None there found = absurd (none_there s a there found)
-
--- each number of a list of present ones is there
-pub at-index : (s : State) (wanted : List ℕ) (k a : ℕ) → AllByRecursion (λ n. is_among (numbers s) n ≡ true) wanted → k < length wanted → a ≡ get_or wanted k a → is_among (numbers s) a ≡ true
-at-index s [] k a all lt at = absurd (omega arith)
-at-index s (n ∷ ns) zero a all lt at = ap (is_among (numbers s)) at ∙ all.0
-at-index s (n ∷ ns) (suc k) a all lt at = at-index s ns k a all.1 (omega arith) at
+-- a slice that was written as a whole
+pub written_whole : {X : Type 0} (now new : List X) (len : ℕ) → len ≡ length now → length new ≡ length now → take len (new ++ drop (length new) now) ≡ new
+written_whole now new len size kept =
+    ap (λ l. take len (new ++ l)) (drop_all (length new) now (omega (arith, kept)))
+    ∙ ap (take len) (append-nil new) ∙ take_all len new (omega (arith, size, kept))

@@ -1,36 +1,38 @@
 -- Marking the accounts that are touched, and picking the marked ones.
-use Rattle.std.proofs.Common.{◌≡◌, ℕ, zero, suc, ◌+◌, ◌<◌, Bool, true, false, cond, eqb, ◌||◌, List, [], ◌∷◌, ◌++◌, length, get_or, set, take, replicate, Some, None, refl, sym, ap, subst, ◌∙◌, arith}
+use Rattle.std.proofs.Common.{◌≡◌, ℕ, zero, suc, ◌<◌, Bool, true, false, cond, eqb, ◌||◌, List, [], ◌∷◌, ◌++◌, length, map, get_or, set, take, drop, replicate, refl, sym, ap, subst, ◌∙◌, arith}
 use Rattle.std.specs.List.{AllByRecursion}
-use Rattle.std.specs.Cmp.{nat_eq_equiv}
 use Rattle.std.proofs.lemmas.Bool.{ne_eqb, eq-eqb}
-use Rattle.std.proofs.lemmas.List.{take_more}
-use Rattle.std.proofs.lemmas.List.Folds.{list_any-append, list_any_more}
+use Rattle.std.proofs.lemmas.List.{append-nil, append_assoc}
+use Rattle.std.proofs.lemmas.List.Folds.{list_any-append}
+use Rattle.arrayvec.specs.ArrayVec.{ArrayVec}
 use Rattle.reg_base.specs.declared.instruction.Instruction.{Instruction}
 use Rattle.reg_base.specs.Directory.{DirectoryValue}
 use Rattle.reg_base.specs.Footprint.{footprint, is_among}
 use Rattle.reg_base.specs.Rising.{IsRising}
 use Rattle.reg_base.proofs.RisesFrom.{RisesFrom, rises_from}
 use Rattle.reg_account.specs.Account.{AccountValue}
-use Rattle.reg_rules.specs.State.{State, account, numbers}
+use Rattle.reg_rules.specs.State.{State, numbers}
 use Rattle.reg_base.specs.Touches.{is_touched}
 use Rattle.reg_book.specs.Fold.{touched_of}
-use Rattle.reg_book.specs.Places.{StandsAt}
-use Rattle.reg_book.specs.Marks.{marks_after, touched_marks, picked}
+use Rattle.reg_book.specs.Places.{AllStandAt, each_at, footprints, places_lists}
+use Rattle.reg_book.specs.Marks.{marked_at, all_marked_at, picked}
+use Rattle.reg_book.proofs.Directories.{length-numbers}
+use Rattle.reg_book.proofs.Lookups.{written_whole}
+
+-- the marks of the accounts, with each account whose number is in the list marked too
+abbrev marks_after : List Bool → State → List ℕ → List Bool
+marks_after [] s ns = []
+marks_after (m ∷ ms) [] ns = m ∷ ms
+marks_after (m ∷ ms) (v ∷ vs) ns = (m || is_among ns v.number) ∷ marks_after ms vs ns
+
+-- for each account, whether some instruction touches it
+abbrev pub touched_marks : DirectoryValue → List Instruction → State → List Bool
+touched_marks directory is [] = []
+touched_marks directory is (v ∷ vs) = is_touched directory is v.number ∷ touched_marks directory is vs
 
 -- no account has this number
 abbrev Lacks : State → ℕ → Type 0
 Lacks s a = AllByRecursion (λ (v : AccountValue). eqb a v.number ≡ false) s
-
-flip : (x y : ℕ) → eqb x y ≡ eqb y x
-flip x y = nat_eq_equiv.symm x y
-
-lacks_none : (s : State) (a : ℕ) → account s a ≡ None → Lacks s a
-lacks_none [] a none = tt
-lacks_none (v ∷ vs) a none = by (eqb v.number a) refl none (lacks_none vs a)
-  where
-    by : (b : Bool) → eqb v.number a ≡ b → cond b (Some v) (account vs a) ≡ None → (account vs a ≡ None → Lacks vs a) → Lacks (v ∷ vs) a
-    by true same e more = absurd cc
-    by false other e more = (flip a v.number ∙ other, more e)
 
 lacks_above : (low a : ℕ) (s : State) → RisesFrom low (numbers s) → a < low → Lacks s a
 lacks_above low a [] rises lt = tt
@@ -84,36 +86,63 @@ marked_present low (m ∷ ms) (v ∷ vs) ns (suc p) a rises size lt at =
     below low (w ∷ ws) zero a rises lt at lower = omega (arith, rises.0, at)
     below low (w ∷ ws) (suc p) a rises lt at lower = below (suc w.number) ws p a rises.1 (omega arith) at (omega (arith, rises.0))
 
--- a step of marking: the number has no account, or its account is marked
-pub marked_more_none : (ms : List Bool) (s : State) (wanted : List ℕ) (j a : ℕ) → j < length wanted → a ≡ get_or wanted j a → account s a ≡ None
-    → marks_after ms s (take (j + 1) wanted) ≡ marks_after ms s (take j wanted)
-marked_more_none ms s wanted j a lt at none =
-    ap (marks_after ms s) (take_more wanted j a lt ∙ ap (λ n. take j wanted ++ n ∷ []) (sym at)) ∙ marked_absent ms s (take j wanted) a (lacks_none s a none)
-
-pub marked_more_some : (ms : List Bool) (s : State) (wanted : List ℕ) (j a p : ℕ) → j < length wanted → a ≡ get_or wanted j a → IsRising (numbers s) → length ms ≡ length s → StandsAt s p a
-    → marks_after ms s (take (j + 1) wanted) ≡ set (marks_after ms s (take j wanted)) p true
-marked_more_some ms s wanted j a p lt at rising size there =
-    ap (marks_after ms s) (take_more wanted j a lt ∙ ap (λ n. take j wanted ++ n ∷ []) (sym at))
-    ∙ marked_present 0 ms s (take j wanted) p a (rises_from 0 (numbers s) rising (λ some. omega arith)) size there.within there.has_number
-
-pub marked_none : (ms : List Bool) (s : State) → marks_after ms s [] ≡ ms
+marked_none : (ms : List Bool) (s : State) → marks_after ms s [] ≡ ms
 marked_none [] s = refl
 marked_none (m ∷ ms) [] = refl
 marked_none (m ∷ ms) (v ∷ vs) = ap (λ b. b ∷ marks_after ms vs []) (or_no m false refl) ∙ ap (λ bs. m ∷ bs) (marked_none ms vs)
 
--- one instruction more
-pub touched_marks_more : (directory : DirectoryValue) (is : List Instruction) (j : ℕ) (i d : Instruction) (s : State) → j < length is → i ≡ get_or is j d
-    → marks_after (touched_marks directory (take j is) s) s (footprint directory i.act) ≡ touched_marks directory (take (j + 1) is) s
-touched_marks_more directory is j i d [] lt at = refl
-touched_marks_more directory is j i d (v ∷ vs) lt at =
-    ap (λ b. b ∷ marks_after (touched_marks directory (take j is) vs) vs (footprint directory i.act))
-    (ap (λ (x : Instruction). is_touched directory (take j is) v.number || is_among (footprint directory x.act) v.number) at
-    ∙ sym (list_any_more (λ x. is_among (footprint directory x.act) v.number) is j d lt))
-    ∙ ap (λ bs. is_touched directory (take (j + 1) is) v.number ∷ bs) (touched_marks_more directory is j i d vs lt at)
-
-pub no_marks : (directory : DirectoryValue) (s : State) → replicate (length s) false ≡ touched_marks directory [] s
+no_marks : (directory : DirectoryValue) (s : State) → replicate (length s) false ≡ touched_marks directory [] s
 no_marks directory [] = refl
 no_marks directory (v ∷ vs) = ap (λ bs. false ∷ bs) (no_marks directory vs)
+
+pub size-touched_marks : (directory : DirectoryValue) (is : List Instruction) (s : State) → length (touched_marks directory is s) ≡ length s
+size-touched_marks directory is [] = refl
+size-touched_marks directory is (v ∷ vs) = ap suc (size-touched_marks directory is vs)
+
+-- the marks at the places of these numbers
+marks-set : (ms : List Bool) (s : State) (done ps wanted : List ℕ) → RisesFrom 0 (numbers s) → length ms ≡ length s → AllByRecursion (λ p. p < length (numbers s)) ps → each_at (numbers s) ps ≡ wanted
+    → marked_at (marks_after ms s done) ps ≡ marks_after ms s (done ++ wanted)
+marks-set ms s done [] wanted rises size within there = ap (marks_after ms s) (sym (append-nil done) ∙ ap (λ ws. done ++ ws) there)
+marks-set ms s done (p ∷ ps) wanted rises size within there =
+    let a = get_or (numbers s) p 0 in
+    ap (λ bs. marked_at bs ps) (sym (marked_present 0 ms s done p a rises size (omega (arith, within.0, length-numbers s)) refl))
+    ∙ marks-set ms s (done ++ a ∷ []) ps (each_at (numbers s) ps) rises size within.1 refl
+    ∙ ap (marks_after ms s) (append_assoc done (a ∷ []) (each_at (numbers s) ps) ∙ ap (λ ws. done ++ ws) there)
+
+-- one instruction more
+touched_marks-push : (directory : DirectoryValue) (done : List Instruction) (i : Instruction) (s : State)
+    → marks_after (touched_marks directory done s) s (footprint directory i.act) ≡ touched_marks directory (done ++ i ∷ []) s
+touched_marks-push directory done i [] = refl
+touched_marks-push directory done i (v ∷ vs) =
+    ap (λ b. b ∷ marks_after (touched_marks directory done vs) vs (footprint directory i.act))
+    (sym (list_any-append (λ (x : Instruction). is_among (footprint directory x.act) v.number) done (i ∷ [])
+    ∙ ap (λ b. is_touched directory done v.number || b) (or_no (is_among (footprint directory i.act) v.number) false refl)))
+    ∙ ap (λ bs. is_touched directory (done ++ i ∷ []) v.number ∷ bs) (touched_marks-push directory done i vs)
+
+all-marks-set : (directory : DirectoryValue) (done is : List Instruction) (s : State) (places : List (List ℕ)) → RisesFrom 0 (numbers s)
+    → AllByRecursion (AllByRecursion (λ p. p < length (numbers s))) places → map (each_at (numbers s)) places ≡ footprints directory is
+    → all_marked_at (touched_marks directory done s) places ≡ touched_marks directory (done ++ is) s
+all-marks-set directory done [] s [] rises within there = ap (λ is. touched_marks directory is s) (sym (append-nil done))
+all-marks-set directory done (i ∷ is) s [] rises within there = absurd cc
+all-marks-set directory done [] s (ps ∷ places) rises within there = absurd cc
+all-marks-set directory done (i ∷ is) s (ps ∷ places) rises within there =
+    let ms = touched_marks directory done s in
+    ap (λ bs. all_marked_at bs places)
+    (ap (λ bs. marked_at bs ps) (sym (marked_none ms s))
+    ∙ marks-set ms s [] ps (footprint directory i.act) rises (size-touched_marks directory done s) within.0 (ap (λ (ls : List (List ℕ)). get_or ls 0 []) there)
+    ∙ touched_marks-push directory done i s)
+    ∙ all-marks-set directory (done ++ i ∷ []) is s places rises within.1 (ap (λ (ls : List (List ℕ)). drop 1 ls) there)
+    ∙ ap (λ l. touched_marks directory l s) (append_assoc done (i ∷ []) is)
+
+-- the marks at the places of all instructions, in a slice that was written as a whole
+pub marks-touched : (directory : DirectoryValue) (is : List Instruction) (s : State) (vs seen : List (ArrayVec ℕ)) (made now new : List Bool) (len : ℕ)
+    → IsRising (numbers s) → AllStandAt directory (numbers s) (places_lists vs) is → made ≡ replicate (length s) false → now ≡ made → seen ≡ vs
+    → new ≡ all_marked_at now (places_lists seen) → len ≡ length made → length new ≡ length now → take len (new ++ drop (length new) made) ≡ touched_marks directory is s
+marks-touched directory is s vs seen made now new len rising stand clear read same marked size kept =
+    written_whole made new len size (kept ∙ ap length read)
+    ∙ marked ∙ ap (λ ms. all_marked_at ms (places_lists seen)) (read ∙ clear ∙ no_marks directory s)
+    ∙ ap (λ (us : List (ArrayVec ℕ)). all_marked_at (touched_marks directory [] s) (places_lists us)) same
+    ∙ all-marks-set directory [] is s (places_lists vs) (rises_from 0 (numbers s) rising (λ some. omega arith)) stand.within stand.are_there
 
 pub picked-touched : (directory : DirectoryValue) (is : List Instruction) (s : State) → picked (touched_marks directory is s) s ≡ touched_of directory is s
 picked-touched directory is [] = refl
@@ -123,7 +152,3 @@ picked-touched directory is (v ∷ vs) = by (is_touched directory is v.number) (
         → cond b (v ∷ picked (touched_marks directory is vs) vs) (picked (touched_marks directory is vs) vs) ≡ cond b (v ∷ touched_of directory is vs) (touched_of directory is vs)
     by true same = ap (λ t. v ∷ t) same
     by false same = same
-
-pub size-touched_marks : (directory : DirectoryValue) (is : List Instruction) (s : State) → length (touched_marks directory is s) ≡ length s
-size-touched_marks directory is [] = refl
-size-touched_marks directory is (v ∷ vs) = ap suc (size-touched_marks directory is vs)

@@ -1,38 +1,25 @@
 -- Where the accounts of each instruction stand, among all accounts and among the marked ones.
-use Rattle.std.proofs.Common.{◌≡◌, ℕ, zero, suc, ◌+◌, ◌<◌, Bool, true, false, cond, List, [], ◌∷◌, ◌++◌, map, length, get_or, take, drop, refl, sym, ap, subst, ◌∙◌, arith}
+use Rattle.std.proofs.Common.{◌≡◌, ℕ, zero, suc, ◌+◌, ◌<◌, Bool, true, false, cond, List, [], ◌∷◌, ◌++◌, map, length, get_or, set, take, drop, refl, sym, ap, subst, ◌∙◌, arith}
 use Rattle.std.specs.List.{AllByRecursion}
-use Rattle.std.proofs.lemmas.List.{map-append, take_more, take_all, drop_all, append-nil, length-map}
+use Rattle.std.proofs.lemmas.List.{map-append, map-set, take_more, length-map, get_or_default}
+use Rattle.std.proofs.lemmas.List.Edits.{map_over_more}
+use Rattle.std.proofs.lemmas.List.Elements.{All-from_recursion}
 use Rattle.arrayvec.specs.ArrayVec.{ArrayVec}
 use Rattle.reg_base.specs.declared.instruction.Instruction.{Instruction}
-use Rattle.reg_base.specs.Directory.{DirectoryValue, is_known}
-use Rattle.reg_base.specs.Footprint.{footprint, is_among, EachFootprintIsSound}
-use Rattle.std.proofs.lemmas.List.Elements.{recursion_from_All}
+use Rattle.reg_base.specs.Directory.{DirectoryValue}
+use Rattle.reg_base.specs.Footprint.{footprint, is_among}
 use Rattle.reg_rules.specs.State.{State, numbers}
-use Rattle.reg_book.specs.Book.{directory_of}
 use Rattle.reg_base.specs.Touches.{is_touched}
-use Rattle.reg_book.specs.Marks.{touched_marks, picked, ranks_from}
-use Rattle.reg_book.specs.Places.{StandsAt, StandAt, AllStandAt, AllRanked, each_at, footprints, places_lists}
-use Rattle.reg_book.proofs.Directories.{known-among, length-numbers}
+use Rattle.reg_book.specs.Marks.{picked, ranks_from}
+use Rattle.reg_book.specs.Places.{StandAt, AllStandAt, each_at, footprints, places_lists}
+use Rattle.reg_book.proofs.Directories.{length-numbers}
 use Rattle.reg_book.proofs.Lookups.{all_among, or_true_left, or_true_right}
-use Rattle.reg_book.proofs.Marks.{size-touched_marks}
+use Rattle.reg_book.proofs.Marks.{touched_marks, size-touched_marks}
+use Rattle.reg_book.proofs.Standing.{StandsAt}
 
 pub all-more : {X : Type 0} (P : X → Type 0) (xs : List X) (x : X) → AllByRecursion P xs → P x → AllByRecursion P (xs ++ x ∷ [])
 all-more P [] x all holds = (holds, tt)
 all-more P (y ∷ ys) x all holds = (all.0, all-more P ys x all.1 holds)
-
-all-weaker : {X : Type 0} (P Q : X → Type 0) (xs : List X) → ((x : X) → P x → Q x) → AllByRecursion P xs → AllByRecursion Q xs
-all-weaker P Q [] weaker all = tt
-all-weaker P Q (x ∷ xs) weaker all = (weaker x all.0, all-weaker P Q xs weaker all.1)
-
--- a slice that was written as a whole
-pub written_whole : {X : Type 0} (now new : List X) (len : ℕ) → len ≡ length now → length new ≡ length now → take len (new ++ drop (length new) now) ≡ new
-written_whole now new len size kept =
-    ap (λ l. take len (new ++ l)) (drop_all (length new) now (omega (arith, kept)))
-    ∙ ap (take len) (append-nil new) ∙ take_all len new (omega (arith, size, kept))
-
--- no account is looked up yet
-pub stand-none : (ns : List ℕ) → StandAt ns [] []
-stand-none ns = record { within = tt; are_there = refl }
 
 -- one account more
 pub stand-more : (s : State) (ps more wanted : List ℕ) (j a p : ℕ) → j < length wanted → a ≡ get_or wanted j a → more ≡ ps ++ p ∷ [] → StandsAt s p a
@@ -45,9 +32,6 @@ stand-more s ps more wanted j a p lt at grown there so_far =
           ∙ ap (λ x. take j wanted ++ x ∷ []) (there.has_number ∙ at)
           ∙ sym (take_more wanted j a lt);
     })
-
-pub all-stand-none : (directory : DirectoryValue) (ns : List ℕ) → AllStandAt directory ns [] []
-all-stand-none directory ns = record { within = tt; are_there = refl }
 
 -- one instruction more
 pub all-stand-more : (directory : DirectoryValue) (ns : List ℕ) (all more : List (ArrayVec ℕ)) (own : ArrayVec ℕ) (is : List Instruction) (j : ℕ) (i : Instruction)
@@ -63,15 +47,6 @@ all-stand-more directory ns all more own is j i lt at grown there so_far =
           ∙ sym (map-append (λ (x : Instruction). footprint directory x.act) (take j is) (get_or is j i ∷ []))
           ∙ sym (ap (footprints directory) (take_more is j i lt));
     })
-
--- each account that an instruction touches is there
-pub touched-there : EachFootprintIsSound → (s : State) (directory : DirectoryValue) (i : Instruction) (wanted : List ℕ) → directory ≡ directory_of s → wanted ≡ footprint directory i.act
-    → AllByRecursion (λ a. is_among (numbers s) a ≡ true) wanted
-touched-there sound s directory i wanted listed same =
-    subst (AllByRecursion (λ a. is_among (numbers s) a ≡ true)) (sym same)
-    (all-weaker (λ a. is_known directory a ≡ true) (λ a. is_among (numbers s) a ≡ true) (footprint directory i.act)
-    (λ a known. sym (ap (λ d. is_known d a) listed ∙ known-among s a) ∙ known)
-    (recursion_from_All (λ a. is_known directory a ≡ true) (footprint directory i.act) (sound directory i.act).known))
 
 -- a marked account stands among the marked ones at its rank
 record IsRanked (count : ℕ) (marks : List Bool) (s : State) (p r : ℕ) : Type 0 where
@@ -144,44 +119,69 @@ module _ (directory : DirectoryValue) (all : List Instruction) (s : State) where
       within.1 (ap (λ (ls : List (List ℕ)). drop 1 ls) there) in
       ((first, more), ap (λ x. x ∷ map (each_at kept) (map (each_at ranks) places)) same ∙ ap (λ xs. footprint directory i.act ∷ xs) sames)
 
-  pub touched-ranked : (places : List (List ℕ)) → AllStandAt directory (numbers s) places all → AllRanked directory kept ranks places all
+  pub size-ranks : length ranks ≡ length (numbers s)
+  size-ranks = size-ranks_from 0 marks ∙ size-touched_marks directory all s ∙ sym (length-numbers s)
+
+  pub touched-ranked : (places : List (List ℕ)) → AllStandAt directory (numbers s) places all → AllStandAt directory kept (map (each_at ranks) places) all
   touched-ranked places stand =
       let (within, there) = all-ranked places all (λ a h. h) stand.within stand.are_there in
-      let size : length ranks ≡ length (numbers s) = size-ranks_from 0 marks ∙ size-touched_marks directory all s ∙ sym (length-numbers s) in
-      record {
-        within = subst (λ n. AllByRecursion (AllByRecursion (λ p. p < n)) places) (sym size) stand.within;
-        stand_at = record { within = within; are_there = there };
-      }
+      record { within = within; are_there = there }
+
+-- where the accounts of one instruction stand
+pub stand-of : (directory : DirectoryValue) (ns : List ℕ) (vs : List (ArrayVec ℕ)) (is : List Instruction) (j : ℕ) (v : ArrayVec ℕ) (i : Instruction)
+    → AllStandAt directory ns (places_lists vs) is → j < length is → v ≡ get_or vs j v → i ≡ get_or is j i → StandAt ns v.items (footprint directory i.act)
+stand-of directory ns vs [] j v i all lt at now = absurd (omega arith)
+stand-of directory ns [] (x ∷ is) j v i all lt at now = absurd (let e = all.are_there in cc)
+stand-of directory ns (w ∷ vs) (x ∷ is) zero v i all lt at now = record {
+  within = subst (λ (u : ArrayVec ℕ). AllByRecursion (λ p. p < length ns) u.items) (sym at) all.within.0;
+  are_there = ap (λ (u : ArrayVec ℕ). each_at ns u.items) at
+      ∙ ap (λ (ls : List (List ℕ)). get_or ls 0 []) all.are_there
+      ∙ sym (ap (λ (u : Instruction). footprint directory u.act) now);
+}
+stand-of directory ns (w ∷ vs) (x ∷ is) (suc j) v i all lt at now =
+    stand-of directory ns vs is j v i
+    (record { within = all.within.1; are_there = ap (λ (ls : List (List ℕ)). drop 1 ls) all.are_there }) (omega arith) at now
 
 -- the places of one instruction
-pub ranked-at : (directory : DirectoryValue) (ns ranks : List ℕ) (vs : List (ArrayVec ℕ)) (is : List Instruction) (j : ℕ) (v : ArrayVec ℕ) (i : Instruction)
-    → AllRanked directory ns ranks (places_lists vs) is → j < length is → v ≡ get_or vs j v → i ≡ get_or is j i
-    → AllByRecursion (λ p. p < length ranks) v.items × StandAt ns (each_at ranks v.items) (footprint directory i.act)
-ranked-at directory ns ranks vs [] j v i all lt at now = absurd (omega arith)
-ranked-at directory ns ranks [] (x ∷ is) j v i all lt at now = absurd (let e = all.stand_at.are_there in cc)
-ranked-at directory ns ranks (w ∷ vs) (x ∷ is) zero v i all lt at now = (
-  subst (λ (u : ArrayVec ℕ). AllByRecursion (λ p. p < length ranks) u.items) (sym at) all.within.0,
-  record {
-    within = subst (λ (u : ArrayVec ℕ). AllByRecursion (λ p. p < length ns) (each_at ranks u.items)) (sym at) all.stand_at.within.0;
-    are_there = ap (λ (u : ArrayVec ℕ). each_at ns (each_at ranks u.items)) at
-        ∙ ap (λ (ls : List (List ℕ)). get_or ls 0 []) all.stand_at.are_there
-        ∙ sym (ap (λ (u : Instruction). footprint directory u.act) now);
-  },
-)
-ranked-at directory ns ranks (w ∷ vs) (x ∷ is) (suc j) v i all lt at now =
-    ranked-at directory ns ranks vs is j v i (record {
-      within = all.within.1;
-      stand_at = record {
-        within = all.stand_at.within.1;
-        are_there = ap (λ (ls : List (List ℕ)). drop 1 ls) all.stand_at.are_there;
-      };
-    }) (omega arith) at now
+item-of : (vs : List (ArrayVec ℕ)) (i : ℕ) (v : ArrayVec ℕ) → i < length vs → v ≡ get_or vs i v → get_or (places_lists vs) i [] ≡ v.items
+item-of [] i v lt at = absurd (omega arith)
+item-of (w ∷ vs) zero v lt at = ap (λ (u : ArrayVec ℕ). u.items) (sym at)
+item-of (w ∷ vs) (suc i) v lt at = item-of vs i v (omega arith) at
 
--- there is an entry for each instruction
-pub size-ranked : (directory : DirectoryValue) (ns ranks : List ℕ) (vs : List (ArrayVec ℕ)) (is : List Instruction) → AllRanked directory ns ranks (places_lists vs) is → length vs ≡ length is
-size-ranked directory ns ranks vs is all =
-    sym (length-map vs (λ (p : ArrayVec ℕ). p.items))
-    ∙ sym (length-map (places_lists vs) (each_at ranks))
-    ∙ sym (length-map (map (each_at ranks) (places_lists vs)) (each_at ns))
-    ∙ ap length all.stand_at.are_there
-    ∙ length-map is (λ (i : Instruction). footprint directory i.act)
+-- are all within
+pub each-within : (size : ℕ) (vs : List (ArrayVec ℕ)) (i : ℕ) (v : ArrayVec ℕ) → AllByRecursion (AllByRecursion (λ p. p < size)) (places_lists vs) → i < length vs → v ≡ get_or vs i v → AllByRecursion (λ p. p < size) v.items
+each-within size vs i v within lt at =
+    subst (AllByRecursion (λ p. p < size)) (item-of vs i v lt at)
+    (All-from_recursion (AllByRecursion (λ p. p < size)) (places_lists vs) within i [] (omega (arith, lt, length-map vs (λ (p : ArrayVec ℕ). p.items))))
+
+-- what is not written yet, in a loop that writes over each item
+not-yet : {X : Type 0} (f : X → X) (xs : List X) (i : ℕ) (d : X) → i < length xs → get_or (map f (take i xs) ++ drop i xs) i d ≡ get_or xs i d
+not-yet f [] i d lt = absurd (omega arith)
+not-yet f (x ∷ xs) zero d lt = refl
+not-yet f (x ∷ xs) (suc i) d lt = not-yet f xs i d (omega arith)
+
+-- the places of one instruction, before their ranks are put in their stead
+pub not-ranked : (ranks : List ℕ) (now vs : List (ArrayVec ℕ)) (i : ℕ) (v : ArrayVec ℕ) → i < length vs → i < length now → v ≡ get_or vs i v
+    → places_lists vs ≡ map (each_at ranks) (take i (places_lists now)) ++ drop i (places_lists now)
+    → AllByRecursion (AllByRecursion (λ p. p < length ranks)) (places_lists now) → AllByRecursion (λ p. p < length ranks) v.items
+not-ranked ranks now vs i v lt in_now at so_far within =
+    let inside : i < length (places_lists now) = omega (arith, in_now, length-map now (λ (p : ArrayVec ℕ). p.items)) in
+    subst (AllByRecursion (λ p. p < length ranks))
+    (sym (not-yet (each_at ranks) (places_lists now) i [] inside) ∙ ap (λ (ls : List (List ℕ)). get_or ls i []) (sym so_far) ∙ item-of vs i v lt at)
+    (All-from_recursion (AllByRecursion (λ p. p < length ranks)) (places_lists now) within i [] inside)
+
+-- and afterwards
+pub one-ranked : (ranks : List ℕ) (now vs : List (ArrayVec ℕ)) (i : ℕ) (v r : ArrayVec ℕ) → i < length vs → i < length now → v ≡ get_or vs i v → r.items ≡ each_at ranks v.items
+    → places_lists vs ≡ map (each_at ranks) (take i (places_lists now)) ++ drop i (places_lists now)
+    → places_lists (set vs i r) ≡ map (each_at ranks) (take (i + 1) (places_lists now)) ++ drop (i + 1) (places_lists now)
+one-ranked ranks now vs i v r lt in_now at ranked so_far =
+    let inside : i < length (places_lists now) = omega (arith, in_now, length-map now (λ (p : ArrayVec ℕ). p.items)) in
+    let is = item-of vs i v lt at in
+    map-set (λ (p : ArrayVec ℕ). p.items) vs i r ∙ ap (set (places_lists vs) i) (ranked ∙ ap (each_at ranks) (sym is))
+    ∙ map_over_more (each_at ranks) (places_lists now) (places_lists vs) i (get_or (places_lists vs) i []) inside so_far
+    (sym (get_or_default (places_lists vs) i (get_or (places_lists vs) i []) [] (omega (arith, lt, length-map vs (λ (p : ArrayVec ℕ). p.items)))))
+
+pub size-ranked : (f : List ℕ → List ℕ) (old new : List (ArrayVec ℕ)) → places_lists new ≡ map f (places_lists old) → length new ≡ length old
+size-ranked f old new ranked =
+    sym (length-map new (λ (p : ArrayVec ℕ). p.items))
+    ∙ ap length ranked ∙ length-map (places_lists old) f ∙ length-map old (λ (p : ArrayVec ℕ). p.items)

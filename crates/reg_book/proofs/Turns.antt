@@ -3,7 +3,7 @@ use Rattle.std.proofs.Common.{Result, Ok, Err, ◌≡◌, ◌≢◌, ℕ, zero, 
 use Rattle.std.specs.List.{IsDistinct, All, AllByRecursion, swap}
 use Rattle.std.proofs.lemmas.Bool.{cases_eq, eqb-true, eqb-false, ne_eqb}
 use Rattle.std.specs.Result.{IfOk}
-use Rattle.std.proofs.lemmas.List.{map-append, map-set, take-append-drop, take-map, take-set-le, take_more, append-nil, append_assoc, same_lists, length-map, get_or-map}
+use Rattle.std.proofs.lemmas.List.{map-append, map-set, take-append-drop, take-map, take-set-le, take_more, append_assoc, same_lists, length-map, get_or-map}
 use Rattle.std.proofs.lemmas.List.Edits.{length-swap, swapped_from_swap, map_over_more}
 use Rattle.std.specs.Cmp.{nat_eq_equiv}
 use Rattle.std.proofs.lemmas.List.Sorted.{IsPermutation-swap, IsPermutation-map, All-permutation}
@@ -237,11 +237,6 @@ left-more k ns ms wanted p qs there left =
           ∙ append_assoc (take k ns) (get_or ns p 0 ∷ []) (each_at ns qs)
           ∙ left.are_there;
     }
-
--- all accounts are at the front
-pub left-none : (k : ℕ) (ns places wanted : List ℕ) → length places ≡ 0 → ArePlacesLeft k ns places wanted → take k ns ≡ wanted
-left-none k ns [] wanted none left = sym (append-nil (take k ns)) ∙ left.are_there
-left-none k ns (p ∷ ps) wanted none left = absurd (omega (arith, none))
 
 -- places of different numbers differ
 places-others : (ns : List ℕ) (p : ℕ) (qs : List ℕ) → Others (get_or ns p 0) (each_at ns qs) → Others p qs

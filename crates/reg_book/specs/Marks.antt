@@ -1,21 +1,16 @@
--- How the touched accounts of a batch are found: by marks beside the accounts. Private functions are stated in these.
-use Rattle.std.specs.Prelude.{ℕ, ◌+◌, Bool, ◌||◌, List, [], ◌∷◌, if◌then◌else◌}
-use Rattle.reg_base.specs.declared.instruction.Instruction.{Instruction}
-use Rattle.reg_base.specs.Directory.{DirectoryValue}
-use Rattle.reg_base.specs.Footprint.{is_among}
+-- How the touched accounts of a batch are found: by marks beside the accounts. Private functions alone are stated in these.
+use Rattle.std.specs.Prelude.{ℕ, ◌+◌, Bool, true, List, [], ◌∷◌, slice_set, if◌then◌else◌}
 use Rattle.reg_rules.specs.State.{State}
-use Rattle.reg_base.specs.Touches.{is_touched}
 
--- the marks of the accounts, with each account whose number is in the list marked too
-abbrev pub marks_after : List Bool → State → List ℕ → List Bool
-marks_after [] s ns = []
-marks_after (m ∷ ms) [] ns = m ∷ ms
-marks_after (m ∷ ms) (v ∷ vs) ns = (m || is_among ns v.number) ∷ marks_after ms vs ns
+-- the marks, with those at these places set
+abbrev pub marked_at : List Bool → List ℕ → List Bool
+marked_at ms [] = ms
+marked_at ms (p ∷ ps) = marked_at (slice_set ms p true) ps
 
--- for each account, whether some instruction touches it
-abbrev pub touched_marks : DirectoryValue → List Instruction → State → List Bool
-touched_marks directory is [] = []
-touched_marks directory is (v ∷ vs) = is_touched directory is v.number ∷ touched_marks directory is vs
+-- the marks, with those at the places of all these lists set
+abbrev pub all_marked_at : List Bool → List (List ℕ) → List Bool
+all_marked_at ms [] = ms
+all_marked_at ms (ps ∷ more) = all_marked_at (marked_at ms ps) more
 
 -- the accounts that are marked
 abbrev pub picked : List Bool → State → State

@@ -1,16 +1,10 @@
--- Places among accounts, counted from 0. Private functions are stated in these.
+-- Places among accounts, counted from 0. Private functions alone are stated in these.
 use Rattle.std.specs.Prelude.{◌≡◌, ℕ, ◌<◌, List, map, length, slice_index}
 use Rattle.std.specs.List.{AllByRecursion}
 use Rattle.arrayvec.specs.ArrayVec.{ArrayVec}
 use Rattle.reg_base.specs.declared.instruction.Instruction.{Instruction}
 use Rattle.reg_base.specs.Directory.{DirectoryValue}
 use Rattle.reg_base.specs.Footprint.{footprint}
-use Rattle.reg_rules.specs.State.{State, numbers}
-
--- the account at this place has this number
-pub record StandsAt (s : State) (place a : ℕ) : Type 0 where
-  pub within : place < length s
-  pub has_number : slice_index (numbers s) place ≡ a
 
 -- what stands at each of these places of a list of numbers
 abbrev pub each_at : List ℕ → List ℕ → List ℕ
@@ -33,8 +27,3 @@ footprints directory is = map (λ i. footprint directory i.act) is
 pub record AllStandAt (directory : DirectoryValue) (ns : List ℕ) (places : List (List ℕ)) (is : List Instruction) : Type 0 where
   pub within : AllByRecursion (AllByRecursion (λ p. p < length ns)) places
   pub are_there : map (each_at ns) places ≡ footprints directory is
-
--- the same, where the places are ranks: each instruction's places in a first list lead to its places in a second one
-pub record AllRanked (directory : DirectoryValue) (ns ranks : List ℕ) (places : List (List ℕ)) (is : List Instruction) : Type 0 where
-  pub within : AllByRecursion (AllByRecursion (λ p. p < length ranks)) places
-  pub stand_at : AllStandAt directory ns (map (each_at ranks) places) is

@@ -1,15 +1,15 @@
 //! The places of accounts in a list by rising number.
 
-ghost use Rattle.std.specs.Prelude.{◌≡◌, ◌<◌, ◌≤◌, false, true, None, IfOk, IfSome, MatchOption, length};
+ghost use Rattle.std.specs.Prelude.{◌≡◌, ◌<◌, ◌≤◌, false, true, None, IfOk, IfSome, MatchOption, length, map};
 ghost use Rattle.std.specs.Option.{option_map_or};
-ghost use Rattle.std.specs.List.{AllByRecursion, list_all};
+ghost use Rattle.std.specs.List.{AllByRecursion, HoldsAt, list_all};
 ghost use Rattle.reg_base.specs.declared.limits.TheConstants.{MOST_ACCOUNTS, MOST_TOUCHED};
 ghost use Rattle.reg_base.specs.Directory.{is_known};
 ghost use Rattle.reg_base.specs.Footprint.{footprint};
 ghost use Rattle.reg_base.specs.Rising.{IsRising};
 ghost use Rattle.reg_rules.specs.State.{account, numbers};
 ghost use Rattle.reg_book.specs.Book.{directory_of};
-ghost use Rattle.reg_book.specs.Places.{StandsAt, StandAt, each_at};
+ghost use Rattle.reg_book.specs.Places.{StandAt, AllStandAt, each_at, places_lists};
 ghost use Rattle.reg_book.specs.Marks.{ranks_from};
 
 use arrayvec::ArrayVec;
@@ -21,8 +21,29 @@ use std::alloc::Global;
 /// instruction of a batch, so they are short: a book has at most 100,000 accounts.
 pub(crate) type Places = ArrayVec<u32, MOST_TOUCHED>;
 
-/// The places of the accounts that the instruction touches, in its order. None if one that must be known is not there.
-pub(crate) fn places_of(accounts: &[Account], instruction: &Instruction) -> Places
+/// For each instruction the places of the accounts that it touches. An account is looked up once for each instruction
+/// that touches it.
+///
+/// # Errors
+/// `NoMemory` if memory ran out.
+pub(crate) fn all_places(
+    alloc: Global,
+    accounts: &[Account],
+    instructions: &[Instruction],
+) -> Result<Vec<Places>, NoMemory>
+    requires rising { IsRising (numbers accounts.now) }
+    requires few { length accounts.now ≤ MOST_ACCOUNTS }
+    ensures { IfOk result (λ places. AllStandAt (directory_of accounts.now) (numbers accounts.now) (places_lists places.items) instructions.now) }
+{
+    let mut places = Vec::with_capacity(alloc, instructions.len())?;
+    for instruction in instructions {
+        places.push(places_of(accounts, instruction))?;
+    }
+    Ok(places)
+}
+
+// The places of the accounts that the instruction touches, in its order. None if one that must be known is not there.
+fn places_of(accounts: &[Account], instruction: &Instruction) -> Places
     requires rising { IsRising (numbers accounts.now) }
     requires few { length accounts.now ≤ MOST_ACCOUNTS }
     ensures { StandAt (numbers accounts.now) result.items (footprint (directory_of accounts.now) instruction.now.act) }
@@ -73,7 +94,7 @@ fn find_places(accounts: &[Account], wanted: &[AccountNo]) -> Option<Places>
 // The place of the account with this number, counted from 0.
 fn place_of(accounts: &[Account], number: AccountNo) -> Option<usize>
     requires { IsRising (numbers accounts.now) }
-    ensures { MatchOption result (account accounts.now number ≡ None) (λ place. StandsAt accounts.now place number) }
+    ensures { MatchOption result (account accounts.now number ≡ None) (HoldsAt (λ v. v.number ≡ number) accounts.now) }
 {
     match guess_place(accounts, number) {
         Some(place) => Some(place),
@@ -84,7 +105,7 @@ fn place_of(accounts: &[Account], number: AccountNo) -> Option<usize>
 // The place at which the account stands if the numbers rise evenly from the first account to the last, and if it does
 // stand there. One comparison shows it.
 fn guess_place(accounts: &[Account], number: AccountNo) -> Option<usize>
-    ensures { IfSome result (λ place. StandsAt accounts.now place number) }
+    ensures { IfSome result (HoldsAt (λ v. v.number ≡ number) accounts.now) }
 {
     let first = accounts.first()?.number().get();
     let last = accounts.last()?.number().get();
@@ -97,7 +118,7 @@ fn guess_place(accounts: &[Account], number: AccountNo) -> Option<usize>
 
 fn search_place(accounts: &[Account], number: AccountNo) -> Option<usize>
     requires { IsRising (numbers accounts.now) }
-    ensures { MatchOption result (account accounts.now number ≡ None) (λ place. StandsAt accounts.now place number) }
+    ensures { MatchOption result (account accounts.now number ≡ None) (HoldsAt (λ v. v.number ≡ number) accounts.now) }
 {
     match accounts.binary_search_by_key(&number, |account| account.number()) {
         Ok(place) => Some(place),
@@ -130,14 +151,24 @@ pub(crate) fn indexes(places: &Places) -> ArrayVec<usize, MOST_TOUCHED>
     own
 }
 
-/// The ranks at these places.
-pub(crate) fn ranks_at(places: &Places, ranks: &[u32]) -> ArrayVec<usize, MOST_TOUCHED>
+/// Puts the rank at each place in its stead.
+pub(crate) fn rank_all(places: &mut [Places], ranks: &[u32])
+    requires { AllByRecursion (AllByRecursion (λ place. place < length ranks.now)) (places_lists places.old) }
+    ensures { places_lists places.new ≡ map (each_at ranks.now) (places_lists places.old) }
+{
+    for own in places.iter_mut() {
+        *own = ranks_at(own, ranks);
+    }
+}
+
+// The ranks at these places.
+fn ranks_at(places: &Places, ranks: &[u32]) -> Places
     requires { AllByRecursion (λ place. place < length ranks.now) places.now.items }
     ensures { result.items ≡ each_at ranks.now places.now.items }
 {
-    let mut own = ArrayVec::new();
+    let mut own = Places::new();
     for place in places.as_slice() {
-        own.push(ranks[*place as usize] as usize);
+        own.push(ranks[*place as usize]);
     }
     own
 }

@@ -8,10 +8,10 @@ ghost use Rattle.reg_book.specs.Fold.{state_after, rows_of};
 ghost use Rattle.reg_book.specs.Settled.{IsOfBook};
 ghost use Rattle.reg_book.specs.Day.{day_of, settled_day};
 ghost use Rattle.reg_book.specs.Settling.{IsSettleFault};
-ghost use Rattle.reg_book.specs.Places.{AllRanked, places_lists};
+ghost use Rattle.reg_book.specs.Places.{AllStandAt, places_lists};
 
 use crate::book::Book;
-use crate::places::{Places, ranks_at};
+use crate::places::{Places, indexes};
 use crate::settled::Settled;
 use crate::touched::{Touched, find_touched};
 use crate::turn::take_turn;
@@ -84,30 +84,31 @@ fn settle_batch(
     let Touched {
         mut accounts,
         places,
-        ranks,
     } = find_touched(alloc, book.accounts(), batch.instructions())?;
     let setting = Setting {
         rules,
         day: batch.day(),
         directory,
     };
-    let rows = settle_all(alloc, &setting, batch, &mut accounts, &places, &ranks)?;
+    let rows = settle_all(alloc, &setting, batch, &mut accounts, &places)?;
     Ok(Settled::new(base, rows, accounts))
 }
 
-// Carries all instructions of the batch out on the accounts that they touch, and answers the log. The accounts that
-// an instruction touches stand at the ranks of its places.
-fn settle_all(
+/// Carries all instructions of the batch out on accounts, and answers the log. There is a list of places for each
+/// instruction: those of the accounts that it touches.
+///
+/// # Errors
+/// `NoMemory` if memory ran out.
+pub(crate) fn settle_all(
     alloc: Global,
     setting: &Setting,
     batch: &Batch,
     accounts: &mut [Account],
     places: &[Places],
-    ranks: &[u32],
 ) -> Result<Vec<LogRow>, NoMemory>
     requires rules { AreRules setting.now.rules }
     requires ready { IsReady (batch.now.base + 1) accounts.old }
-    requires ranked { AllRanked setting.now.directory (numbers accounts.old) ranks.now (places_lists places.now) batch.now.instructions }
+    requires places { AllStandAt setting.now.directory (numbers accounts.old) (places_lists places.now) batch.now.instructions }
     ensures rows { IfOk result (λ rows. rows.items ≡ rows_of setting.now accounts.old (batch.now.base + 1) batch.now.instructions) }
     ensures accounts { OnOk result (accounts.new ≡ state_after setting.now accounts.old (batch.now.base + 1) batch.now.instructions) }
 {
@@ -119,7 +120,7 @@ fn settle_all(
     for (place, instruction) in instructions.iter().enumerate() {
         last += 1;
         let number = RecordNo::new(last).unwrap();
-        let mut own = ranks_at(&places[place], ranks);
+        let mut own = indexes(&places[place]);
         let reply = take_turn(
             alloc,
             setting,

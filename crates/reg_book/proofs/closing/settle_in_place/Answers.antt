@@ -7,8 +7,8 @@ use Rattle.reg_book.proofs.Folds.{size-rows_of}
 use Rattle.reg_book.proofs.Values.{ready-book}
 use Rattle.reg_book.proofs.closing.settle_in_place.Goals as goal
 
-pub execute_all-requires-clause-ready : goal.execute_all-requires-clause-ready
-execute_all-requires-clause-ready c =
+pub settle_all-requires-clause-ready : goal.settle_all-requires-clause-ready
+settle_all-requires-clause-ready c =
     let day : Day = day_of c.args.book c.args.rules.now c.args.batch.now in
     let kept : IsDay day = record { book = c.into_parts-accounts.ensures.kept; rules = c.are_within_limits.ensures; batch = c.base.ensures.room; follows = c.requires } in
     subst (IsReady (c.args.batch.now.base + 1)) (sym (c.deref_mut.ensures.value ∙ c.into_parts-accounts.ensures.accounts)) (ready-book c.step_laws.ensures day kept)
@@ -18,7 +18,7 @@ from_sorted-requires c =
     let day : Day = day_of c.args.book c.args.rules.now c.args.batch.now in
     let kept : IsDay day = record { book = c.into_parts-accounts.ensures.kept; rules = c.are_within_limits.ensures; batch = c.base.ensures.room; follows = c.requires } in
     let size : c.into_parts-accounts.result.0.len ≡ length c.into_parts-accounts.result.0.items = search rules in
-    let closed = whole-after c.step_laws.ensures day c.day.result c.into_parts-accounts.result.1 c.into_parts-accounts.result.0.items c.deref_mut.result.now c.execute_all.new.accounts c.into_parts-accounts.result.0.len
+    let closed = whole-after c.step_laws.ensures day c.day.result c.into_parts-accounts.result.1 c.into_parts-accounts.result.0.items c.deref_mut.result.now c.settle_all.new.accounts c.into_parts-accounts.result.0.len
     c.day.ensures c.into_parts-accounts.ensures.directory c.into_parts-accounts.ensures.accounts c.deref_mut.ensures.value size c.in_ok-rows.ensures.accounts in
     let logged = ap (λ (rows : List LogRow). length rows) c.in_ok-rows.ensures.rows
     ∙ size-rows_of (record { rules = c.args.rules.now; day = c.day.result; directory = c.into_parts-accounts.result.1 }) c.deref_mut.result.now (c.args.batch.now.base + 1) c.args.batch.now.instructions in
@@ -29,7 +29,7 @@ pub returns-clause-book : goal.returns-clause-book
 returns-clause-book c =
     let day : Day = day_of c.args.book c.args.rules.now c.args.batch.now in
     let size : c.into_parts-accounts.result.0.len ≡ length c.into_parts-accounts.result.0.items = search rules in
-    let closed = whole-after c.step_laws.ensures day c.day.result c.into_parts-accounts.result.1 c.into_parts-accounts.result.0.items c.deref_mut.result.now c.execute_all.new.accounts c.into_parts-accounts.result.0.len
+    let closed = whole-after c.step_laws.ensures day c.day.result c.into_parts-accounts.result.1 c.into_parts-accounts.result.0.items c.deref_mut.result.now c.settle_all.new.accounts c.into_parts-accounts.result.0.len
     c.day.ensures c.into_parts-accounts.ensures.directory c.into_parts-accounts.ensures.accounts c.deref_mut.ensures.value size c.in_ok-rows.ensures.accounts in
     let logged = ap (λ (rows : List LogRow). length rows) c.in_ok-rows.ensures.rows
     ∙ size-rows_of (record { rules = c.args.rules.now; day = c.day.result; directory = c.into_parts-accounts.result.1 }) c.deref_mut.result.now (c.args.batch.now.base + 1) c.args.batch.now.instructions in

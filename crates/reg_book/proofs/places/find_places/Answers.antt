@@ -1,6 +1,6 @@
 use Rattle.std.proofs.Common.{◌<◌, length, rules, arith, ap}
-use Rattle.reg_book.specs.Places.{StandsAt}
 use Rattle.reg_book.proofs.Footprints.{known-more, unknown-one}
+use Rattle.reg_book.proofs.Standing.{StandsAt, stands-at}
 use Rattle.reg_book.proofs.Ranks.{stand-more}
 use Rattle.reg_book.proofs.places.find_places.Goals as goal
 
@@ -9,10 +9,15 @@ returns-in-None-clause-known c =
     let within : c.loop-number.number-index < length c.args.wanted.now = search rules in
     unknown-one c.args.accounts.now c.args.wanted.now c.loop-number.number-index c.number-item.result within c.number-item.is c.in-None.ensures
 
+pub overflow_cast-place : goal.overflow_cast-place
+overflow_cast-place c =
+    let stands = stands-at c.args.accounts.now c.in-Some.place c.number-item.result c.in-Some.ensures in
+    omega (arith, stands.within, c.requires.few)
+
 pub loop-number-preserved : goal.loop-number-preserved
 loop-number-preserved c =
     let within : c.loop-number.number-index < length c.args.wanted.now = search rules in
-    let stands : StandsAt c.args.accounts.now c.in-Some.place c.number-item.result = c.in-Some.ensures in
+    let stands : StandsAt c.args.accounts.now c.in-Some.place c.number-item.result = stands-at c.args.accounts.now c.in-Some.place c.number-item.result c.in-Some.ensures in
     record {
       there = stand-more c.args.accounts.now c.loop-number.places.items c.push.new.self.items c.args.wanted.now c.loop-number.number-index c.number-item.result c.in-Some.place
           within c.number-item.is c.push.ensures.items stands c.loop-number.invariant.there;

@@ -3,12 +3,13 @@ use Rattle.std.specs.Option.{option_map_or}
 use Rattle.reg_base.specs.Directory.{is_known}
 use Rattle.reg_book.specs.Book.{directory_of}
 use Rattle.reg_book.proofs.Footprints.{known-there, unknown-absent}
+use Rattle.reg_book.proofs.Standing.{stands-at}
 use Rattle.reg_book.proofs.places.is_there.Goals as goal
 
 pub returns-in-Some-place_of : goal.returns-in-Some-place_of
 returns-in-Some-place_of c =
     let s = c.args.accounts.now in
-    sym (ap (λ (o : Option ℕ). option_map_or (is_known (directory_of s)) o true) c.in-Some.is ∙ known-there s c.in-Some-place_of.field-0 c.in-Some.number c.in-Some-place_of.ensures)
+    sym (ap (λ (o : Option ℕ). option_map_or (is_known (directory_of s)) o true) c.in-Some.is ∙ known-there s c.in-Some-place_of.field-0 c.in-Some.number (stands-at s c.in-Some-place_of.field-0 c.in-Some.number c.in-Some-place_of.ensures))
 
 pub returns-in-None-place_of : goal.returns-in-None-place_of
 returns-in-None-place_of c =

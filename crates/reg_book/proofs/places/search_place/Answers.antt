@@ -2,16 +2,14 @@ use Rattle.std.proofs.Common.{◌≡◌, rules, arith}
 use Rattle.std.proofs.lemmas.Fn.{always_returns_same}
 use Rattle.reg_base.proofs.RisesFrom.{rises_from}
 use Rattle.reg_rules.specs.State.{numbers}
-use Rattle.reg_book.proofs.Accounts.{searched_err}
-use Rattle.reg_book.proofs.Lookups.{searched_place}
+use Rattle.reg_book.proofs.Accounts.{number_found, searched_err}
 use Rattle.reg_book.proofs.places.search_place.Goals as goal
 
 pub returns-in-Ok : goal.returns-in-Ok
 returns-in-Ok c =
     let searched = c.binary_search_by_key.ensures.position (λ v. v.number) (always_returns_same _ (λ a r. r ≡ a.0.now.number) _ (λ a r q k. search rules)) in
     let found = rw c.in-Ok.is at searched in
-    let within = rw c.in-Ok.is at c.binary_search_by_key.ensures.bound in
-    searched_place c.args.accounts.now c.args.number c.in-Ok.place within found
+    λ d. number_found c.args.accounts.now c.args.number c.in-Ok.place d found
 
 pub returns-in-Err : goal.returns-in-Err
 returns-in-Err c =

@@ -8,27 +8,22 @@ use Rattle.reg_rules.specs.declared.reply.Reply.{Reply}
 use Rattle.reg_rules.specs.State.{State, Setting, numbers}
 use Rattle.reg_rules.specs.Laws.{IsReady}
 use Rattle.reg_rules.specs.Step.{step, row_of}
-use Rattle.reg_book.specs.Places.{StandAt, AllRanked, places_lists}
+use Rattle.reg_book.specs.Places.{StandAt, AllStandAt, places_lists}
 use Rattle.reg_book.proofs.Folds.{rows_more, state_more, numbers_more}
-use Rattle.reg_book.proofs.Ranks.{ranked-at}
+use Rattle.reg_book.proofs.Ranks.{stand-of}
 use Rattle.reg_book.proofs.settle.settle_all.Goals as goal
-
-pub ranks_at-own-requires : goal.ranks_at-own-requires
-ranks_at-own-requires c =
-    let within : c.loop-place.place < length c.instructions-instructions.result.now = search rules in
-    (ranked-at c.args.setting.now.directory (numbers c.args.accounts.now) c.args.ranks.now c.args.places.now c.instructions-instructions.result.now c.loop-place.place c.index-places-place.result c.index-instructions-place.result
-    (subst (AllRanked c.args.setting.now.directory (numbers c.args.accounts.now) c.args.ranks.now (places_lists c.args.places.now)) (sym c.instructions-instructions.ensures) c.requires.ranked)
-    within c.index-places-place.is c.index-instructions-place.is).0
 
 pub take_turn-requires-clause-there : goal.take_turn-requires-clause-there
 take_turn-requires-clause-there c =
+    let directory = c.args.setting.now.directory in
+    let ns = numbers c.args.accounts.now in
     let within : c.loop-place.place < length c.instructions-instructions.result.now = search rules in
-    let own = ranked-at c.args.setting.now.directory (numbers c.args.accounts.now) c.args.ranks.now c.args.places.now c.instructions-instructions.result.now c.loop-place.place c.index-places-place.result c.index-instructions-place.result
-    (subst (AllRanked c.args.setting.now.directory (numbers c.args.accounts.now) c.args.ranks.now (places_lists c.args.places.now)) (sym c.instructions-instructions.ensures) c.requires.ranked)
+    let own = stand-of directory ns c.args.places.now c.instructions-instructions.result.now c.loop-place.place c.index-places-place.result c.index-instructions-place.result
+    (subst (AllStandAt directory ns (places_lists c.args.places.now)) (sym c.instructions-instructions.ensures) c.requires.places)
     within c.index-places-place.is c.index-instructions-place.is in
-    let wanted = footprint c.args.setting.now.directory c.index-instructions-place.result.act in
-    subst (λ ns. StandAt ns c.as_mut_slice.result.now wanted) (sym c.loop-place.invariant.same_numbers)
-    (subst (λ ps. StandAt (numbers c.args.accounts.now) ps wanted) (sym (c.as_mut_slice.ensures.value ∙ c.ranks_at-own.ensures)) own.1)
+    let wanted = footprint directory c.index-instructions-place.result.act in
+    subst (λ ms. StandAt ms c.as_mut_slice.result.now wanted) (sym c.loop-place.invariant.same_numbers)
+    (subst (λ ps. StandAt ns ps wanted) (sym (c.as_mut_slice.ensures.value ∙ c.indexes-own.ensures)) own)
 
 pub loop-place-preserved : goal.loop-place-preserved
 loop-place-preserved c =

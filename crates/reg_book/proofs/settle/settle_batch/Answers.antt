@@ -4,20 +4,20 @@ use Rattle.reg_rules.specs.Laws.{IsReady}
 use Rattle.reg_book.specs.Book.{directory_of}
 use Rattle.reg_book.specs.Day.{Day, IsDay, day_of}
 use Rattle.reg_book.specs.Fold.{touched_of}
-use Rattle.reg_book.specs.Places.{AllRanked, places_lists}
+use Rattle.reg_book.specs.Places.{AllStandAt, places_lists}
 use Rattle.reg_book.specs.Settled.{IsSettled, IsOfBook}
 use Rattle.reg_book.proofs.Days.{day-made, settled-kept, settled-of_book, touched-ready}
 use Rattle.reg_book.proofs.settle.settle_batch.Goals as goal
-use Rattle.reg_book.proofs.settle.settle_batch.Goals.{After-deref-2}
+use Rattle.reg_book.proofs.settle.settle_batch.Goals.{After-deref}
 
-table : (c : After-deref-2) → c.deref_mut.result.now ≡ touched_of (directory_of c.args.book.now.accounts) c.args.batch.now.instructions c.args.book.now.accounts
+table : (c : After-deref) → c.deref_mut.result.now ≡ touched_of (directory_of c.args.book.now.accounts) c.args.batch.now.instructions c.args.book.now.accounts
 table c =
     c.deref_mut.ensures.value ∙ c.in_ok-accounts.ensures.accounts
     ∙ ap (λ is. touched_of (directory_of c.accounts.result.now) is c.accounts.result.now) c.instructions.ensures
     ∙ ap (λ (s : State). touched_of (directory_of s) c.args.batch.now.instructions s) c.accounts.ensures.value
 
 -- the day, as the calls tell it
-kept : (c : After-deref-2) → IsDay (day_of c.args.book.now c.args.rules.now c.args.batch.now)
+kept : (c : After-deref) → IsDay (day_of c.args.book.now c.args.rules.now c.args.batch.now)
 kept c = record {
   book = c.accounts.ensures.kept;
   rules = c.are_within_limits.ensures;
@@ -29,13 +29,14 @@ pub settle_all-requires-clause-ready : goal.settle_all-requires-clause-ready
 settle_all-requires-clause-ready c =
     subst (IsReady (c.args.batch.now.base + 1)) (sym (table c)) (touched-ready c.step_laws.ensures (day_of c.args.book.now c.args.rules.now c.args.batch.now) (kept c))
 
-pub settle_all-requires-clause-ranked : goal.settle_all-requires-clause-ranked
-settle_all-requires-clause-ranked c =
-    let listed = subst (λ d. AllRanked d (numbers c.in_ok-accounts.field-0.accounts.items) c.in_ok-accounts.field-0.ranks.items (places_lists c.in_ok-accounts.field-0.places.items) c.instructions.result.now) (ap directory_of c.accounts.ensures.value ∙ sym c.directory-directory.ensures) c.in_ok-accounts.ensures.ranked in
-    let first = subst (AllRanked c.directory-directory.result.now (numbers c.in_ok-accounts.field-0.accounts.items) c.in_ok-accounts.field-0.ranks.items (places_lists c.in_ok-accounts.field-0.places.items)) c.instructions.ensures listed in
-    let second = subst (λ (s : State). AllRanked c.directory-directory.result.now (numbers s) c.in_ok-accounts.field-0.ranks.items (places_lists c.in_ok-accounts.field-0.places.items) c.args.batch.now.instructions) (sym c.deref_mut.ensures.value) first in
-    let third = subst (λ rs. AllRanked c.directory-directory.result.now (numbers c.deref_mut.result.now) rs (places_lists c.in_ok-accounts.field-0.places.items) c.args.batch.now.instructions) (sym c.deref-2.ensures.value) second in
-    subst (λ ps. AllRanked c.directory-directory.result.now (numbers c.deref_mut.result.now) c.deref-2.result.now (places_lists ps) c.args.batch.now.instructions) (sym c.deref.ensures.value) third
+pub settle_all-requires-clause-places : goal.settle_all-requires-clause-places
+settle_all-requires-clause-places c =
+    let ps = places_lists c.in_ok-accounts.field-0.places.items in
+    let directory = c.directory-directory.result.now in
+    let listed = subst (λ d. AllStandAt d (numbers c.in_ok-accounts.field-0.accounts.items) ps c.instructions.result.now) (ap directory_of c.accounts.ensures.value ∙ sym c.directory-directory.ensures) c.in_ok-accounts.ensures.places in
+    let first = subst (AllStandAt directory (numbers c.in_ok-accounts.field-0.accounts.items) ps) c.instructions.ensures listed in
+    let second = subst (λ (s : State). AllStandAt directory (numbers s) ps c.args.batch.now.instructions) (sym c.deref_mut.ensures.value) first in
+    subst (λ vs. AllStandAt directory (numbers c.deref_mut.result.now) (places_lists vs) c.args.batch.now.instructions) (sym c.deref.ensures.value) second
 
 pub new-requires : goal.new-requires
 new-requires c =

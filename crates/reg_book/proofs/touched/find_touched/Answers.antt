@@ -1,36 +1,55 @@
-use Rattle.std.proofs.Common.{◌≡◌, ◌++◌, [], false, length, take, drop, replicate, rules, sym, ap, subst, ◌∙◌}
+use Rattle.std.proofs.Common.{◌≡◌, ◌<◌, ◌++◌, List, ℕ, false, length, map, take, drop, replicate, rules, sym, ap, subst, ◌∙◌}
+use Rattle.std.specs.List.{AllByRecursion}
+use Rattle.arrayvec.specs.ArrayVec.{ArrayVec}
 use Rattle.reg_rules.specs.State.{State, numbers}
 use Rattle.reg_book.specs.Book.{directory_of}
-use Rattle.reg_book.specs.Marks.{touched_marks, picked, ranks_from}
-use Rattle.reg_book.specs.Places.{AllRanked, places_lists}
-use Rattle.reg_book.proofs.Marks.{no_marks, picked-touched, size-touched_marks}
-use Rattle.reg_book.proofs.Ranks.{touched-ranked, written_whole}
+use Rattle.reg_book.specs.Marks.{picked, ranks_from}
+use Rattle.reg_book.specs.Places.{AllStandAt, each_at, places_lists}
+use Rattle.reg_book.proofs.Lookups.{written_whole}
+use Rattle.reg_book.proofs.Marks.{touched_marks, marks-touched, picked-touched}
+use Rattle.reg_book.proofs.Ranks.{size-ranks, size-ranked, touched-ranked}
 use Rattle.reg_book.proofs.touched.find_touched.Goals as goal
-use Rattle.reg_book.proofs.touched.find_touched.Goals.{After-drop-marks-2}
 
-pub mark_all-requires-clause-none : goal.mark_all-requires-clause-none
-mark_all-requires-clause-none c =
-    let e : c.in_ok-marks.marks.items ≡ replicate (length c.args.accounts.now) false = search rules in
-    c.deref_mut.ensures.value ∙ e ∙ no_marks (directory_of c.args.accounts.now) c.args.accounts.now
-
-written : (c : After-drop-marks-2) → take c.in_ok-marks.marks.len (c.mark_all.new.marks ++ drop (length c.mark_all.new.marks) c.in_ok-marks.marks.items)
-    ≡ touched_marks (directory_of c.args.accounts.now) c.args.instructions.now c.args.accounts.now
-written c =
-    let made : c.in_ok-marks.marks.items ≡ replicate (length c.args.accounts.now) false = search rules in
+pub rank_all-requires : goal.rank_all-requires
+rank_all-requires c =
+    let s = c.args.accounts.now in
+    let directory = directory_of s in
+    let is = c.args.instructions.now in
+    let made : c.in_ok-marks.marks.items ≡ replicate (length s) false = search rules in
     let size : c.in_ok-marks.marks.len ≡ length c.in_ok-marks.marks.items = search rules in
-    let is = c.in_ok-places.ensures.marks in
-    let kept = ap length is ∙ size-touched_marks (directory_of c.args.accounts.now) c.args.instructions.now c.args.accounts.now
-    ∙ sym (ap length made ∙ ap length (no_marks (directory_of c.args.accounts.now) c.args.accounts.now) ∙ size-touched_marks (directory_of c.args.accounts.now) [] c.args.accounts.now) in
-    written_whole c.in_ok-marks.marks.items c.mark_all.new.marks c.in_ok-marks.marks.len size kept ∙ is
+    let marked = marks-touched directory is s c.in_ok-places.places.items c.deref.result.now c.in_ok-marks.marks.items c.deref_mut.result.now c.mark_all.new.marks c.in_ok-marks.marks.len
+    c.requires.rising c.in_ok-places.ensures made c.deref_mut.ensures.value c.deref.ensures.value c.mark_all.ensures.marks size c.mark_all.ensures.size in
+    let ranks = c.deref-3.ensures.value ∙ c.in_ok-ranks.ensures ∙ ap (ranks_from 0) (c.deref-2.ensures.value ∙ marked) in
+    subst (λ n. AllByRecursion (AllByRecursion (λ p. p < n)) (places_lists c.deref_mut-2.result.now)) (sym (ap length ranks ∙ size-ranks directory is s))
+    (subst (λ (vs : List (ArrayVec ℕ)). AllByRecursion (AllByRecursion (λ p. p < length (numbers s))) (places_lists vs)) (sym c.deref_mut-2.ensures.value) c.in_ok-places.ensures.within)
 
 pub returns-clause-accounts : goal.returns-clause-accounts
 returns-clause-accounts c =
-    c.in_ok-accounts.ensures ∙ ap (λ ms. picked ms c.args.accounts.now) (c.deref-2.ensures.value ∙ written c) ∙ picked-touched (directory_of c.args.accounts.now) c.args.instructions.now c.args.accounts.now
+    let s = c.args.accounts.now in
+    let made : c.in_ok-marks.marks.items ≡ replicate (length s) false = search rules in
+    let size : c.in_ok-marks.marks.len ≡ length c.in_ok-marks.marks.items = search rules in
+    let marked = marks-touched (directory_of s) c.args.instructions.now s c.in_ok-places.places.items c.deref.result.now c.in_ok-marks.marks.items c.deref_mut.result.now c.mark_all.new.marks c.in_ok-marks.marks.len
+    c.requires.rising c.in_ok-places.ensures made c.deref_mut.ensures.value c.deref.ensures.value c.mark_all.ensures.marks size c.mark_all.ensures.size in
+    c.in_ok-accounts.ensures ∙ ap (λ ms. picked ms s) (c.deref-4.ensures.value ∙ marked) ∙ picked-touched (directory_of s) c.args.instructions.now s
 
-pub returns-clause-ranked : goal.returns-clause-ranked
-returns-clause-ranked c =
-    let kept = c.in_ok-accounts.ensures ∙ ap (λ ms. picked ms c.args.accounts.now) (c.deref-2.ensures.value ∙ written c) in
-    let ranks = c.in_ok-ranks.ensures ∙ ap (ranks_from 0) (c.deref.ensures.value ∙ written c) in
-    subst (λ (s : State). AllRanked (directory_of c.args.accounts.now) (numbers s) c.in_ok-ranks.ranks.items (places_lists c.in_ok-places.places.items) c.args.instructions.now) (sym kept)
-    (subst (λ rs. AllRanked (directory_of c.args.accounts.now) (numbers (picked (touched_marks (directory_of c.args.accounts.now) c.args.instructions.now c.args.accounts.now) c.args.accounts.now)) rs (places_lists c.in_ok-places.places.items) c.args.instructions.now) (sym ranks)
-    (touched-ranked (directory_of c.args.accounts.now) c.args.instructions.now c.args.accounts.now (places_lists c.in_ok-places.places.items) c.in_ok-places.ensures.places))
+pub returns-clause-places : goal.returns-clause-places
+returns-clause-places c =
+    let s = c.args.accounts.now in
+    let directory = directory_of s in
+    let is = c.args.instructions.now in
+    let vs = c.in_ok-places.places.items in
+    let made : c.in_ok-marks.marks.items ≡ replicate (length s) false = search rules in
+    let size : c.in_ok-marks.marks.len ≡ length c.in_ok-marks.marks.items = search rules in
+    let marked = marks-touched directory is s vs c.deref.result.now c.in_ok-marks.marks.items c.deref_mut.result.now c.mark_all.new.marks c.in_ok-marks.marks.len
+    c.requires.rising c.in_ok-places.ensures made c.deref_mut.ensures.value c.deref.ensures.value c.mark_all.ensures.marks size c.mark_all.ensures.size in
+    let ranks = c.deref-3.ensures.value ∙ c.in_ok-ranks.ensures ∙ ap (ranks_from 0) (c.deref-2.ensures.value ∙ marked) in
+    let kept = c.in_ok-accounts.ensures ∙ ap (λ ms. picked ms s) (c.deref-4.ensures.value ∙ marked) in
+    let so_many : c.in_ok-places.places.len ≡ length vs = search rules in
+    let written = written_whole vs c.rank_all.new.places c.in_ok-places.places.len so_many
+    (size-ranked (each_at c.deref-3.result.now) c.deref_mut-2.result.now c.rank_all.new.places c.rank_all.ensures ∙ ap (λ (us : List (ArrayVec ℕ)). length us) c.deref_mut-2.ensures.value) in
+    let lists = ap places_lists written ∙ c.rank_all.ensures
+    ∙ ap (λ rs. map (each_at rs) (places_lists c.deref_mut-2.result.now)) ranks
+    ∙ ap (λ (us : List (ArrayVec ℕ)). map (each_at (ranks_from 0 (touched_marks directory is s))) (places_lists us)) c.deref_mut-2.ensures.value in
+    subst (λ (t : State). AllStandAt directory (numbers t) (places_lists (take c.in_ok-places.places.len (c.rank_all.new.places ++ drop (length c.rank_all.new.places) vs))) is) (sym kept)
+    (subst (λ ls. AllStandAt directory (numbers (picked (touched_marks directory is s) s)) ls is) (sym lists)
+    (touched-ranked directory is s (places_lists vs) c.in_ok-places.ensures))

@@ -1,8 +1,9 @@
-use Rattle.std.proofs.Common.{◌≡◌, take}
-use Rattle.reg_base.specs.Footprint.{footprint}
-use Rattle.reg_book.specs.Book.{directory_of}
-use Rattle.reg_book.specs.Marks.{marks_after}
+use Rattle.std.proofs.Common.{◌≡◌, length, drop}
+use Rattle.reg_book.specs.Marks.{marked_at}
 use Rattle.reg_book.proofs.touched.mark.Given as goal
 
 abbrev pub invariant-loop-place : goal.invariant-loop-place
-invariant-loop-place l = l.marks ≡ marks_after l.initial.marks l.accounts (take l.place-index (footprint (directory_of l.accounts) l.instruction.act))
+invariant-loop-place l = record {
+  so_far : marked_at l.marks (drop l.place-index l.places.items) ≡ marked_at l.initial.marks l.places.items;
+  size : length l.marks ≡ length l.initial.marks;
+}

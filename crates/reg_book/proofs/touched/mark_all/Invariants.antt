@@ -1,12 +1,10 @@
-use Rattle.std.proofs.Common.{◌≡◌, take}
-use Rattle.reg_rules.specs.State.{numbers}
-use Rattle.reg_book.specs.Book.{directory_of}
-use Rattle.reg_book.specs.Marks.{touched_marks}
-use Rattle.reg_book.specs.Places.{AllStandAt, places_lists}
+use Rattle.std.proofs.Common.{◌≡◌, length, drop}
+use Rattle.reg_book.specs.Marks.{all_marked_at}
+use Rattle.reg_book.specs.Places.{places_lists}
 use Rattle.reg_book.proofs.touched.mark_all.Given as goal
 
-abbrev pub invariant-loop-instruction : goal.invariant-loop-instruction
-invariant-loop-instruction l = record {
-  marked : l.marks ≡ touched_marks (directory_of l.accounts) (take l.instruction-index l.instructions) l.accounts;
-  there : AllStandAt (directory_of l.accounts) (numbers l.accounts) (places_lists l.places.items) (take l.instruction-index l.instructions);
+abbrev pub invariant-loop-own : goal.invariant-loop-own
+invariant-loop-own l = record {
+  so_far : all_marked_at l.marks (places_lists (drop l.own-index l.places)) ≡ all_marked_at l.initial.marks (places_lists l.places);
+  size : length l.marks ≡ length l.initial.marks;
 }
