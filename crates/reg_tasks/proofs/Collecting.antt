@@ -1,11 +1,13 @@
 -- What the tests of rows and parcels say: that they are those of all places and of all touched accounts.
-use Rattle.std.proofs.Common.{◌≡◌, ℕ, zero, suc, ◌+◌, ◌<◌, ◌≤◌, inl, inr, Bool, true, false, not, ◌||◌, ◌&&◌, eqb, List, [], ◌∷◌, length, map, take, Some, arith, refl, sym, ap, subst, ◌∙◌}
+use Rattle.std.proofs.Common.{◌≡◌, ℕ, zero, suc, ◌+◌, ◌++◌, ◌<◌, ◌≤◌, inl, inr, Bool, true, false, not, ◌||◌, ◌&&◌, eqb, List, [], ◌∷◌, length, map, take, Some, arith, refl, sym, ap, subst, ◌∙◌, append_assoc}
 use Rattle.std.specs.Prelude.{slice_get, IsPermutation}
+use Rattle.std.specs.Option.{option_map}
 use Rattle.std.specs.List.{IsDistinct, AllByRecursion}
 use Rattle.std.specs.List.Sorted.{IsNonDecreasingBy}
 use Rattle.std.proofs.Props.{props}
 use Rattle.std.proofs.lemmas.Option.{same_Some}
 use Rattle.std.proofs.lemmas.Bool.{eq-eqb, eqb-true, and_parts, and_from, not-true}
+use Rattle.std.proofs.lemmas.List.{map-append}
 use Rattle.std.proofs.lemmas.List.Sorted.{IsPermutation-map, IsPermutation-trans, IsPermutation-refl, list_any-IsPermutation}
 use Rattle.std.proofs.lemmas.Map.Keys.{IsDistinct-IsPermutation}
 use mathlib.Core.Logic.{∥∥₁_elim}
@@ -16,10 +18,11 @@ use Rattle.reg_plan.specs.Arrows.{touches_place}
 use Rattle.reg_plan.specs.Plans.{PlanValue, IsPlan}
 use Rattle.reg_plan.specs.Laws.{TailsAreLastTouchers}
 use Rattle.reg_rules.specs.declared.reply.LogRow.{LogRow}
+use Rattle.reg_rules.specs.declared.reply.Reply.{Reply}
 use Rattle.reg_account.specs.Account.{AccountValue}
 use Rattle.reg_base.specs.declared.instruction.Instruction.{Instruction}
 use Rattle.reg_rules.specs.State.{State, Setting}
-use Rattle.reg_rules.specs.Step.{step}
+use Rattle.reg_rules.specs.Step.{step, row_of}
 use Rattle.reg_book.specs.Fold.{rows_of}
 use Rattle.reg_book.specs.Day.{Day, IsDay, setting, row_at, log_of, settled_day}
 use Rattle.reg_book.specs.Laws.{ValueIsLastTouchers, SettledAreTouched, SettledIsInOrder}
@@ -28,7 +31,7 @@ use Rattle.reg_schedules.specs.Pool.{directory, footprint_at, leads_on}
 use Rattle.reg_schedules.proofs.Members.{In}
 use Rattle.reg_schedules.proofs.Known.{footprint_touches}
 use Rattle.reg_schedules.proofs.Tails.{clash, touched_somewhere, last_of_all, not_last, last_touches}
-use Rattle.reg_tasks.specs.Gathering.{AreLast, AreOutcomes, named_accounts, places_of, rows_in, counts_up, is_last, are_last, are_outcomes}
+use Rattle.reg_tasks.specs.Gathering.{AreLast, AreOutcomes, AreWithin, named_accounts, places_of, row_with, rows_in, replies_by_number, replies_from, counts_up, is_last, are_last, are_outcomes}
 use Rattle.reg_tasks.specs.Slots.{opened_accounts}
 use Rattle.reg_tasks.specs.declared.naming.Naming.{Ghosts}
 use Rattle.reg_tasks.specs.declared.done.Done.{Done}
@@ -288,14 +291,46 @@ pub first_whole : (day : Day) (rows : List LogRow) → rows ≡ take (length day
 first_whole day rows e =
     e ∙ ap (λ n. take n (log_of day)) (sym (size_rows (setting day) day.book.accounts (day.batch.base + 1) day.batch.instructions)) ∙ take_whole (log_of day)
 
-module _ {N : Type 0} {b : Ghosts N} (day : Day) (named : b.day ≡ Some day) where
-  rows_right : (done : List (Done N b)) → map Some (rows_in done) ≡ map (row_at day) (places_of done)
-  rows_right [] = refl
-  rows_right (d ∷ done) = ap (λ o. o ∷ map Some (rows_in done)) (sym (d.right day named)) ∙ ap (λ os. row_at day d.place ∷ os) (rows_right done)
+-- a row of the log is made again of its place and its reply
+made_again : (c : Setting) (s : State) (n : ℕ) (is : List Instruction) (k : ℕ) (reply : Reply) → option_map (λ (row : LogRow). row.reply) (slice_get (rows_of c s n is) k) ≡ Some reply
+    → option_map (λ i. row_of c (n + k) i reply) (slice_get is k) ≡ slice_get (rows_of c s n is) k
+made_again c s n [] k reply e = absurd cc
+made_again c s n (i ∷ is) zero reply e =
+    let same : reply ≡ (step c s n i).1 = sym (same_Some (step c s n i).1 reply e) in
+    let here : n + 0 ≡ n = omega arith in
+    ap (λ m. Some (row_of c m i reply)) here ∙ ap (λ r. Some (row_of c n i r)) same
+made_again c s n (i ∷ is) (suc k) reply e =
+    let shift : n + suc k ≡ n + 1 + k = omega arith in
+    ap (λ m. option_map (λ j. row_of c m j reply) (slice_get is k)) shift ∙ made_again c (step c s n i).0 (n + 1) is k reply e
 
-  -- rows of all places are the log
-  pub log_from : (done : List (Done N b)) → places_of done ≡ count_up 1 (length day.batch.instructions) → rows_in done ≡ log_of day
-  log_from done e = same_some (rows_in done) (log_of day) (rows_right done ∙ ap (map (row_at day)) e ∙ all_rows day)
+row_again : (day : Day) (place : ℕ) (reply : Reply) → option_map (λ (row : LogRow). row.reply) (row_at day place) ≡ Some reply → row_with day place reply ≡ row_at day place
+row_again day zero reply e = refl
+row_again day (suc k) reply e =
+    let number : day.batch.base + suc k ≡ day.batch.base + 1 + k = omega arith in
+    ap (λ n. option_map (λ i. row_of (setting day) n i reply) (slice_get day.batch.instructions k)) number
+    ∙ made_again (setting day) day.book.accounts (day.batch.base + 1) day.batch.instructions k reply e
+
+module _ {N : Type 0} {b : Ghosts N} where
+  -- places that count up to the last are within
+  count_within : (first n most : ℕ) (done : List (Done N b)) → places_of done ≡ count_up first n → 1 ≤ first → first + n ≤ most + 1 → AreWithin most done
+  count_within first n most [] e low high = tt
+  count_within first zero most (d ∷ done) e low high = absurd cc
+  count_within first (suc n) most (d ∷ done) e low high =
+      let head : d.place ≡ first = cc in
+      let tail : places_of done ≡ count_up (first + 1) n = cc in
+      ((omega (arith, low, head), omega (arith, high, head)), count_within (first + 1) n most done tail (omega arith) (omega (arith, high)))
+
+  pub all_within : (count : ℕ) (done : List (Done N b)) → places_of done ≡ count_up 1 count → AreWithin count done
+  all_within count done e = count_within 1 count count done e (omega arith) (omega arith)
+
+module _ {N : Type 0} {b : Ghosts N} (day : Day) (named : b.day ≡ Some day) where
+  rows_right : (done : List (Done N b)) → rows_in day done ≡ map (row_at day) (places_of done)
+  rows_right [] = refl
+  rows_right (d ∷ done) = ap (λ o. o ∷ rows_in day done) (row_again day d.place d.reply (d.right day named)) ∙ ap (λ os. row_at day d.place ∷ os) (rows_right done)
+
+  -- rows of all places, made again of their replies, are the log
+  pub log_from : (done : List (Done N b)) → places_of done ≡ count_up 1 (length day.batch.instructions) → (rows : List LogRow) → map Some rows ≡ rows_in day done → rows ≡ log_of day
+  log_from done e rows made = same_some rows (log_of day) (made ∙ rows_right done ∙ ap (map (row_at day)) e ∙ all_rows day)
 
 -- the values of the last parcels, by rising account, are the settled accounts
 module _ {N : Type 0} {b : Ghosts N} where
@@ -326,3 +361,15 @@ pub rows_logged : (d : Day) → (rows : List LogRow) → IsPermutation (log_of d
 rows_logged d rows same row m =
     let (k, at, number, lt) = row_index (setting d) d.book.accounts (d.batch.base + 1) d.batch.instructions row (in_before (log_of d) rows row same m) in
     record { place = suc k; number = omega (arith, number); at = at }
+
+module _ {N : Type 0} {b : Ghosts N} where
+  -- one row more that was taken apart
+  pub reply_more : (base : ℕ) (before now : List (Done N b)) (one : Done N b) (row : LogRow) (rest all : List LogRow) → now ≡ before ++ one ∷ [] → one.place + base ≡ row.number → one.reply ≡ row.reply
+      → replies_from base before ++ replies_by_number (row ∷ rest) ≡ replies_by_number all → replies_from base now ++ replies_by_number rest ≡ replies_by_number all
+  reply_more base before now one row rest all grown number reply so_far =
+      ap (λ ds. replies_from base ds ++ replies_by_number rest) grown
+      ∙ ap (λ rs. rs ++ replies_by_number rest) (map-append (λ d. (d.place + base, d.reply)) before (one ∷ []))
+      ∙ append_assoc (replies_from base before) ((one.place + base, one.reply) ∷ []) (replies_by_number rest)
+      ∙ ap (λ n. replies_from base before ++ (n, one.reply) ∷ replies_by_number rest) number
+      ∙ ap (λ r. replies_from base before ++ (row.number, r) ∷ replies_by_number rest) reply
+      ∙ so_far

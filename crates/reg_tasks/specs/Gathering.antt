@@ -1,5 +1,6 @@
 -- What a settled day is gathered from, and what is tested of it.
-use Rattle.std.specs.Prelude.{◌≡◌, ℕ, ◌+◌, ◌==◌, ◌&&◌, Bool, true, false, not, nat_eq, List, [], ◌∷◌, length, map, take, Option, Some, IsPermutation}
+use Rattle.std.specs.Prelude.{◌≡◌, ℕ, zero, suc, ◌+◌, ◌≤◌, ◌==◌, ◌&&◌, Bool, true, false, not, nat_eq, List, [], ◌∷◌, length, map, take, slice_get, Option, Some, None, IsPermutation}
+use Rattle.std.specs.Option.{option_map}
 use Rattle.std.specs.List.{IsDistinct, AllByRecursion}
 use Rattle.std.specs.FinMap as fin
 use Rattle.reg_base.specs.Directory.{DirectoryValue}
@@ -10,10 +11,12 @@ use Rattle.reg_base.specs.Batch.{BatchValue}
 use Rattle.reg_account.specs.Account.{AccountValue}
 use Rattle.reg_rules.specs.Effect.{IsBehind}
 use Rattle.reg_rules.specs.declared.reply.LogRow.{LogRow}
+use Rattle.reg_rules.specs.declared.reply.Reply.{Reply}
 use Rattle.reg_rules.specs.State.{State}
+use Rattle.reg_rules.specs.Step.{row_of}
 use Rattle.reg_book.specs.Book.{BookValue}
 use Rattle.reg_book.specs.Settled.{SettledValue, IsSettled, IsOfBook}
-use Rattle.reg_book.specs.Day.{Day, log_of, settled_day}
+use Rattle.reg_book.specs.Day.{Day, setting, log_of, settled_day}
 use Rattle.reg_plan.specs.Plans.{PlanValue}
 use Rattle.reg_schedules.specs.Pool.{directory, footprint_at, leads_on}
 use Rattle.reg_schedules.specs.Schedules.{AreLastValues}
@@ -47,14 +50,31 @@ AreClosing name names = (day : Day) → name ≡ Some day → AreLast day names
 abbrev pub AreClosingValues : Option Day → State → Type 0
 AreClosingValues name accounts = (day : Day) → name ≡ Some day → AreLastValues day accounts
 
+-- the row of the instruction at place j, counted from 1, if this is its reply; none if it is no place
+abbrev pub row_with : Day → ℕ → Reply → Option LogRow
+row_with day zero reply = None
+row_with day (suc k) reply = option_map (λ i. row_of (setting day) (day.batch.base + suc k) i reply) (slice_get day.batch.instructions k)
+
+-- the record numbers and the replies of rows
+abbrev pub replies_by_number : List LogRow → List (ℕ × Reply)
+replies_by_number rows = map (λ row. (row.number, row.reply)) rows
+
 module _ {N : Type 0} {b : Ghosts N} where
   -- the places of instructions that were run
   abbrev pub places_of : List (Done N b) → List ℕ
   places_of done = map (λ d. d.place) done
 
-  -- their rows
-  abbrev pub rows_in : List (Done N b) → List LogRow
-  rows_in done = map (λ d. d.row) done
+  -- their rows in a day
+  abbrev pub rows_in : Day → List (Done N b) → List (Option LogRow)
+  rows_in day done = map (λ d. row_with day d.place d.reply) done
+
+  -- their record numbers and replies; the place before the first has this number
+  abbrev pub replies_from : ℕ → List (Done N b) → List (ℕ × Reply)
+  replies_from base done = map (λ d. (d.place + base, d.reply)) done
+
+  -- each is at one of so many places
+  abbrev pub AreWithin : ℕ → List (Done N b) → Type 0
+  AreWithin count done = AllByRecursion (λ (d : Done N b). (1 ≤ d.place) × (d.place ≤ count)) done
 
 -- each place once, and the last parcel of each touched account once, in any order
 pub record AreOutcomes (day : Day) (places : List ℕ) (names : List (ℕ × ℕ)) : Type 0 where

@@ -1,6 +1,7 @@
 -- What a name says of the values and the places that belong to its day.
 use Rattle.std.specs.Prelude.{◌≡◌, ℕ, ◌+◌, ◌-◌, ◌≤◌, ◌<◌, Bool, true, false, MatchOption, slice_index_or, ◌&&◌, ◌==◌, List, [], ◌∷◌, length, map, Option, Some}
 use Rattle.std.specs.List.{list_all, list_any, AllByRecursion}
+use Rattle.std.specs.Option.{option_map}
 use Rattle.reg_base.specs.declared.limits.TheConstants.{MOST_TOUCHED}
 use Rattle.reg_base.specs.Rules.{RulesValue}
 use Rattle.reg_base.specs.Batch.{BatchValue}
@@ -8,6 +9,7 @@ use Rattle.reg_base.specs.Touches.{last_toucher}
 use Rattle.reg_account.specs.Account.{AccountValue}
 use Rattle.reg_rules.specs.Effect.{IsBehind}
 use Rattle.reg_rules.specs.declared.reply.LogRow.{LogRow}
+use Rattle.reg_rules.specs.declared.reply.Reply.{Reply}
 use Rattle.reg_book.specs.Book.{BookValue}
 use Rattle.reg_book.specs.Day.{Day, day_of, value_at, row_at}
 use Rattle.reg_schedules.specs.Pool.{directory, footprint_at}
@@ -31,6 +33,10 @@ AreValues name (v ∷ vs) (t ∷ ts) = IsValue name v t × AreValues name vs ts
 -- if a day is named, this is the row of that place
 abbrev pub IsRowOfDay : Option Day → ℕ → LogRow → Type 0
 IsRowOfDay name place row = (day : Day) → name ≡ Some day → row_at day place ≡ Some row
+
+-- if a day is named, this is the reply in the row of that place
+abbrev pub IsReplyOfDay : Option Day → ℕ → Reply → Type 0
+IsReplyOfDay name place reply = (day : Day) → name ≡ Some day → option_map (λ row. row.reply) (row_at day place) ≡ Some reply
 
 -- there are as many names as those that are needed, and each of these is among them
 abbrev pub has_names : List (ℕ × ℕ) → List (ℕ × ℕ) → Bool

@@ -1,10 +1,10 @@
-//! Whether rows and parcels are those from which a settled day is gathered.
+//! Whether replies and parcels are those from which a settled day is gathered, and the rows of its log.
 
-ghost use Rattle.std.specs.Prelude.{◌≡◌, IfOk, IsPermutation};
+ghost use Rattle.std.specs.Prelude.{◌≡◌, ◌≤◌, Some, length, map, IfOk, IsPermutation};
 ghost use Rattle.std.specs.List.Sorted.{IsNonDecreasingBy};
 ghost use Rattle.reg_tasks.specs.Contexts.{the_day};
 ghost use Rattle.reg_tasks.specs.Parcels.{names_of};
-ghost use Rattle.reg_tasks.specs.Gathering.{places_of, rows_in, counts_up, is_last, are_last, are_outcomes};
+ghost use Rattle.reg_tasks.specs.Gathering.{AreWithin, places_of, row_with, rows_in, counts_up, is_last, are_last, are_outcomes};
 ghost use Rattle.reg_tasks.specs.Slots.{name_of, opened_accounts};
 
 use crate::context::Context;
@@ -12,8 +12,9 @@ use crate::done::Done;
 use crate::naming::Naming;
 use crate::nearby::bring_near;
 use crate::parcel::Parcel;
+use crate::run::number_of;
 use reg_base::NoMemory;
-use reg_rules::LogRow;
+use reg_rules::{LogRow, log_row};
 use std::alloc::Global;
 
 /// Sorts what is known of instructions by place.
@@ -94,7 +95,7 @@ pub(crate) fn are_last<N: Naming>(context: &Context<N>, parcels: &[Parcel<N>]) -
     true
 }
 
-/// Whether there is a row of each place, by rising place, and the last parcel of each touched account, by rising account.
+/// Whether there is a reply at each place, by rising place, and the last parcel of each touched account, by rising account.
 pub(crate) fn are_outcomes<N: Naming>(
     context: &Context<N>,
     rows: &[Done<N>],
@@ -105,16 +106,31 @@ pub(crate) fn are_outcomes<N: Naming>(
     rows.len() == context.batch().len() as usize && count_up(rows) && are_last(context, parcels)
 }
 
-/// The rows alone.
+// The row in the log of an instruction that was run: the batch has all of it but the reply.
+fn into_row<N: Naming>(context: &Context<N>, done: Done<N>) -> LogRow
+    requires from_one { 1 ≤ done.place }
+    requires within { done.place ≤ length context.now.batch.now.instructions }
+    ensures { row_with (the_day context.now) done.place done.reply ≡ Some result }
+{
+    let place = done.place();
+    let number = number_of(context, place);
+    let batch = context.batch();
+    let instruction = batch.at(place);
+    log_row(number, batch.day(), *instruction, done.into_reply())
+}
+
+/// The rows in the log of instructions that were run.
 pub(crate) fn into_rows<N: Naming>(
     alloc: Global,
+    context: &Context<N>,
     done: Vec<Done<N>>,
 ) -> Result<Vec<LogRow>, NoMemory>
-    ensures { IfOk result (λ rows. rows.items ≡ rows_in done.items) }
+    requires within { AreWithin (length context.now.batch.now.instructions) done.items }
+    ensures { IfOk result (λ rows. map Some rows.items ≡ rows_in (the_day context.now) done.items) }
 {
     let mut rows = Vec::with_capacity(alloc, done.len())?;
     for one in done {
-        rows.push(one.into_row())?;
+        rows.push(into_row(context, one))?;
     }
     Ok(rows)
 }

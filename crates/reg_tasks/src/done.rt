@@ -1,32 +1,34 @@
-//! The rows of instructions that were run.
+//! What is kept of instructions that were run.
 
 ghost use Rattle.std.specs.Prelude.{◌≡◌};
-ghost use Rattle.reg_tasks.specs.Names.{IsRowOfDay};
+ghost use Rattle.reg_tasks.specs.Names.{IsRowOfDay, IsReplyOfDay};
 
 use crate::naming::Naming;
-use reg_rules::LogRow;
+use reg_rules::{LogRow, Reply};
 use std::marker::PhantomData;
 
-/// An instruction that was run: its place, and its row in the log. If a day is named, it is the day's row of that place,
-/// whoever carries it. Outside of this crate only [`Outcome::into_done`](crate::Outcome::into_done) makes one. In it
-/// [`Context::gather`](crate::Context::gather) makes one of each row that it gets, which is the day's by its own condition.
+/// An instruction that was run: its place, and the reply to it. The rest of its row in the log is in the batch. If a day is
+/// named, it is the day's reply at that place, whoever carries it. Outside of this crate only
+/// [`Outcome::into_done`](crate::Outcome::into_done) makes one. In it [`Context::gather`](crate::Context::gather) makes one of
+/// each row that it gets, which is the day's by its own condition.
 #[derive(Drop)]
 pub struct Done<N: Naming> {
     place: u32,
-    row: LogRow,
+    reply: Reply,
     of: PhantomData<N>,
-    pub ghost right: { IsRowOfDay N.day place row },
+    pub ghost right: { IsReplyOfDay N.day place reply },
 }
 
 impl<N: Naming> Done<N> {
+    // What is kept of a row in the log: the rest of it is in the batch.
     pub(crate) fn new(place: u32, row: LogRow) -> Done<N>
         requires { IsRowOfDay N.day place row }
         ensures place { result.place ≡ place }
-        ensures row { result.row ≡ row }
+        ensures reply { result.reply ≡ row.reply }
     {
         Done {
             place,
-            row,
+            reply: row.reply,
             of: PhantomData,
         }
     }
@@ -38,19 +40,10 @@ impl<N: Naming> Done<N> {
         self.place
     }
 
-    /// Its row in the log.
-    pub fn row(&self) -> &LogRow
-        ensures value { result.now ≡ self.now.row }
-        ensures right { IsRowOfDay N.day self.now.place result.now }
+    // The reply, without the place.
+    pub(crate) fn into_reply(self) -> Reply
+        ensures { result ≡ self.reply }
     {
-        &self.row
-    }
-
-    /// Its row in the log, without its place.
-    pub fn into_row(self) -> LogRow
-        ensures value { result ≡ self.row }
-        ensures right { IsRowOfDay N.day self.place result }
-    {
-        self.row
+        self.reply
     }
 }

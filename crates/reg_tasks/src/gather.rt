@@ -11,7 +11,7 @@ ghost use Rattle.reg_book.specs.Settled.{IsOfBook};
 ghost use Rattle.reg_book.specs.Day.{Day, log_of, settled_day};
 ghost use Rattle.reg_tasks.specs.Contexts.{the_day};
 ghost use Rattle.reg_tasks.specs.Parcels.{names_of, values_of};
-ghost use Rattle.reg_tasks.specs.Gathering.{AreRows, AreFirstRows, AreClosing, AreNotAll, IsGathered, IsCommittable, IsWhole, are_counted, are_last, are_outcomes, places_of, rows_in};
+ghost use Rattle.reg_tasks.specs.Gathering.{AreRows, AreFirstRows, AreClosing, AreNotAll, IsGathered, IsCommittable, IsWhole, are_counted, are_last, are_outcomes, places_of, replies_by_number, replies_from};
 ghost use Rattle.reg_tasks.specs.Slots.{LacksFor, opened_accounts};
 ghost use Rattle.reg_schedules.specs.Schedules.{AreLastValues};
 
@@ -176,7 +176,7 @@ pub(crate) fn settle_log<N: Naming>(
     settle(context, log, closing).ok_or(Lack::Foreign)
 }
 
-// The settled day of rows by rising place and parcels by rising account, if they are those of all places and the last
+// The settled day of replies by rising place and parcels by rising account, if they are those of all places and the last
 // ones of all touched accounts.
 fn settle_sorted<N: Naming>(
     alloc: Global,
@@ -197,7 +197,7 @@ fn settle_sorted<N: Naming>(
     if !are_outcomes(context, &rows, &parcels) {
         return Err(Lack::Foreign);
     }
-    let Ok(log) = into_rows(alloc, rows) else {
+    let Ok(log) = into_rows(alloc, context, rows) else {
         return Err(Lack::Memory);
     };
     let Ok(accounts) = values(alloc, parcels) else {
@@ -216,14 +216,14 @@ fn place_of<N: Naming>(context: &Context<N>, row: &LogRow) -> Option<u32>
     u32::try_from(place).ok()
 }
 
-// The rows with their places.
+// The replies in rows, with the places of the rows.
 fn with_places<N: Naming>(
     alloc: Global,
     context: &Context<N>,
     rows: Vec<LogRow>,
 ) -> Result<Vec<Done<N>>, NoMemory>
     requires rows { AreRows N.day rows.items }
-    ensures rows { IfOk result (λ done. rows_in done.items ≡ rows.items) }
+    ensures rows { IfOk result (λ done. replies_from context.now.batch.now.base done.items ≡ replies_by_number rows.items) }
 {
     context.is_day();
     let mut done = Vec::with_capacity(alloc, rows.len())?;
@@ -254,10 +254,10 @@ impl<N: Naming> Context<'_, N> {
     /// The settled day, from what is known of each instruction that was run and the parcels that were left at the end,
     /// both in any order. What they are is known by their types; that none is missing and none stands twice is tested.
     ///
-    /// The time is linear in the rows and the parcels, sorting and look-ups apart.
+    /// The time is linear in the replies and the parcels, sorting and look-ups apart.
     ///
     /// # Errors
-    /// `Memory` if memory ran out. `Foreign` if there is not exactly one row for each place, or not exactly one parcel,
+    /// `Memory` if memory ran out. `Foreign` if there is not exactly one reply for each place, or not exactly one parcel,
     /// the last, for each touched account. If no day is named, also if they are of another context.
     pub fn gather_done(
         &self,

@@ -68,11 +68,23 @@ impl<N: Naming> Outcome<N> {
         &self.parcels
     }
 
-    /// The run of the place, its row with its place, and the parcels in the order of the footprint, each named by the
-    /// place.
+    /// The run of the place, the place with its reply, and the parcels in the order of the footprint, each named by the
+    /// place. The rest of the row is dropped: it is in the batch.
     pub fn into_done(self) -> (Ran<N>, Done<N>, Vec<Parcel<N>>)
         ensures ran { result.0.place ≡ self.place }
-        ensures done { (result.1.place ≡ self.place) × (result.1.row ≡ self.row) }
+        ensures done { (result.1.place ≡ self.place) × (result.1.reply ≡ self.row.reply) }
+        ensures parcels { (result.2.items ≡ self.parcels.items) × AreLeft N.day self.place (names_of result.2.items) }
+    {
+        let (ran, row, parcels) = self.into_parts();
+        let done = Done::new(ran.place(), row);
+        (ran, done, parcels)
+    }
+
+    /// The run of the place, the row of its instruction, and the parcels in the order of the footprint, each named by
+    /// the place.
+    pub fn into_parts(self) -> (Ran<N>, LogRow, Vec<Parcel<N>>)
+        ensures ran { result.0.place ≡ self.place }
+        ensures row { (result.1 ≡ self.row) × IsRowOfDay N.day self.place result.1 }
         ensures parcels { (result.2.items ≡ self.parcels.items) × AreLeft N.day self.place (names_of result.2.items) }
     {
         let Outcome {
@@ -84,17 +96,6 @@ impl<N: Naming> Outcome<N> {
             place,
             of: PhantomData,
         };
-        (ran, Done::new(place, row), parcels)
-    }
-
-    /// The run of the place, the row of its instruction, and the parcels in the order of the footprint, each named by
-    /// the place.
-    pub fn into_parts(self) -> (Ran<N>, LogRow, Vec<Parcel<N>>)
-        ensures ran { result.0.place ≡ self.place }
-        ensures row { (result.1 ≡ self.row) × IsRowOfDay N.day self.place result.1 }
-        ensures parcels { (result.2.items ≡ self.parcels.items) × AreLeft N.day self.place (names_of result.2.items) }
-    {
-        let (ran, done, parcels) = self.into_done();
-        (ran, done.into_row(), parcels)
+        (ran, row, parcels)
     }
 }

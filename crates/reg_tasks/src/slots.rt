@@ -34,6 +34,7 @@ impl<'c, 'a, N: Naming> Slots<'c, 'a, N> {
     ghost use Rattle.reg_tasks.specs.Contexts.{the_day};
     ghost use Rattle.reg_base.specs.Rising.{count_up};
     ghost use Rattle.reg_tasks.specs.Gathering.{places_of, AreFirstRows};
+    ghost use Rattle.reg_tasks.specs.Names.{IsRowOfDay};
     ghost use Rattle.reg_tasks.specs.Parcels.{names_of};
     ghost use Rattle.reg_tasks.specs.Slots.{AreOpened, AreTaken, AreLaid, StandAsBefore, IsAtEnd, LacksFor, have_slots, is_ready};
     ghost use Rattle.reg_tasks.specs.Standing.{stands};
@@ -97,15 +98,15 @@ impl<'c, 'a, N: Naming> Slots<'c, 'a, N> {
         Ok(task)
     }
 
-    /// Lays what an instruction left into the slots of its accounts, in place of what stood there, and answers what is kept
-    /// of the instruction itself.
+    /// Lays what an instruction left into the slots of its accounts, in place of what stood there, and answers its run and its
+    /// row in the log.
     ///
     /// # Errors
     /// The outcome as it was, if one of its accounts has no slot. If a day is named, this does not occur.
-    pub fn lay(&mut self, outcome: Outcome<N>) -> Result<(Ran<N>, Done<N>), Outcome<N>>
+    pub fn lay_for_row(&mut self, outcome: Outcome<N>) -> Result<(Ran<N>, LogRow), Outcome<N>>
         ensures context { self.new.context.now ≡ self.old.context.now }
         ensures ran { IfOk result (λ r. r.0.place ≡ outcome.place) }
-        ensures done { IfOk result (λ r. (r.1.place ≡ outcome.place) × (r.1.row ≡ outcome.row)) }
+        ensures row { IfOk result (λ r. (r.1 ≡ outcome.row) × IsRowOfDay N.day outcome.place r.1) }
         ensures laid { OnOk result (AreLaid (names_of outcome.parcels.items) (stands self.old) (stands self.new)) }
         ensures there { IfErr result (λ o. have_slots (the_day self.old.context.now) (names_of outcome.parcels.items) ≡ false) }
         ensures named { IfErr result (λ o. N.day ≡ None) }
@@ -119,8 +120,28 @@ impl<'c, 'a, N: Naming> Slots<'c, 'a, N> {
         if !have_slots(openings, outcome.parcels(), likely) {
             return Err(outcome);
         }
-        let (ran, done, parcels) = outcome.into_done();
+        let (ran, row, parcels) = outcome.into_parts();
         lay_parcels(openings, &mut self.slots, parcels, likely);
+        Ok((ran, row))
+    }
+
+    /// Lays what an instruction left into the slots of its accounts, in place of what stood there, and answers what is kept
+    /// of the instruction itself.
+    ///
+    /// # Errors
+    /// The outcome as it was, if one of its accounts has no slot. If a day is named, this does not occur.
+    pub fn lay(&mut self, outcome: Outcome<N>) -> Result<(Ran<N>, Done<N>), Outcome<N>>
+        ensures context { self.new.context.now ≡ self.old.context.now }
+        ensures ran { IfOk result (λ r. r.0.place ≡ outcome.place) }
+        ensures done { IfOk result (λ r. (r.1.place ≡ outcome.place) × (r.1.reply ≡ outcome.row.reply)) }
+        ensures laid { OnOk result (AreLaid (names_of outcome.parcels.items) (stands self.old) (stands self.new)) }
+        ensures there { IfErr result (λ o. have_slots (the_day self.old.context.now) (names_of outcome.parcels.items) ≡ false) }
+        ensures named { IfErr result (λ o. N.day ≡ None) }
+        ensures back { IfErr result (λ o. o ≡ outcome) }
+        ensures unchanged { OnErr result (self.new ≡ self.old) }
+    {
+        let (ran, row) = self.lay_for_row(outcome)?;
+        let done = Done::new(ran.place(), row);
         Ok((ran, done))
     }
 
@@ -145,7 +166,7 @@ impl<'c, 'a, N: Naming> Slots<'c, 'a, N> {
     /// The settled day, from what is kept of each instruction, in any order, and what stands in the slots.
     ///
     /// # Errors
-    /// `Memory` if memory ran out. `Foreign` if there is not exactly one row for each place, or if what stands for some
+    /// `Memory` if memory ran out. `Foreign` if there is not exactly one reply for each place, or if what stands for some
     /// account is not what its last instruction left. If no day is named, also if they are of another context.
     pub fn close(self, alloc: Global, done: Vec<Done<N>>) -> Result<Settled, Lack>
         ensures settled { IfOk result (λ s. IfSome N.day (λ d. s ≡ settled_day d)) }

@@ -4,3 +4,4 @@ pub mod Parts
 pub mod Shifts
 pub mod Shortages
 pub mod Stints
+pub mod Turns

@@ -11,7 +11,7 @@ module _ {N B : Type 0} {n : Ghosts N} {b : RoomGhosts B} where
   abbrev pub stint_workers : List (Stint N B n b) → List ℕ
   stint_workers stints = map (λ s. s.worker) stints
 
-  -- the rows that they leave, and the values that no other instruction needs, worker by worker
+  -- what is kept of the instructions that they ran, and the values that no other instruction needs, worker by worker
   abbrev pub all_done : List (Stint N B n b) → List (Done N n)
   all_done stints = flat_map (λ s. s.post.done.items) stints
 

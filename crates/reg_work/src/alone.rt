@@ -35,10 +35,10 @@ fn run_place<N: Naming, G: Gate>(
     let Ok(outcome) = task.run(alloc, slots.context()) else {
         return Err(Shortage::Memory);
     };
-    let Ok((ran, done)) = slots.lay(outcome) else {
+    let Ok(kept) = slots.lay_for_row(outcome) else {
         return Err(Shortage::Memory);
     };
-    Ok((ran, done.into_row()))
+    Ok(kept)
 }
 
 // Puts one more item behind those that are there.

@@ -43,7 +43,6 @@ pub(crate) struct Post<N: Naming, B: Room> {
 impl<N: Naming, B: Room> Post<N, B> {
     ghost use Rattle.std.specs.Prelude.{true, Some, None, ◌++◌, ◌∷◌, IfOk, IfSome, IfNone, OnOk};
     ghost use Rattle.reg_plan.specs.Plans.{inward};
-    ghost use Rattle.reg_schedules.specs.Pool.{run_at};
     ghost use Rattle.reg_tasks.specs.Contexts.{the_day};
     ghost use Rattle.reg_tasks.specs.Parcels.{values_of};
     ghost use Rattle.reg_deques.specs.Views.{with_put};
@@ -52,6 +51,7 @@ impl<N: Naming, B: Room> Post<N, B> {
     ghost use Rattle.reg_deques.specs.Yards.{views};
     ghost use Rattle.reg_yard.specs.Parcels.{parcel_of, goes_to};
     ghost use Rattle.reg_work.specs.Ends.{sees_end, IsToFinish};
+    ghost use Rattle.reg_work.specs.Turns.{reply_at};
 
     pub(crate) fn new(alloc: Global, owner: Owner<N>, pass: Pass<N>, seat: Seat) -> Post<N, B>
         requires table { seat_table seat ≡ B.table }
@@ -226,7 +226,7 @@ impl<N: Naming, B: Room> Post<N, B> {
         ensures work { (self.new.ran ≡ self.old.ran) × (self.new.done ≡ self.old.done) × (self.new.closing ≡ self.old.closing) }
         ensures owner { self.new.owner ≡ self.old.owner }
         ensures place { IfOk result (λ turn. IfSome turn (λ t. t.ran.place ≡ task.place)) }
-        ensures made { IfOk result (λ turn. IfSome turn (λ t. run_at (the_day board.now.context.now) task.place (values_of task.parcels.items) ≡ Some (values_of t.left.items, t.done.row))) }
+        ensures made { IfOk result (λ turn. IfSome turn (λ t. reply_at (the_day board.now.context.now) task.place (values_of task.parcels.items) ≡ Some (values_of t.left.items, t.done.reply))) }
         ensures none { IfOk result (λ turn. IfNone turn (known self.new.seat ≡ known self.old.seat)) }
     {
         let place = task.place();
@@ -304,7 +304,7 @@ impl<N: Naming, B: Room> Post<N, B> {
         Ok(())
     }
 
-    /// Counts the place of a turn as finished, and keeps its row. All that it left was handed on.
+    /// Counts the place of a turn as finished, and keeps its reply. All that it left was handed on.
     ///
     /// # Errors
     /// `NoMemory` if memory ran out.

@@ -15,7 +15,7 @@ use reg_claim::{ClaimTable, Seat};
 use reg_tasks::{Done, Naming, Parcel, Ran};
 use std::alloc::Global;
 
-/// What all workers did: who ran what, the rows, and the values that no other instruction needs.
+/// What all workers did: who ran what, the replies, and the values that no other instruction needs.
 #[derive(Drop)]
 pub(crate) struct Work<N: Naming> {
     pub(crate) shifts: Vec<Shift<N>>,

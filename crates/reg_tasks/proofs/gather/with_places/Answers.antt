@@ -1,13 +1,12 @@
-use Rattle.std.proofs.Common.{◌≡◌, ◌++◌, ◌∷◌, [], rules, arith, Some, ap, sym, ◌∙◌, append_assoc, subst}
+use Rattle.std.proofs.Common.{◌≡◌, ◌+◌, ◌++◌, rules, arith, Some, ap, sym, ◌∙◌, subst}
 use Rattle.std.specs.List.{AllByRecursion}
-use Rattle.std.proofs.lemmas.List.{map-append}
 use Rattle.std.proofs.Props.{props}
 use mathlib.Core.Logic.{∥∥₁_elim, ∥∥₁_map}
 use Rattle.reg_book.specs.Day.{Day, row_at}
 use Rattle.reg_schedules.proofs.Members.{In}
-use Rattle.reg_tasks.specs.Gathering.{rows_in}
+use Rattle.reg_tasks.specs.Gathering.{replies_by_number, replies_from}
 use Rattle.reg_tasks.proofs.Rising.{all_from_in}
-use Rattle.reg_tasks.proofs.Collecting.{IsLogged, rows_logged}
+use Rattle.reg_tasks.proofs.Collecting.{IsLogged, rows_logged, reply_more}
 use Rattle.reg_tasks.proofs.gather.with_places.Goals as goal
 
 pub loop-row-init : goal.loop-row-init
@@ -35,13 +34,8 @@ loop-row-preserved g c = record {
   right = λ d e. (subst (AllByRecursion (λ row. ∥ IsLogged d row ∥₁)) c.in-Some.ensures.steps.0 (c.loop-row.invariant.right d e)).1;
   room = search rules;
   rows =
-      let one = c.new.result in
-      let rest = c.next.new.self.rest.items in
-      let before = c.loop-row.done.items in
-      ap (λ ds. rows_in ds ++ rest) c.push_reserved.ensures.items
-      ∙ ap (λ rs. rs ++ rest) (map-append (λ d. d.row) before (one ∷ []))
-      ∙ append_assoc (rows_in before) (one.row ∷ []) rest
-      ∙ ap (λ row. rows_in before ++ row ∷ rest) c.new.ensures.row
-      ∙ ap (λ rs. rows_in before ++ rs) (sym c.in-Some.ensures.steps.0)
-      ∙ c.loop-row.invariant.rows;
+      let base = c.args.context.now.batch.now.base in
+      let number : c.new.result.place + base ≡ c.in-Some.row.number = omega (arith, c.new.ensures.place, c.in-Some-place_of.ensures) in
+      reply_more base c.loop-row.done.items c.push_reserved.new.self.items c.new.result c.in-Some.row c.next.new.self.rest.items c.args.rows.items c.push_reserved.ensures.items number c.new.ensures.reply
+      (ap (λ rs. replies_from base c.loop-row.done.items ++ replies_by_number rs) (sym c.in-Some.ensures.steps.0) ∙ c.loop-row.invariant.rows);
 }

@@ -1,7 +1,7 @@
 use Rattle.std.proofs.Common.{◌≡◌, ◌+◌, ◌≤◌, ◌++◌, length, vec_len, vec_capacity, Some}
 use Rattle.std.specs.List.{AllByRecursion}
 use Rattle.reg_book.specs.Day.{Day}
-use Rattle.reg_tasks.specs.Gathering.{rows_in}
+use Rattle.reg_tasks.specs.Gathering.{replies_by_number, replies_from}
 use Rattle.reg_tasks.proofs.Collecting.{IsLogged}
 use Rattle.reg_tasks.proofs.gather.with_places.Given as goal
 
@@ -12,5 +12,5 @@ invariant-loop-row g l = record {
   ends : (goal.iterator-loop-row g).is_finite l.row-iterator;
   right : (d : Day) → g.N.Naming.day ≡ Some d → AllByRecursion (λ row. ∥ IsLogged d row ∥₁) l.row-iterator.rest.items;
   room : vec_len l.done + length l.row-iterator.rest.items ≤ vec_capacity l.done;
-  rows : rows_in l.done.items ++ l.row-iterator.rest.items ≡ l.fn.rows.items;
+  rows : replies_from l.context.batch.now.base l.done.items ++ replies_by_number l.row-iterator.rest.items ≡ replies_by_number l.fn.rows.items;
 }

@@ -10,7 +10,7 @@ use Rattle.reg_tasks.specs.Slots.{opened_accounts, standing_in, laid_at, have_sl
 use Rattle.reg_tasks.proofs.Names.{written_whole}
 use Rattle.reg_tasks.proofs.AtEnd.{left_have_slots, slots_touched}
 use Rattle.reg_tasks.proofs.Gathering.{no_name}
-use Rattle.reg_tasks.proofs.slots.Slots.lay.Goals as goal
+use Rattle.reg_tasks.proofs.slots.Slots.lay_for_row.Goals as goal
 
 pub returns-then-not-have_slots-clause-there : goal.returns-then-not-have_slots-clause-there
 returns-then-not-have_slots-clause-there g c =
@@ -36,13 +36,13 @@ returns-clause-laid g c a =
     let items = c.args.outcome.parcels.items in
     let passed : c.have_slots.result ≡ true = c.if-not-have_slots.false in
     let all = c.lay_parcels.ensures.there
-    ∙ ap (λ ps. list_all (λ (n : ℕ × ℕ). is_among (opened_accounts c.openings-openings.result.now) n.0) (names_of ps)) (c.into_done-done.ensures.parcels.0 ∙ sym c.parcels.ensures.value)
+    ∙ ap (λ ps. list_all (λ (n : ℕ × ℕ). is_among (opened_accounts c.openings-openings.result.now) n.0) (names_of ps)) (c.into_parts-row.ensures.parcels.0 ∙ sym c.parcels.ensures.value)
     ∙ sym c.have_slots.ensures ∙ passed in
     let slots = c.args.self.now.slots in
     let size : slots.len ≡ length slots.items = search rules in
     ap (λ ss. standing_in os ss a) (written_whole slots.items c.lay_parcels.new.slots slots.len size (c.lay_parcels.auto.slots ∙ ap length c.deref_mut.ensures.value))
     ∙ ap (λ ws. standing_in ws c.lay_parcels.new.slots a) (sym c.openings-openings.ensures.value)
     ∙ c.lay_parcels.ensures.laid all a
-    ∙ ap (λ ps. laid_at (names_of ps) (standing_in c.openings-openings.result.now c.deref_mut.result.now a) a) c.into_done-done.ensures.parcels.0
+    ∙ ap (λ ps. laid_at (names_of ps) (standing_in c.openings-openings.result.now c.deref_mut.result.now a) a) c.into_parts-row.ensures.parcels.0
     ∙ ap (λ ws. laid_at (names_of items) (standing_in ws c.deref_mut.result.now a) a) c.openings-openings.ensures.value
     ∙ ap (λ ss. laid_at (names_of items) (standing_in os ss a) a) c.deref_mut.ensures.value
