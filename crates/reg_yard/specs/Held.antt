@@ -1,12 +1,13 @@
 -- What a dock holds, and what becomes of a parcel that is delivered to it. While parcels wait in a dock, it is seen as their
 -- list; once its task has gone out, nothing is in it any more, since all that the place awaits has come.
 use Rattle.std.specs.Prelude.{◌≡◌, ℕ, ◌+◌, ◌≤◌, Bool, true, false, List, length, Option, Some, None, is_some, vec_capacity, if◌then◌else◌}
+use Rattle.std.specs.Option.{option_map}
 use Rattle.std.specs.declared.vec.Vec.{Vec}
 use Rattle.std.proofs.Common.{Global}
 use Rattle.reg_plan.specs.Plans.{PlanValue}
 use Rattle.reg_book.specs.Day.{Day}
 use Rattle.reg_schedules.specs.Pool.{footprint_at}
-use Rattle.reg_schedules.specs.Docks.{ParcelValue, TaskValue, still_awaited, is_not_awaited, received}
+use Rattle.reg_schedules.specs.Docks.{ParcelValue, TaskValue, complete, still_awaited, is_not_awaited, received}
 use Rattle.reg_tasks.specs.declared.naming.Naming.{Ghosts}
 use Rattle.reg_tasks.specs.declared.parcel.Parcel.{Parcel}
 use Rattle.reg_tasks.specs.Parcels.{parcels_of}
@@ -19,6 +20,10 @@ is_refused day plan place (Some came) p = is_not_awaited day plan place came p
 -- what stays in a dock of what came, and the task that goes out
 abbrev pub left_of : List ParcelValue × Option TaskValue → Option (List ParcelValue) × Option TaskValue
 left_of (came, task) = (if is_some task then None else Some came, task)
+
+-- the same at a place: its task goes out if all that it awaits has come
+abbrev pub left_at : Day → PlanValue → ℕ → List ParcelValue → Option (List ParcelValue) × Option TaskValue
+left_at day plan place came = left_of (came, complete day plan place came)
 
 -- the same after one parcel more
 abbrev pub delivered : Day → PlanValue → ℕ → Option (List ParcelValue) → ParcelValue → Option (List ParcelValue) × Option TaskValue
@@ -38,6 +43,10 @@ abbrev pub AreFew : Day → PlanValue → ℕ → List ParcelValue → Type 0
 AreFew day plan place came = length came + length (still_awaited day plan place came) ≤ length (footprint_at day place)
 
 module _ {N : Type 0} {b : Ghosts N} where
+  -- the parcels that wait, if any do
+  abbrev pub waiting_of : Option (Vec (Parcel N b) Global) → Option (List ParcelValue)
+  waiting_of waiting = option_map (λ parcels. parcels_of parcels.items) waiting
+
   -- if parcels wait, they are that few
   abbrev pub FewWait : Day → PlanValue → ℕ → Option (Vec (Parcel N b) Global) → Type 0
   FewWait day plan place waiting = (parcels : Vec (Parcel N b) Global) → waiting ≡ Some parcels → AreFew day plan place (parcels_of parcels.items)

@@ -3,11 +3,10 @@
 ghost use Rattle.std.specs.Prelude.{◌≡◌, ◌≤◌, length, IfSome, IsPermutation, vec_capacity};
 ghost use Rattle.std.specs.Option.{option_map};
 ghost use Rattle.reg_schedules.specs.Pool.{footprint_at};
-ghost use Rattle.reg_schedules.specs.Docks.{complete};
 ghost use Rattle.reg_tasks.specs.Contexts.{the_day};
 ghost use Rattle.reg_tasks.specs.Parcels.{parcels_of};
 ghost use Rattle.reg_tasks.specs.Tasks.{task_of};
-ghost use Rattle.reg_yard.specs.Held.{left_of, AreFew, FewWait, HaveRoom};
+ghost use Rattle.reg_yard.specs.Held.{left_at, waiting_of, AreFew, FewWait, HaveRoom};
 
 use reg_tasks::{Context, Naming, Parcel, Task};
 
@@ -21,7 +20,7 @@ pub(crate) fn try_assemble<N: Naming>(
     requires within { place ≤ length context.now.batch.now.instructions }
     requires few { AreFew (the_day context.now) context.now.plan place (parcels_of parcels.items) }
     requires room { vec_capacity parcels ≡ length (footprint_at (the_day context.now) place) }
-    ensures left { (option_map (λ waiting. parcels_of waiting.items) result.0, option_map task_of result.1) ≡ left_of (parcels_of parcels.items, complete (the_day context.now) context.now.plan place (parcels_of parcels.items)) }
+    ensures left { (waiting_of result.0, option_map task_of result.1) ≡ left_at (the_day context.now) context.now.plan place (parcels_of parcels.items) }
     ensures few { FewWait (the_day context.now) context.now.plan place result.0 }
     ensures room { HaveRoom (the_day context.now) place result.0 }
     ensures place { IfSome result.1 (λ t. t.place ≡ place) }

@@ -26,12 +26,11 @@ pub struct Dock<'c, 'a, N: Naming> {
 impl<'c, 'a, N: Naming> Dock<'c, 'a, N> {
     ghost use Rattle.std.specs.Prelude.{[], true, not, is_some, is_err, IfOk, IfErr, IfSome, OnErr, Contains};
     ghost use Rattle.std.specs.Option.{option_map};
-    ghost use Rattle.reg_schedules.specs.Docks.{complete};
     ghost use Rattle.reg_tasks.specs.Tasks.{task_of};
     ghost use Rattle.reg_yard.specs.AtOnce.{task_at_once};
     ghost use Rattle.reg_yard.specs.Parcels.{parcel_of};
-    ghost use Rattle.reg_yard.specs.Held.{is_refused, left_of, delivered, Takes};
-    ghost use Rattle.reg_yard.specs.Dock.{came_to};
+    ghost use Rattle.reg_yard.specs.Held.{left_at, Takes};
+    ghost use Rattle.reg_yard.specs.Dock.{came_to, refuses, after_parcel};
 
     /// The dock of a place, to which nothing has come yet, and its task, exactly if the instruction touches no account.
     /// The place is counted from 1.
@@ -47,7 +46,7 @@ impl<'c, 'a, N: Naming> Dock<'c, 'a, N> {
         requires within { place ≤ length context.now.batch.now.instructions }
         ensures context { IfOk result (λ r. r.0.context.now ≡ context.now) }
         ensures place { IfOk result (λ r. r.0.place ≡ place) }
-        ensures left { IfOk result (λ r. (came_to r.0, option_map task_of r.1) ≡ left_of ([], complete (the_day context.now) context.now.plan place [])) }
+        ensures left { IfOk result (λ r. (came_to r.0, option_map task_of r.1) ≡ left_at (the_day context.now) context.now.plan place []) }
         ensures at_once { IfOk result (λ r. option_map task_of r.1 ≡ task_at_once (the_day context.now) place) }
     {
         let none = Vec::with_capacity(alloc, awaited_accounts(context, place).len())?;
@@ -101,7 +100,7 @@ impl<'c, 'a, N: Naming> Dock<'c, 'a, N> {
 
     // Whether the parcel is still awaited. Then there is room for it.
     fn awaits(&self, parcel: &Parcel<N>) -> bool
-        ensures awaits { result ≡ not (is_refused (the_day self.now.context.now) self.now.context.now.plan self.now.place (came_to self.now) (parcel_of parcel.now)) }
+        ensures awaits { result ≡ not (refuses self.now parcel.now) }
         ensures open { result ≡ true → is_some self.now.waiting ≡ true }
     {
         match &self.waiting {
@@ -117,8 +116,8 @@ impl<'c, 'a, N: Naming> Dock<'c, 'a, N> {
     pub fn deliver(&mut self, parcel: Parcel<N>) -> Result<Option<Task<N>>, Parcel<N>>
         ensures context { self.new.context.now ≡ self.old.context.now }
         ensures place { self.new.place ≡ self.old.place }
-        ensures refused { is_err result ≡ is_refused (the_day self.old.context.now) self.old.context.now.plan self.old.place (came_to self.old) (parcel_of parcel) }
-        ensures delivered { IfOk result (λ task. (came_to self.new, option_map task_of task) ≡ delivered (the_day self.old.context.now) self.old.context.now.plan self.old.place (came_to self.old) (parcel_of parcel)) }
+        ensures refused { is_err result ≡ refuses self.old parcel }
+        ensures delivered { IfOk result (λ task. (came_to self.new, option_map task_of task) ≡ after_parcel self.old parcel) }
         ensures at { IfOk result (λ task. IfSome task (λ t. t.place ≡ self.old.place)) }
         ensures has { IfOk result (λ task. IfSome task (λ t. Contains t.parcels.items parcel)) }
         ensures back { IfErr result (λ p. p ≡ parcel) }
