@@ -1,6 +1,6 @@
 -- The rows of a text in turn: what each adds, and the first that is wrong, with its cause.
 use Rattle.std.specs.Prelude.{◌≡◌, ℕ, ◌+◌, Bool, true, ◌&&◌, nat_lt, nat_le, List, [], ◌∷◌, ◌++◌, length, Option, Some, None, Result, Ok, Err, if◌then◌else◌}
-use Rattle.reg_base.specs.declared.limits.TheConstants.{MOST_ACCOUNTS, MOST_RETIRED, MOST_INSTRUCTIONS, MOST_RECORD}
+use Rattle.reg_base.specs.declared.limits.TheConstants.{MOST_ACCOUNTS, MOST_RETIRED, MOST_ROWS, MOST_INSTRUCTIONS, MOST_RECORD}
 use Rattle.reg_account.specs.declared.rows.RetirementRow.{RetirementRow}
 use Rattle.reg_account.specs.Rows.{retired_in, retirement_of}
 use Rattle.reg_text.specs.declared.cause.Cause.{Cause}
@@ -65,11 +65,15 @@ is_recorded (Some next) row = nat_lt row.number next
 abbrev pub is_sum_left : List RetirementRow → RetirementRow → Bool
 is_sum_left rows row = nat_le (retired_in (retirement_of row.fate) row.kind (rows ++ row ∷ [])) MOST_RETIRED
 
+-- an account has room for one more surrender or deletion, it is one of before the day, and not too much
+abbrev pub has_row_room : Option ℕ → List RetirementRow → RetirementRow → Bool
+has_row_room next rows row = nat_lt (length rows) MOST_ROWS && (is_recorded next row && is_sum_left rows row)
+
 -- its section may have one more row, an instruction has a record number, and a surrender or a deletion is one of before the day, and
 -- not too much
 abbrev pub has_room : (t : Tag) → DraftValue → Said t → Bool
 has_room tag.Account d x = nat_lt (account_count d) MOST_ACCOUNTS
-has_room tag.Retired d x = is_room (most tag.Retired) (length d.lists.rows) && (is_recorded (next_in d.days) x && is_sum_left d.lists.rows x)
+has_room tag.Retired d x = has_row_room (next_in d.days) d.lists.rows x
 has_room tag.Do d x = nat_lt (length d.instructions) MOST_INSTRUCTIONS && is_number_left (next_in d.days) (length d.instructions)
 has_room t d x = is_room (most t) (length (items_said t d))
 

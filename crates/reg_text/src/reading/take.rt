@@ -10,7 +10,7 @@ ghost use Rattle.reg_text.specs.Lasts.{as_list, last_item};
 ghost use Rattle.reg_text.specs.Sections.{key, follows};
 ghost use Rattle.reg_text.specs.Drafts.{draft_of, block_closed};
 ghost use Rattle.reg_text.specs.DraftLimits.{FitsSoFar, IsDraft};
-ghost use Rattle.reg_text.specs.Faults.{Takes, placed, next_in, is_recorded, is_sum_left, is_number_left, with_row, next_draft};
+ghost use Rattle.reg_text.specs.Faults.{Takes, placed, next_in, is_recorded, is_sum_left, is_number_left, has_row_room, with_row, next_draft};
 ghost use Rattle.reg_text.specs.declared.reading.tag.Tag.TheVariants as tag;
 
 use crate::cause::{Cause, RowError};
@@ -281,7 +281,7 @@ fn is_recorded(day: Option<(Day, u64)>, row: &RetirementRow) -> bool
 // Whether there is a place for one more row, its number is below the next one, and the sum is within the limit with it.
 fn has_row_room(lists: &Lists, day: Option<(Day, u64)>, row: RetirementRow) -> bool
     requires { retired_in (retirement_of row.fate) row.kind lists.now.rows ≤ MOST_RETIRED }
-    ensures { result ≡ (nat_lt (length lists.now.rows) MOST_ROWS && (is_recorded (next_in (as_list day)) row && is_sum_left lists.now.rows row)) }
+    ensures { result ≡ has_row_room (next_in (as_list day)) lists.now.rows row }
 {
     lists.rows().len() < MOST_ROWS && (is_recorded(day, &row) && is_sum_left(lists, row))
 }
@@ -306,7 +306,7 @@ fn comes_last(lists: &Lists, row: &RetirementRow) -> bool
 // Whether a row comes behind those in the lists, and there is room for it.
 fn check_row(lists: &Lists, day: Option<(Day, u64)>, row: &RetirementRow) -> Result<(), Cause>
     requires { retired_in (retirement_of row.now.fate) row.now.kind lists.now.rows ≤ MOST_RETIRED }
-    ensures { result ≡ placed (follows (key tag.Retired) (last_item lists.now.rows) row.now) (nat_lt (length lists.now.rows) MOST_ROWS && (is_recorded (next_in (as_list day)) row.now && is_sum_left lists.now.rows row.now)) tt }
+    ensures { result ≡ placed (follows (key tag.Retired) (last_item lists.now.rows) row.now) (has_row_room (next_in (as_list day)) lists.now.rows row.now) tt }
 {
     if !comes_last(lists, row) {
         return Err(Cause::Order);
