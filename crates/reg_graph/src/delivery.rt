@@ -1,16 +1,15 @@
 //! The event that puts a parcel into its dock.
 
-ghost use Rattle.std.specs.Prelude.{◌≡◌, ◌++◌, ◌≤◌, ◌<◌, ℕ, List, Some, None, Ok, Err, [], ◌∷◌, length, slice_get, slice_set, MatchResult, OnOk, OnErr, IfErr, IfSome, vec_len, vec_capacity};
+ghost use Rattle.std.specs.Prelude.{◌≡◌, ◌++◌, ◌≤◌, ◌<◌, Some, None, Ok, Err, [], ◌∷◌, length, slice_set, MatchResult, OnOk, OnErr, IfErr, IfSome, vec_len, vec_capacity};
 ghost use Rattle.std.specs.Option.{option_map, option_map_or};
 ghost use Rattle.reg_book.specs.Day.{Day};
 ghost use Rattle.reg_tasks.specs.Contexts.{the_day};
 ghost use Rattle.reg_schedules.specs.declared.event.EventFault.TheVariants.{NothingToDeliver};
 ghost use Rattle.reg_schedules.specs.Pool.{footprint_at};
-ghost use Rattle.reg_schedules.specs.Docks.{ParcelValue, complete};
-ghost use Rattle.reg_schedules.specs.World.{Carries, at_place, with_place, head_of, arrived, with_hand, delivered_by};
+ghost use Rattle.reg_schedules.specs.World.{Carries, at_place, with_place, with_hand, delivered_by};
 ghost use Rattle.reg_tasks.specs.Parcels.{parcels_of};
 ghost use Rattle.reg_tasks.specs.Tasks.{task_of};
-ghost use Rattle.reg_graph.specs.WorldParts.{docks_of, HaveRoom, world_of, first_head};
+ghost use Rattle.reg_graph.specs.WorldParts.{docks_of, HaveRoom, world_of, first_head, task_with, FirstIsSent, FirstHasRoom, NextIsSent, NextHasRoom};
 
 use crate::hand::Hand;
 use crate::parts::Parts;
@@ -21,7 +20,7 @@ use std::mem;
 
 // The place to which an arrow leads on from the first of these parcels, if there is one.
 fn first_head<N: Naming>(context: &Context<N>, parcels: &[Parcel<N>]) -> Option<u32>
-    requires sent { (p : ParcelValue) (ps : List ParcelValue) → parcels_of parcels.now ≡ p ∷ ps → (1 ≤ p.after) × (p.after ≤ length context.now.batch.now.instructions) }
+    requires sent { FirstIsSent (the_day context.now) (parcels_of parcels.now) }
     ensures { result ≡ first_head context.now.plan (parcels_of parcels.now) }
 {
     match parcels.split_first() {
@@ -72,8 +71,8 @@ fn receive<N: Naming>(
     requires within { place ≤ length context.now.batch.now.instructions }
     requires room { vec_len came < vec_capacity came }
     ensures { MatchResult result
-        (λ t. complete (the_day context.now) context.now.plan place (parcels_of (came.items ++ parcel ∷ [])) ≡ Some (task_of t))
-        (λ ps. (ps.items ≡ came.items ++ parcel ∷ []) × (vec_capacity ps ≡ vec_capacity came) × (complete (the_day context.now) context.now.plan place (parcels_of (came.items ++ parcel ∷ [])) ≡ None)) }
+        (λ t. task_with (the_day context.now) context.now.plan place came.items parcel ≡ Some (task_of t))
+        (λ ps. (ps.items ≡ came.items ++ parcel ∷ []) × (vec_capacity ps ≡ vec_capacity came) × (task_with (the_day context.now) context.now.plan place came.items parcel ≡ None)) }
 {
     came.push_reserved(parcel);
     Task::assemble(context, place, came)
@@ -92,8 +91,8 @@ impl<N: Naming> Parts<N> {
         requires there { worker < length self.old.hands.items }
         requires places { length self.old.docks.items ≡ length context.now.batch.now.instructions }
         requires rooms { HaveRoom (the_day context.now) self.old.docks.items }
-        requires sent { (p : ParcelValue) (ps : List ParcelValue) → parcels_of parcels.items ≡ p ∷ ps → (1 ≤ p.after) × (p.after ≤ length context.now.batch.now.instructions) }
-        requires room { (place : ℕ) (came : List ParcelValue) → first_head context.now.plan (parcels_of parcels.items) ≡ Some place → arrived (world_of self.old) place ≡ Some came → length came < length (footprint_at (the_day context.now) place) }
+        requires sent { FirstIsSent (the_day context.now) (parcels_of parcels.items) }
+        requires room { FirstHasRoom (the_day context.now) context.now.plan (world_of self.old) (parcels_of parcels.items) }
         ensures rooms { HaveRoom (the_day context.now) self.new.docks.items }
         ensures ok { OnOk result (delivered_by (the_day context.now) context.now.plan worker (world_of self.old) (Carries None (parcels_of parcels.items)) ≡ Ok (world_of self.new)) }
         ensures err { IfErr result (λ why. delivered_by (the_day context.now) context.now.plan worker (world_of self.old) (Carries None (parcels_of parcels.items)) ≡ Err why) }
@@ -133,8 +132,8 @@ impl<N: Naming> Parts<N> {
     ) -> Result<(), EventFault>
         requires places { length self.old.docks.items ≡ length context.now.batch.now.instructions }
         requires rooms { HaveRoom (the_day context.now) self.old.docks.items }
-        requires sent { (p : ParcelValue) (ps : List ParcelValue) → slice_get (world_of self.old).hands worker ≡ Some (Carries None (p ∷ ps)) → (1 ≤ p.after) × (p.after ≤ length context.now.batch.now.instructions) }
-        requires room { (p : ParcelValue) (ps : List ParcelValue) (place : ℕ) (came : List ParcelValue) → slice_get (world_of self.old).hands worker ≡ Some (Carries None (p ∷ ps)) → head_of context.now.plan p.after p.value.number ≡ Some place → arrived (world_of self.old) place ≡ Some came → length came < length (footprint_at (the_day context.now) place) }
+        requires sent { NextIsSent (the_day context.now) (world_of self.old) worker }
+        requires room { NextHasRoom (the_day context.now) context.now.plan (world_of self.old) worker }
         ensures rooms { HaveRoom (the_day context.now) self.new.docks.items }
         ensures answer { MatchResult result
             (λ _. with_hand (world_of self.old) worker (delivered_by (the_day context.now) context.now.plan worker (world_of self.old)) ≡ Ok (world_of self.new))

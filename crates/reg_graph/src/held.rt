@@ -1,13 +1,12 @@
 //! The event that runs the task in a worker's hand.
 
-ghost use Rattle.std.specs.Prelude.{◌≡◌, ◌+◌, ◌++◌, ◌≤◌, ◌<◌, Some, Ok, not, [], length, map, filter, slice_get, slice_set, MatchResult, OnOk, OnErr, IfErr, vec_len, vec_capacity};
+ghost use Rattle.std.specs.Prelude.{◌≡◌, ◌+◌, ◌++◌, ◌≤◌, ◌<◌, Ok, not, [], length, map, filter, slice_set, MatchResult, OnOk, OnErr, IfErr, vec_len, vec_capacity};
 ghost use Rattle.reg_tasks.specs.Contexts.{the_day};
 ghost use Rattle.reg_schedules.specs.Pool.{leads_on};
-ghost use Rattle.reg_schedules.specs.Docks.{TaskValue};
 ghost use Rattle.reg_schedules.specs.World.{Holds, with_hand, run_by};
 ghost use Rattle.reg_tasks.specs.Parcels.{parcels_of};
 ghost use Rattle.reg_tasks.specs.Tasks.{task_of};
-ghost use Rattle.reg_graph.specs.WorldParts.{world_of, IsWhy};
+ghost use Rattle.reg_graph.specs.WorldParts.{world_of, IsWhy, HeldIsOfBatch};
 ghost use Rattle.reg_schedules.specs.declared.event.EventFault.TheVariants.{NoMemory};
 
 use crate::hand::Hand;
@@ -101,7 +100,7 @@ impl<N: Naming> Parts<N> {
         worker: u32,
     ) -> Result<(), EventFault>
         requires places { length self.old.rows.items ≡ length context.now.batch.now.instructions }
-        requires within { (task : TaskValue) → slice_get (world_of self.old).hands worker ≡ Some (Holds task) → (1 ≤ task.place) × (task.place ≤ length context.now.batch.now.instructions) }
+        requires within { HeldIsOfBatch (the_day context.now) (world_of self.old) worker }
         ensures docks { self.new.docks.items ≡ self.old.docks.items }
         ensures answer { MatchResult result
             (λ _. with_hand (world_of self.old) worker (run_by (the_day context.now) context.now.plan worker (world_of self.old)) ≡ Ok (world_of self.new))

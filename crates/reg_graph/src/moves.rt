@@ -1,10 +1,8 @@
 //! The events that take a task in hand and put one at the end of a list.
 
-ghost use Rattle.std.specs.Prelude.{◌≡◌, ◌==◌, ◌<◌, Some, Ok, Err, List, length, slice_get, MatchResult, if◌then◌else◌};
-ghost use Rattle.reg_schedules.specs.declared.event.EventFault.TheVariants.{OwnDeque};
-ghost use Rattle.reg_schedules.specs.Docks.{TaskValue, ParcelValue};
-ghost use Rattle.reg_schedules.specs.World.{Carries, with_hand, with_list, moved, pushed_by};
-ghost use Rattle.reg_graph.specs.WorldParts.{world_of};
+ghost use Rattle.std.specs.Prelude.{◌≡◌, Ok, Err, MatchResult};
+ghost use Rattle.reg_schedules.specs.World.{with_hand, pushed_by};
+ghost use Rattle.reg_graph.specs.WorldParts.{world_of, after_taking, after_stealing, ListHasRoom};
 
 use crate::hand::Hand;
 use crate::parts::Parts;
@@ -19,8 +17,8 @@ impl<N: Naming> Parts<N> {
     pub(crate) fn take_task(&mut self, worker: u32, from: u32) -> Result<(), EventFault>
         ensures docks { self.new.docks.items ≡ self.old.docks.items }
         ensures answer { MatchResult result
-            (λ _. with_hand (world_of self.old) worker (λ hand. with_list (world_of self.old) from (moved worker from (world_of self.old) hand)) ≡ Ok (world_of self.new))
-            (λ why. (world_of self.new ≡ world_of self.old) × (with_hand (world_of self.old) worker (λ hand. with_list (world_of self.old) from (moved worker from (world_of self.old) hand)) ≡ Err why)) }
+            (λ _. after_taking (world_of self.old) worker from ≡ Ok (world_of self.new))
+            (λ why. (world_of self.new ≡ world_of self.old) × (after_taking (world_of self.old) worker from ≡ Err why)) }
     {
         let worker = worker as usize;
         let from = from as usize;
@@ -46,8 +44,8 @@ impl<N: Naming> Parts<N> {
     pub(crate) fn steal_task(&mut self, worker: u32, from: u32) -> Result<(), EventFault>
         ensures docks { self.new.docks.items ≡ self.old.docks.items }
         ensures answer { MatchResult result
-            (λ _. with_hand (world_of self.old) worker (λ hand. with_list (world_of self.old) from (λ tasks. if worker == from then Err OwnDeque else moved worker from (world_of self.old) hand tasks)) ≡ Ok (world_of self.new))
-            (λ why. (world_of self.new ≡ world_of self.old) × (with_hand (world_of self.old) worker (λ hand. with_list (world_of self.old) from (λ tasks. if worker == from then Err OwnDeque else moved worker from (world_of self.old) hand tasks)) ≡ Err why)) }
+            (λ _. after_stealing (world_of self.old) worker from ≡ Ok (world_of self.new))
+            (λ why. (world_of self.new ≡ world_of self.old) × (after_stealing (world_of self.old) worker from ≡ Err why)) }
     {
         if worker != from {
             return self.take_task(worker, from);
@@ -63,7 +61,7 @@ impl<N: Naming> Parts<N> {
     /// # Errors
     /// Why that is not possible.
     pub(crate) fn push_task(&mut self, worker: u32) -> Result<(), EventFault>
-        requires room { (task : TaskValue) (parcels : List ParcelValue) (tasks : List TaskValue) → slice_get (world_of self.old).hands worker ≡ Some (Carries (Some task) parcels) → slice_get (world_of self.old).lists worker ≡ Some tasks → length tasks < length (world_of self.old).rows }
+        requires room { ListHasRoom (world_of self.old) worker }
         ensures docks { self.new.docks.items ≡ self.old.docks.items }
         ensures answer { MatchResult result
             (λ _. with_hand (world_of self.old) worker (pushed_by worker (world_of self.old)) ≡ Ok (world_of self.new))

@@ -54,11 +54,10 @@ fn no_rows(alloc: Global, places: u32) -> Result<Vec<Option<LogRow>>, NoMemory>
 }
 
 impl<N: Naming> Parts<N> {
-    ghost use Rattle.std.specs.Prelude.{Bool, List, ◌+◌, ◌++◌, ◌∷◌, ◌<◌, length};
+    ghost use Rattle.std.specs.Prelude.{◌+◌, ◌++◌, ◌∷◌, ◌<◌, length};
     ghost use Rattle.reg_tasks.specs.Contexts.{the_day};
-    ghost use Rattle.reg_schedules.specs.Docks.{TaskValue, complete};
-    ghost use Rattle.reg_schedules.specs.World.{opened_at, dock_at, dealt, before_some, at_start};
-    ghost use Rattle.reg_graph.specs.WorldParts.{docks_of, HaveRoom, lists_of, world_of};
+    ghost use Rattle.reg_schedules.specs.World.{dock_at, at_start};
+    ghost use Rattle.reg_graph.specs.WorldParts.{docks_of, HaveRoom, lists_of, world_of, task_at_start, IsDealt};
 
     // No dock yet. Each list is without tasks, each hand is empty, and no place has a row.
     fn without_docks(alloc: Global, places: u32, workers: u32) -> Result<Parts<N>, NoMemory>
@@ -94,7 +93,7 @@ impl<N: Naming> Parts<N> {
         ensures count { IfOk result (λ next. length self.new.docks.items ≡ length self.old.docks.items + 1) }
         ensures rooms { IfOk result (λ next. HaveRoom (the_day context.now) self.new.docks.items) }
         ensures docks { IfOk result (λ next. docks_of self.new.docks.items ≡ docks_of self.old.docks.items ++ dock_at (the_day context.now) context.now.plan place ∷ []) }
-        ensures lists { IfOk result (λ next. (more : List TaskValue) → dealt next more (lists_of self.new.lists.items) ≡ dealt worker (before_some (complete (the_day context.now) context.now.plan place (opened_at (the_day context.now) context.now.plan place)) more) (lists_of self.old.lists.items)) }
+        ensures lists { IfOk result (λ next. IsDealt (task_at_start (the_day context.now) context.now.plan place) worker (lists_of self.old.lists.items) next (lists_of self.new.lists.items)) }
         ensures others { IfOk result (λ next. world_of self.new ≡ record (world_of self.old) { docks = docks_of self.new.docks.items; lists = lists_of self.new.lists.items }) }
     {
         let came = open_dock(alloc, context, place)?;

@@ -1,12 +1,10 @@
 //! Carrying events out.
 
-ghost use Rattle.std.specs.Prelude.{◌≡◌, ◌≤◌, ◌<◌, ℕ, List, Some, None, Ok, ◌∷◌, length, slice_get, MatchResult};
+ghost use Rattle.std.specs.Prelude.{◌≡◌, ◌≤◌, ℕ, Ok, length, MatchResult};
 ghost use Rattle.reg_tasks.specs.Contexts.{the_day};
-ghost use Rattle.reg_schedules.specs.Pool.{footprint_at};
-ghost use Rattle.reg_schedules.specs.Docks.{TaskValue, ParcelValue};
-ghost use Rattle.reg_schedules.specs.World.{Holds, Carries, head_of, arrived, after_event};
+ghost use Rattle.reg_schedules.specs.World.{after_event};
 ghost use Rattle.reg_schedules.specs.Schedules.{times_found};
-ghost use Rattle.reg_graph.specs.WorldParts.{world_of, IsWhyOf};
+ghost use Rattle.reg_graph.specs.WorldParts.{world_of, IsWhyOf, HeldIsOfBatch, ListHasRoom, NextIsSent, NextHasRoom};
 ghost use Rattle.reg_schedules.specs.declared.event.TheConstants.{MOST_WORKERS};
 
 use crate::world::World;
@@ -23,10 +21,10 @@ impl<N: Naming> World<'_, '_, N> {
         ensures docks { length self.now.parts.docks.items ≡ length self.now.context.now.batch.now.instructions }
         ensures few { length self.now.parts.hands.items ≤ MOST_WORKERS }
         ensures once { (place : ℕ) → 1 ≤ place → place ≤ length self.now.context.now.batch.now.instructions → times_found (world_of self.now.parts) place ≡ 1 }
-        ensures list_room { (worker : ℕ) (task : TaskValue) (parcels : List ParcelValue) (tasks : List TaskValue) → slice_get (world_of self.now.parts).hands worker ≡ Some (Carries (Some task) parcels) → slice_get (world_of self.now.parts).lists worker ≡ Some tasks → length tasks < length (world_of self.now.parts).rows }
-        ensures held { (worker : ℕ) (task : TaskValue) → slice_get (world_of self.now.parts).hands worker ≡ Some (Holds task) → (1 ≤ task.place) × (task.place ≤ length self.now.context.now.batch.now.instructions) }
-        ensures sent { (worker : ℕ) (p : ParcelValue) (ps : List ParcelValue) → slice_get (world_of self.now.parts).hands worker ≡ Some (Carries None (p ∷ ps)) → (1 ≤ p.after) × (p.after ≤ length self.now.context.now.batch.now.instructions) }
-        ensures dock_room { (worker : ℕ) (p : ParcelValue) (ps : List ParcelValue) (place : ℕ) (came : List ParcelValue) → slice_get (world_of self.now.parts).hands worker ≡ Some (Carries None (p ∷ ps)) → head_of self.now.context.now.plan p.after p.value.number ≡ Some place → arrived (world_of self.now.parts) place ≡ Some came → length came < length (footprint_at (the_day self.now.context.now) place) }
+        ensures list_room { (worker : ℕ) → ListHasRoom (world_of self.now.parts) worker }
+        ensures held { (worker : ℕ) → HeldIsOfBatch (the_day self.now.context.now) (world_of self.now.parts) worker }
+        ensures sent { (worker : ℕ) → NextIsSent (the_day self.now.context.now) (world_of self.now.parts) worker }
+        ensures dock_room { (worker : ℕ) → NextHasRoom (the_day self.now.context.now) self.now.context.now.plan (world_of self.now.parts) worker }
     {
         self.context.is_day();
         each_footprint_is_sound();

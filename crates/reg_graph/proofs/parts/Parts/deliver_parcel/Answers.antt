@@ -7,7 +7,7 @@ use Rattle.reg_graph.specs.declared.hand.Hand.TheVariants as hand
 use Rattle.reg_schedules.specs.World.{Carries, delivered_by}
 use Rattle.reg_tasks.specs.Parcels.{parcels_of}
 use Rattle.reg_graph.specs.WorldParts.{hand_of, world_of}
-use Rattle.reg_graph.proofs.PartFacts.{view-at, with-one, set-twice, set-back, deliver-anew, why-delivery, with-first}
+use Rattle.reg_graph.proofs.PartFacts.{view-at, with-one, set-twice, set-back, deliver-anew, why-delivery}
 use Rattle.reg_graph.proofs.parts.Parts.deliver_parcel.Goals as goal
 
 pub deliver_held-requires-clause-sent : goal.deliver_held-requires-clause-sent
@@ -19,7 +19,7 @@ deliver_held-requires-clause-sent g c =
     let was = view-at hand_of p.hands.items k c.index_mut.result.now here c.index_mut.ensures.value in
     let qs = parcels_of c.in-Carries.parcels.items in
     let held : slice_get w.hands k ≡ Some (Carries None qs) = was ∙ ap (λ h. Some (hand_of h)) (sym c.replace.ensures.value ∙ c.in-Carries.is ∙ ap (λ r. hand.Carries r c.in-Carries.parcels) c.in-None.is) in
-    λ one rest e. c.requires.sent one rest (held ∙ ap (λ ps. Some (Carries None ps)) e)
+    c.requires.sent qs held
 
 pub deliver_held-requires-clause-room : goal.deliver_held-requires-clause-room
 deliver_held-requires-clause-room g c =
@@ -30,7 +30,7 @@ deliver_held-requires-clause-room g c =
     let was = view-at hand_of p.hands.items k c.index_mut.result.now here c.index_mut.ensures.value in
     let qs = parcels_of c.in-Carries.parcels.items in
     let held : slice_get w.hands k ≡ Some (Carries None qs) = was ∙ ap (λ h. Some (hand_of h)) (sym c.replace.ensures.value ∙ c.in-Carries.is ∙ ap (λ r. hand.Carries r c.in-Carries.parcels) c.in-None.is) in
-    λ place came head there. with-first c.args.context.now.plan qs place _ head (λ one rest e first. c.requires.room one rest place came (held ∙ ap (λ ps. Some (Carries None ps)) e) first there)
+    c.requires.room qs held
 
 pub returns-in-None-clause-answer : goal.returns-in-None-clause-answer
 returns-in-None-clause-answer g c =

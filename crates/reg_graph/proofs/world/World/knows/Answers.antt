@@ -1,4 +1,4 @@
-use Rattle.std.proofs.Common.{◌≡◌, ◌∷◌, length, None, arith}
+use Rattle.std.proofs.Common.{◌≡◌, ◌∷◌, length, Some, None, arith, ap, ◌∙◌}
 use Rattle.std.proofs.lemmas.List.{length-map}
 use Rattle.std.proofs.Props.{props}
 use mathlib.Core.Logic.{∥∥₁_elim}
@@ -8,6 +8,7 @@ use Rattle.reg_graph.specs.WorldParts.{world_of}
 use Rattle.reg_schedules.proofs.WorldFits.{IsHand, all-get}
 use Rattle.reg_schedules.proofs.WorldEnds.{whole-after}
 use Rattle.reg_schedules.proofs.WorldRoom.{list-room, dock-room, sent-after}
+use Rattle.reg_graph.proofs.PartFacts.{with-first}
 use Rattle.reg_graph.proofs.world.World.knows.Goals as goal
 
 pub returns-clause-rows : goal.returns-clause-rows
@@ -75,10 +76,10 @@ returns-clause-sent g c =
     let day = day_of c.args.self.now.context.now.book.now c.args.self.now.context.now.rules.now c.args.self.now.context.now.batch.now in
     let plan = c.args.self.now.context.now.plan in
     let w = world_of c.args.self.now.parts in
-    λ worker p ps h.
+    λ worker parcels h p ps e.
     ∥∥₁_elim c.args.self.now.context.now.planned (Prim.hlevel props) (λ made. ∥∥₁_elim c.args.self.now.reached (Prim.hlevel props) (λ r.
     let whole = whole-after c.step_laws.ensures c.each_footprint_is_sound.ensures c.tails_are_last_touchers.ensures c.last_toucher_is_last.ensures day plan made r.workers r.some r.events w r.after in
-    let is = all-get (IsHand c.tails_are_last_touchers.ensures c.last_toucher_is_last.ensures day plan made) w.hands worker (Carries None (p ∷ ps)) whole.fits.hands h in
+    let is = all-get (IsHand c.tails_are_last_touchers.ensures c.last_toucher_is_last.ensures day plan made) w.hands worker (Carries None (p ∷ ps)) whole.fits.hands (h ∙ ap (λ qs. Some (Carries None qs)) e) in
     sent-after c.step_laws.ensures c.each_footprint_is_sound.ensures c.tails_are_last_touchers.ensures c.last_toucher_is_last.ensures day plan made p is.0))
 
 pub returns-clause-dock_room : goal.returns-clause-dock_room
@@ -86,7 +87,8 @@ returns-clause-dock_room g c =
     let day = day_of c.args.self.now.context.now.book.now c.args.self.now.context.now.rules.now c.args.self.now.context.now.batch.now in
     let plan = c.args.self.now.context.now.plan in
     let w = world_of c.args.self.now.parts in
-    λ worker p ps place came h first there.
+    λ worker parcels h place came head there.
     ∥∥₁_elim c.args.self.now.context.now.planned (Prim.hlevel props) (λ made. ∥∥₁_elim c.args.self.now.reached (Prim.hlevel props) (λ r.
     let whole = whole-after c.step_laws.ensures c.each_footprint_is_sound.ensures c.tails_are_last_touchers.ensures c.last_toucher_is_last.ensures day plan made r.workers r.some r.events w r.after in
-    dock-room c.step_laws.ensures c.each_footprint_is_sound.ensures c.tails_are_last_touchers.ensures c.last_toucher_is_last.ensures day plan made r.workers w whole worker p ps place came h first there))
+    with-first plan parcels place _ head (λ p ps e first.
+    dock-room c.step_laws.ensures c.each_footprint_is_sound.ensures c.tails_are_last_touchers.ensures c.last_toucher_is_last.ensures day plan made r.workers w whole worker p ps place came (h ∙ ap (λ qs. Some (Carries None qs)) e) first there)))
