@@ -202,7 +202,11 @@ pub(crate) fn get_account(accounts: &[Account], number: AccountNo) -> Option<&Ac
 // What all these accounts hold, have surrendered and have deleted of this kind, in one walk.
 fn add_up(accounts: &[Account], kind: AllowanceKind) -> Totals
     requires { length accounts.now ≤ MOST_ACCOUNTS }
-    ensures { result ≡ record { held = sum_by (λ v. held_by v kind) accounts.now; surrendered = sum_by (λ v. retired_by v Surrendered kind) accounts.now; deleted = sum_by (λ v. retired_by v Deleted kind) accounts.now } }
+    ensures { result ≡ record {
+      held = sum_by (λ v. held_by v kind) accounts.now;
+      surrendered = sum_by (λ v. retired_by v Surrendered kind) accounts.now;
+      deleted = sum_by (λ v. retired_by v Deleted kind) accounts.now;
+    } }
 {
     let mut held = 0;
     let mut surrendered = 0;

@@ -134,7 +134,9 @@ fn take_place(
     ensures items { accounts.new.items ≡ accounts.old.items }
     ensures room { OnOk result (vec_len accounts.new < vec_capacity accounts.new) }
     ensures entered { OnOk result (directory.new ≡ directory_of (accounts.old.items ++ account.now ∷ [])) }
-    ensures fault { MatchResult result (λ _. first_fault (record { accounts = accounts.old.items; next = next }) account.now ≡ None) (IsBookFault (record { accounts = accounts.old.items; next = next }) account.now) }
+    ensures fault { MatchResult result
+        (λ _. first_fault (record { accounts = accounts.old.items; next = next }) account.now ≡ None)
+        (IsBookFault (record { accounts = accounts.old.items; next = next }) account.now) }
     ensures err { OnErr result (directory.new ≡ directory.old) }
     ensures within_limits { IsAccount account.now }
     ensures behind { OnOk result (IsBehind next account.now) }

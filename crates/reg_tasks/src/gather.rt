@@ -186,7 +186,8 @@ fn settle_sorted<N: Naming>(
 ) -> Result<Settled, Lack>
     ensures settled { IfOk result (λ s. IfSome N.day (λ d. s ≡ settled_day d)) }
     ensures of_book { IfOk result (λ s. IsOfBook context.now.book.now s) }
-    ensures lack { IfErr result (LacksFor ((d : Day) → N.day ≡ Some d → are_outcomes (the_day context.now) context.now.plan (opened_accounts context.now.plan.openings) (places_of rows.items) (names_of parcels.items) ≡ false)) }
+    ensures lack { IfErr result (LacksFor ((d : Day) → N.day ≡ Some d
+        → are_outcomes (the_day context.now) context.now.plan (opened_accounts context.now.plan.openings) (places_of rows.items) (names_of parcels.items) ≡ false)) }
 {
     context.is_day();
     value_is_last_touchers();
