@@ -43,6 +43,7 @@ try_cases() {
   count_part "cases/run-streams" cases/run-streams "$1"
   count_part "cases/run-documents" cases/run-documents "$1"
   count_part "cases/run-tools" cases/run-tools
+  count_part "cases/run-words" cases/run-words
   rm -f -- "$cases_passed"
   [ "$failed" != "$failed_before" ] || mv -- "$work/cases-begun" "$cases_passed"
 }

@@ -14,6 +14,7 @@ use reg_account::Account;
 use reg_base::{AccountNo, AllowanceKind, Directory};
 use reg_rules::LogRow;
 use std::marker::Model;
+use std::mem;
 
 /// How many allowances of one kind all accounts together hold, have surrendered and have deleted.
 #[derive(Clone, Copy, Debug, PartialEq, Eq)]
@@ -24,6 +25,12 @@ pub struct Totals {
     pub surrendered: u128,
     /// Allowances deleted and not reversed.
     pub deleted: u128,
+}
+
+/// The accounts that a commit has replaced, as they were before. Nothing is done with them but to free them, or not to.
+#[derive(Debug, Drop)]
+pub struct Replaced {
+    accounts: Vec<Account>,
 }
 
 /// The accounts of a registry, by rising number, and the next record number. A contract sees the book as plain data.
@@ -127,48 +134,69 @@ impl Book {
             (λ e. (settled.base + 1 ≢ self.old.next) × (self.new ≡ self.old) × (e.0 ≡ settled) × (e.1.next ≡ self.old.next)) }
         ensures directory { directory_of self.new.accounts ≡ directory_of self.old.accounts }
     {
+        let (rows, _) = self.commit_and_keep(settled)?;
+        Ok(rows)
+    }
+
+    /// The same as [`Book::commit`], but the accounts that were replaced are not freed: they are handed back.
+    ///
+    /// # Errors
+    /// As [`Book::commit`].
+    pub fn commit_and_keep(
+        &mut self,
+        settled: Settled,
+    ) -> Result<(Vec<LogRow>, Replaced), (Settled, Stale)>
+        requires { settled.base + 1 ≡ self.old.next → IsOfBook self.old settled }
+        ensures answer { MatchResult result
+            (λ kept. (settled.base + 1 ≡ self.old.next) × (self.new ≡ committed self.old settled) × (kept.0.items ≡ settled.rows))
+            (λ e. (settled.base + 1 ≢ self.old.next) × (self.new ≡ self.old) × (e.0 ≡ settled) × (e.1.next ≡ self.old.next)) }
+        ensures directory { directory_of self.new.accounts ≡ directory_of self.old.accounts }
+    {
         let next = self.next;
         if settled.base() != next - 1 {
             return Err((settled, Stale { next }));
         }
-        let (rows, accounts) = settled.into_parts();
+        let (rows, mut accounts) = settled.into_parts();
         self.next = next + rows.len() as u64;
-        replace_accounts(&mut self.accounts, accounts);
-        Ok(rows)
+        replace_accounts(&mut self.accounts, &mut accounts);
+        Ok((rows, Replaced { accounts }))
     }
 }
 
-// Puts each account in the place of the one with its number. Both lists are walked once, from their ends.
-fn replace_accounts(accounts: &mut Vec<Account>, mut settled: Vec<Account>)
+// Puts each settled account in the place of the one with its number, and that one in its own. Both lists are walked once,
+// from their ends.
+fn replace_accounts(accounts: &mut Vec<Account>, settled: &mut Vec<Account>)
     requires rising { IsRising (numbers accounts.old.items) }
-    requires settled_rising { IsRising (numbers settled.items) }
+    requires settled_rising { IsRising (numbers settled.old.items) }
     requires within_limits { All IsAccount accounts.old.items }
-    ensures items { accounts.new.items ≡ overlay accounts.old.items settled.items }
+    ensures items { accounts.new.items ≡ overlay accounts.old.items settled.old.items }
     ensures within_limits { All IsAccount accounts.new.items }
 {
     let mut until = accounts.len();
-    while let Some(account) = settled.pop() {
-        until = replace_account(accounts, until, account);
+    let mut left = settled.len();
+    while left > 0 {
+        left -= 1;
+        until = replace_account(accounts, until, &mut settled[left]);
     }
 }
 
-// Puts the account in the place of the one with its number, if there is one. From `until` on all numbers are higher.
-// Answers a place from which on none is lower.
-fn replace_account(accounts: &mut Vec<Account>, until: usize, account: Account) -> usize
+// Puts the account in the place of the one with its number, if there is one, and that one in its own. From `until` on all
+// numbers are higher. Answers a place from which on none is lower.
+fn replace_account(accounts: &mut Vec<Account>, until: usize, account: &mut Account) -> usize
     requires rising { IsRising (numbers accounts.old.items) }
     requires within_limits { All IsAccount accounts.old.items }
     requires within { until ≤ length accounts.old.items }
-    requires higher { AreHigher (numbers accounts.old.items) until account.number }
-    ensures items { accounts.new.items ≡ overlay accounts.old.items (account ∷ []) }
+    requires higher { AreHigher (numbers accounts.old.items) until account.old.number }
+    ensures items { accounts.new.items ≡ overlay accounts.old.items (account.old ∷ []) }
     ensures within_limits { All IsAccount accounts.new.items }
     ensures within { result ≤ length accounts.old.items }
-    ensures higher { AreHigher (numbers accounts.old.items) result account.number }
+    ensures higher { AreHigher (numbers accounts.old.items) result account.old.number }
 {
     account.is_within_limits();
     let number = account.number();
     let count = count_not_higher(accounts, until, number);
     if count > 0 && accounts[count - 1].number() == number {
-        accounts[count - 1] = account;
+        mem::swap(&mut accounts[count - 1], account);
     }
     count
 }

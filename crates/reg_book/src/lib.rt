@@ -37,7 +37,7 @@ mod settled;
 mod touched;
 mod turn;
 
-pub use book::{Book, Totals};
+pub use book::{Book, Replaced, Totals};
 pub use closing::{Closed, settle_in_place};
 pub use draft::{BookDraft, BookFault, has_row_ahead};
 pub use laws::{

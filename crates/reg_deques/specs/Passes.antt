@@ -28,5 +28,5 @@ module _ {N : Type 0} {b : _} where
   owned o = worker_view o.deque
 
   -- what a part of a pass says
-  abbrev pub known : Part N b → Holding
-  known p = p.seat.me.0
+  abbrev pub holding_of : Part N b → Holding
+  holding_of p = p.seat.me.0

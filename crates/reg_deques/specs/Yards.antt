@@ -8,7 +8,7 @@ use Rattle.reg_deques.specs.declared.yard.Yard.{Yard}
 use Rattle.reg_deques.specs.Views.{view, table_of}
 use Rattle.reg_deques.specs.Tickets.{empty_holding}
 use Rattle.reg_deques.specs.Steps.{Steals, Joins}
-use Rattle.reg_deques.specs.Passes.{DequeId, owner_id, desk_id, part_id, owned, known}
+use Rattle.reg_deques.specs.Passes.{DequeId, owner_id, desk_id, part_id, owned, holding_of}
 
 -- an owner who put and took nothing
 abbrev pub IsNew : View → Type 0
@@ -16,8 +16,8 @@ IsNew v = v ≡ view true [] [] [] (table_of v)
 
 module _ {N : Type 0} {b : _} where
   -- how many workers there are, and which one has the pass, counted from 0
-  abbrev pub workers_of : Yard N b → ℕ
-  workers_of yard = vec_len yard.desks
+  abbrev pub worker_count : Yard N b → ℕ
+  worker_count yard = vec_len yard.desks
 
   abbrev pub worker_of : Pass N b → ℕ
   worker_of pass = pass.worker
@@ -34,7 +34,7 @@ module _ {N : Type 0} {b : _} where
 
   -- what a pass knows of each deque
   abbrev pub views : Pass N b → List Holding
-  views pass = map known pass.parts.items
+  views pass = map holding_of pass.parts.items
 
   -- what each owner put and took
   abbrev pub each_owned : List (Owner N b) → List View
@@ -45,7 +45,7 @@ module _ {N : Type 0} {b : _} where
 
   -- nothing is known of any deque
   abbrev pub IsBlank : Pass N b → Type 0
-  IsBlank pass = All (λ p. known p ≡ empty_holding) pass.parts.items
+  IsBlank pass = All (λ p. holding_of p ≡ empty_holding) pass.parts.items
 
 -- of each deque, what is known to who has two passes
 abbrev pub AllJoin : List Holding → List Holding → List Holding → Type 0

@@ -2,9 +2,9 @@
 
 ghost use Rattle.std.specs.Prelude.{◌≡◌, ◌≢◌, ◌<◌, ◌≤◌, ◌∷◌, [], All, Some, slice_get, vec_len, map, set, IfOk, IfSome, IfNone};
 ghost use Rattle.std.specs.List.{range_with_len};
-ghost use Rattle.reg_deques.specs.Passes.{desk_id, part_id, known};
+ghost use Rattle.reg_deques.specs.Passes.{desk_id, part_id, holding_of};
 ghost use Rattle.reg_deques.specs.Tickets.{empty_holding};
-ghost use Rattle.reg_deques.specs.Yards.{workers_of, worker_of, deques, deques_of_pass, deques_of_owners, each_owned, views, IsNew, IsPassOf, IsBlank, StealsAt, AllJoin};
+ghost use Rattle.reg_deques.specs.Yards.{worker_count, worker_of, deques, deques_of_pass, deques_of_owners, each_owned, views, IsNew, IsPassOf, IsBlank, StealsAt, AllJoin};
 
 use crate::desk::Desk;
 use crate::owner::Owner;
@@ -18,7 +18,7 @@ use std::alloc::Global;
 fn part_at<N: Naming>(owners: &mut Vec<Owner<N>>, k: usize) -> Part<N>
     requires within { k < vec_len owners.old }
     ensures of { slice_get (deques_of_owners owners.old.items) k ≡ Some (part_id result) }
-    ensures blank { known result ≡ empty_holding }
+    ensures blank { holding_of result ≡ empty_holding }
     ensures same { (deques_of_owners owners.new.items ≡ deques_of_owners owners.old.items) × (each_owned owners.new.items ≡ each_owned owners.old.items) }
 {
     owners[k].part()
@@ -47,7 +47,7 @@ fn join_parts<N: Naming>(desks: &Vec<Desk<N>>, parts: &mut Vec<Part<N>>, mut oth
     requires of { map part_id parts.old.items ≡ map desk_id desks.now.items }
     requires others { map part_id others.items ≡ map desk_id desks.now.items }
     ensures of { map part_id parts.new.items ≡ map part_id parts.old.items }
-    ensures joined { AllJoin (map known parts.old.items) (map known others.items) (map known parts.new.items) }
+    ensures joined { AllJoin (map holding_of parts.old.items) (map holding_of others.items) (map holding_of parts.new.items) }
 {
     while let Some(other) = others.pop() {
         let k = others.len();
@@ -67,7 +67,7 @@ impl<N: Naming> Yard<N> {
     ) -> Result<(Yard<N>, Vec<Owner<N>>, Vec<Pass<N>>), NoMemory>
         requires some { 1 ≤ workers }
         requires few { workers ≤ 8 }
-        ensures counts { IfOk result (λ made. (workers_of made.0 ≡ workers) × (vec_len made.1 ≡ workers) × (vec_len made.2 ≡ workers)) }
+        ensures counts { IfOk result (λ made. (worker_count made.0 ≡ workers) × (vec_len made.1 ≡ workers) × (vec_len made.2 ≡ workers)) }
         ensures owners { IfOk result (λ made. deques_of_owners made.1.items ≡ deques made.0) }
         ensures fresh { IfOk result (λ made. All IsNew (each_owned made.1.items)) }
         ensures passes { IfOk result (λ made. All (λ p. IsPassOf made.0 p × IsBlank p) made.2.items) }
@@ -89,7 +89,7 @@ impl<N: Naming> Yard<N> {
 
     /// How many deques there are.
     pub fn workers(&self) -> usize
-        ensures { result ≡ workers_of self.now }
+        ensures { result ≡ worker_count self.now }
     {
         self.desks.len()
     }
@@ -97,7 +97,7 @@ impl<N: Naming> Yard<N> {
     /// Takes the first task of another worker, if there is one and nobody is quicker. The pass must be of this yard.
     pub fn steal(&self, pass: &mut Pass<N>, from: u32) -> Option<Task<N>>
         requires of { IsPassOf self.now pass.old }
-        requires within { from < workers_of self.now }
+        requires within { from < worker_count self.now }
         requires other { from ≢ worker_of pass.old }
         ensures of { deques_of_pass pass.new ≡ deques_of_pass pass.old }
         ensures worker { worker_of pass.new ≡ worker_of pass.old }

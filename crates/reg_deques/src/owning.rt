@@ -5,7 +5,7 @@ ghost use Rattle.crossbeam_deque.specs.Handles.{worker_deque, worker_view, worke
 ghost use Rattle.reg_deques.specs.Views.{fresh_view, with_table, with_put};
 ghost use Rattle.reg_deques.specs.Tickets.{empty_holding};
 ghost use Rattle.reg_deques.specs.Steps.{TakesOwn};
-ghost use Rattle.reg_deques.specs.Passes.{owner_id, part_id, owned, known};
+ghost use Rattle.reg_deques.specs.Passes.{owner_id, part_id, owned, holding_of};
 
 use crate::owner::{Deque, Owner, TicketTable};
 use crate::pass::Part;
@@ -95,7 +95,7 @@ impl<N: Naming> Owner<N> {
     // What a thief knows of the deque at first: nothing.
     pub(crate) fn part(&mut self) -> Part<N>
         ensures of { part_id result ≡ owner_id self.old }
-        ensures blank { known result ≡ empty_holding }
+        ensures blank { holding_of result ≡ empty_holding }
         ensures same { (owner_id self.new ≡ owner_id self.old) × (owned self.new ≡ owned self.old) }
     {
         let pass = self.deque.another::<Parting>();

@@ -1,7 +1,7 @@
 //! Desks: stealing, and joining what two thieves know of a deque.
 
 ghost use Rattle.std.specs.Prelude.{◌≡◌, [], false, IfOk, IfSome, IfNone};
-ghost use Rattle.reg_deques.specs.Passes.{desk_id, part_id, owner_id, known};
+ghost use Rattle.reg_deques.specs.Passes.{desk_id, part_id, owner_id, holding_of};
 ghost use Rattle.reg_deques.specs.Steps.{Steals, Joins};
 
 use crate::desk::Desk;
@@ -47,8 +47,8 @@ impl<N: Naming> Desk<N> {
     pub(crate) fn steal(&self, part: &mut Part<N>) -> Option<Task<N>>
         requires of { part_id part.old ≡ desk_id self.now }
         ensures of { part_id part.new ≡ part_id part.old }
-        ensures some { IfSome result (λ t. Steals (known part.old) t.place (known part.new)) }
-        ensures none { IfNone result (known part.new ≡ known part.old) }
+        ensures some { IfSome result (λ t. Steals (holding_of part.old) t.place (holding_of part.new)) }
+        ensures none { IfNone result (holding_of part.new ≡ holding_of part.old) }
     {
         match self.stealer.steal_as::<Stealing>(&mut part.pass) {
             Steal::Success(ticketed) => {
@@ -66,7 +66,7 @@ impl<N: Naming> Desk<N> {
         requires of { part_id part.old ≡ desk_id self.now }
         requires other { part_id other ≡ desk_id self.now }
         ensures of { part_id part.new ≡ part_id part.old }
-        ensures joined { Joins (known part.old) (known other) (known part.new) }
+        ensures joined { Joins (holding_of part.old) (holding_of other) (holding_of part.new) }
     {
         let Part { pass: _, seat } = other;
         gather(&self.table, &mut part.seat, seat);

@@ -8,12 +8,12 @@ use Rattle.reg_front.specs.Streams.{Stream}
 use Rattle.reg_front.specs.Devices.{FailsToWrite, Writes}
 
 -- what the line of a faulty row says
-abbrev pub row_text : ℕ → Cause → List ℕ
-row_text row cause = codes "row " ++ decimal row ++ codes ": " ++ cause_name cause
+abbrev pub faulty_row_text : ℕ → Cause → List ℕ
+faulty_row_text row cause = codes "row " ++ decimal row ++ codes ": " ++ cause_name cause
 
 -- what the line of a fault says
 abbrev pub fault_text : FrontFault → List ℕ
-fault_text (Row row cause) = row_text row cause
+fault_text (Row row cause) = faulty_row_text row cause
 fault_text Read = codes "read failed"
 fault_text Workers = codes "workers must be 1 to 8"
 fault_text NoAccount = codes "no such account"

@@ -4,7 +4,7 @@ ghost use Rattle.std.specs.Prelude.{◌≡◌, ◌≤◌, ◌<◌, length};
 ghost use Rattle.arrayvec.specs.ArrayString.{array_string_len};
 ghost use Rattle.reg_text.specs.Causes.{cause_name};
 ghost use Rattle.reg_front.specs.Streams.{CanFail};
-ghost use Rattle.reg_front.specs.Lines.{IsTold, fault_text, row_text};
+ghost use Rattle.reg_front.specs.Lines.{IsTold, fault_text, faulty_row_text};
 ghost use Rattle.reg_front.specs.declared.line.TheConstants.{ROOM};
 
 use crate::device::write_all;
@@ -25,7 +25,7 @@ fn name_of(cause: Cause) -> &'static str
 }
 
 fn row_text_of(row: u64, cause: Cause) -> ArrayString<ROOM>
-    ensures text { result.bytes ≡ row_text row cause }
+    ensures text { result.bytes ≡ faulty_row_text row cause }
     ensures room { array_string_len result < ROOM }
 {
     let mut digits = Buffer::new();

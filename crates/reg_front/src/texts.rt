@@ -16,7 +16,7 @@ ghost use Rattle.reg_front.specs.Runs.{report_of, book_after, command_fault, IsP
 use crate::command::Command;
 use crate::fault::FrontFault;
 use reg_base::{AccountNo, NoMemory};
-use reg_book::{Closed, SettleFault, Settled, settle_in_place, settle_plain};
+use reg_book::{Closed, Replaced, SettleFault, Settled, settle_in_place, settle_plain};
 use reg_plan::Plan;
 use reg_text::{
     DayInput, StatementFault, figures_over, plan_text, statement, totals_text, write_report_over,
@@ -26,12 +26,13 @@ use std::alloc::Global;
 use std::sync::Wait;
 use std::thread::Threads;
 
-/// What a command has used: its text, and the closed day that the text was made from, if the command closed the day.
-/// Nothing is done with it but to free it, or not to.
+/// What a command has used: its text, the closed day that the text was made from, if the command closed the day, and the
+/// accounts as they were before the day, if they were replaced. Nothing is done with it but to free it, or not to.
 #[derive(Drop)]
 pub(crate) struct Used {
     pub(crate) text: Vec<u8>,
     closed: Option<Closed>,
+    replaced: Option<Replaced>,
 }
 
 /// The text of a command for a day. `bytes` are no longer needed: a report and a text of figures take their memory.
@@ -73,12 +74,24 @@ fn make_report<T: Threads + Wait + Sync>(
         (λ used. (are_workers workers ≡ true) × (used.text.items ≡ report_of (day_of_input day)))
         (IsCommandFault (Settle workers) day.book) }
 {
-    let closed = close_by_workers(rt, alloc, day, workers)?;
+    let (closed, replaced) = close_by_workers(rt, alloc, day, workers)?;
     let text = write_report_over(bytes, &closed.book, closed.rows.as_slice())?;
     Ok(Used {
         text,
         closed: Some(closed),
+        replaced: Some(replaced),
     })
+}
+
+// What a command has used that closed no day.
+fn used_for(text: Vec<u8>) -> Used
+    ensures { result.text ≡ text }
+{
+    Used {
+        text,
+        closed: None,
+        replaced: None,
+    }
 }
 
 // The plan of the day's instructions.
@@ -87,7 +100,7 @@ fn make_plan(alloc: Global, day: &DayInput) -> Result<Used, FrontFault>
 {
     let plan = Plan::of(alloc, &day.batch, day.book.directory())?;
     let text = plan_text(alloc, &plan)?;
-    Ok(Used { text, closed: None })
+    Ok(used_for(text))
 }
 
 // The statement of an account.
@@ -102,7 +115,7 @@ fn make_statement(alloc: Global, day: &DayInput, account: AccountNo) -> Result<U
     }
     let settled = settle(alloc, day)?;
     match statement(alloc, &day.book, settled.rows(), account) {
-        Ok(text) => Ok(Used { text, closed: None }),
+        Ok(text) => Ok(used_for(text)),
         Err(StatementFault::NoMemory) => Err(FrontFault::NoMemory),
         Err(StatementFault::UnknownAccount) => unreachable!(),
     }
@@ -118,6 +131,7 @@ fn make_figures(alloc: Global, day: DayInput, bytes: Vec<u8>) -> Result<Used, Fr
     Ok(Used {
         text,
         closed: Some(closed),
+        replaced: None,
     })
 }
 
@@ -131,6 +145,7 @@ fn make_totals(alloc: Global, day: DayInput) -> Result<Used, FrontFault>
     Ok(Used {
         text,
         closed: Some(closed),
+        replaced: None,
     })
 }
 
@@ -155,22 +170,23 @@ fn close_day(alloc: Global, day: DayInput) -> Result<Closed, NoMemory>
     settle_in_place(alloc, day.book, &day.rules, &day.batch)
 }
 
-// Settles the day by workers, and puts the settled day into its book. Answers the book after the day, and the log.
+// Settles the day by workers, and puts the settled day into its book. Answers the book after the day with the log, and the
+// accounts that were replaced.
 fn close_by_workers<T: Threads + Wait + Sync>(
     rt: &T,
     alloc: Global,
     day: DayInput,
     workers: u32,
-) -> Result<Closed, FrontFault>
+) -> Result<(Closed, Replaced), FrontFault>
     requires { day.batch.base + 1 ≡ day.book.next }
     ensures { MatchResult result
-        (λ closed. (are_workers workers ≡ true) × (closed.book ≡ book_after (day_of_input day)) × (closed.rows.items ≡ log_of (day_of_input day)))
+        (λ r. (are_workers workers ≡ true) × (r.0.book ≡ book_after (day_of_input day)) × (r.0.rows.items ≡ log_of (day_of_input day)))
         (IsCommandFault (Settle workers) day.book) }
 {
     let settled = settle_by_workers(rt, alloc, &day, workers)?;
     let mut book = day.book;
-    match book.commit(settled) {
-        Ok(rows) => Ok(Closed { book, rows }),
+    match book.commit_and_keep(settled) {
+        Ok((rows, replaced)) => Ok((Closed { book, rows }, replaced)),
         Err(_) => unreachable!(),
     }
 }

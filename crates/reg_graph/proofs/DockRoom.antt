@@ -17,7 +17,7 @@ use Rattle.reg_schedules.specs.Pool.{footprint_at, run_at}
 use Rattle.reg_tasks.specs.declared.naming.Naming.{Ghosts}
 use Rattle.reg_tasks.specs.declared.parcel.Parcel.{Parcel}
 use Rattle.reg_tasks.specs.Parcels.{values_of}
-use Rattle.reg_graph.specs.WorldParts.{HaveRoom}
+use Rattle.reg_graph.specs.WorldParts.{DocksHaveRoom}
 
 -- what stands in a list with another item at one place, and in one with one more item
 at-set : {X : Type 0} (xs : List X) (k j : ℕ) (y z : X) → slice_get (slice_set xs k y) j ≡ Some z → ((y ≡ z) × (j ≡ k)) ⊎ (slice_get xs j ≡ Some z)
@@ -44,7 +44,7 @@ at-more (x ∷ xs) (suc j) y z e = by (at-more xs j y z e)
 module _ {N : Type 0} {b : Ghosts N} where
   -- what is read of a dock
   pub room-at : (day : Day) (docks : List (Option (Vec (Parcel N b) Global))) (place : ℕ) (dock : Option (Vec (Parcel N b) Global)) → 1 ≤ place → place - 1 < length docks
-      → dock ≡ get_or docks (place - 1) dock → HaveRoom day docks → IfSome dock (λ came. vec_capacity came ≡ length (footprint_at day place))
+      → dock ≡ get_or docks (place - 1) dock → DocksHaveRoom day docks → IfSome dock (λ came. vec_capacity came ≡ length (footprint_at day place))
   room-at day docks zero dock low lt is rooms = absurd (omega (arith, low))
   room-at day docks (suc j) dock low lt is rooms = by dock (slice_get-get_or docks (suc j - 1) dock lt ∙ ap Some (sym is))
     where
@@ -56,7 +56,7 @@ module _ {N : Type 0} {b : Ghosts N} where
       by (Some came) e = rooms (suc j) came (ap (slice_get docks) (sym back) ∙ e)
 
   -- a dock was closed
-  pub room-closed : (day : Day) (docks : List (Option (Vec (Parcel N b) Global))) (k : ℕ) → HaveRoom day docks → HaveRoom day (slice_set docks k None)
+  pub room-closed : (day : Day) (docks : List (Option (Vec (Parcel N b) Global))) (k : ℕ) → DocksHaveRoom day docks → DocksHaveRoom day (slice_set docks k None)
   room-closed day docks k rooms zero came e = absurd cc
   room-closed day docks k rooms (suc j) came e = by (at-set docks k j None (Some came) e)
     where
@@ -66,7 +66,7 @@ module _ {N : Type 0} {b : Ghosts N} where
 
   -- a dock with room was put there
   pub room-there : (day : Day) (docks : List (Option (Vec (Parcel N b) Global))) (place : ℕ) (now : Vec (Parcel N b) Global) → 1 ≤ place
-      → HaveRoom day docks → vec_capacity now ≡ length (footprint_at day place) → HaveRoom day (slice_set docks (place - 1) (Some now))
+      → DocksHaveRoom day docks → vec_capacity now ≡ length (footprint_at day place) → DocksHaveRoom day (slice_set docks (place - 1) (Some now))
   room-there day docks place now low rooms room zero came e = absurd cc
   room-there day docks place now low rooms room (suc j) came e = by (at-set docks (place - 1) j (Some now) (Some came) e)
     where
@@ -78,7 +78,7 @@ module _ {N : Type 0} {b : Ghosts N} where
 
   -- the dock of the next place was added
   pub room-more : (day : Day) (docks : List (Option (Vec (Parcel N b) Global))) (place : ℕ) (dock : Option (Vec (Parcel N b) Global)) → length docks + 1 ≡ place
-      → HaveRoom day docks → IfSome dock (λ came. vec_capacity came ≡ length (footprint_at day place)) → HaveRoom day (docks ++ dock ∷ [])
+      → DocksHaveRoom day docks → IfSome dock (λ came. vec_capacity came ≡ length (footprint_at day place)) → DocksHaveRoom day (docks ++ dock ∷ [])
   room-more day docks place dock next rooms room zero came e = absurd cc
   room-more day docks place dock next rooms room (suc j) came e = by (at-more docks j dock (Some came) e)
     where

@@ -100,18 +100,18 @@ module _ {N : Type 0} {b : Ghosts N} where
   docks_of docks = map (option_map (λ came. parcels_of came.items)) docks
 
   -- each dock in which parcels wait has room for the accounts that its instruction touches, and for no more
-  abbrev pub HaveRoom : Day → List (Option (Vec (Parcel N b) Global)) → Type 0
-  HaveRoom day docks = (place : ℕ) (came : Vec (Parcel N b) Global) → at_place docks place ≡ Some (Some came) → vec_capacity came ≡ length (footprint_at day place)
+  abbrev pub DocksHaveRoom : Day → List (Option (Vec (Parcel N b) Global)) → Type 0
+  DocksHaveRoom day docks = (place : ℕ) (came : Vec (Parcel N b) Global) → at_place docks place ≡ Some (Some came) → vec_capacity came ≡ length (footprint_at day place)
 
   -- the lists of tasks
-  abbrev pub lists_of : List (VecDeque (Task N b) Global) → List (List TaskValue)
-  lists_of lists = map (λ tasks. map task_of tasks.items) lists
+  abbrev pub task_lists : List (VecDeque (Task N b) Global) → List (List TaskValue)
+  task_lists lists = map (λ tasks. map task_of tasks.items) lists
 
   -- the world
   abbrev pub world_of : Parts N b → WorldValue
   world_of p = record {
     docks = docks_of p.docks.items;
-    lists = lists_of p.lists.items;
+    lists = task_lists p.lists.items;
     hands = map hand_of p.hands.items;
     rows = p.rows.items;
     closing = p.closing.items;

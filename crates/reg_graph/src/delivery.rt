@@ -9,7 +9,7 @@ ghost use Rattle.reg_schedules.specs.Pool.{footprint_at};
 ghost use Rattle.reg_schedules.specs.World.{Carries, at_place, with_place, with_hand, delivered_by};
 ghost use Rattle.reg_tasks.specs.Parcels.{parcels_of};
 ghost use Rattle.reg_tasks.specs.Tasks.{task_of};
-ghost use Rattle.reg_graph.specs.WorldParts.{docks_of, HaveRoom, world_of, first_head, task_with, FirstIsSent, FirstHasRoom, NextIsSent, NextHasRoom};
+ghost use Rattle.reg_graph.specs.WorldParts.{docks_of, DocksHaveRoom, world_of, first_head, task_with, FirstIsSent, FirstHasRoom, NextIsSent, NextHasRoom};
 
 use crate::hand::Hand;
 use crate::parts::Parts;
@@ -35,9 +35,9 @@ fn take_dock<N: Naming>(
     place: u32,
 ) -> Option<Vec<Parcel<N>>>
     ensures came { option_map (λ came. parcels_of came.items) result ≡ option_map_or (λ d. d) (at_place (docks_of docks.old.items) place) None }
-    ensures room { (day : Day) → HaveRoom day docks.old.items → IfSome result (λ came. vec_capacity came ≡ length (footprint_at day place)) }
+    ensures room { (day : Day) → DocksHaveRoom day docks.old.items → IfSome result (λ came. vec_capacity came ≡ length (footprint_at day place)) }
     ensures left { docks_of docks.new.items ≡ with_place (docks_of docks.old.items) place None }
-    ensures rooms { (day : Day) → HaveRoom day docks.old.items → HaveRoom day docks.new.items }
+    ensures rooms { (day : Day) → DocksHaveRoom day docks.old.items → DocksHaveRoom day docks.new.items }
 {
     if place == 0 {
         return None;
@@ -54,7 +54,7 @@ fn put_dock<N: Naming>(docks: &mut Vec<Option<Vec<Parcel<N>>>>, place: u32, came
     requires from_one { 1 ≤ place }
     requires within { place ≤ length docks.old.items }
     ensures there { docks_of docks.new.items ≡ with_place (docks_of docks.old.items) place (Some (parcels_of came.items)) }
-    ensures rooms { (day : Day) → HaveRoom day docks.old.items → vec_capacity came ≡ length (footprint_at day place) → HaveRoom day docks.new.items }
+    ensures rooms { (day : Day) → DocksHaveRoom day docks.old.items → vec_capacity came ≡ length (footprint_at day place) → DocksHaveRoom day docks.new.items }
 {
     docks[place as usize - 1] = Some(came);
 }
@@ -90,10 +90,10 @@ impl<N: Naming> Parts<N> {
     ) -> Result<(), EventFault>
         requires there { worker < length self.old.hands.items }
         requires places { length self.old.docks.items ≡ length context.now.batch.now.instructions }
-        requires rooms { HaveRoom (the_day context.now) self.old.docks.items }
+        requires rooms { DocksHaveRoom (the_day context.now) self.old.docks.items }
         requires sent { FirstIsSent (the_day context.now) (parcels_of parcels.items) }
         requires room { FirstHasRoom (the_day context.now) context.now.plan (world_of self.old) (parcels_of parcels.items) }
-        ensures rooms { HaveRoom (the_day context.now) self.new.docks.items }
+        ensures rooms { DocksHaveRoom (the_day context.now) self.new.docks.items }
         ensures ok { OnOk result (delivered_by (the_day context.now) context.now.plan worker (world_of self.old) (Carries None (parcels_of parcels.items)) ≡ Ok (world_of self.new)) }
         ensures err { IfErr result (λ why. delivered_by (the_day context.now) context.now.plan worker (world_of self.old) (Carries None (parcels_of parcels.items)) ≡ Err why) }
         ensures back { OnErr result (world_of self.new ≡ record (world_of self.old) { hands = slice_set (world_of self.old).hands worker (Carries None (parcels_of parcels.items)) }) }
@@ -131,10 +131,10 @@ impl<N: Naming> Parts<N> {
         worker: u32,
     ) -> Result<(), EventFault>
         requires places { length self.old.docks.items ≡ length context.now.batch.now.instructions }
-        requires rooms { HaveRoom (the_day context.now) self.old.docks.items }
+        requires rooms { DocksHaveRoom (the_day context.now) self.old.docks.items }
         requires sent { NextIsSent (the_day context.now) (world_of self.old) worker }
         requires room { NextHasRoom (the_day context.now) context.now.plan (world_of self.old) worker }
-        ensures rooms { HaveRoom (the_day context.now) self.new.docks.items }
+        ensures rooms { DocksHaveRoom (the_day context.now) self.new.docks.items }
         ensures answer { MatchResult result
             (λ _. with_hand (world_of self.old) worker (delivered_by (the_day context.now) context.now.plan worker (world_of self.old)) ≡ Ok (world_of self.new))
             (λ why. (world_of self.new ≡ world_of self.old) × (with_hand (world_of self.old) worker (delivered_by (the_day context.now) context.now.plan worker (world_of self.old)) ≡ Err why)) }

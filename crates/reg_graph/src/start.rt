@@ -57,7 +57,7 @@ impl<N: Naming> Parts<N> {
     ghost use Rattle.std.specs.Prelude.{◌+◌, ◌++◌, ◌∷◌, ◌<◌, length};
     ghost use Rattle.reg_tasks.specs.Contexts.{the_day};
     ghost use Rattle.reg_schedules.specs.World.{dock_at, at_start};
-    ghost use Rattle.reg_graph.specs.WorldParts.{docks_of, HaveRoom, lists_of, world_of, task_at_start, IsDealt};
+    ghost use Rattle.reg_graph.specs.WorldParts.{docks_of, DocksHaveRoom, task_lists, world_of, task_at_start, IsDealt};
 
     // No dock yet. Each list is without tasks, each hand is empty, and no place has a row.
     fn without_docks(alloc: Global, places: u32, workers: u32) -> Result<Parts<N>, NoMemory>
@@ -88,13 +88,13 @@ impl<N: Naming> Parts<N> {
         requires within { place ≤ length context.now.batch.now.instructions }
         requires there { worker < length self.old.lists.items }
         requires next { length self.old.docks.items + 1 ≡ place }
-        requires rooms { HaveRoom (the_day context.now) self.old.docks.items }
+        requires rooms { DocksHaveRoom (the_day context.now) self.old.docks.items }
         ensures there { IfOk result (λ next. next < length self.new.lists.items) }
         ensures count { IfOk result (λ next. length self.new.docks.items ≡ length self.old.docks.items + 1) }
-        ensures rooms { IfOk result (λ next. HaveRoom (the_day context.now) self.new.docks.items) }
+        ensures rooms { IfOk result (λ next. DocksHaveRoom (the_day context.now) self.new.docks.items) }
         ensures docks { IfOk result (λ next. docks_of self.new.docks.items ≡ docks_of self.old.docks.items ++ dock_at (the_day context.now) context.now.plan place ∷ []) }
-        ensures lists { IfOk result (λ next. IsDealt (task_at_start (the_day context.now) context.now.plan place) worker (lists_of self.old.lists.items) next (lists_of self.new.lists.items)) }
-        ensures others { IfOk result (λ next. world_of self.new ≡ record (world_of self.old) { docks = docks_of self.new.docks.items; lists = lists_of self.new.lists.items }) }
+        ensures lists { IfOk result (λ next. IsDealt (task_at_start (the_day context.now) context.now.plan place) worker (task_lists self.old.lists.items) next (task_lists self.new.lists.items)) }
+        ensures others { IfOk result (λ next. world_of self.new ≡ record (world_of self.old) { docks = docks_of self.new.docks.items; lists = task_lists self.new.lists.items }) }
     {
         let came = open_dock(alloc, context, place)?;
         match Task::assemble(context, place, came) {
@@ -123,7 +123,7 @@ impl<N: Naming> Parts<N> {
     ) -> Result<Parts<N>, NoMemory>
         requires some { 1 ≤ workers }
         ensures start { IfOk result (λ parts. world_of parts ≡ at_start (the_day context.now) context.now.plan workers) }
-        ensures rooms { IfOk result (λ parts. HaveRoom (the_day context.now) parts.docks.items) }
+        ensures rooms { IfOk result (λ parts. DocksHaveRoom (the_day context.now) parts.docks.items) }
     {
         let places = context.batch().len();
         let mut parts = Parts::without_docks(alloc, places, workers)?;

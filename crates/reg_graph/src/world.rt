@@ -4,7 +4,7 @@ ghost use Rattle.std.specs.Prelude.{◌≡◌, ◌≤◌, IfOk};
 ghost use Rattle.reg_tasks.specs.Contexts.{the_day};
 ghost use Rattle.reg_schedules.specs.World.{at_start};
 ghost use Rattle.reg_schedules.specs.Schedules.{IsReached};
-ghost use Rattle.reg_graph.specs.WorldParts.{world_of, HaveRoom};
+ghost use Rattle.reg_graph.specs.WorldParts.{world_of, DocksHaveRoom};
 ghost use Rattle.reg_schedules.specs.declared.event.TheConstants.{MOST_WORKERS};
 
 use crate::parts::Parts;
@@ -22,7 +22,7 @@ pub struct World<'c, 'a, N: Naming> {
     pub(crate) alloc: Global,
     pub(crate) parts: Parts<N>,
     pub ghost reached: { ∥ IsReached (the_day context.now) context.now.plan (world_of parts) ∥₁ },
-    pub ghost dock_room: { HaveRoom (the_day context.now) parts.docks.items },
+    pub ghost dock_room: { DocksHaveRoom (the_day context.now) parts.docks.items },
 }
 
 impl<'c, 'a, N: Naming> World<'c, 'a, N> {

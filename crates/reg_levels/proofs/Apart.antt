@@ -20,7 +20,7 @@ use Rattle.reg_tasks.specs.Slots.{last_of, is_ready}
 use Rattle.reg_tasks.proofs.Slotting.{Name}
 use Rattle.reg_tasks.proofs.Placing.{stands_ready}
 use Rattle.reg_tasks.proofs.OrderSteps.{faultless_at, ready_at}
-use Rattle.reg_levels.specs.Levels.{touched_by, StandsBetween, between, IsOneLevel}
+use Rattle.reg_levels.specs.Levels.{touched_by, StandsBetween, places_between, IsOneLevel}
 use Rattle.reg_levels.proofs.Between.{between_at, take_between, none_passes, size_take, last_untouched, last_append}
 
 -- an arrow that leads to a place is one of the plan's, and its head is there
@@ -85,32 +85,32 @@ module _ (rise : LevelsRiseAlongArrows) (tails : TailsAreLastTouchers) (last : L
         ])
 
     -- none of those before it in its level touches an account of an instruction
-    untouched_before : (a from k : ℕ) → from ≤ k → k < length order → IsOneLevel plan order from (k + 1) → On a (get_or order k 0) → touched_by day (between order from k) a ≡ false
-    untouched_before a from k le within level on = none_passes (λ place. touches_place (directory day) day.batch.instructions a place) (between order from k) (λ j lt.
+    untouched_before : (a from k : ℕ) → from ≤ k → k < length order → IsOneLevel plan order from (k + 1) → On a (get_or order k 0) → touched_by day (places_between order from k) a ≡ false
+    untouched_before a from k le within level on = none_passes (λ place. touches_place (directory day) day.batch.instructions a place) (places_between order from k) (λ j lt.
         let inside : from + j < k = let short = size_take (drop from order) (k - from) j lt in omega (arith, short) in
-        not_true (touches_place (directory day) day.batch.instructions a (get_or (between order from k) j 0)) (λ touched.
+        not_true (touches_place (directory day) day.batch.instructions a (get_or (places_between order from k) j 0)) (λ touched.
         apart a (from + j) k inside within
         (level (from + j) (omega arith) (omega (arith, inside)) ∙ sym (level k le (omega arith)))
         (subst (On a) (between_at order from k j inside) touched) on))
 
     -- nor any of those after it
-    pub untouched_after : (a j to : ℕ) → j < to → to ≤ length order → IsOneLevel plan order j to → On a (get_or order j 0) → touched_by day (between order (j + 1) to) a ≡ false
-    untouched_after a j to lt le level on = none_passes (λ place. touches_place (directory day) day.batch.instructions a place) (between order (j + 1) to) (λ i short.
+    pub untouched_after : (a j to : ℕ) → j < to → to ≤ length order → IsOneLevel plan order j to → On a (get_or order j 0) → touched_by day (places_between order (j + 1) to) a ≡ false
+    untouched_after a j to lt le level on = none_passes (λ place. touches_place (directory day) day.batch.instructions a place) (places_between order (j + 1) to) (λ i short.
         let inside : j + 1 + i < to = let few = size_take (drop (j + 1) order) (to - (j + 1)) i short in omega (arith, few) in
-        not_true (touches_place (directory day) day.batch.instructions a (get_or (between order (j + 1) to) i 0)) (λ touched.
+        not_true (touches_place (directory day) day.batch.instructions a (get_or (places_between order (j + 1) to) i 0)) (λ touched.
         apart a j (j + 1 + i) (omega arith) (omega (arith, inside, le))
         (sym (level (j + 1 + i) (omega arith) inside))
         on (subst (On a) (between_at order (j + 1) to i inside) touched)))
 
     -- the next of a level finds the parcels that it needs
-    pub ready_next : (from k : ℕ) (standing : ℕ → Name) → from ≤ k → k < length order → IsOneLevel plan order from (k + 1) → StandsBetween day (take from order) (between order from k) standing
+    pub ready_next : (from k : ℕ) (standing : ℕ → Name) → from ≤ k → k < length order → IsOneLevel plan order from (k + 1) → StandsBetween day (take from order) (places_between order from k) standing
         → is_ready day plan (get_or order k 0) standing ≡ true
     ready_next from k standing le within level stand =
         stands_ready (inward plan.arrows (get_or order k 0)) standing (footprint_at day (get_or order k 0)) (λ a among.
         let on : On a (get_or order k 0) = sym (footprint_touches day (get_or order k 0) a) ∙ among in
         let untouched = untouched_before a from k le within level on in
         let after : last_of day a 0 (take k order) ≡ last_of day a 0 (take from order) =
-        ap (last_of day a 0) (take_between order from k le) ∙ last_append day a 0 (take from order) (between order from k) ∙ last_untouched day a (last_of day a 0 (take from order)) (between order from k) untouched in
+        ap (last_of day a 0) (take_between order from k le) ∙ last_append day a 0 (take from order) (places_between order from k) ∙ last_untouched day a (last_of day a 0 (take from order)) (places_between order from k) untouched in
         stand a (tail.touched_from (directory day) day.batch.instructions a (get_or order k 0) on)
         ∙ ap (λ b. Rattle.std.proofs.Common.cond {A = Name} b None (Some (a, last_of day a 0 (take from order)))) untouched
         ∙ ap (λ t. Some (a, t)) (sym after)

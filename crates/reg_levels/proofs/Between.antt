@@ -13,7 +13,7 @@ use Rattle.reg_schedules.proofs.Known.{footprint_touches}
 use Rattle.reg_tasks.specs.Slots.{last_of, StandAfter, AreOpened, AreTaken}
 use Rattle.reg_tasks.proofs.Slotting.{Name}
 use Rattle.reg_tasks.proofs.Standing.{last_push}
-use Rattle.reg_levels.specs.Levels.{touched_by, StandsBetween, between}
+use Rattle.reg_levels.specs.Levels.{touched_by, StandsBetween, places_between}
 
 -- positions of an order
 size_drop : (xs : List ℕ) (k m : ℕ) → k + m < length xs → m < length (drop k xs)
@@ -21,13 +21,13 @@ size_drop xs zero m lt = omega (arith, lt)
 size_drop [] (suc k) m lt = absurd (omega (arith, lt))
 size_drop (x ∷ xs) (suc k) m lt = size_drop xs k m (omega (arith, lt))
 
-pub between_none : (order : List ℕ) (k : ℕ) → between order k k ≡ []
+pub between_none : (order : List ℕ) (k : ℕ) → places_between order k k ≡ []
 between_none order k = ap (λ n. take n (drop k order)) (let e : k - k ≡ 0 = omega arith in e)
 
-pub none_between : (order : List ℕ) (from to : ℕ) → to ≤ from → between order from to ≡ []
+pub none_between : (order : List ℕ) (from to : ℕ) → to ≤ from → places_between order from to ≡ []
 none_between order from to le = ap (λ n. take n (drop from order)) (let e : to - from ≡ 0 = omega (arith, le) in e)
 
-pub between_more : (order : List ℕ) (from k : ℕ) → from ≤ k → k < length order → between order from (k + 1) ≡ between order from k ++ get_or order k 0 ∷ []
+pub between_more : (order : List ℕ) (from k : ℕ) → from ≤ k → k < length order → places_between order from (k + 1) ≡ places_between order from k ++ get_or order k 0 ∷ []
 between_more order from k le lt =
     let one : k + 1 - from ≡ k - from + 1 = omega (arith, le) in
     let at : from + (k - from) ≡ k = omega (arith, le) in
@@ -35,28 +35,28 @@ between_more order from k le lt =
     ∙ take_more (drop from order) (k - from) 0 (size_drop order from (k - from) (omega (arith, at, lt)))
     ∙ ap (λ x. take (k - from) (drop from order) ++ x ∷ []) (get_or-drop from order (k - from) 0 ∙ ap (λ n. get_or order n 0) at)
 
-pub between_first : (order : List ℕ) (j to : ℕ) → j < to → to ≤ length order → between order j to ≡ get_or order j 0 ∷ between order (j + 1) to
+pub between_first : (order : List ℕ) (j to : ℕ) → j < to → to ≤ length order → places_between order j to ≡ get_or order j 0 ∷ places_between order (j + 1) to
 between_first order j to lt le =
     let one : to - j ≡ suc (to - (j + 1)) = omega (arith, lt) in
     ap (λ n. take n (drop j order)) one ∙ ap (take (suc (to - (j + 1)))) (drop_more order j 0 (omega (arith, lt, le)))
 
 -- the first of those that are left
-pub next_is : (order : List ℕ) (j to p : ℕ) (ps : List ℕ) → to ≤ length order → p ∷ ps ≡ between order j to → (j < to) × (p ≡ get_or order j 0) × (ps ≡ between order (j + 1) to)
+pub next_is : (order : List ℕ) (j to p : ℕ) (ps : List ℕ) → to ≤ length order → p ∷ ps ≡ places_between order j to → (j < to) × (p ≡ get_or order j 0) × (ps ≡ places_between order (j + 1) to)
 next_is order j to p ps le e = elim (cases_lt j to) [
-  | inl lt ↦ let whole : p ∷ ps ≡ get_or order j 0 ∷ between order (j + 1) to = e ∙ between_first order j to lt le in (lt, cc, cc)
+  | inl lt ↦ let whole : p ∷ ps ≡ get_or order j 0 ∷ places_between order (j + 1) to = e ∙ between_first order j to lt le in (lt, cc, cc)
   | inr over ↦ let none : p ∷ ps ≡ [] = e ∙ none_between order j to over in absurd cc
 ]
 
-pub none_left : (order : List ℕ) (j to : ℕ) → j ≤ to → to ≤ length order → [] ≡ between order j to → j ≡ to
+pub none_left : (order : List ℕ) (j to : ℕ) → j ≤ to → to ≤ length order → [] ≡ places_between order j to → j ≡ to
 none_left order j to up le e = elim (cases_lt j to) [
-  | inl lt ↦ let some : [] ≡ get_or order j 0 ∷ between order (j + 1) to = e ∙ between_first order j to lt le in absurd cc
+  | inl lt ↦ let some : [] ≡ get_or order j 0 ∷ places_between order (j + 1) to = e ∙ between_first order j to lt le in absurd cc
   | inr over ↦ omega (arith, up, over)
 ]
 
-pub between_at : (order : List ℕ) (from to j : ℕ) → from + j < to → get_or (between order from to) j 0 ≡ get_or order (from + j) 0
+pub between_at : (order : List ℕ) (from to j : ℕ) → from + j < to → get_or (places_between order from to) j 0 ≡ get_or order (from + j) 0
 between_at order from to j lt = get_or-take (to - from) (drop from order) j 0 (omega (arith, lt)) ∙ get_or-drop from order j 0
 
-pub take_between : (order : List ℕ) (from to : ℕ) → from ≤ to → take to order ≡ take from order ++ between order from to
+pub take_between : (order : List ℕ) (from to : ℕ) → from ≤ to → take to order ≡ take from order ++ places_between order from to
 take_between order from to le =
     let sum : to ≡ from + (to - from) = omega (arith, le) in
     ap (λ n. take n order) sum ∙ take-add from (to - from) order

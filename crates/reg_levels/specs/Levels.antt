@@ -27,8 +27,8 @@ abbrev pub AreBetween : Option Day → Day → List ℕ → List ℕ → (ℕ �
 AreBetween name day done running standing = (d : Day) → name ≡ Some d → StandsBetween day done running standing
 
 -- the places of an order from one position up to another one, counted from 0
-abbrev pub between : List ℕ → ℕ → ℕ → List ℕ
-between order from to = take (to - from) (drop from order)
+abbrev pub places_between : List ℕ → ℕ → ℕ → List ℕ
+places_between order from to = take (to - from) (drop from order)
 
 -- those of some places that have the level of this one
 abbrev pub with_level_of : List ℕ → ℕ → List ℕ → List ℕ

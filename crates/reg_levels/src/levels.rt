@@ -5,7 +5,7 @@ ghost use Rattle.reg_plan.specs.Orders.{first_order_fault};
 ghost use Rattle.reg_tasks.specs.Contexts.{the_day};
 ghost use Rattle.reg_tasks.specs.Gathering.{places_of as places_done};
 ghost use Rattle.reg_tasks.specs.Standing.{stands};
-ghost use Rattle.reg_levels.specs.Levels.{AreBetween, IsByLevel, IsOneLevel, between};
+ghost use Rattle.reg_levels.specs.Levels.{AreBetween, IsByLevel, IsOneLevel, places_between};
 
 use crate::order::{level_end, order_by_level};
 use reg_base::NoMemory;
@@ -31,7 +31,7 @@ pub struct Levels<'c, 'a, N: Naming> {
     pub ghost ahead: { laid ≤ taken },
     pub ghost within: { taken ≤ length order.items },
     pub ghost level: { IsOneLevel slots.context.now.plan order.items laid taken },
-    pub ghost standing: { AreBetween N.day (the_day slots.context.now) (take laid order.items) (between order.items laid taken) (stands slots) },
+    pub ghost standing: { AreBetween N.day (the_day slots.context.now) (take laid order.items) (places_between order.items laid taken) (stands slots) },
     pub ghost rows: { places_done done.items ≡ take laid order.items },
     pub ghost room: { vec_len done + length order.items ≤ vec_capacity done + laid },
 }
@@ -117,7 +117,7 @@ impl<'c, 'a, N: Naming> Levels<'c, 'a, N> {
         ensures context { self.new.slots.context.now ≡ self.old.slots.context.now }
         ensures order { self.new.order ≡ self.old.order }
         ensures laid { self.new.laid ≡ self.old.laid }
-        ensures tasks { IfOk result (λ tasks. places_of tasks.items ≡ between self.new.order.items self.new.laid self.new.taken) }
+        ensures tasks { IfOk result (λ tasks. places_of tasks.items ≡ places_between self.new.order.items self.new.laid self.new.taken) }
         ensures some { OnOk result (self.old.taken < self.new.taken) }
         ensures whole { OnOk result (AreRestOrMost self.new.slots.context.now.plan self.new.order.items most self.new.laid self.new.taken) }
         ensures lack { IfErr result (IsLack N.day) }
@@ -160,7 +160,7 @@ impl<'c, 'a, N: Naming> Levels<'c, 'a, N> {
     /// # Errors
     /// If no day is named, `Foreign` if a value of another context comes.
     pub fn lay(&mut self, outcomes: Vec<Outcome<N>>) -> Result<(), Lack>
-        requires outcomes { places_run outcomes.items ≡ between self.old.order.items self.old.laid self.old.taken }
+        requires outcomes { places_run outcomes.items ≡ places_between self.old.order.items self.old.laid self.old.taken }
         ensures context { self.new.slots.context.now ≡ self.old.slots.context.now }
         ensures order { self.new.order ≡ self.old.order }
         ensures taken { self.new.taken ≡ self.old.taken }

@@ -12,7 +12,7 @@ use Rattle.reg_base.specs.declared.shares.Share.{Share}
 use Rattle.reg_base.specs.declared.movement.Change.{Change}
 use Rattle.reg_base.specs.declared.movement.Change.TheVariants.{Debit, Credit, Retire, Unretire, Trust, Untrust, SetStatus, SetEmissions, Determine}
 use Rattle.reg_base.specs.declared.act.Act.{Act}
-use Rattle.reg_base.specs.declared.act.Act.TheVariants.{Transfer, ReturnExcess, CentralMove, Distribute}
+use Rattle.reg_base.specs.declared.act.Act.TheVariants.{Transfer}
 use Rattle.reg_base.specs.declared.instruction.Instruction.{Instruction}
 use Rattle.reg_base.specs.declared.refusals.Refusal.TheVariants.{SameAccount, WrongAccountKind}
 use Rattle.reg_base.specs.Acts.{total_of, movement_of, change_of, first, shares, parties, also_known}
@@ -179,14 +179,13 @@ unfolding brought_back
 back-at kind s a (Unretire number) v found = sym (ap (λ o. option_map_or (amount_in Deleted kind) (row_in (option_map_or (λ (u : AccountValue). u.rows) o []) number) 0) found)
 back-at kind s a made v found = refl
 
--- what leaves the first account for others is what they receive
+ruleset sums = (of-one, of-each)
+
+-- what leaves the first account for others is what they receive; the last line stands for all other acts
 passed-debits : (kind : AllowanceKind) (act : Act) → passed_on kind act ≡ debits kind (change_of act)
 unfolding passed_on debits
-passed-debits kind (Transfer from to own amount) = of-one kind own to amount
-passed-debits kind (ReturnExcess from to own amount) = of-one kind own to amount
-passed-debits kind (CentralMove from to own amount) = of-one kind own to amount
-passed-debits kind (Distribute from own shared) = of-each (is_same_kind own kind) shared
-passed-debits kind act = refl
+passed-debits kind (Transfer from to own amount) = search sums
+passed-debits kind act = search sums
 
 module _ (laws : NumberLaws) where
   back : (v : AccountValue) (number : ℕ) (kind : AllowanceKind) (o : Option RetirementRow) → row_in v.rows number ≡ o → MatchOption o ⊥ (CanUnretireRow v) → IsAccount v

@@ -10,7 +10,7 @@ use Rattle.reg_base.specs.declared.shares.Share.{Share}
 use Rattle.reg_base.specs.declared.movement.Change.{Change}
 use Rattle.reg_base.specs.declared.movement.Change.TheVariants.{Debit, Credit, Retire, Unretire, Trust, Untrust, SetStatus, SetEmissions, Determine}
 use Rattle.reg_base.specs.declared.act.Act.{Act}
-use Rattle.reg_base.specs.declared.act.Act.TheVariants.{Transfer, Surrender, Delete, ReturnExcess, CentralMove, Distribute}
+use Rattle.reg_base.specs.declared.act.Act.TheVariants.{Transfer}
 use Rattle.reg_base.specs.declared.instruction.Instruction.{Instruction}
 use Rattle.reg_base.specs.declared.refusals.Refusal.TheVariants.{ZeroAmount, UnknownTransaction, AlreadyReversed, NotEnough, HoldingTooLarge, RetiredTooLarge, RowsFull, ListFull, AmountTooLarge}
 use Rattle.reg_base.specs.declared.kinds.Retirement.{Retirement}
@@ -40,16 +40,11 @@ short_by (Debit kind amount) e = nat_lt (option_map_or (λ v. held_by v kind) e.
 short_by (Retire way kind amount) e = nat_lt (option_map_or (λ v. held_by v kind) e.first 0) amount
 short_by made e = false
 
--- what leaves by the row of an act is what leaves by its change
+-- what leaves by the row of an act is what leaves by its change; the last line stands for all other acts
 short-made : (act : Act) (e : Seen) → is_short (movement_of act) e ≡ false → short_by (change_of act) e ≡ false
 unfolding short_by
-short-made (Transfer from to kind amount) e h = h
-short-made (Surrender from kind amount) e h = h
-short-made (Delete from kind amount) e h = h
-short-made (ReturnExcess from to kind amount) e h = h
-short-made (CentralMove from to kind amount) e h = h
-short-made (Distribute from kind shares) e h = h
-short-made act e h = refl
+short-made (Transfer from to kind amount) e h = search
+short-made act e h = search
 
 -- the checks of amounts and rows that passed at a first account v
 record HasPassed (made : Change) (e : Seen) : Type 0 where

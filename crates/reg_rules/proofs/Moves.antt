@@ -8,6 +8,7 @@ use Rattle.reg_base.specs.declared.kinds.AllowanceKind.TheVariants.{General, Avi
 use Rattle.reg_base.specs.declared.shares.Share.{Share}
 use Rattle.reg_base.specs.declared.movement.Movement.{Movement}
 use Rattle.reg_base.specs.declared.refusals.Refusal.TheVariants.{SameAccount, WrongAccountKind, NotEnough}
+use Rattle.reg_base.specs.declared.act.Act.{Act}
 use Rattle.reg_base.specs.declared.instruction.Instruction.{Instruction}
 use Rattle.reg_base.specs.Acts.{passing, movement_of, parties, also_known}
 use Rattle.reg_account.specs.declared.parts.Holdings.{Holdings}
@@ -17,7 +18,7 @@ use Rattle.reg_account.specs.Account.{AccountValue, amount_of, with_amount, held
 use Rattle.reg_rules.specs.ActRules.{rule_of, fits_first, fits_receiver}
 use Rattle.reg_rules.specs.State.{State, Setting, seen_by, account, held, passes}
 use Rattle.reg_rules.specs.Checks.{has_repeat, receivers_fit, has_right_kinds, is_short, refusal}
-use Rattle.reg_rules.specs.Effect.{first_after, given, with_changes, effect}
+use Rattle.reg_rules.specs.Effect.{made_by, first_after, given, with_changes, effect}
 use Rattle.reg_rules.specs.Step.{step_by}
 use Rattle.reg_rules.specs.Laws.{set_aside, after_step}
 use Rattle.reg_rules.specs.ActLaws.{IsMoved}
@@ -172,8 +173,10 @@ module _ (c : Setting) (s : State) (n : ℕ) (i : Instruction) (from to : ℕ) (
   moved-effect : IsMoved s (effect c s n i) from to kind amount
   moved-effect = moved-state from to kind amount s (effect c s n i) two changed both.0 both.2.0 both.1 both.2.1 enough
 
--- an accepted act with such a movement moves its amount
-pub moves : (c : Setting) (s : State) (n : ℕ) (i : Instruction) (from to : ℕ) (kind : AllowanceKind) (amount : ℕ)
-    → movement_of i.act ≡ passing from to kind amount → ((v : AccountValue) → first_after c n i.act v ≡ debited v kind amount) → refusal c s i ≡ None → IsMoved s (after_step c s n i) from to kind amount
-moves c s n i from to kind amount is debits none =
-    subst (λ (r : State). IsMoved s r from to kind amount) (ap (λ r. (step_by c s n i r).0) (sym none)) (moved-effect c s n i from to kind amount is debits none)
+-- an accepted act that is a movement between two accounts moves its amount
+pub moves : (c : Setting) (s : State) (n : ℕ) (i : Instruction) (from to : ℕ) (kind : AllowanceKind) (amount : ℕ) (act : Act)
+    → i.act ≡ act → movement_of act ≡ passing from to kind amount → refusal c s i ≡ None → IsMoved s (after_step c s n i) from to kind amount
+moves c s n i from to kind amount act is made none =
+    let moved : movement_of i.act ≡ passing from to kind amount = ap movement_of is ∙ made in
+    subst (λ (r : State). IsMoved s r from to kind amount) (ap (λ r. (step_by c s n i r).0) (sym none))
+    (moved-effect c s n i from to kind amount moved (λ v. ap (λ (m : Movement). made_by c n m.change v) moved) none)

@@ -31,7 +31,7 @@ use Rattle.reg_schedules.specs.Pool.{directory, footprint_at, leads_on}
 use Rattle.reg_schedules.proofs.Members.{In}
 use Rattle.reg_schedules.proofs.Known.{footprint_touches}
 use Rattle.reg_schedules.proofs.Tails.{clash, touched_somewhere, last_of_all, not_last, last_touches}
-use Rattle.reg_tasks.specs.Gathering.{AreLast, AreOutcomes, AreWithin, named_accounts, places_of, row_with, rows_in, replies_by_number, replies_from, counts_up, is_last, are_last, are_outcomes}
+use Rattle.reg_tasks.specs.Gathering.{AreLast, AreOutcomes, AreWithin, named_accounts, places_of, row_replied, rows_in, replies_by_number, replies_from, counts_up, is_last, are_last, are_outcomes}
 use Rattle.reg_tasks.specs.Slots.{opened_accounts}
 use Rattle.reg_tasks.specs.declared.naming.Naming.{Ghosts}
 use Rattle.reg_tasks.specs.declared.done.Done.{Done}
@@ -303,7 +303,7 @@ made_again c s n (i ∷ is) (suc k) reply e =
     let shift : n + suc k ≡ n + 1 + k = omega arith in
     ap (λ m. option_map (λ j. row_of c m j reply) (slice_get is k)) shift ∙ made_again c (step c s n i).0 (n + 1) is k reply e
 
-row_again : (day : Day) (place : ℕ) (reply : Reply) → option_map (λ (row : LogRow). row.reply) (row_at day place) ≡ Some reply → row_with day place reply ≡ row_at day place
+row_again : (day : Day) (place : ℕ) (reply : Reply) → option_map (λ (row : LogRow). row.reply) (row_at day place) ≡ Some reply → row_replied day place reply ≡ row_at day place
 row_again day zero reply e = refl
 row_again day (suc k) reply e =
     let number : day.batch.base + suc k ≡ day.batch.base + 1 + k = omega arith in

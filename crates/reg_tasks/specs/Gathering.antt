@@ -51,9 +51,9 @@ abbrev pub AreClosingValues : Option Day → State → Type 0
 AreClosingValues name accounts = (day : Day) → name ≡ Some day → AreLastValues day accounts
 
 -- the row of the instruction at place j, counted from 1, if this is its reply; none if it is no place
-abbrev pub row_with : Day → ℕ → Reply → Option LogRow
-row_with day zero reply = None
-row_with day (suc k) reply = option_map (λ i. row_of (setting day) (day.batch.base + suc k) i reply) (slice_get day.batch.instructions k)
+abbrev pub row_replied : Day → ℕ → Reply → Option LogRow
+row_replied day zero reply = None
+row_replied day (suc k) reply = option_map (λ i. row_of (setting day) (day.batch.base + suc k) i reply) (slice_get day.batch.instructions k)
 
 -- the record numbers and the replies of rows
 abbrev pub replies_by_number : List LogRow → List (ℕ × Reply)
@@ -66,7 +66,7 @@ module _ {N : Type 0} {b : Ghosts N} where
 
   -- their rows in a day
   abbrev pub rows_in : Day → List (Done N b) → List (Option LogRow)
-  rows_in day done = map (λ d. row_with day d.place d.reply) done
+  rows_in day done = map (λ d. row_replied day d.place d.reply) done
 
   -- their record numbers and replies; the place before the first has this number
   abbrev pub replies_from : ℕ → List (Done N b) → List (ℕ × Reply)

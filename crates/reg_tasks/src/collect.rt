@@ -4,7 +4,7 @@ ghost use Rattle.std.specs.Prelude.{◌≡◌, ◌≤◌, Some, length, map, IfO
 ghost use Rattle.std.specs.List.Sorted.{IsNonDecreasingBy};
 ghost use Rattle.reg_tasks.specs.Contexts.{the_day};
 ghost use Rattle.reg_tasks.specs.Parcels.{names_of};
-ghost use Rattle.reg_tasks.specs.Gathering.{AreWithin, places_of, row_with, rows_in, counts_up, is_last, are_last, are_outcomes};
+ghost use Rattle.reg_tasks.specs.Gathering.{AreWithin, places_of, row_replied, rows_in, counts_up, is_last, are_last, are_outcomes};
 ghost use Rattle.reg_tasks.specs.Slots.{name_of, opened_accounts};
 
 use crate::context::Context;
@@ -110,7 +110,7 @@ pub(crate) fn are_outcomes<N: Naming>(
 fn into_row<N: Naming>(context: &Context<N>, done: Done<N>) -> LogRow
     requires from_one { 1 ≤ done.place }
     requires within { done.place ≤ length context.now.batch.now.instructions }
-    ensures { row_with (the_day context.now) done.place done.reply ≡ Some result }
+    ensures { row_replied (the_day context.now) done.place done.reply ≡ Some result }
 {
     let place = done.place();
     let number = number_of(context, place);

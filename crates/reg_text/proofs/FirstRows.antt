@@ -4,7 +4,7 @@ use Rattle.reg_text.proofs.Names.{Tag, Version, One, Two, Record, DraftValue, Is
 use Rattle.std.specs.Result.{IsErrAnd}
 use Rattle.reg_text.specs.declared.cause.RowError.{RowError}
 use Rattle.reg_text.specs.declared.cause.RowError.TheVariants as failure
-use Rattle.reg_text.specs.Faults.{Takes}
+use Rattle.reg_text.specs.Faults.{TakesRow}
 use Rattle.reg_text.specs.declared.reading.tag.Tag.TheVariants as tag
 use Rattle.reg_text.proofs.TagLaws.{place-of, tag-spelled}
 use Rattle.reg_text.proofs.DraftSteps.{at-tag, at-blocks, none-before}
@@ -64,6 +64,6 @@ unfolding with_row
 row-taken t d r x read passes = rw read (placed-ok (in_order t d x) (has_room t d x) (with t d x) passes)
 
 -- a call that answers the fault of a row
-pub takes-fault : {X : Type 0} (new : DraftValue) (result : Result X RowError) (read : Result DraftValue Cause) (c : Cause) → IsErrAnd result (λ e. e ≡ failure.Fault c) → read ≡ Err c → Takes new result read
+pub takes-fault : {X : Type 0} (new : DraftValue) (result : Result X RowError) (read : Result DraftValue Cause) (c : Cause) → IsErrAnd result (λ e. e ≡ failure.Fault c) → read ≡ Err c → TakesRow new result read
 takes-fault new (Ok x) read c is e = absurd is
 takes-fault new (Err b) read c is e = rw is e

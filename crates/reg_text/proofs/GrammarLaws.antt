@@ -4,7 +4,7 @@ use Rattle.std.specs.Prelude.{IfSome, is_ok, ◌↔◌}
 use Rattle.std.proofs.lemmas.Bool.{and_parts, ltb-true, leb-true, le-leb}
 use Rattle.reg_text.proofs.Names.{MOST_NUMBER, Act, ActName, Transfer, Tag, IsCodec, AreFields}
 use Rattle.reg_text.proofs.Names.{within_limits, a_period, any_number, a_no, factor, later_factor, a_figure, a_date, an_approver, IsRow, row_with, act_names, act_word, act_name, form, said, an_act_name, act_fields, instruction_fields_of, Scope}
-use Rattle.reg_text.proofs.Names.{row, Said, widest, Cause, Codec, IsWithin, IsUserNo, CorrectionFits, FigureFits, ◌>>=◌, test, when, first_cause, fault_of, number, signed, plain_number_of, date_of, signed_of, correction_of, signed_figure_of, bounded_of, user_no_of, approver_of, approver_text, number_tests, correction_tests, figure_tests, approver_tests, IsPlain}
+use Rattle.reg_text.proofs.Names.{row, Said, widest, Cause, Codec, IsWithin, IsUserNo, CorrectionFits, FigureFits, ◌>>=◌, test, when, first_cause, fault_of, number, signed, plain_number_of, date_of, signed_of, signed_correction_of, signed_figure_of, bounded_of, user_no_of, approver_of, approver_text, number_tests, correction_tests, figure_tests, approver_tests, IsPlain}
 use Rattle.reg_base.specs.declared.act.Act.TheVariants as act
 use Rattle.reg_text.specs.declared.reading.instruction_row.ActName.TheVariants.{Distribute}
 use Rattle.reg_text.specs.Words.{kind_word, kinds}
@@ -69,13 +69,13 @@ signed-limited : (most : ℕ) (Fits : ℤ → Type 0) (tests : List ℕ → List
 signed-limited most Fits tests small fit size fault = is-limited any_signed (λ z. nat_le (unsigned_abs z) most) tests Fits is-signed (λ z fits e. fit z (leb-true _ _ e)) (λ z h. (le-leb _ _ (size z h), omega (arith, size z h))) fault
 
 pub is-factor : IsCodec factor
-unfolding correction_of
+unfolding signed_correction_of
 is-factor = signed-limited 1_000_000_000_000_000 CorrectionFits correction_tests (omega arith) (λ z h. let r = signed-range 1_000_000_000_000_000 z h in record { low = r.0; high = r.1 }) (λ z h. digits-range 1_000_000_000_000_000 z h.low h.high)
     (λ f. limited cause.Number _ (pos 0) (signed_of f) (only-signed f))
 
 pub is-later_factor : IsCodec later_factor
 is-later_factor = is-limited factor (λ z. not (int_eq z (pos 0))) later_factor.tests later_factor.Fits is-factor (λ z fits e. (fits, e)) (λ z h. (h.1, h.0))
-    (λ f. then-tested (correction_of f) _ (correction_tests f) _ (is-factor.fault f) (λ z. tested (not (int_eq z (pos 0))) cause.Limit z))
+    (λ f. then-tested (signed_correction_of f) _ (correction_tests f) _ (is-factor.fault f) (λ z. tested (not (int_eq z (pos 0))) cause.Limit z))
 
 pub is-figure : IsCodec a_figure
 unfolding signed_figure_of

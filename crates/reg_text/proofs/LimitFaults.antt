@@ -1,7 +1,7 @@
 -- A field that is refused spells no value, or one outside the limits, and the cause says which.
 use Rattle.std.proofs.Common.{◌≡◌, ◌⊎◌, inl, inr, ℕ, ℤ, pos, negsuc, Bool, ◌&&◌, nat_le, unsigned_abs, List, Result, Ok, Err, refl, sym, ap, ◌∙◌}
 use Rattle.jiff_core.specs.Calendar.{days_from_civil}
-use Rattle.reg_text.proofs.Names.{Cause, Codec, IsCodec, any_number, ◌>>=◌, test, correction_of, signed_figure_of, year_in, month_in, day_in, is_date_text, is_civil, in_days, day_named, date_of, bounded_of}
+use Rattle.reg_text.proofs.Names.{Cause, Codec, IsCodec, any_number, ◌>>=◌, test, signed_correction_of, signed_figure_of, year_in, month_in, day_in, is_date_text, is_civil, in_days, day_named, date_of, bounded_of}
 use Rattle.reg_text.specs.declared.cause.Cause.TheVariants as cause
 use Rattle.reg_text.specs.FieldFaults.{IsNumberText, IsSignedText, IsDateText, TellsFromLimit}
 use Rattle.reg_text.proofs.Binds.{test_err, bind_err, if_err}
@@ -27,8 +27,8 @@ pub numbers-told : (low high : ℕ) → TellsFromLimit (bounded_of low high) cau
 unfolding bounded_of
 numbers-told low high = told any_number cause.Number (λ n. nat_le low n && nat_le n high) is-number only-number
 
-pub corrections-told : TellsFromLimit correction_of cause.Number IsSignedText
-unfolding correction_of
+pub corrections-told : TellsFromLimit signed_correction_of cause.Number IsSignedText
+unfolding signed_correction_of
 corrections-told = told any_signed cause.Number (λ z. nat_le (unsigned_abs z) 1_000_000_000_000_000) is-signed only-signed
 
 pub figures-told : TellsFromLimit signed_figure_of cause.Number IsSignedText

@@ -17,7 +17,7 @@ pub use Rattle.reg_rules.specs.Effect.{IsBehind}
 pub use Rattle.reg_rules.specs.declared.reply.LogRow.{LogRow}
 pub use Rattle.reg_book.specs.Book.{BookValue, first_fault, has_row_ahead, total_held, total_retired}
 pub use Rattle.reg_text.specs.Records.{Record, field}
-pub use Rattle.reg_text.specs.Sections.{AreAtMost, FateIsOf, Fits, IsOfPeriods, Key, by, IsOrdered, IsSection, Item, Section, account_block, account_with, all_rows, each_row, follows, account_head, is_room, item_rows, key, lists_of, most, section_rows}
+pub use Rattle.reg_text.specs.Sections.{AreAtMost, FateIsOf, Fits, IsOfPeriods, IsOrdered, IsSection, Item, Section, account_block, account_with, all_rows, each_row, follows, account_head, is_room, item_rows, key, list_items, lists_of, most, section_rows}
 pub use Rattle.reg_text.specs.Spelling.{account_row, book_rows, closing_sections, day_sections, current_rows, day_text, end_row, heading, instruction_fields, lags_in}
 pub use Rattle.reg_text.specs.Log.{answer_fields, closing_fields, figure_field, holding_fields, log_row}
 pub use Rattle.reg_text.specs.Report.{log_rows, report_rows, text_of, totals_row, written_book}
@@ -29,7 +29,7 @@ pub use Rattle.reg_text.specs.Dates.{date_text, day_in, is_civil, is_date_text, 
 unfoldable pub use Rattle.reg_text.specs.Dates.{date, date_of, day_named, in_days}
 pub use Rattle.reg_text.specs.Words.{account_kind_word, account_kinds, kind_word, kinds, named, retirement_word, retirements, right_word, rights, status_word, statuses, yes_and_no, yes_no_word}
 unfoldable pub use Rattle.reg_text.specs.Words.{word_of}
-pub use Rattle.reg_text.specs.Grammar.{Said, row, row_read, row_text}
+pub use Rattle.reg_text.specs.Grammar.{Key, Said, by, row, row_read, row_text, tag_word}
 pub use Rattle.reg_text.specs.Plain.{IsPlain, with_commas}
 pub use Rattle.reg_text.specs.Written.{EachBookIsWritten, EachReportIsWritten, EachTextSplits, HasField}
 pub use Rattle.reg_base.specs.declared.limits.TheConstants.{FIRST_DAY, FIRST_YEAR, LAST_DAY, MOST_ACCOUNTS, MOST_INSTRUCTIONS, MOST_LAG, MOST_NUMBER, MOST_PERIODS, MOST_RECORD, MOST_ROWS}
@@ -43,12 +43,12 @@ pub use Rattle.reg_text.specs.declared.reading.scope.Version.{Version}
 pub use Rattle.reg_text.specs.declared.reading.scope.Version.TheVariants.{One, Two}
 pub use Rattle.reg_text.specs.declared.reading.scope.Scope.{Scope}
 pub use Rattle.reg_text.specs.Scopes.{by_version, widest}
-pub use Rattle.reg_text.specs.Tags.{all_tags, is_known, is_needed, is_once, may_follow, place, rule, tag_after, tag_place, tag_word}
+pub use Rattle.reg_text.specs.Tags.{all_tags, heading_tags, later_tags, list_tags, is_in_version, is_needed, is_once, may_follow, place, rule, tag_after, tag_place}
 pub use Rattle.reg_text.specs.Lasts.{as_list, is_above, last_item}
-pub use Rattle.reg_text.specs.Drafts.{DraftValue, account_count, accounts_in, block_closed, draft_of, ended, items_said, nothing_read, scope_of, sections, sections_to, version_in}
+pub use Rattle.reg_text.specs.Drafts.{DraftValue, account_count, accounts_in, block_closed, draft_of, ended, items_said, nothing_read, scope_of, section_of, sections, sections_to, version_in}
 pub use Rattle.reg_text.specs.Day.{DayValue, current_said, day_said, day_with, is_text_over}
 pub use Rattle.reg_text.specs.Reading.{Begins, CanBeSaid, IsFirstFaulty, IsPair, IsReading, IsVersionOf}
-pub use Rattle.reg_text.specs.Faults.{AnswersFault, after_rows, at_end, at_row, day_of_rows, drafted, has_room, in_order, is_number_left, is_recorded, is_sum_left, next_draft, next_in, placed, with}
+pub use Rattle.reg_text.specs.Faults.{AnswersFault, after_rows, at_end, at_row, day_of_rows, drafted, has_room, in_order, is_number_left, is_recorded, is_sum_left, next_draft, next_in, placed, ready_for, saying, with}
 unfoldable pub use Rattle.reg_text.specs.Faults.{with_row}
 pub use Rattle.reg_text.specs.declared.cause.Cause.{Cause}
 pub use Rattle.reg_text.specs.DraftLimits.{LagsSaidFit, AreRecorded, FitsSoFar, IsDraft, SectionStandsAt, comes_once, has_to_come, may_come, stands_at}
@@ -65,7 +65,7 @@ pub use Rattle.reg_text.specs.FieldTests.{approver_tests, correction_tests, faul
 pub use Rattle.reg_text.specs.Table.{IsCauseOf, said_tests, tagged_tests, tests_of}
 pub use Rattle.reg_base.specs.declared.act.Act.{Act}
 pub use Rattle.reg_text.specs.Signed.{minus, signed}
-unfoldable pub use Rattle.reg_text.specs.Signed.{correction_of, signed_figure_of, signed_of}
+unfoldable pub use Rattle.reg_text.specs.Signed.{signed_correction_of, signed_figure_of, signed_of}
 pub use Rattle.reg_text.specs.Limits.{approver_text, user_no_of}
 unfoldable pub use Rattle.reg_text.specs.Limits.{approver_of, bounded_of}
 pub use Rattle.csv.specs.Machine.{Read, ends_at_end, field_after, fields_after, is_end, step}

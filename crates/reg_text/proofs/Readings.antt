@@ -6,7 +6,7 @@ use mathlib.Core.List.{map-id}
 use Rattle.std.specs.Prelude.{All, unwrap_or, if◌then◌else◌}
 use Rattle.std.proofs.lemmas.List.Elements.{All-from_recursion}
 use Rattle.std.specs.List.{AllByRecursion}
-use Rattle.reg_text.proofs.Names.{IsRising, IsWithin, IsSection, SectionStandsAt, Instruction, IsShared, Cause, Tag, Version, One, Two, Record, place, is_known, Said, row, as_list, items_said, scope_of, version_in, current_said, current_rows, Fits, IsOfPeriods, IsYearNo, IsVersionOf, DraftValue, accounts_in, block_closed, nothing_read, DayValue, day_with, is_text_over, day_said, day_text, IsUserNo, IsDayNo, IsInstruction, AccountValue, IsAccount, IsBehind, IsPair, CanBeSaid, IsReading, FitsSoFar, IsDraft, next_draft, at_row, at_end, after_rows}
+use Rattle.reg_text.proofs.Names.{IsRising, IsWithin, IsSection, SectionStandsAt, Instruction, IsShared, Cause, Tag, Version, One, Two, Record, place, is_in_version, Said, row, as_list, items_said, scope_of, version_in, current_said, current_rows, Fits, IsOfPeriods, IsYearNo, IsVersionOf, DraftValue, accounts_in, block_closed, nothing_read, DayValue, day_with, is_text_over, day_said, day_text, IsUserNo, IsDayNo, IsInstruction, AccountValue, IsAccount, IsBehind, IsPair, CanBeSaid, IsReading, FitsSoFar, IsDraft, next_draft, at_row, at_end, after_rows}
 use Rattle.reg_text.proofs.Names.{day_of_rows}
 use Rattle.reg_text.specs.Day.{day_headed}
 use Rattle.reg_text.specs.declared.reading.tag.Tag.TheVariants as tag
@@ -28,7 +28,7 @@ the-one (x ∷ []) some few = (x, refl)
 the-one (x ∷ y ∷ xs) some few = absurd (omega arith)
 
 -- the row of the current period has come if the version has one
-current-came : (version : Version) (current : List ℕ) → (is_known version tag.Current ≡ true → (n : ℕ) × (current ≡ n ∷ [])) → (is_known version tag.Current ≡ false → current ≡ []) → (n : ℕ) × (current_said version current ≡ Some n) × (current ≡ current_rows version n)
+current-came : (version : Version) (current : List ℕ) → (is_in_version version tag.Current ≡ true → (n : ℕ) × (current ≡ n ∷ [])) → (is_in_version version tag.Current ≡ false → current ≡ []) → (n : ℕ) × (current_said version current ≡ Some n) × (current ≡ current_rows version n)
 current-came One current come none = (1, refl, none refl)
 current-came Two current come none = let one = come refl in (one.0, rw one.1 refl, one.1)
 
@@ -73,7 +73,7 @@ headed d h over =
       once-lags One d s = s.once refl
       once-lags Two d s = s.once refl
 
-      once-current : (version : Version) (d : DraftValue) → is_known version tag.Current ≡ true → SectionStandsAt version (place d.last) (Some tag.Current, d.current) → length d.current ≤ 1
+      once-current : (version : Version) (d : DraftValue) → is_in_version version tag.Current ≡ true → SectionStandsAt version (place d.last) (Some tag.Current, d.current) → length d.current ≤ 1
       once-current One d known s = absurd cc
       once-current Two d known s = s.once refl
 
@@ -100,7 +100,6 @@ says-a-day d h k =
     let day = (rw k.one_day at (of tag.Day).fits).0 in
     let periods = of tag.Period in
     let lags = lags-fit k.lags ((rw k.one_lags at (of tag.Lags).fits).0) in
-    let admins = of tag.Admin in
     let work = of tag.Work in
     let due = of tag.Do in
     let over = closed-fits d h in
@@ -113,11 +112,11 @@ says-a-day d h k =
         book = record { rising = h.rising; few = omega (arith, over.few); within_limits = each-one (Fits scope None) IsAccount (λ a f. f.0) (accounts_in d) blocks; next = record { from_one = day.1.low; to_the_end = day.1.high }; behind = All-from_recursion (IsBehind k.day.1) (accounts_in d) recorded.closed };
         rules = record {
           working_days = record { rising = subst IsRising (map-id d.work) work.listed.ordered; each_day = All-from_recursion IsDayNo d.work work.fits };
-          each_admin = All-from_recursion IsUserNo d.admins admins.fits;
+          each_admin = All-from_recursion IsUserNo d.admins (of tag.Admin).fits;
           each_year = each-one (row scope tag.Period).Fits (λ (p : ℕ × ℕ). IsYearNo p.0 × IsYearNo p.1) (λ p f. f.0) d.periods periods.fits;
           fit = record {
-            few_admins = admins.listed.few;
-            admins_rise = subst IsRising (map-id d.admins) admins.listed.ordered;
+            few_admins = (of tag.Admin).listed.few;
+            admins_rise = subst IsRising (map-id d.admins) (of tag.Admin).listed.ordered;
             lags_fit = record { trusted = lags.trusted; other = lags.other; listed = lags.listed; reversal = lags.reversal };
             periods_fit = record { some = k.some_periods; few = periods.listed.few; each = all-weaker (row scope tag.Period).Fits (λ (p : ℕ × ℕ). p.0 ≤ p.1) (λ p f. leb-true p.0 p.1 f.1) d.periods periods.fits; rise = periods.listed.ordered };
             current_fits = current-within k.version d.current k.current (length d.periods) k.some_periods (of tag.Current).fits k.said;

@@ -59,6 +59,18 @@ pub room-at : {X : Type 0} (o : Option ℕ) (xs : List X) (x : X) (others : List
 room-at None xs x others h = refl
 room-at (Some limit) xs x others h = lt-ltb _ _ (omega (arith, length-append xs (x ∷ others), h))
 
+-- nothing is within all limits
+empty-ordered : {X : Type 0} (o : Option (Key X)) → IsOrdered o []
+empty-ordered None = tt
+empty-ordered (Some k) = λ n lt. absurd (omega arith)
+
+empty-few : (o : Option ℕ) → AreAtMost o 0
+empty-few None = tt
+empty-few (Some limit) = omega arith
+
+pub empty-section : (scope : Scope) (t : Tag) → IsSection scope (Some t, [])
+empty-section scope t = record { fits = tt; listed = record { ordered = empty-ordered (key t); few = empty-few (most t) } }
+
 -- a section with one row more
 pub section-push : (scope : Scope) (t : Tag) (xs : List (Said t)) (x : Said t) → IsSection scope (Some t, xs) → (row scope t).Fits x → follows (key t) (last_item xs) x ≡ true → is_room (most t) (length xs) ≡ true → IsSection scope (Some t, xs ++ x ∷ [])
 section-push scope t xs x h fits order room = record {

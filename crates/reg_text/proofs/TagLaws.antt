@@ -2,7 +2,7 @@
 use Rattle.std.proofs.Common.{◌≡◌, ℕ, ◌≤◌, true, false, nat_le, Option, Some, List, Ok, refl, subst, arith}
 use Rattle.std.proofs.lemmas.Bool.{and_parts, leb-true, le-leb}
 use Rattle.reg_text.specs.declared.cause.Cause.TheVariants as cause
-use Rattle.reg_text.proofs.Names.{Tag, Version, One, Two, IsWithin, named, all_tags, tag_word, rule, place, may_follow, tag_after, is_known, is_text_over}
+use Rattle.reg_text.proofs.Names.{Tag, Version, One, Two, IsWithin, named, all_tags, tag_word, rule, place, may_follow, tag_after, is_in_version, is_text_over}
 use Rattle.reg_text.specs.declared.reading.tag.Tag.TheVariants as tag
 use Rattle.reg_text.proofs.Binds.{bind_ok, test_ok}
 use Rattle.reg_text.proofs.WordLaws.{named-spelled, own-tag}
@@ -28,7 +28,7 @@ pub place-of : (version : Version) (last : Option Tag) (t : Tag) → MayFollow v
 place-of version last t h = let both = and_parts (nat_le (rule version t).from (place last)) (nat_le (place last) (rule version t).to) h in record { low = leb-true _ _ both.0; high = leb-true _ _ both.1 }
 
 -- so its version knows it
-pub known-there : (version : Version) (last : Option Tag) (t : Tag) → MayFollow version last t → is_known version t ≡ true
+pub known-there : (version : Version) (last : Option Tag) (t : Tag) → MayFollow version last t → is_in_version version t ≡ true
 known-there version last t h = let p = place-of version last t h in le-leb (rule version t).from (rule version t).to (omega (arith, p.low, p.high))
 
 -- behind one section the next

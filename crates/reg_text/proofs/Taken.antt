@@ -1,22 +1,23 @@
 -- What is spelled is taken: the rows of a day text read as its day.
-use Rattle.std.proofs.Common.{◌≡◌, ℕ, ◌+◌, ◌-◌, ◌^◌, ◌<◌, ◌≤◌, true, List, [], ◌∷◌, ◌++◌, map, length, Option, Some, None, Ok, refl, sym, ap, subst, ◌∙◌, arith, length-append, append_assoc}
+use Rattle.std.proofs.Common.{◌≡◌, ℕ, ◌+◌, ◌-◌, ◌^◌, ◌<◌, ◌≤◌, Bool, true, false, List, [], ◌∷◌, ◌++◌, map, length, drop, Option, Some, None, Ok, refl, sym, ap, subst, ◌∙◌, arith, length-append, append_assoc}
 use mathlib.Core.List.{map-id}
 use Rattle.std.specs.List.{AllByRecursion, flat_map}
 use Rattle.std.proofs.lemmas.List.Elements.{recursion_from_All}
 use Rattle.std.proofs.lemmas.Bool.{le-leb, lt-ltb}
 use Rattle.std.proofs.lemmas.List.{append-nil, map-append}
-use Rattle.reg_text.proofs.Names.{MOST_ACCOUNTS, Instruction, IsShared, MOST_RECORD, IsUserNo, IsDayNo, IsInstruction, IsRising, AccountValue, IsAccount, IsBehind, AreBelow, RetiredFits, RetirementRow, ListsValue, row_numbers, no_lists, AccountHead, IsWithin, IsYearNo, Fits, IsOfPeriods, Correction, Version, One, Two, Scope, widest, Tag, Record, tag_word, last_item, as_list, Said, row, account_head, lists_of, account_with, account_block, each_row, section_rows, all_rows, key, follows, IsOrdered, most, IsSection, DraftValue, items_said, accounts_in, account_count, nothing_read, scope_of, DayValue}
-use Rattle.reg_text.proofs.Names.{lags_in, current_rows, day_text, current_said, IsPair, CanBeSaid, IsVersionOf, with, in_order, has_room, with_row, next_in, next_draft, after_rows}
+use Rattle.reg_text.proofs.Names.{MOST_ACCOUNTS, MOST_ROWS, Instruction, IsShared, MOST_RECORD, IsUserNo, IsDayNo, IsInstruction, IsRising, AccountValue, IsAccount, IsBehind, AreBelow, RetiredFits, RetirementRow, ListsValue, row_numbers, no_lists, AccountHead, IsWithin, IsYearNo, Fits, IsOfPeriods, Correction, Version, One, Two, Scope, widest, Tag, Record, tag_word, last_item, as_list, Said, row, account_head, lists_of, account_with, account_block, list_tags, each_row, section_rows, all_rows, key, follows, IsOrdered, most, is_room, AreAtMost, rule, Section, IsSection, DraftValue, items_said, accounts_in, account_count, nothing_read, scope_of, DayValue}
+use Rattle.reg_text.proofs.Names.{lags_in, heading, saying, current_rows, day_text, current_said, IsPair, CanBeSaid, IsVersionOf, with, in_order, has_room, with_row, next_in, next_draft, after_rows}
 use Rattle.reg_text.specs.declared.reading.tag.Tag.TheVariants as tag
 use Rattle.reg_account.specs.Corrections.{LaterFits}
 use Rattle.reg_text.specs.Grammar.{row_text}
+use Rattle.reg_text.specs.Faults.{has_row_room}
 use Rattle.reg_text.proofs.ListFacts.{all-both, all-weaker, all-rest}
 use Rattle.reg_text.proofs.GrammarLaws.{each-row, same-spelling}
 use Rattle.reg_text.proofs.RowLaws.{ArePeriodsOf, fit-lags, fit-account, fit-lists, fit-instruction}
 use Rattle.reg_text.proofs.Retirements.{below-at, sum-left}
 use Rattle.reg_text.proofs.RisingFacts.{rising-above, last_of-append}
 use Rattle.reg_text.proofs.SectionLaws.{ordered-at, room-at}
-use Rattle.reg_text.proofs.DraftSteps.{count-accounts}
+use Rattle.reg_text.proofs.DraftSteps.{count-accounts, rows_then, lists_in, list-rows}
 use Rattle.reg_text.proofs.TagLaws.{MayFollow, tag-again, goes_on, later}
 
 -- whatever the number of the first row, these rows say this day after the draft
@@ -82,64 +83,154 @@ list-taken scope t state g here again Whole is room others last xs rest v may wh
       room = room last' ys x zs w;
     }) others last xs rest v may whole more
 
+-- ---- lists one after another, each behind the one before it
+
+-- the draft after a row with this tag, in which the rows of another tag say these
+abbrev pub after : (t : Tag) → DraftValue → Option Tag → List (Said t) → DraftValue
+after t d last xs = record (saying t d xs) { last = last }
+
+-- such a list is taken row by row, and behind it rows with the next tag may stand
+pub record IsTaken (scope : Scope) (d : DraftValue) (t next : Tag) (xs : List (Said t)) : Type 0 where
+  pub grown : Grown scope.version t (after t d)
+  pub here : (last : Option Tag) (l : List (Said t)) → scope_of (after t d last l) ≡ scope
+  pub none : (last : Option Tag) → after t d last [] ≡ record d { last = last }
+  pub again : MayFollow scope.version (Some t) t
+  pub fits : IsSection scope (Some t, xs)
+  pub room : (last : Option Tag) (l : List (Said t)) (x : Said t) (others : List (Said t)) → l ++ x ∷ others ≡ xs → has_room t (after t d last l) x ≡ true
+  pub low : (rule scope.version next).from ≤ (rule scope.version t).from
+  pub high : (rule scope.version t).to ≤ (rule scope.version next).to
+
+-- rows of which only the length of the list says whether there is room for one more
+abbrev is_plain : Tag → Bool
+is_plain tag.Format = false
+is_plain tag.Period = false
+is_plain tag.Account = false
+is_plain tag.Retired = false
+is_plain tag.Do = false
+is_plain tag.End = false
+is_plain t = true
+
+plain-grown : (t : Tag) (d : DraftValue) → is_plain t ≡ true → Grown (scope_of d).version t (after t d)
+plain-grown tag.Format d e = absurd cc
+plain-grown tag.Period d e = absurd cc
+plain-grown tag.Account d e = absurd cc
+plain-grown tag.End d e = absurd cc
+plain-grown t d e = record { version_is = λ last xs. refl; last = λ last xs. refl; list = λ last xs. refl; more = λ last xs x. refl }
+
+plain-here : (t : Tag) (d : DraftValue) (last : Option Tag) (l : List (Said t)) → is_plain t ≡ true → scope_of (after t d last l) ≡ scope_of d
+plain-here tag.Format d last l e = absurd cc
+plain-here tag.Period d last l e = absurd cc
+plain-here t d last l e = refl
+
+plain-room : (t : Tag) (d : DraftValue) (last : Option Tag) (l : List (Said t)) (x : Said t) → is_plain t ≡ true → is_room (most t) (length l) ≡ true → has_room t (after t d last l) x ≡ true
+plain-room tag.Account d last l x e room = absurd cc
+plain-room tag.Retired d last l x e room = absurd cc
+plain-room tag.Do d last l x e room = absurd cc
+plain-room tag.End d last l x e room = absurd cc
+plain-room t d last l x e room = room
+
+plain : (d : DraftValue) (t next : Tag) (xs : List (Said t)) → is_plain t ≡ true → ((last : Option Tag) → after t d last [] ≡ record d { last = last }) → MayFollow (scope_of d).version (Some t) t
+    → (rule (scope_of d).version next).from ≤ (rule (scope_of d).version t).from → (rule (scope_of d).version t).to ≤ (rule (scope_of d).version next).to → IsSection (scope_of d) (Some t, xs) → IsTaken (scope_of d) d t next xs
+plain d t next xs e none again low high fits = record {
+  grown = plain-grown t d e;
+  here = λ last l. plain-here t d last l e;
+  none = none;
+  again = again;
+  fits = fits;
+  room = λ last l x others is. plain-room t d last l x e (room-at (most t) l x others (subst (λ (ys : List (Said t)). AreAtMost (most t) (length ys)) (sym is) fits.listed.few));
+  low = low;
+  high = high;
+}
+
+-- the tag of the first of these lists, or the one behind them
+abbrev pub first_of : List Section → Tag → Tag
+first_of [] next = next
+first_of ((None, xs) ∷ ss) next = next
+first_of ((Some t, xs) ∷ ss) next = t
+
+-- the draft that says these lists
+abbrev pub saying_all : DraftValue → List Section → DraftValue
+saying_all d [] = d
+saying_all d ((None, xs) ∷ ss) = saying_all d ss
+saying_all d ((Some t, xs) ∷ ss) = saying_all (saying t d xs) ss
+
+abbrev pub AreTaken : Scope → DraftValue → List Section → Tag → Type 0
+AreTaken scope d [] next = Unit {0}
+AreTaken scope d ((None, xs) ∷ ss) next = ⊥
+AreTaken scope d ((Some t, xs) ∷ ss) next = IsTaken scope d t (first_of ss next) xs × AreTaken scope (saying t d xs) ss next
+
+all-taken : (scope : Scope) (d : DraftValue) (ss : List Section) (next : Tag) (last : Option Tag) (rest : List Record) (v : DayValue) → AreTaken scope d ss next → MayFollow scope.version last (first_of ss next)
+    → ((behind : Option Tag) → MayFollow scope.version behind next → Reach (record (saying_all d ss) { last = behind }) rest v) → Reach (record d { last = last }) (rows_then ss rest) v
+all-taken scope d [] next last rest v h may more = more last may
+all-taken scope d ((None, xs) ∷ ss) next last rest v h may more = absurd h
+all-taken scope d ((Some t, xs) ∷ ss) next last rest v h may more =
+    let one = h.0 in
+    subst (λ (e : DraftValue). Reach e (rows_then ((Some t, xs) ∷ ss) rest) v) (one.none last)
+    (list-taken scope t (after t d) one.grown one.here one.again (λ l. l ≡ xs) (λ l is. subst (λ (ys : List (Said t)). IsSection scope (Some t, ys)) (sym is) one.fits) one.room xs last [] (rows_then ss rest) v may refl (λ behind may'.
+    all-taken scope (saying t d xs) ss next behind rest v h.1 (later scope.version behind t (first_of ss next) one.low one.high may') more))
+
 -- ---- the blocks of accounts
 
 abbrev account_number : AccountValue → ℕ
 account_number a = a.number
 
--- surrenders and deletions of an account, recorded under numbers below the next one
-abbrev AreRetired : Scope → ℕ → List RetirementRow → Type 0
-AreRetired scope next rows = IsSection scope (Some tag.Retired, rows) × (AreBelow next (row_numbers rows) × RetiredFits rows)
+-- there is room for the surrenders and deletions of an account, which are recorded under numbers below the next one
+retired-room : (next : ℕ) (days : List (ℕ × ℕ)) (l : List RetirementRow) (x : RetirementRow) (others : List RetirementRow) → next_in days ≡ Some next → length (l ++ x ∷ others) ≤ MOST_ROWS → AreBelow next (row_numbers (l ++ x ∷ others)) → RetiredFits (l ++ x ∷ others) → has_row_room (next_in days) l x ≡ true
+retired-room next days l x others is few behind sums = rw (room-at (Some MOST_ROWS) l x others few, is, below-at next l x others behind, sum-left l x others sums) refl
 
 -- the first version has no correction factors of later periods
 no-corrections : (count : ℕ) (xs : List Correction) → AllByRecursion LaterFits xs → AllByRecursion (λ (c : Correction). c.period ≤ count) xs → count ≤ 1 → xs ≡ []
 no-corrections count [] fits of few = refl
 no-corrections count (c ∷ xs) fits of few = absurd (omega (arith, fits.0.later.low, of.0))
 
-corrections-taken : (version : Version) (d : DraftValue) (a : AccountValue) (rest : List Record) (v : DayValue) → (scope_of d).version ≡ version → ArePeriodsOf (scope_of d) → Fits (scope_of d) None a
-    → ((last : Option Tag) → MayFollow (scope_of d).version last tag.User → Reach (record d { last = last; lists = record no_lists { corrections = a.corrections } }) rest v)
+corrections-taken : (version : Version) (d : DraftValue) (next : Tag) (a : AccountValue) (rest : List Record) (v : DayValue) → (scope_of d).version ≡ version → ((w : Version) → (rule w next).from ≤ 80) → ((w : Version) → 81 ≤ (rule w next).to) → ArePeriodsOf (scope_of d) → Fits (scope_of d) None a
+    → ((last : Option Tag) → MayFollow (scope_of d).version last next → Reach (record d { last = last; lists = record no_lists { corrections = a.corrections } }) rest v)
     → Reach (record d { last = Some tag.Account; lists = no_lists }) (each_row tag.Correction a.corrections ++ rest) v
-corrections-taken One d a rest v is p h more =
+corrections-taken One d next a rest v is low high p h more =
     let none = no-corrections (scope_of d).periods a.corrections h.0.corrections_fit.each h.1.corrections (p.one is) in
-    let then = more (Some tag.Account) refl in
+    let from = low (scope_of d).version in
+    let to = high (scope_of d).version in
+    let then = more (Some tag.Account) (rw (le-leb (rule (scope_of d).version next).from 80 from, le-leb 80 (rule (scope_of d).version next).to (omega (arith, to))) refl) in
     rw none (rw none at then)
-corrections-taken Two d a rest v is p h more =
+corrections-taken Two d next a rest v is low high p h more =
     let scope = scope_of d in
     list-taken scope tag.Correction (λ last l. record d { last = last; lists = record no_lists { corrections = l } }) (record { version_is = λ last xs. refl; last = λ last xs. refl; list = λ last xs. refl; more = λ last xs x. refl }) (λ last xs. refl) (rw is refl) (λ l. IsSection scope (Some tag.Correction, l)) (λ l whole. whole) (λ last xs x others whole. refl)
-    a.corrections (Some tag.Account) [] rest v (rw is refl) (fit-lists scope p a h).corrections (λ last may. more last (behind-correction scope.version last is may)) where
-      behind-correction : (version : Version) (last : Option Tag) → version ≡ Two → MayFollow version last tag.Correction → MayFollow version last tag.User
+    a.corrections (Some tag.Account) [] rest v (rw is refl) (fit-lists scope p a h tag.Correction) (λ last may. more last (behind-correction scope.version last is may)) where
+      behind-correction : (version : Version) (last : Option Tag) → version ≡ Two → MayFollow version last tag.Correction → MayFollow version last next
       behind-correction One last is may = absurd cc
-      behind-correction Two last is may = later Two last tag.Correction tag.User (omega arith) (omega arith) may
+      behind-correction Two last is may = later Two last tag.Correction next (low Two) (high Two) may
 
 -- behind the row of an account the rows of its lists are taken
 lists-taken : (d : DraftValue) (next : ℕ) (a : AccountValue) (rest : List Record) (v : DayValue) → next_in d.days ≡ Some next → ArePeriodsOf (scope_of d) → Fits (scope_of d) None a → IsBehind next a
-    → ((last : Option Tag) → MayFollow (scope_of d).version last tag.Figure → Reach (record d { last = last; lists = lists_of a }) rest v)
-    → Reach (record d { last = Some tag.Account; lists = no_lists }) (each_row tag.Correction a.corrections ++ (each_row tag.User a.users ++ (each_row tag.Trusted a.trusted ++ (each_row tag.Retired a.rows ++ (each_row tag.Emissions a.emissions ++ (each_row tag.Figure a.figures ++ rest)))))) v
+    → ((last : Option Tag) → MayFollow (scope_of d).version last tag.Account → Reach (record d { last = last; lists = lists_of a }) rest v)
+    → Reach (record d { last = Some tag.Account; lists = no_lists }) (rows_then (lists_in (lists_of a) list_tags) rest) v
 lists-taken d next a rest v is p h behind more =
     let scope = scope_of d in
     let fit = fit-lists scope p a h in
-    let l0 : ListsValue = record no_lists { corrections = a.corrections } in
-    let l1 : ListsValue = record l0 { users = a.users } in
-    let l2 : ListsValue = record l1 { trusted = a.trusted } in
-    let l3 : ListsValue = record l2 { rows = a.rows } in
-    let l4 : ListsValue = record l3 { emissions = a.emissions } in
-    let rows4 : List Record = section_rows (Some tag.Figure, a.figures) ++ rest in
-    let rows3 : List Record = section_rows (Some tag.Emissions, a.emissions) ++ rows4 in
-    let rows2 : List Record = section_rows (Some tag.Retired, a.rows) ++ rows3 in
-    let rows1 : List Record = section_rows (Some tag.Trusted, a.trusted) ++ rows2 in
-    let rows0 : List Record = section_rows (Some tag.User, a.users) ++ rows1 in
-    corrections-taken scope.version d a rows0 v refl p h (λ last0 may0.
-    list-taken scope tag.User (λ last l. record d { last = last; lists = record l0 { users = l } }) (record { version_is = λ last xs. refl; last = λ last xs. refl; list = λ last xs. refl; more = λ last xs x. refl }) (λ last xs. refl) refl (λ l. IsSection scope (Some tag.User, l)) (λ l whole. whole) (λ last xs x others whole. room-at (most tag.User) xs x others whole.listed.few)
-    a.users last0 [] rows1 v may0 fit.users (λ last1 may1.
-    list-taken scope tag.Trusted (λ last l. record d { last = last; lists = record l1 { trusted = l } }) (record { version_is = λ last xs. refl; last = λ last xs. refl; list = λ last xs. refl; more = λ last xs x. refl }) (λ last xs. refl) refl (λ l. IsSection scope (Some tag.Trusted, l)) (λ l whole. whole) (λ last xs x others whole. room-at (most tag.Trusted) xs x others whole.listed.few)
-    a.trusted last1 [] rows2 v (later scope.version last1 tag.User tag.Trusted (omega arith) (omega arith) may1) fit.trusted (λ last2 may2.
-    list-taken scope tag.Retired (λ last l. record d { last = last; lists = record l2 { rows = l } }) (record { version_is = λ last xs. refl; last = λ last xs. refl; list = λ last xs. refl; more = λ last xs x. refl }) (λ last xs. refl) refl (AreRetired scope next) (λ l whole. whole.0)
-    (λ last xs x others whole. rw (room-at (most tag.Retired) xs x others whole.0.listed.few, is, below-at next xs x others whole.1.0, sum-left xs x others whole.1.1) refl)
-    a.rows last2 [] rows3 v (later scope.version last2 tag.Trusted tag.Retired (omega arith) (omega arith) may2) (fit.rows, (behind, h.0.retired_fits)) (λ last3 may3.
-    list-taken scope tag.Emissions (λ last l. record d { last = last; lists = record l3 { emissions = l } }) (record { version_is = λ last xs. refl; last = λ last xs. refl; list = λ last xs. refl; more = λ last xs x. refl }) (λ last xs. refl) refl (λ l. IsSection scope (Some tag.Emissions, l)) (λ l whole. whole) (λ last xs x others whole. refl)
-    a.emissions last3 [] rows4 v (later scope.version last3 tag.Retired tag.Emissions (omega arith) (omega arith) may3) fit.emissions (λ last4 may4.
-    list-taken scope tag.Figure (λ last l. record d { last = last; lists = record l4 { figures = l } }) (record { version_is = λ last xs. refl; last = λ last xs. refl; list = λ last xs. refl; more = λ last xs x. refl }) (λ last xs. refl) refl (λ l. IsSection scope (Some tag.Figure, l)) (λ l whole. whole) (λ last xs x others whole. refl)
-    a.figures last4 [] rest v (later scope.version last4 tag.Emissions tag.Figure (omega arith) (omega arith) may4) fit.figures more)))))
+    let lists = drop 1 (lists_in (lists_of a) list_tags) in
+    corrections-taken scope.version d (first_of lists tag.Account) a (rows_then lists rest) v refl (λ w. omega arith) (λ w. omega arith) p h (λ last may.
+    all-taken scope (record d { lists = record no_lists { corrections = a.corrections } }) lists tag.Account last rest v (
+      plain _ tag.User _ _ refl (λ last. refl) refl (omega arith) (omega arith) (fit tag.User),
+      (
+        plain _ tag.Trusted _ _ refl (λ last. refl) refl (omega arith) (omega arith) (fit tag.Trusted),
+        (
+          record {
+            grown = record { version_is = λ last xs. refl; last = λ last xs. refl; list = λ last xs. refl; more = λ last xs x. refl };
+            here = λ last l. refl;
+            none = λ last. refl;
+            again = refl;
+            fits = fit tag.Retired;
+            room = λ last l x others same. retired-room next d.days l x others is (rw same (fit tag.Retired).listed.few) (rw same behind) (rw same h.0.retired_fits);
+            low = omega arith;
+            high = omega arith;
+          },
+          (
+            plain _ tag.Emissions _ _ refl (λ last. refl) refl (omega arith) (omega arith) (fit tag.Emissions),
+            (plain _ tag.Figure _ _ refl (λ last. refl) refl (omega arith) (omega arith) (fit tag.Figure), tt),
+          ),
+        ),
+      ),
+    ) may more)
 
 -- an account that is above the ones before it comes after the open one
 next-account : (accounts : List AccountValue) (head : Option AccountHead) (l : ListsValue) (a : AccountValue) (others : List AccountValue) → IsRising (map account_number ((accounts ++ map (account_with l) (as_list head)) ++ a ∷ others)) → follows (key tag.Account) (last_item (as_list head)) (account_head a) ≡ true
@@ -161,12 +252,12 @@ blocks-taken d next (a ∷ others) last accounts head l rest v is may p fit behi
     let same : (all ++ a ∷ []) ++ others ≡ all ++ a ∷ others = append_assoc all (a ∷ []) others in
     let room : account_count now < MOST_ACCOUNTS = omega (arith, few, length-append all (a ∷ others), count-accounts accounts head l) in
     let behind_it : List Record = flat_map account_block others ++ rest in
-    let lists : List Record = each_row tag.Correction a.corrections ++ (each_row tag.User a.users ++ (each_row tag.Trusted a.trusted ++ (each_row tag.Retired a.rows ++ (each_row tag.Emissions a.emissions ++ (each_row tag.Figure a.figures ++ behind_it))))) in
-    let split : flat_map account_block (a ∷ others) ++ rest ≡ row_text tag.Account (account_head a) ∷ lists = simp append_assoc in
+    let lists : List Record = rows_then (lists_in (lists_of a) list_tags) behind_it in
+    let split : flat_map account_block (a ∷ others) ++ rest ≡ row_text tag.Account (account_head a) ∷ lists = append_assoc (account_block a) (flat_map account_block others) rest ∙ ap (λ (rs : List Record). row_text tag.Account (account_head a) ∷ rs) (list-rows (lists_of a) list_tags behind_it) in
     subst (λ (rs : List Record). Reach now rs v) (sym split)
     (reach-row now (with tag.Account now (account_head a)) (row_text tag.Account (account_head a)) lists v (taken tag.Account now (account_head a) may (fit-account scope a fit.0.0) (next-account accounts head l a others rises) (lt-ltb _ _ room))
     (lists-taken (record d { accounts = all; head = Some (account_head a) }) next a behind_it v is p fit.0 behind.0 (λ last1 may1.
-    blocks-taken d next others last1 all (Some (account_head a)) (lists_of a) rest v is (later scope.version last1 tag.Figure tag.Account (omega arith) (omega arith) may1) p fit.1 behind.1 (rw same rises) (rw same few) (λ after ones opened m may' equal. more after ones opened m may' (equal ∙ same)))))
+    blocks-taken d next others last1 all (Some (account_head a)) (lists_of a) rest v is may1 p fit.1 behind.1 (rw same rises) (rw same few) (λ after ones opened m may' equal. more after ones opened m may' (equal ∙ same)))))
 
 -- ---- the sections of a day
 
@@ -235,6 +326,10 @@ headed version v = record nothing_read {
   lags = lags_in v.rules ∷ [];
 }
 
+-- the lists behind the row of the lags
+abbrev lists_behind : Version → DayValue → List Section
+lists_behind version v = drop 5 (heading version v)
+
 one-period : (version : Version) (v : DayValue) → IsVersionOf v version → version ≡ One → length (v.rules.periods) ≡ 1
 one-period One v known e = known
 one-period Two v known e = absurd cc
@@ -270,7 +365,7 @@ said-again One v known h =
 said-again Two v known h = refl
 
 whole : (version : Version) (v : DayValue) (accounts : List AccountValue) (head : Option AccountHead) (l : ListsValue) → IsVersionOf v version → CanBeSaid v → v.book.next - 1 ≡ v.batch.base → accounts ++ map (account_with l) (as_list head) ≡ v.book.accounts
-    → Reach (record (headed version v) { last = Some tag.End; surrender = v.rules.surrender; admins = v.rules.admins; work = v.rules.calendar; accounts = accounts; head = head; lists = l; instructions = v.batch.instructions }) [] v
+    → Reach (record (saying_all (headed version v) (lists_behind version v)) { last = Some tag.End; accounts = accounts; head = head; lists = l; instructions = v.batch.instructions }) [] v
 whole version v accounts head l known h base all number = rw (said-again version v known h, all) (ap (λ (n : ℕ). Ok (record v { batch = record v.batch { base = n } })) base)
 
 periods-of : (version : Version) (v : DayValue) → IsVersionOf v version → CanBeSaid v → ArePeriodsOf (scope_of (headed version v))
@@ -281,24 +376,22 @@ text-taken version v known h =
     let base : v.book.next - 1 ≡ v.batch.base = omega (arith, h.day.follows) in
     let d0 = headed version v in
     let scope = scope_of d0 in
-    let d1 = record d0 { surrender = v.rules.surrender } in
-    let d2 = record d1 { admins = v.rules.admins } in
-    let d3 = record d2 { work = v.rules.calendar } in
+    let lists = lists_behind version v in
+    let d3 = saying_all d0 lists in
     let rows5 : List Record = all_rows ((Some tag.End, tt ∷ []) ∷ []) in
     let rows4 : List Record = section_rows (Some tag.Do, v.batch.instructions) ++ rows5 in
     let rows3 : List Record = flat_map account_block v.book.accounts ++ rows4 in
-    let rows2 : List Record = section_rows (Some tag.Work, v.rules.calendar) ++ rows3 in
-    let rows1 : List Record = section_rows (Some tag.Admin, v.rules.admins) ++ rows2 in
-    head-taken version v (section_rows (Some tag.Surrender, v.rules.surrender) ++ rows1) known h
-    (list-taken scope tag.Surrender (λ last l. record d0 { last = last; surrender = l }) (record { version_is = λ last xs. refl; last = λ last xs. refl; list = λ last xs. refl; more = λ last xs x. refl }) (λ last xs. refl) refl (λ l. IsSection scope (Some tag.Surrender, l)) (λ l whole. whole) (λ last xs x others whole. refl)
-    v.rules.surrender (Some tag.Lags) [] rows1 v refl (surrender-section scope v h) (λ last1 may1.
-    list-taken scope tag.Admin (λ last l. record d1 { last = last; admins = l }) (record { version_is = λ last xs. refl; last = λ last xs. refl; list = λ last xs. refl; more = λ last xs x. refl }) (λ last xs. refl) refl (λ l. IsSection scope (Some tag.Admin, l)) (λ l whole. whole) (λ last xs x others whole. room-at (most tag.Admin) xs x others whole.listed.few)
-    v.rules.admins last1 [] rows2 v (later scope.version last1 tag.Surrender tag.Admin (omega arith) (omega arith) may1) (admin-section scope v h) (λ last2 may2.
-    list-taken scope tag.Work (λ last l. record d2 { last = last; work = l }) (record { version_is = λ last xs. refl; last = λ last xs. refl; list = λ last xs. refl; more = λ last xs x. refl }) (λ last xs. refl) refl (λ l. IsSection scope (Some tag.Work, l)) (λ l whole. whole) (λ last xs x others whole. refl)
-    v.rules.calendar last2 [] rows3 v (later scope.version last2 tag.Admin tag.Work (omega arith) (omega arith) may2) (work-section scope v h) (λ last3 may3.
-    blocks-taken d3 v.book.next v.book.accounts last3 [] None no_lists rows4 v refl (later scope.version last3 tag.Work tag.Account (omega arith) (omega arith) may3) (periods-of version v known h) (accounts scope v refl h) (recursion_from_All (IsBehind v.book.next) v.book.accounts h.day.book.behind) h.day.book.rising h.day.book.few (λ last4 accounts head lists may4 all.
+    head-taken version v (rows_then lists rows3) known h
+    (all-taken scope d0 lists tag.Account (Some tag.Lags) rows3 v (
+      plain _ tag.Surrender _ _ refl (λ last. refl) refl (omega arith) (omega arith) (surrender-section scope v h),
+      (
+        plain _ tag.Admin _ _ refl (λ last. refl) refl (omega arith) (omega arith) (admin-section scope v h),
+        (plain _ tag.Work _ _ refl (λ last. refl) refl (omega arith) (omega arith) (work-section scope v h), tt),
+      ),
+    ) refl (λ last3 may3.
+    blocks-taken d3 v.book.next v.book.accounts last3 [] None no_lists rows4 v refl may3 (periods-of version v known h) (accounts scope v refl h) (recursion_from_All (IsBehind v.book.next) v.book.accounts h.day.book.behind) h.day.book.rising h.day.book.few (λ last4 accounts head lists may4 all.
     let d4 = record d3 { accounts = accounts; head = head; lists = lists } in
     let d5 = record d4 { instructions = v.batch.instructions } in
     list-taken scope tag.Do (λ last l. record d4 { last = last; instructions = l }) (record { version_is = λ last xs. refl; last = λ last xs. refl; list = λ last xs. refl; more = λ last xs x. refl }) (λ last xs. refl) refl (AreNumbered scope v) (λ l whole. whole.0) (λ last xs x others whole. rw (room-at (most tag.Do) xs x others whole.0.listed.few, le-leb (v.book.next + length xs) MOST_RECORD (omega (arith, length-append xs (x ∷ others), whole.1))) refl)
     v.batch.instructions last4 [] rows5 v (later scope.version last4 tag.Account tag.Do (omega arith) (omega arith) may4) (do-section scope v h, omega (arith, h.day.follows, h.day.batch.numbered)) (λ last5 may5.
-    reach-row (record d5 { last = last5 }) (record d5 { last = Some tag.End }) (row_text tag.End tt) [] v (taken tag.End (record d5 { last = last5 }) tt (later scope.version last5 tag.Do tag.End (omega arith) (omega arith) may5) tt refl refl) (whole version v accounts head lists known h base all)))))))
+    reach-row (record d5 { last = last5 }) (record d5 { last = Some tag.End }) (row_text tag.End tt) [] v (taken tag.End (record d5 { last = last5 }) tt (later scope.version last5 tag.Do tag.End (omega arith) (omega arith) may5) tt refl refl) (whole version v accounts head lists known h base all)))))

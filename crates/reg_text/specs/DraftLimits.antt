@@ -12,7 +12,7 @@ use Rattle.reg_rules.specs.Effect.{IsBehind}
 use Rattle.reg_text.specs.declared.reading.tag.Tag.{Tag}
 use Rattle.reg_text.specs.declared.reading.heading_rows.Lags.{Lags}
 use Rattle.reg_text.specs.declared.reading.scope.Version.{Version}
-use Rattle.reg_text.specs.Tags.{place, tag_place, is_known, is_needed, is_once}
+use Rattle.reg_text.specs.Tags.{place, tag_place, is_in_version, is_needed, is_once}
 use Rattle.reg_text.specs.Sections.{Section, IsSection}
 use Rattle.reg_text.specs.Drafts.{DraftValue, accounts_in, account_count, sections, scope_of}
 use Rattle.reg_text.specs.Faults.{next_in}
@@ -29,7 +29,7 @@ stands_at (Some t) = tag_place t
 -- whether its row may stand somewhere in a version, comes at most once, and has to come
 abbrev pub may_come : Version → Option Tag → Bool
 may_come version None = true
-may_come version (Some t) = is_known version t
+may_come version (Some t) = is_in_version version t
 
 abbrev pub comes_once : Version → Option Tag → Bool
 comes_once version None = false

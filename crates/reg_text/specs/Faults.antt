@@ -17,30 +17,23 @@ use Rattle.reg_text.specs.Records.{Record, field}
 use Rattle.reg_text.specs.Tags.{tag_after}
 use Rattle.reg_text.specs.Grammar.{Said, row}
 use Rattle.reg_text.specs.Sections.{key, follows, most, is_room}
-use Rattle.reg_text.specs.Drafts.{DraftValue, items_said, account_count, block_closed, nothing_read, scope_of}
+use Rattle.reg_text.specs.Drafts.{DraftValue, items_said, part, account_count, block_closed, nothing_read, scope_of}
 use Rattle.reg_text.specs.Day.{DayValue, is_text_over, day_said}
 
 -- ---- one row
 
+-- the draft in which the rows with a tag say these
+abbrev pub saying : (t : Tag) → DraftValue → List (Said t) → DraftValue
+saying t d xs = (part t).with_items d xs
+
+-- the draft to which a row with a tag is added: before another account all blocks are over
+abbrev pub ready_for : Tag → DraftValue → DraftValue
+ready_for tag.Account d = block_closed d
+ready_for t d = d
+
 -- the draft with what a row says
 abbrev pub with : (t : Tag) → DraftValue → Said t → DraftValue
-with tag.Format d x = record d { last = Some tag.Format; versions = d.versions ++ x ∷ [] }
-with tag.Day d x = record d { last = Some tag.Day; days = d.days ++ x ∷ [] }
-with tag.Period d x = record d { last = Some tag.Period; periods = d.periods ++ x ∷ [] }
-with tag.Current d x = record d { last = Some tag.Current; current = d.current ++ x ∷ [] }
-with tag.Lags d x = record d { last = Some tag.Lags; lags = d.lags ++ x ∷ [] }
-with tag.Surrender d x = record d { last = Some tag.Surrender; surrender = d.surrender ++ x ∷ [] }
-with tag.Admin d x = record d { last = Some tag.Admin; admins = d.admins ++ x ∷ [] }
-with tag.Work d x = record d { last = Some tag.Work; work = d.work ++ x ∷ [] }
-with tag.Account d x = record (block_closed d) { last = Some tag.Account; head = Some x }
-with tag.Correction d x = record d { last = Some tag.Correction; lists = record d.lists { corrections = d.lists.corrections ++ x ∷ [] } }
-with tag.User d x = record d { last = Some tag.User; lists = record d.lists { users = d.lists.users ++ x ∷ [] } }
-with tag.Trusted d x = record d { last = Some tag.Trusted; lists = record d.lists { trusted = d.lists.trusted ++ x ∷ [] } }
-with tag.Retired d x = record d { last = Some tag.Retired; lists = record d.lists { rows = d.lists.rows ++ x ∷ [] } }
-with tag.Emissions d x = record d { last = Some tag.Emissions; lists = record d.lists { emissions = d.lists.emissions ++ x ∷ [] } }
-with tag.Figure d x = record d { last = Some tag.Figure; lists = record d.lists { figures = d.lists.figures ++ x ∷ [] } }
-with tag.Do d x = record d { last = Some tag.Do; instructions = d.instructions ++ x ∷ [] }
-with tag.End d x = record d { last = Some tag.End }
+with t d x = record (saying t (ready_for t d) (items_said t (ready_for t d) ++ x ∷ [])) { last = Some t }
 
 -- the next record number, once it is known
 abbrev pub next_in : List (ℕ × ℕ) → Option ℕ
@@ -126,9 +119,9 @@ abbrev pub IsFailure : {A : Type 0} → RowError → Result A Cause → Type 0
 IsFailure failure.NoMemory read = Unit {0}
 IsFailure (failure.Fault c) read = read ≡ Err c
 
-abbrev pub Takes : {X : Type 0} → DraftValue → Result X RowError → Result DraftValue Cause → Type 0
-Takes new (Ok x) read = read ≡ Ok new
-Takes new (Err e) read = IsFailure e read
+abbrev pub TakesRow : {X : Type 0} → DraftValue → Result X RowError → Result DraftValue Cause → Type 0
+TakesRow new (Ok x) read = read ≡ Ok new
+TakesRow new (Err e) read = IsFailure e read
 
 -- what a call that read rows answered is what they say, unless memory ran out
 abbrev pub AnswersFault : {Y : Type 0} → DayFault → Result Y (ℕ × Cause) → Type 0

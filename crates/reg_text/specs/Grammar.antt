@@ -1,9 +1,10 @@
--- The rows of a day text: of each tag what its row says, and its fields.
-use Rattle.std.specs.Prelude.{[], ◌∷◌, ℕ, Bool, true, false, not, is_ok, nat_le, ◌+◌, ◌==◌, if◌then◌else◌, Option, Some, None, Result}
-use Rattle.reg_base.specs.declared.limits.TheConstants.{MOST_EMISSIONS, MOST_HELD, MOST_RETIRED, MOST_LAG, MOST_RECORD, FIRST_YEAR, LAST_YEAR}
+-- The grammar of a day text: of each tag its word, its place, what its row says, its fields, its order, and how many there may be.
+use Rattle.std.specs.Prelude.{[], ◌∷◌, ℕ, Bool, true, false, not, is_ok, nat_le, ◌+◌, ◌==◌, if◌then◌else◌, List, Option, Some, None, Result, codes}
+use Rattle.reg_base.specs.declared.limits.TheConstants.{MOST_ADMINISTRATORS, MOST_EMISSIONS, MOST_HELD, MOST_INSTRUCTIONS, MOST_PERIODS, MOST_RETIRED, MOST_ROWS, MOST_TRUSTED, MOST_USERS, MOST_LAG, MOST_RECORD, FIRST_YEAR, LAST_YEAR}
 use Rattle.reg_base.specs.declared.kinds.AccountKind.{AccountKind}
 use Rattle.reg_base.specs.declared.kinds.AccountKind.TheVariants.{Total, Allocation, Operator, Aircraft, Trading}
 use Rattle.reg_base.specs.declared.kinds.AllowanceKind.{AllowanceKind}
+use Rattle.reg_base.specs.declared.kinds.AllowanceKind.TheVariants.{General, Aviation}
 use Rattle.reg_base.specs.declared.instruction.Instruction.{Instruction}
 use Rattle.reg_base.specs.declared.kinds.Retirement.{Retirement}
 use Rattle.reg_base.specs.declared.kinds.Retirement.TheVariants.{Surrendered, Deleted}
@@ -13,7 +14,7 @@ use Rattle.reg_account.specs.declared.trusted.TrustedEntry.{TrustedEntry}
 use Rattle.reg_account.specs.declared.rows.RetirementRow.{RetirementRow}
 use Rattle.reg_account.specs.declared.rows.Fate.{Fate}
 use Rattle.reg_account.specs.declared.rows.Fate.TheVariants as fate
-use Rattle.reg_account.specs.Rows.{retirement_of as retirement_in}
+use Rattle.reg_account.specs.Rows.{retirement_of}
 use Rattle.reg_account.specs.declared.years.Emission.{Emission}
 use Rattle.reg_account.specs.declared.years.Figure.{Figure}
 use Rattle.reg_text.specs.declared.cause.Cause.{Cause}
@@ -26,8 +27,7 @@ use Rattle.reg_text.specs.declared.reading.scope.Version.{Version}
 use Rattle.reg_text.specs.declared.reading.scope.Scope.{Scope}
 use Rattle.reg_text.specs.Scopes.{by_version, version_word, version_of, widest}
 use Rattle.reg_text.specs.Records.{Record}
-use Rattle.reg_text.specs.Words.{kind_word, kind_of, account_kind_word, account_kind_of, status_word, status_of, right_word, right_of, retirement_word, retirement_of, yes_no_word, yes_no_of}
-use Rattle.reg_text.specs.Tags.{tag_word}
+use Rattle.reg_text.specs.Words.{kind_word, kind_of, account_kind_word, account_kind_of, status_word, status_of, right_word, right_of, retirement_word, retirement_named, yes_no_word, yes_no_of}
 use Rattle.reg_text.specs.FieldTests.{when}
 use Rattle.reg_text.specs.Acts.{instruction_row}
 use Rattle.reg_text.specs.Codecs.{Codec, Fields, within_limits, a_no, a_period, factor, later_factor, a_figure, a_date, a_word, none, last, maybe, ◌▸◌, made, provided, Row, row_with}
@@ -129,14 +129,14 @@ abbrev pub retired_made : RetiredSaid → RetirementRow
 retired_made p = record { number = p.0; fate = fate_said p.1.0 p.1.1.1.1.1.1; kind = p.1.1.0; amount = p.1.1.1.0; day = p.1.1.1.1.0; reversed = p.1.1.1.1.1.0 }
 
 abbrev pub retired_parts : RetirementRow → RetiredSaid
-retired_parts r = (r.number, (retirement_in r.fate, (r.kind, (r.amount, (r.day, (r.reversed, period_said r.fate))))))
+retired_parts r = (r.number, (retirement_of r.fate, (r.kind, (r.amount, (r.day, (r.reversed, period_said r.fate))))))
 
 -- the period is one after the first, and the first version has no such field
 abbrev pub retired_period : Scope → Fields (Option ℕ)
 retired_period scope = maybe (by_version false true scope.version) (a_period 2 scope.periods)
 
 abbrev pub retired_said : Scope → Fields RetiredSaid
-retired_said scope = provided (λ p. may_name p.1.0 p.1.1.1.1.1.1) cause.Limit (a_record ▸ a_word retirement_word retirement_of ▸ a_word kind_word kind_of ▸ an_amount ▸ a_date ▸ yes_or_no ▸ retired_period scope)
+retired_said scope = provided (λ p. may_name p.1.0 p.1.1.1.1.1.1) cause.Limit (a_record ▸ a_word retirement_word retirement_named ▸ a_word kind_word kind_of ▸ an_amount ▸ a_date ▸ yes_or_no ▸ retired_period scope)
 
 abbrev pub retired_fields : Scope → Fields RetirementRow
 retired_fields scope = made retired_made retired_parts (retired_said scope)
@@ -149,47 +149,114 @@ emissions_fields = made (λ p. record { year = p.0; tonnes = p.1 }) (λ e. (e.ye
 abbrev pub figure_fields : Fields Figure
 figure_fields = made (λ p. record { year = p.0; tonnes = p.1 }) (λ f. (f.year, f.tonnes)) (a_year ▸ last a_figure)
 
+-- ---- the order of rows
+
+-- the numbers with which a row begins and ends
+pub record Key (X : Type 0) : Type 0 where
+  pub begins : X → ℕ
+  pub ends : X → ℕ
+
+abbrev pub by : {X : Type 0} → (X → ℕ) → Option (Key X)
+by number = Some (record { begins = number; ends = number })
+
+abbrev pub by_years : Option (Key (ℕ × ℕ))
+by_years = Some (record { begins = λ period. period.0; ends = λ period. period.1 })
+
+-- the place of a pair that may be surrendered
+abbrev pub pair_place : AccountKind × AllowanceKind → ℕ
+pair_place (Aircraft, General) = 2
+pair_place (Aircraft, Aviation) = 3
+pair_place (kind, General) = 0
+pair_place (kind, Aviation) = 1
+
+-- the same places in each version; no places, since the last row stands at 100
+abbrev pub between : ℕ → ℕ → Version → ℕ × ℕ
+between from to version = (from, to)
+
+abbrev pub nowhere : ℕ × ℕ
+nowhere = (101, 0)
+
 -- ---- all rows
+
+-- a row kind: its word, its place, between which places the row before it stands in a version, what a row says, its fields by what
+-- earlier rows decided, by what such rows rise, if they do, and how many there may be, if that is limited
+pub record RowKind : Type 1 where
+  pub word : List ℕ
+  pub place : ℕ
+  pub allowed : Version → ℕ × ℕ
+  pub Says : Type 0
+  pub fields : Scope → Row Says
+  pub key : Option (Key Says)
+  pub most : Option ℕ
+
+-- the grammar, a record each; places leave gaps for other tags, and 80 to 89 are those of an account's block, behind whose last row
+-- another block may begin. How many accounts there may be is asked of the draft (`has_room`)
+abbrev pub row_kind : Tag → RowKind
+row_kind tag.Format = record { word = codes "format"; place = 10; allowed = between 0 0; Says = Version; fields = λ scope. row_with (last a_version); key = None; most = None }
+row_kind tag.Day = record { word = codes "day"; place = 20; allowed = between 10 10; Says = ℕ × ℕ; fields = λ scope. row_with (a_date ▸ last a_next); key = None; most = None }
+row_kind tag.Period = record {
+  word = codes "period"; place = 30; allowed = by_version (20, 20) (20, 30);
+  Says = ℕ × ℕ; fields = λ scope. row_with period_fields; key = by_years; most = Some MOST_PERIODS
+}
+row_kind tag.Current = record {
+  word = codes "current"; place = 35; allowed = by_version nowhere (30, 30);
+  Says = ℕ; fields = λ scope. row_with (last (a_period 1 scope.periods)); key = None; most = None
+}
+row_kind tag.Lags = record { word = codes "lags"; place = 40; allowed = by_version (30, 30) (35, 35); Says = Lags; fields = λ scope. row_with lags_fields; key = None; most = None }
+row_kind tag.Surrender = record {
+  word = codes "surrender"; place = 50; allowed = between 40 50;
+  Says = AccountKind × AllowanceKind; fields = λ scope. row_with pair_fields; key = by pair_place; most = None
+}
+row_kind tag.Admin = record {
+  word = codes "admin"; place = 60; allowed = between 40 60;
+  Says = ℕ; fields = λ scope. row_with (last a_no); key = by (λ n. n); most = Some MOST_ADMINISTRATORS
+}
+row_kind tag.Work = record { word = codes "work"; place = 70; allowed = between 40 70; Says = ℕ; fields = λ scope. row_with (last a_date); key = by (λ day. day); most = None }
+row_kind tag.Account = record {
+  word = codes "account"; place = 80; allowed = between 40 89;
+  Says = AccountHead; fields = λ scope. row_with account_fields; key = by (λ h. h.number); most = None
+}
+row_kind tag.Correction = record {
+  word = codes "correction"; place = 81; allowed = by_version nowhere (80, 81);
+  Says = Correction; fields = λ scope. row_with (correction_fields scope.periods); key = by (λ c. c.period); most = None
+}
+row_kind tag.User = record {
+  word = codes "user"; place = 82; allowed = between 80 82;
+  Says = Representative; fields = λ scope. row_with user_fields; key = by (λ u. u.user); most = Some MOST_USERS
+}
+row_kind tag.Trusted = record {
+  word = codes "trusted"; place = 83; allowed = between 80 83;
+  Says = TrustedEntry; fields = λ scope. row_with trusted_fields; key = by (λ t. t.account); most = Some MOST_TRUSTED
+}
+row_kind tag.Retired = record {
+  word = codes "retired"; place = 84; allowed = between 80 84;
+  Says = RetirementRow; fields = λ scope. row_with (retired_fields scope); key = by (λ r. r.number); most = Some MOST_ROWS
+}
+row_kind tag.Emissions = record {
+  word = codes "emissions"; place = 85; allowed = between 80 85;
+  Says = Emission; fields = λ scope. row_with emissions_fields; key = by (λ e. e.year); most = None
+}
+row_kind tag.Figure = record {
+  word = codes "figure"; place = 86; allowed = between 80 86;
+  Says = Figure; fields = λ scope. row_with figure_fields; key = by (λ f. f.year); most = None
+}
+row_kind tag.Do = record {
+  word = codes "do"; place = 90; allowed = between 40 90;
+  Says = Instruction; fields = λ scope. instruction_row; key = None; most = Some MOST_INSTRUCTIONS
+}
+row_kind tag.End = record { word = codes "end"; place = 100; allowed = between 40 90; Says = Unit {0}; fields = λ scope. row_with none; key = None; most = None }
 
 -- what a row with a tag says
 abbrev pub Said : Tag → Type 0
-Said tag.Format = Version
-Said tag.Day = ℕ × ℕ
-Said tag.Period = ℕ × ℕ
-Said tag.Current = ℕ
-Said tag.Lags = Lags
-Said tag.Surrender = AccountKind × AllowanceKind
-Said tag.Admin = ℕ
-Said tag.Work = ℕ
-Said tag.Account = AccountHead
-Said tag.Correction = Correction
-Said tag.User = Representative
-Said tag.Trusted = TrustedEntry
-Said tag.Retired = RetirementRow
-Said tag.Emissions = Emission
-Said tag.Figure = Figure
-Said tag.Do = Instruction
-Said tag.End = Unit {0}
+Said t = (row_kind t).Says
 
 -- its fields, by what earlier rows decided
 abbrev pub row : Scope → (t : Tag) → Row (Said t)
-row scope tag.Format = row_with (last a_version)
-row scope tag.Day = row_with (a_date ▸ last a_next)
-row scope tag.Period = row_with period_fields
-row scope tag.Current = row_with (last (a_period 1 scope.periods))
-row scope tag.Lags = row_with lags_fields
-row scope tag.Surrender = row_with pair_fields
-row scope tag.Admin = row_with (last a_no)
-row scope tag.Work = row_with (last a_date)
-row scope tag.Account = row_with account_fields
-row scope tag.Correction = row_with (correction_fields scope.periods)
-row scope tag.User = row_with user_fields
-row scope tag.Trusted = row_with trusted_fields
-row scope tag.Retired = row_with (retired_fields scope)
-row scope tag.Emissions = row_with emissions_fields
-row scope tag.Figure = row_with figure_fields
-row scope tag.Do = instruction_row
-row scope tag.End = row_with none
+row scope t = (row_kind t).fields scope
+
+-- its word
+abbrev pub tag_word : Tag → List ℕ
+tag_word t = (row_kind t).word
 
 -- the row that says this, whatever earlier rows decided
 abbrev pub row_text : (t : Tag) → Said t → Record

@@ -1,11 +1,6 @@
 -- Sections: the rows of one tag one after another, or whole blocks of accounts; their order, and how many there may be.
 use Rattle.std.specs.Prelude.{ℕ, Bool, true, ◌≤◌, nat_lt, List, [], ◌∷◌, ◌++◌, map, length, Option, option_map, Some, None}
 use Rattle.std.specs.List.{AllByRecursion, flat_map}
-use Rattle.reg_base.specs.declared.limits.TheConstants.{MOST_ADMINISTRATORS, MOST_INSTRUCTIONS, MOST_PERIODS, MOST_USERS, MOST_TRUSTED, MOST_ROWS}
-use Rattle.reg_base.specs.declared.kinds.AccountKind.{AccountKind}
-use Rattle.reg_base.specs.declared.kinds.AccountKind.TheVariants.{Aircraft}
-use Rattle.reg_base.specs.declared.kinds.AllowanceKind.{AllowanceKind}
-use Rattle.reg_base.specs.declared.kinds.AllowanceKind.TheVariants.{General, Aviation}
 use Rattle.reg_base.specs.Rising.{AreAbove}
 use Rattle.reg_account.specs.Account.{AccountValue, IsAccount}
 use Rattle.reg_account.specs.declared.rows.Fate.{Fate}
@@ -17,7 +12,8 @@ use Rattle.reg_text.specs.declared.reading.tag.Tag.TheVariants as tag
 use Rattle.reg_text.specs.Records.{Record}
 use Rattle.reg_text.specs.Lasts.{is_above}
 use Rattle.reg_text.specs.declared.reading.scope.Scope.{Scope}
-use Rattle.reg_text.specs.Grammar.{Said, row, row_text}
+use Rattle.reg_text.specs.Tags.{list_tags}
+use Rattle.reg_text.specs.Grammar.{Key, Said, row, row_kind, row_text}
 
 -- ---- an account's block
 
@@ -37,9 +33,28 @@ account_with l h = record { number = h.number; kind = h.kind; holder = h.holder;
 abbrev pub each_row : (t : Tag) → List (Said t) → List Record
 each_row t xs = flat_map (λ x. row_text t x ∷ []) xs
 
+-- a part of a value: the items in it, and the value with these items in their place
+pub record Part (W X : Type 0) : Type 0 where
+  pub items : W → List X
+  pub with_items : W → List X → W
+
+-- where the lists of an account have what rows with a tag say
+abbrev pub list_part : (t : Tag) → Part ListsValue (Said t)
+list_part tag.Correction = record { items = λ l. l.corrections; with_items = λ l xs. record l { corrections = xs } }
+list_part tag.User = record { items = λ l. l.users; with_items = λ l xs. record l { users = xs } }
+list_part tag.Trusted = record { items = λ l. l.trusted; with_items = λ l xs. record l { trusted = xs } }
+list_part tag.Retired = record { items = λ l. l.rows; with_items = λ l xs. record l { rows = xs } }
+list_part tag.Emissions = record { items = λ l. l.emissions; with_items = λ l xs. record l { emissions = xs } }
+list_part tag.Figure = record { items = λ l. l.figures; with_items = λ l xs. record l { figures = xs } }
+list_part t = record { items = λ l. []; with_items = λ l xs. l }
+
+-- what the rows of these lists with a tag say
+abbrev pub list_items : (t : Tag) → ListsValue → List (Said t)
+list_items t l = (list_part t).items l
+
 -- the rows of an account: its own, and then those of its lists
 abbrev pub account_block : AccountValue → List Record
-account_block a = row_text tag.Account (account_head a) ∷ each_row tag.Correction a.corrections ++ (each_row tag.User a.users ++ (each_row tag.Trusted a.trusted ++ (each_row tag.Retired a.rows ++ (each_row tag.Emissions a.emissions ++ each_row tag.Figure a.figures))))
+account_block a = row_text tag.Account (account_head a) ∷ flat_map (λ t. each_row t (list_items t (lists_of a))) list_tags
 
 -- ---- sections
 
@@ -66,35 +81,9 @@ all_rows (s ∷ ss) = section_rows s ++ all_rows ss
 
 -- ---- the order within a section
 
--- the place of a pair that may be surrendered
-abbrev pub pair_place : AccountKind × AllowanceKind → ℕ
-pair_place (Aircraft, General) = 2
-pair_place (Aircraft, Aviation) = 3
-pair_place (kind, General) = 0
-pair_place (kind, Aviation) = 1
-
--- the numbers with which a row of a section begins and ends
-pub record Key (X : Type 0) : Type 0 where
-  pub begins : X → ℕ
-  pub ends : X → ℕ
-
-abbrev pub by : {X : Type 0} → (X → ℕ) → Option (Key X)
-by number = Some (record { begins = number; ends = number })
-
 -- by what the rows of a section rise, if they do
 abbrev pub key : (t : Tag) → Option (Key (Said t))
-key tag.Period = Some (record { begins = λ period. period.0; ends = λ period. period.1 })
-key tag.Surrender = by pair_place
-key tag.Admin = by (λ n. n)
-key tag.Work = by (λ day. day)
-key tag.Account = by (λ h. h.number)
-key tag.Correction = by (λ c. c.period)
-key tag.User = by (λ u. u.user)
-key tag.Trusted = by (λ t. t.account)
-key tag.Retired = by (λ r. r.number)
-key tag.Emissions = by (λ e. e.year)
-key tag.Figure = by (λ f. f.year)
-key t = None
+key t = (row_kind t).key
 
 -- it begins after the end of the one before it, if there is one
 abbrev pub follows : {X : Type 0} → Option (Key X) → Option X → X → Bool
@@ -108,15 +97,9 @@ IsOrdered (Some k) xs = AreAbove (map k.ends xs) (map k.begins xs)
 
 -- ---- the length of a section
 
--- how many rows a section may have, if that is limited; how many accounts there may be is asked of the draft (`has_room`)
+-- how many rows a section may have, if that is limited
 abbrev pub most : Tag → Option ℕ
-most tag.Period = Some MOST_PERIODS
-most tag.Admin = Some MOST_ADMINISTRATORS
-most tag.User = Some MOST_USERS
-most tag.Trusted = Some MOST_TRUSTED
-most tag.Retired = Some MOST_ROWS
-most tag.Do = Some MOST_INSTRUCTIONS
-most t = None
+most t = (row_kind t).most
 
 abbrev pub is_room : Option ℕ → ℕ → Bool
 is_room None count = true

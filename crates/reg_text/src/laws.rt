@@ -14,10 +14,10 @@ ghost use Rattle.reg_account.specs.Years.{FigureFits};
 ghost use Rattle.reg_text.specs.declared.cause.Cause.{Cause};
 ghost use Rattle.reg_text.specs.declared.cause.Cause.TheVariants as cause;
 ghost use Rattle.reg_text.specs.Numbers.{number, plain_number_of};
-ghost use Rattle.reg_text.specs.Signed.{signed, correction_of, signed_figure_of};
+ghost use Rattle.reg_text.specs.Signed.{signed, signed_correction_of, signed_figure_of};
 ghost use Rattle.reg_text.specs.Dates.{date, date_of};
 ghost use Rattle.reg_text.specs.Limits.{bounded_of};
-ghost use Rattle.reg_text.specs.Words.{kind_word, kind_of, account_kind_word, account_kind_of, status_word, status_of, right_word, right_of, retirement_word, retirement_of, yes_no_word, yes_no_of};
+ghost use Rattle.reg_text.specs.Words.{kind_word, kind_of, account_kind_word, account_kind_of, status_word, status_of, right_word, right_of, retirement_word, retirement_named, yes_no_word, yes_no_of};
 ghost use Rattle.reg_text.specs.Records.{Record};
 ghost use Rattle.reg_text.specs.Day.{DayValue};
 ghost use Rattle.reg_text.specs.Reading.{IsReading, IsFirstFaulty};
@@ -35,7 +35,7 @@ pub fn one_spelling_of_a_number()
 /// A field is read as a correction factor exactly if it is the one spelling of that number and the number is within
 /// the limits of a correction factor.
 pub fn one_spelling_of_a_correction()
-    ensures { (f : List ℕ) (z : ℤ) → (correction_of f ≡ Ok z) ↔ ((f ≡ signed z) × CorrectionFits z) }
+    ensures { (f : List ℕ) (z : ℤ) → (signed_correction_of f ≡ Ok z) ↔ ((f ≡ signed z) × CorrectionFits z) }
 {}
 
 /// A field is read as a determined figure exactly if it is the one spelling of that number and the number is within
@@ -62,7 +62,7 @@ pub fn one_word_of_each_value()
     ensures account_kinds { (f : List ℕ) (k : AccountKind) → (account_kind_of f ≡ Ok k) ↔ (f ≡ account_kind_word k) }
     ensures statuses { (f : List ℕ) (s : Status) → (status_of f ≡ Ok s) ↔ (f ≡ status_word s) }
     ensures rights { (f : List ℕ) (r : Right) → (right_of f ≡ Ok r) ↔ (f ≡ right_word r) }
-    ensures retirements { (f : List ℕ) (w : Retirement) → (retirement_of f ≡ Ok w) ↔ (f ≡ retirement_word w) }
+    ensures retirements { (f : List ℕ) (w : Retirement) → (retirement_named f ≡ Ok w) ↔ (f ≡ retirement_word w) }
     ensures yes_or_no { (f : List ℕ) (b : Bool) → (yes_no_of f ≡ Ok b) ↔ (f ≡ yes_no_word b) }
 {}
 
@@ -94,7 +94,7 @@ pub fn names_the_first_cause()
 /// the cause says which.
 pub fn tells_other_texts_from_limits()
     ensures numbers { (low high : ℕ) → TellsFromLimit (bounded_of low high) cause.Number IsNumberText }
-    ensures corrections { TellsFromLimit correction_of cause.Number IsSignedText }
+    ensures corrections { TellsFromLimit signed_correction_of cause.Number IsSignedText }
     ensures figures { TellsFromLimit signed_figure_of cause.Number IsSignedText }
     ensures dates { TellsFromLimit date_of cause.Date IsDateText }
 {}

@@ -12,6 +12,12 @@ use reg_base::NoMemory;
 use reg_tasks::{Naming, Task};
 use std::alloc::Global;
 use std::sync::Wait;
+use std::thread::Parker;
+use std::time::Duration;
+
+// How long a worker sleeps that has found nothing for a while, in microseconds. An instruction takes about one, and to fall
+// asleep and to wake up takes some five. The system may add 50 of its own.
+const NAP: u64 = 50;
 
 /// What a worker leaves: it has seen that all is done, or that the workers are to leave.
 #[derive(Drop)]
@@ -78,6 +84,16 @@ fn step<N: Naming, B: Room, R: Wait, G: Gate>(
     Ok(true)
 }
 
+// Lets a worker wait that has found nothing. It spins at first, then it lets others have the processor, and if that has not
+// helped it sleeps for a while: nobody wakes it.
+fn pause<R: Wait>(rt: &R, backoff: &Backoff) {
+    if backoff.is_completed() {
+        Parker::new().park_timeout(rt, Duration::from_micros(NAP));
+    } else {
+        backoff.snooze();
+    }
+}
+
 /// Runs tasks until all are done, or the workers are to leave. If memory runs out, it tells all workers to leave.
 pub(crate) fn work<N: Naming, B: Room, R: Wait, G: Gate>(
     rt: &R,
@@ -98,7 +114,7 @@ pub(crate) fn work<N: Naming, B: Room, R: Wait, G: Gate>(
                 if post.is_over(board) {
                     return Stint { worker, post };
                 }
-                backoff.snooze();
+                pause(rt, &backoff);
             }
             Err(_) => {
                 post.stop(board);

@@ -10,7 +10,7 @@ use Rattle.reg_tasks.specs.declared.naming.Naming.{Ghosts}
 use Rattle.reg_tasks.specs.declared.parcel.Parcel.{Parcel}
 use Rattle.reg_tasks.specs.Parcels.{parcels_of}
 use Rattle.reg_yard.specs.Parcels.{parcel_of}
-use Rattle.reg_yard.specs.Held.{AreFew}
+use Rattle.reg_yard.specs.Held.{FitInDock}
 
 -- the names of which a parcel came, after one more
 came-more : (came : List ParcelValue) (p : ParcelValue) (n : ℕ × ℕ) → not (is_some (of_name (came ++ p ∷ []) n)) ≡ (not (is_some (of_name came n)) && not (is_name (name_of p) n))
@@ -53,7 +53,7 @@ module _ (day : Day) (plan : PlanValue) (place : ℕ) where
       by false f = absurd cc
 
   -- one parcel more
-  pub few-more : (came : List ParcelValue) (p : ParcelValue) → AreFew day plan place came → is_not_awaited day plan place came p ≡ false → AreFew day plan place (came ++ p ∷ [])
+  pub few-more : (came : List ParcelValue) (p : ParcelValue) → FitInDock day plan place came → is_not_awaited day plan place came p ≡ false → FitInDock day plan place (came ++ p ∷ [])
   few-more came p few e =
       let less : length (still_awaited day plan place (came ++ p ∷ [])) < length (still_awaited day plan place came) =
       (fewer-of (λ n. not (is_some (of_name came n))) (λ n. not (is_some (of_name (came ++ p ∷ []) n))) (is_name (name_of p)) (came-more came p) (awaited day plan place)).1 (wanted came p e) in

@@ -13,7 +13,7 @@ use Rattle.reg_book.specs.Day.{Day}
 use Rattle.reg_schedules.specs.Pool.{footprint_at, tail_in}
 use Rattle.reg_schedules.specs.Docks.{ParcelValue, is_name, names_needed, awaited, of_name, still_awaited}
 use Rattle.reg_schedules.proofs.Needed.{length_needed}
-use Rattle.reg_yard.specs.Held.{AreFew}
+use Rattle.reg_yard.specs.Held.{FitInDock}
 
 flip : (m n : ℕ) → eqb m n ≡ eqb n m
 flip m n = dite (ℕ_discrete m n)
@@ -77,6 +77,6 @@ still-any came n (x ∷ more) =
     same e = let parts = both-parts (eqb n.0 x.0) (eqb n.1 x.1) e in λ i. (eqb-true n.0 x.0 parts.0 i, eqb-true n.1 x.1 parts.1 i)
 
 -- as many are awaited at most as the place touches accounts, if nothing came
-pub none-few : (day : Day) (plan : PlanValue) (place : ℕ) → AreFew day plan place []
+pub none-few : (day : Day) (plan : PlanValue) (place : ℕ) → FitInDock day plan place []
 none-few day plan place =
     omega (arith, length-filter_both (λ n. not (is_some (of_name [] n))) (λ n. not (not (is_some (of_name [] n)))) (λ n. refl) (awaited day plan place), length_needed (inward plan.arrows place) (footprint_at day place))

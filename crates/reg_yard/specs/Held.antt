@@ -39,8 +39,8 @@ abbrev pub IsTaken : Option ℕ → ParcelValue → Option TaskValue → Type 0
 IsTaken goes p task = (day : Day) × (plan : PlanValue) × (place : ℕ) × (before : Option (List ParcelValue)) × (after : Option (List ParcelValue)) × (goes ≡ Some place) × Takes day plan place before p after task
 
 -- those that came and those that are still awaited are no more than the accounts that the place's instruction touches
-abbrev pub AreFew : Day → PlanValue → ℕ → List ParcelValue → Type 0
-AreFew day plan place came = length came + length (still_awaited day plan place came) ≤ length (footprint_at day place)
+abbrev pub FitInDock : Day → PlanValue → ℕ → List ParcelValue → Type 0
+FitInDock day plan place came = length came + length (still_awaited day plan place came) ≤ length (footprint_at day place)
 
 module _ {N : Type 0} {b : Ghosts N} where
   -- the parcels that wait, if any do
@@ -49,7 +49,7 @@ module _ {N : Type 0} {b : Ghosts N} where
 
   -- if parcels wait, they are that few
   abbrev pub FewWait : Day → PlanValue → ℕ → Option (Vec (Parcel N b) Global) → Type 0
-  FewWait day plan place waiting = (parcels : Vec (Parcel N b) Global) → waiting ≡ Some parcels → AreFew day plan place (parcels_of parcels.items)
+  FewWait day plan place waiting = (parcels : Vec (Parcel N b) Global) → waiting ≡ Some parcels → FitInDock day plan place (parcels_of parcels.items)
 
   -- if parcels wait, there is room for one of each account that the place's instruction touches
   abbrev pub HaveRoom : Day → ℕ → Option (Vec (Parcel N b) Global) → Type 0

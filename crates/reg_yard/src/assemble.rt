@@ -6,7 +6,7 @@ ghost use Rattle.reg_schedules.specs.Pool.{footprint_at};
 ghost use Rattle.reg_tasks.specs.Contexts.{the_day};
 ghost use Rattle.reg_tasks.specs.Parcels.{parcels_of};
 ghost use Rattle.reg_tasks.specs.Tasks.{task_of};
-ghost use Rattle.reg_yard.specs.Held.{left_at, waiting_of, AreFew, FewWait, HaveRoom};
+ghost use Rattle.reg_yard.specs.Held.{left_at, waiting_of, FitInDock, FewWait, HaveRoom};
 
 use reg_tasks::{Context, Naming, Parcel, Task};
 
@@ -18,7 +18,7 @@ pub(crate) fn try_assemble<N: Naming>(
 ) -> (Option<Vec<Parcel<N>>>, Option<Task<N>>)
     requires from_one { 1 ≤ place }
     requires within { place ≤ length context.now.batch.now.instructions }
-    requires few { AreFew (the_day context.now) context.now.plan place (parcels_of parcels.items) }
+    requires few { FitInDock (the_day context.now) context.now.plan place (parcels_of parcels.items) }
     requires room { vec_capacity parcels ≡ length (footprint_at (the_day context.now) place) }
     ensures left { (waiting_of result.0, option_map task_of result.1) ≡ left_at (the_day context.now) context.now.plan place (parcels_of parcels.items) }
     ensures few { FewWait (the_day context.now) context.now.plan place result.0 }

@@ -4,8 +4,8 @@ ghost use Rattle.std.specs.Prelude.{◌≡◌};
 ghost use Rattle.csv.specs.Records.{fields_of};
 ghost use Rattle.reg_text.specs.declared.reading.tag.Tag.TheVariants as tag;
 ghost use Rattle.reg_text.specs.Scopes.{widest};
-ghost use Rattle.reg_text.specs.Grammar.{row_read, is_surrender_kind as source};
-ghost use Rattle.reg_text.specs.Sections.{pair_place as place, by, follows};
+ghost use Rattle.reg_text.specs.Grammar.{row_read, is_surrender_kind as source, pair_place as place, by};
+ghost use Rattle.reg_text.specs.Sections.{follows};
 
 use crate::cause::Cause;
 use crate::fields::dates::read_date;

@@ -4,7 +4,8 @@ ghost use Rattle.std.specs.Prelude.{◌≡◌};
 ghost use Rattle.reg_text.specs.declared.cause.Cause.TheVariants as cause;
 ghost use Rattle.reg_text.specs.Words.{named};
 ghost use Rattle.reg_text.specs.declared.reading.scope.Version.TheVariants.{One, Two};
-ghost use Rattle.reg_text.specs.Tags.{all_tags, tag_word, tag_place, rule, place, tag_after};
+ghost use Rattle.reg_text.specs.Grammar.{tag_word};
+ghost use Rattle.reg_text.specs.Tags.{all_tags, tag_place, rule, place, tag_after};
 
 use crate::cause::Cause;
 use crate::fields::words::{Word, is_word, read_named};
@@ -49,29 +50,29 @@ pub enum Tag {
     End,
 }
 
-// The table of tags, frequent ones first: of each its place among the rows of a text, the lowest and the highest place of
-// the row before it in the first version and then in the second (101 and 0 if there is no such row), and its word. The macro
-// that is named first makes something of it. Places leave gaps for other tags. Those of an account's block are 80 to 89,
-// and another block may begin behind each of its rows.
+// The table of tags: of each its place among the rows of a text, the lowest and the highest place of the row before it in
+// the first version and then in the second (101 and 0 if there is no such row), and its word. The macro that is named
+// first makes something of it. Places leave gaps for other tags. Those of an account's block are 80 to 89, and another
+// block may begin behind each of its rows.
 macro_rules! tags {
     ($make:ident $($of:tt)?) => {
         $make! { [$($of)?]
+            Format 10 (0 0) (0 0) b"format",
+            Day 20 (10 10) (10 10) b"day",
+            Period 30 (20 20) (20 30) b"period",
+            Current 35 (101 0) (30 30) b"current",
+            Lags 40 (30 30) (35 35) b"lags",
+            Surrender 50 (40 50) (40 50) b"surrender",
+            Admin 60 (40 60) (40 60) b"admin",
+            Work 70 (40 70) (40 70) b"work",
             Account 80 (40 89) (40 89) b"account",
+            Correction 81 (101 0) (80 81) b"correction",
             User 82 (80 82) (80 82) b"user",
             Trusted 83 (80 83) (80 83) b"trusted",
             Retired 84 (80 84) (80 84) b"retired",
             Emissions 85 (80 85) (80 85) b"emissions",
             Figure 86 (80 86) (80 86) b"figure",
             Do 90 (40 90) (40 90) b"do",
-            Correction 81 (101 0) (80 81) b"correction",
-            Work 70 (40 70) (40 70) b"work",
-            Admin 60 (40 60) (40 60) b"admin",
-            Surrender 50 (40 50) (40 50) b"surrender",
-            Format 10 (0 0) (0 0) b"format",
-            Day 20 (10 10) (10 10) b"day",
-            Period 30 (20 20) (20 30) b"period",
-            Current 35 (101 0) (30 30) b"current",
-            Lags 40 (30 30) (35 35) b"lags",
             End 100 (40 90) (40 90) b"end",
         }
     };
@@ -116,7 +117,8 @@ macro_rules! second_rules {
 }
 
 impl Word for Tag {
-    ghost use Rattle.reg_text.specs.Tags.{tag_word, all_tags};
+    ghost use Rattle.reg_text.specs.Grammar.{tag_word};
+    ghost use Rattle.reg_text.specs.Tags.{all_tags};
 
     ghost spelling = { tag_word };
 

@@ -10,7 +10,7 @@ ghost use Rattle.reg_text.specs.Lasts.{as_list, last_item};
 ghost use Rattle.reg_text.specs.Sections.{key, follows};
 ghost use Rattle.reg_text.specs.Drafts.{draft_of, block_closed};
 ghost use Rattle.reg_text.specs.DraftLimits.{FitsSoFar, IsDraft};
-ghost use Rattle.reg_text.specs.Faults.{Takes, placed, next_in, is_recorded, is_sum_left, is_number_left, has_row_room, with_row, next_draft};
+ghost use Rattle.reg_text.specs.Faults.{TakesRow, placed, next_in, is_recorded, is_sum_left, is_number_left, has_row_room, with_row, next_draft};
 ghost use Rattle.reg_text.specs.declared.reading.tag.Tag.TheVariants as tag;
 
 use crate::cause::{Cause, RowError};
@@ -39,7 +39,7 @@ use std::alloc::Global;
 #[tactic(auto, unfolding(crate::specs::Faults::with_row))]
 fn take_format(draft: &mut Draft, row: &ByteRecord) -> Result<(), RowError>
     requires { (draft_of draft.old).versions ≡ [] }
-    ensures { Takes (draft_of draft.new) result (with_row tag.Format (draft_of draft.old) (fields_of row.now)) }
+    ensures { TakesRow (draft_of draft.new) result (with_row tag.Format (draft_of draft.old) (fields_of row.now)) }
 {
     let version = read_format_row(row)?;
     draft.version = Some(version);
@@ -52,7 +52,7 @@ fn take_day(alloc: Global, draft: &mut Draft, row: &ByteRecord) -> Result<(), Ro
     requires none { (draft_of draft.old).days ≡ [] }
     requires no_accounts { (draft_of draft.old).accounts ≡ [] }
     requires unopened { draft.old.head ≡ None }
-    ensures { Takes (draft_of draft.new) result (with_row tag.Day (draft_of draft.old) (fields_of row.now)) }
+    ensures { TakesRow (draft_of draft.new) result (with_row tag.Day (draft_of draft.old) (fields_of row.now)) }
 {
     let (day, next) = read_day_row(row)?;
     draft.book = BookDraft::new(alloc, next);
@@ -63,7 +63,7 @@ fn take_day(alloc: Global, draft: &mut Draft, row: &ByteRecord) -> Result<(), Ro
 
 #[tactic(auto, unfolding(crate::specs::Faults::with_row))]
 fn take_period(draft: &mut Draft, row: &ByteRecord) -> Result<(), RowError>
-    ensures { Takes (draft_of draft.new) result (with_row tag.Period (draft_of draft.old) (fields_of row.now)) }
+    ensures { TakesRow (draft_of draft.new) result (with_row tag.Period (draft_of draft.old) (fields_of row.now)) }
 {
     let period = read_period_row(row)?;
     if let Some(before) = draft.periods.last().copied() {
@@ -82,7 +82,7 @@ fn take_period(draft: &mut Draft, row: &ByteRecord) -> Result<(), RowError>
 #[tactic(auto, unfolding(crate::specs::Faults::with_row))]
 fn take_current(draft: &mut Draft, row: &ByteRecord) -> Result<(), RowError>
     requires { (draft_of draft.old).current ≡ [] }
-    ensures { Takes (draft_of draft.new) result (with_row tag.Current (draft_of draft.old) (fields_of row.now)) }
+    ensures { TakesRow (draft_of draft.new) result (with_row tag.Current (draft_of draft.old) (fields_of row.now)) }
 {
     let current = read_current_row(draft.scope(), row)?;
     draft.current = Some(current);
@@ -93,7 +93,7 @@ fn take_current(draft: &mut Draft, row: &ByteRecord) -> Result<(), RowError>
 #[tactic(auto, unfolding(crate::specs::Faults::with_row))]
 fn take_lags(draft: &mut Draft, row: &ByteRecord) -> Result<(), RowError>
     requires { (draft_of draft.old).lags ≡ [] }
-    ensures { Takes (draft_of draft.new) result (with_row tag.Lags (draft_of draft.old) (fields_of row.now)) }
+    ensures { TakesRow (draft_of draft.new) result (with_row tag.Lags (draft_of draft.old) (fields_of row.now)) }
 {
     let lags = read_lags_row(row)?;
     draft.lags = Some(lags);
@@ -103,7 +103,7 @@ fn take_lags(draft: &mut Draft, row: &ByteRecord) -> Result<(), RowError>
 
 #[tactic(auto, unfolding(crate::specs::Faults::with_row))]
 fn take_surrender(draft: &mut Draft, row: &ByteRecord) -> Result<(), RowError>
-    ensures { Takes (draft_of draft.new) result (with_row tag.Surrender (draft_of draft.old) (fields_of row.now)) }
+    ensures { TakesRow (draft_of draft.new) result (with_row tag.Surrender (draft_of draft.old) (fields_of row.now)) }
 {
     let pair = read_surrender_row(row)?;
     if !comes_after(draft.surrender.last().copied(), pair) {
@@ -116,7 +116,7 @@ fn take_surrender(draft: &mut Draft, row: &ByteRecord) -> Result<(), RowError>
 
 #[tactic(auto, unfolding(crate::specs::Faults::with_row))]
 fn take_admin(draft: &mut Draft, row: &ByteRecord) -> Result<(), RowError>
-    ensures { Takes (draft_of draft.new) result (with_row tag.Admin (draft_of draft.old) (fields_of row.now)) }
+    ensures { TakesRow (draft_of draft.new) result (with_row tag.Admin (draft_of draft.old) (fields_of row.now)) }
 {
     let admin = read_admin_row(row)?;
     if let Some(before) = draft.admins.last().copied() {
@@ -134,7 +134,7 @@ fn take_admin(draft: &mut Draft, row: &ByteRecord) -> Result<(), RowError>
 
 #[tactic(auto, unfolding(crate::specs::Faults::with_row))]
 fn take_work(draft: &mut Draft, row: &ByteRecord) -> Result<(), RowError>
-    ensures { Takes (draft_of draft.new) result (with_row tag.Work (draft_of draft.old) (fields_of row.now)) }
+    ensures { TakesRow (draft_of draft.new) result (with_row tag.Work (draft_of draft.old) (fields_of row.now)) }
 {
     let day = read_work_row(row)?;
     if let Some(before) = draft.work.last().copied() {
@@ -183,7 +183,7 @@ pub(crate) fn close_account(draft: &mut Draft) -> Result<(), NoMemory>
 #[tactic(auto, unfolding(crate::specs::Faults::with_row))]
 fn take_account(draft: &mut Draft, row: &ByteRecord) -> Result<(), RowError>
     requires { IsDraft (draft_of draft.old) }
-    ensures { Takes (draft_of draft.new) result (with_row tag.Account (draft_of draft.old) (fields_of row.now)) }
+    ensures { TakesRow (draft_of draft.new) result (with_row tag.Account (draft_of draft.old) (fields_of row.now)) }
 {
     let head = read_account_row(row)?;
     if let Some(before) = draft.head {
@@ -203,7 +203,7 @@ fn take_account(draft: &mut Draft, row: &ByteRecord) -> Result<(), RowError>
 
 #[tactic(auto, unfolding(crate::specs::Faults::with_row))]
 fn take_correction(draft: &mut Draft, row: &ByteRecord) -> Result<(), RowError>
-    ensures { Takes (draft_of draft.new) result (with_row tag.Correction (draft_of draft.old) (fields_of row.now)) }
+    ensures { TakesRow (draft_of draft.new) result (with_row tag.Correction (draft_of draft.old) (fields_of row.now)) }
 {
     let correction = read_correction_row(draft.scope(), row)?;
     if let Some(before) = draft.lists.corrections().last().copied() {
@@ -218,7 +218,7 @@ fn take_correction(draft: &mut Draft, row: &ByteRecord) -> Result<(), RowError>
 
 #[tactic(auto, unfolding(crate::specs::Faults::with_row))]
 fn take_user(draft: &mut Draft, row: &ByteRecord) -> Result<(), RowError>
-    ensures { Takes (draft_of draft.new) result (with_row tag.User (draft_of draft.old) (fields_of row.now)) }
+    ensures { TakesRow (draft_of draft.new) result (with_row tag.User (draft_of draft.old) (fields_of row.now)) }
 {
     let representative = read_representative_row(row)?;
     if let Some(before) = draft.lists.users().last().copied() {
@@ -236,7 +236,7 @@ fn take_user(draft: &mut Draft, row: &ByteRecord) -> Result<(), RowError>
 
 #[tactic(auto, unfolding(crate::specs::Faults::with_row))]
 fn take_trusted(draft: &mut Draft, row: &ByteRecord) -> Result<(), RowError>
-    ensures { Takes (draft_of draft.new) result (with_row tag.Trusted (draft_of draft.old) (fields_of row.now)) }
+    ensures { TakesRow (draft_of draft.new) result (with_row tag.Trusted (draft_of draft.old) (fields_of row.now)) }
 {
     let entry = read_trusted_row(row)?;
     if let Some(before) = draft.lists.trusted().last().copied() {
@@ -319,7 +319,7 @@ fn check_row(lists: &Lists, day: Option<(Day, u64)>, row: &RetirementRow) -> Res
 
 fn take_retired(draft: &mut Draft, row: &ByteRecord) -> Result<(), RowError>
     requires { IsDraft (draft_of draft.old) }
-    ensures { Takes (draft_of draft.new) result (with_row tag.Retired (draft_of draft.old) (fields_of row.now)) }
+    ensures { TakesRow (draft_of draft.new) result (with_row tag.Retired (draft_of draft.old) (fields_of row.now)) }
 {
     let retired = read_retired_row(draft.scope(), row)?;
     check_row(&draft.lists, draft.day, &retired)?;
@@ -330,7 +330,7 @@ fn take_retired(draft: &mut Draft, row: &ByteRecord) -> Result<(), RowError>
 
 #[tactic(auto, unfolding(crate::specs::Faults::with_row))]
 fn take_emissions(draft: &mut Draft, row: &ByteRecord) -> Result<(), RowError>
-    ensures { Takes (draft_of draft.new) result (with_row tag.Emissions (draft_of draft.old) (fields_of row.now)) }
+    ensures { TakesRow (draft_of draft.new) result (with_row tag.Emissions (draft_of draft.old) (fields_of row.now)) }
 {
     let emission = read_emissions_row(row)?;
     if let Some(before) = draft.lists.emissions().last().copied() {
@@ -345,7 +345,7 @@ fn take_emissions(draft: &mut Draft, row: &ByteRecord) -> Result<(), RowError>
 
 #[tactic(auto, unfolding(crate::specs::Faults::with_row))]
 fn take_figure(draft: &mut Draft, row: &ByteRecord) -> Result<(), RowError>
-    ensures { Takes (draft_of draft.new) result (with_row tag.Figure (draft_of draft.old) (fields_of row.now)) }
+    ensures { TakesRow (draft_of draft.new) result (with_row tag.Figure (draft_of draft.old) (fields_of row.now)) }
 {
     let figure = read_figure_row(row)?;
     if let Some(before) = draft.lists.figures().last().copied() {
@@ -378,7 +378,7 @@ fn has_number(day: Option<(Day, u64)>, count: usize) -> bool
 
 #[tactic(auto, unfolding(crate::specs::Faults::with_row))]
 fn take_instruction(draft: &mut Draft, row: &ByteRecord) -> Result<(), RowError>
-    ensures { Takes (draft_of draft.new) result (with_row tag.Do (draft_of draft.old) (fields_of row.now)) }
+    ensures { TakesRow (draft_of draft.new) result (with_row tag.Do (draft_of draft.old) (fields_of row.now)) }
 {
     let Instruction {
         proposed,
@@ -401,7 +401,7 @@ fn take_instruction(draft: &mut Draft, row: &ByteRecord) -> Result<(), RowError>
 
 #[tactic(auto, unfolding(crate::specs::Faults::with_row))]
 fn take_end(draft: &mut Draft, row: &ByteRecord) -> Result<(), RowError>
-    ensures { Takes (draft_of draft.new) result (with_row tag.End (draft_of draft.old) (fields_of row.now)) }
+    ensures { TakesRow (draft_of draft.new) result (with_row tag.End (draft_of draft.old) (fields_of row.now)) }
 {
     if !has_fields(row, 1) {
         return Err(RowError::Fault(Cause::Fields));
@@ -413,7 +413,7 @@ fn take_end(draft: &mut Draft, row: &ByteRecord) -> Result<(), RowError>
 /// Adds what a row says, or answers the first cause that applies to it.
 pub(crate) fn take_row(alloc: Global, draft: &mut Draft, row: &ByteRecord) -> Result<(), RowError>
     requires { IsDraft (draft_of draft.old) }
-    ensures { Takes (draft_of draft.new) result (next_draft (draft_of draft.old) (fields_of row.now)) }
+    ensures { TakesRow (draft_of draft.new) result (next_draft (draft_of draft.old) (fields_of row.now)) }
 {
     if draft.last == Some(Tag::End) {
         return Err(RowError::Fault(Cause::End));

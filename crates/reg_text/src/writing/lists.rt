@@ -35,10 +35,11 @@ impl Tagged for Correction {
 }
 
 impl Rows for Correction {
-    ghost use Rattle.std.specs.Prelude.{[], ◌∷◌};
-    ghost use Rattle.reg_text.specs.Spelling.{correction_row};
+    ghost use Rattle.std.specs.Prelude.{Some};
+    ghost use Rattle.reg_text.specs.declared.reading.tag.Tag.TheVariants as tag;
+    ghost use Rattle.reg_text.specs.Sections.{item_rows};
 
-    ghost rows = { λ value. correction_row value ∷ [] };
+    ghost rows = { item_rows (Some tag.Correction) };
 
     fn put(&self, text: &mut Text, row: &mut RowText) -> Result<(), NoMemory> {
         put_row(text, row, self)
@@ -63,10 +64,11 @@ impl Tagged for Representative {
 }
 
 impl Rows for Representative {
-    ghost use Rattle.std.specs.Prelude.{[], ◌∷◌};
-    ghost use Rattle.reg_text.specs.Spelling.{user_row};
+    ghost use Rattle.std.specs.Prelude.{Some};
+    ghost use Rattle.reg_text.specs.declared.reading.tag.Tag.TheVariants as tag;
+    ghost use Rattle.reg_text.specs.Sections.{item_rows};
 
-    ghost rows = { λ value. user_row value ∷ [] };
+    ghost rows = { item_rows (Some tag.User) };
 
     fn put(&self, text: &mut Text, row: &mut RowText) -> Result<(), NoMemory> {
         put_row(text, row, self)
@@ -91,10 +93,11 @@ impl Tagged for TrustedEntry {
 }
 
 impl Rows for TrustedEntry {
-    ghost use Rattle.std.specs.Prelude.{[], ◌∷◌};
-    ghost use Rattle.reg_text.specs.Spelling.{trusted_row};
+    ghost use Rattle.std.specs.Prelude.{Some};
+    ghost use Rattle.reg_text.specs.declared.reading.tag.Tag.TheVariants as tag;
+    ghost use Rattle.reg_text.specs.Sections.{item_rows};
 
-    ghost rows = { λ value. trusted_row value ∷ [] };
+    ghost rows = { item_rows (Some tag.Trusted) };
 
     fn put(&self, text: &mut Text, row: &mut RowText) -> Result<(), NoMemory> {
         put_row(text, row, self)
@@ -152,10 +155,11 @@ impl Tagged for RetirementRow {
 }
 
 impl Rows for RetirementRow {
-    ghost use Rattle.std.specs.Prelude.{[], ◌∷◌};
-    ghost use Rattle.reg_text.specs.Spelling.{retired_row};
+    ghost use Rattle.std.specs.Prelude.{Some};
+    ghost use Rattle.reg_text.specs.declared.reading.tag.Tag.TheVariants as tag;
+    ghost use Rattle.reg_text.specs.Sections.{item_rows};
 
-    ghost rows = { λ value. retired_row value ∷ [] };
+    ghost rows = { item_rows (Some tag.Retired) };
 
     fn put(&self, text: &mut Text, row: &mut RowText) -> Result<(), NoMemory> {
         put_row(text, row, self)
@@ -180,10 +184,11 @@ impl Tagged for Emission {
 }
 
 impl Rows for Emission {
-    ghost use Rattle.std.specs.Prelude.{[], ◌∷◌};
-    ghost use Rattle.reg_text.specs.Spelling.{emissions_row};
+    ghost use Rattle.std.specs.Prelude.{Some};
+    ghost use Rattle.reg_text.specs.declared.reading.tag.Tag.TheVariants as tag;
+    ghost use Rattle.reg_text.specs.Sections.{item_rows};
 
-    ghost rows = { λ value. emissions_row value ∷ [] };
+    ghost rows = { item_rows (Some tag.Emissions) };
 
     fn put(&self, text: &mut Text, row: &mut RowText) -> Result<(), NoMemory> {
         put_row(text, row, self)
@@ -208,10 +213,11 @@ impl Tagged for Figure {
 }
 
 impl Rows for Figure {
-    ghost use Rattle.std.specs.Prelude.{[], ◌∷◌};
-    ghost use Rattle.reg_text.specs.Spelling.{figure_row};
+    ghost use Rattle.std.specs.Prelude.{Some};
+    ghost use Rattle.reg_text.specs.declared.reading.tag.Tag.TheVariants as tag;
+    ghost use Rattle.reg_text.specs.Sections.{item_rows};
 
-    ghost rows = { λ value. figure_row value ∷ [] };
+    ghost rows = { item_rows (Some tag.Figure) };
 
     fn put(&self, text: &mut Text, row: &mut RowText) -> Result<(), NoMemory> {
         put_row(text, row, self)

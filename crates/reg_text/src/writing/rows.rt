@@ -8,9 +8,8 @@ ghost use Rattle.reg_text.specs.declared.reading.tag.Tag.{Tag};
 ghost use Rattle.reg_text.specs.declared.writing.row.TheConstants.{MOST_FIELD};
 ghost use Rattle.reg_text.specs.Plain.{IsPlain, with_commas};
 ghost use Rattle.reg_text.specs.Numbers.{number};
-ghost use Rattle.reg_text.specs.Tags.{tag_word};
 ghost use Rattle.reg_text.specs.Scopes.{widest};
-ghost use Rattle.reg_text.specs.Grammar.{Said, row as codec, row_text};
+ghost use Rattle.reg_text.specs.Grammar.{Said, row as codec, row_text, tag_word};
 ghost use Rattle.reg_text.specs.Report.{text_of};
 
 use crate::writing::row::RowText;

@@ -1,5 +1,5 @@
 use Rattle.std.proofs.Common.{◌≡◌, ◌+◌, sym, ap, ◌∙◌, arith, map, take}
-use Rattle.reg_deques.specs.Passes.{owner_id, part_id, known}
+use Rattle.reg_deques.specs.Passes.{owner_id, part_id, holding_of}
 use Rattle.reg_deques.specs.Tickets.{empty_holding}
 use Rattle.reg_deques.specs.Yards.{deques_of_owners}
 use Rattle.reg_deques.proofs.Passes.{all_more, also_one, same_length}
@@ -13,7 +13,7 @@ loop-k-preserved g c =
       parts = ap (map part_id) more
           ∙ also_one part_id c.loop-k.parts.items c.part_at.result (deques_of_owners c.loop-k.owners.items) c.loop-k.k inv.parts step.of
           ∙ ap (take (c.loop-k.k + 1)) (sym step.same.0);
-      blank = all_more (λ p. known p ≡ empty_holding) c.loop-k.parts.items c.push.new.self.items c.part_at.result more inv.blank step.blank;
+      blank = all_more (λ p. holding_of p ≡ empty_holding) c.loop-k.parts.items c.push.new.self.items c.part_at.result more inv.blank step.blank;
       ids = step.same.0 ∙ inv.ids;
       same = step.same.1 ∙ inv.same;
       all = omega (arith, c.part_at.new.owners.ok, c.loop-k.owners.ok, same_length owner_id owner_id c.part_at.new.owners.items c.loop-k.owners.items step.same.0, inv.all);

@@ -1,5 +1,5 @@
 use Rattle.std.proofs.Common.{◌≡◌, ◌-◌, ◌++◌, length}
-use Rattle.reg_levels.specs.Levels.{between, places_of, places_run}
+use Rattle.reg_levels.specs.Levels.{places_between, places_of, places_run}
 use Rattle.registry_uses.proofs.levels.settle_by_levels.Given as goal
 
 -- the tasks that were run, and those that are left, are those that were taken
@@ -7,7 +7,7 @@ abbrev pub invariant-loop-task : goal.invariant-loop-task
 invariant-loop-task g l = record {
   next : (goal.iterator-loop-task g).can_next l.task-iterator;
   ends : (goal.iterator-loop-task g).is_finite l.task-iterator;
-  places : places_run l.outcomes.items ++ places_of l.task-iterator.rest.items ≡ between l.levels.order.items l.levels.laid l.levels.taken;
+  places : places_run l.outcomes.items ++ places_of l.task-iterator.rest.items ≡ places_between l.levels.order.items l.levels.laid l.levels.taken;
 }
 
 -- all outcomes so far were laid

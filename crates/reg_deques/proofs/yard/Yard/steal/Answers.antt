@@ -1,7 +1,7 @@
 use Rattle.std.proofs.Common.{◌≡◌, ◌<◌, ap, ◌∙◌, arith, length}
 use Rattle.std.proofs.lemmas.List.{map-set}
 use Rattle.std.proofs.Math.Seq.{map-set_same}
-use Rattle.reg_deques.specs.Passes.{desk_id, part_id, known}
+use Rattle.reg_deques.specs.Passes.{desk_id, part_id, holding_of}
 use Rattle.reg_deques.proofs.Passes.{alike, read_map, same_length, if_some, if_none}
 use Rattle.reg_deques.proofs.yard.Yard.steal.Goals as goal
 
@@ -19,13 +19,13 @@ returns-clause-some g c =
     let e : length items ≡ length c.args.self.now.desks.items = same_length part_id desk_id items c.args.self.now.desks.items c.requires.of in
     let within : c.args.from < length items = omega (arith, c.args.self.now.desks.ok, c.requires.within) in
     if_some c.steal.result (λ t s. record {
-      before = known c.index_mut.result.now;
-      after = known c.steal.new.part;
-      there = read_map known items c.args.from c.index_mut.result.now within c.index_mut.ensures.value;
+      before = holding_of c.index_mut.result.now;
+      after = holding_of c.steal.new.part;
+      there = read_map holding_of items c.args.from c.index_mut.result.now within c.index_mut.ensures.value;
       stolen = s;
-      others = map-set known items c.args.from c.steal.new.part;
+      others = map-set holding_of items c.args.from c.steal.new.part;
     }) c.steal.ensures.some
 
 pub returns-clause-none : goal.returns-clause-none
 returns-clause-none g c =
-    if_none c.steal.result (λ s. map-set_same known c.args.pass.now.parts.items c.args.from c.steal.new.part c.index_mut.result.now (s ∙ ap known c.index_mut.ensures.value)) c.steal.ensures.none
+    if_none c.steal.result (λ s. map-set_same holding_of c.args.pass.now.parts.items c.args.from c.steal.new.part c.index_mut.result.now (s ∙ ap holding_of c.index_mut.ensures.value)) c.steal.ensures.none

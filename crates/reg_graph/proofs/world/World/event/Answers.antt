@@ -3,7 +3,7 @@ use Rattle.std.specs.Prelude.{MatchResult}
 use Rattle.reg_book.specs.Day.{day_of}
 use Rattle.reg_schedules.specs.declared.event.Event.TheVariants.{Pop, Steal, Run, Deliver, Push}
 use Rattle.reg_schedules.specs.World.{after_event}
-use Rattle.reg_graph.specs.WorldParts.{HaveRoom, world_of, IsWhyOf}
+use Rattle.reg_graph.specs.WorldParts.{DocksHaveRoom, world_of, IsWhyOf}
 use Rattle.reg_graph.proofs.WorldEvents.{stays-reached}
 use Rattle.reg_graph.proofs.world.World.event.Goals as goal
 
@@ -22,7 +22,7 @@ invariant_of-self g c =
     let day = day_of c.args.self.now.context.now.book.now c.args.self.now.context.now.rules.now c.args.self.now.context.now.batch.now in
     record {
       reached = stays-reached day c.args.self.now.context.now.plan (world_of c.args.self.now.parts) (world_of c.take_task.new.self) (Pop c.in-Pop.worker) _ c.take_task.result c.take_task.ensures.answer c.args.self.now.reached;
-      dock_room = subst (HaveRoom day) (sym c.take_task.ensures.docks) c.args.self.now.dock_room;
+      dock_room = subst (DocksHaveRoom day) (sym c.take_task.ensures.docks) c.args.self.now.dock_room;
     }
 
 pub returns-in-Pop-clause-answer : goal.returns-in-Pop-clause-answer
@@ -39,7 +39,7 @@ invariant_of-self-in-Steal g c =
     let day = day_of c.args.self.now.context.now.book.now c.args.self.now.context.now.rules.now c.args.self.now.context.now.batch.now in
     record {
       reached = stays-reached day c.args.self.now.context.now.plan (world_of c.args.self.now.parts) (world_of c.steal_task.new.self) (Steal c.in-Steal.worker c.in-Steal.from) _ c.steal_task.result c.steal_task.ensures.answer c.args.self.now.reached;
-      dock_room = subst (HaveRoom day) (sym c.steal_task.ensures.docks) c.args.self.now.dock_room;
+      dock_room = subst (DocksHaveRoom day) (sym c.steal_task.ensures.docks) c.args.self.now.dock_room;
     }
 
 pub returns-in-Steal-clause-answer : goal.returns-in-Steal-clause-answer
@@ -56,7 +56,7 @@ invariant_of-self-in-Run g c =
     let day = day_of c.args.self.now.context.now.book.now c.args.self.now.context.now.rules.now c.args.self.now.context.now.batch.now in
     record {
       reached = stays-reached day c.args.self.now.context.now.plan (world_of c.args.self.now.parts) (world_of c.run_task.new.self) (Run c.in-Run.worker) _ c.run_task.result c.run_task.ensures.answer c.args.self.now.reached;
-      dock_room = subst (HaveRoom day) (sym c.run_task.ensures.docks) c.args.self.now.dock_room;
+      dock_room = subst (DocksHaveRoom day) (sym c.run_task.ensures.docks) c.args.self.now.dock_room;
     }
 
 pub returns-in-Run-clause-answer : goal.returns-in-Run-clause-answer
@@ -90,7 +90,7 @@ invariant_of-self-in-Push g c =
     let day = day_of c.args.self.now.context.now.book.now c.args.self.now.context.now.rules.now c.args.self.now.context.now.batch.now in
     record {
       reached = stays-reached day c.args.self.now.context.now.plan (world_of c.args.self.now.parts) (world_of c.push_task.new.self) (Push c.in-Push.worker) _ c.push_task.result c.push_task.ensures.answer c.args.self.now.reached;
-      dock_room = subst (HaveRoom day) (sym c.push_task.ensures.docks) c.args.self.now.dock_room;
+      dock_room = subst (DocksHaveRoom day) (sym c.push_task.ensures.docks) c.args.self.now.dock_room;
     }
 
 pub returns-in-Push-clause-answer : goal.returns-in-Push-clause-answer

@@ -5,7 +5,7 @@ use Rattle.reg_schedules.specs.World.{is_in_dock}
 use Rattle.reg_counting.specs.Counting.{total}
 use Rattle.reg_tasks.specs.Parcels.{parcels_of}
 use Rattle.reg_tasks.specs.Tasks.{task_of}
-use Rattle.reg_graph.specs.WorldParts.{hand_of, lists_of, world_of}
+use Rattle.reg_graph.specs.WorldParts.{hand_of, task_lists, world_of}
 use Rattle.reg_schedules.proofs.WorldCounts.{in_list, in_hand_once}
 use Rattle.reg_graph.proofs.PartFacts.{view-at}
 use Rattle.reg_graph.proofs.WorldPlaces.{none-yet, none-at-all, dock-there, not-listed, is-listed, not-held, done-then, in-list-there, in-hand-there}
@@ -55,8 +55,8 @@ loop-worker-preserved g c =
     let there : k < length p.lists.items = omega (arith, here, p.workers) in
     let next : suc k ≡ k + 1 = omega arith in
     record {
-      listed = subst (λ j. total (total (in_list q)) (take j (lists_of p.lists.items)) ≡ 0) next
-          (none-yet (total (in_list q)) (lists_of p.lists.items) k (map task_of list.items) (view-at (λ tasks. map task_of tasks.items) p.lists.items k list there c.index-in-loop-worker.ensures)
+      listed = subst (λ j. total (total (in_list q)) (take j (task_lists p.lists.items)) ≡ 0) next
+          (none-yet (total (in_list q)) (task_lists p.lists.items) k (map task_of list.items) (view-at (λ tasks. map task_of tasks.items) p.lists.items k list there c.index-in-loop-worker.ensures)
           (not-listed q list.items (sym c.if-is_listed.ensures)) c.loop-worker.invariant.listed);
       held = subst (λ j. total (in_hand_once q) (take j (map hand_of p.hands.items)) ≡ 0) next
           (none-yet (in_hand_once q) (map hand_of p.hands.items) k (hand_of hand) (view-at hand_of p.hands.items k hand here c.index-in-loop-worker-2.ensures) (not-held q (hand_of hand) (sym c.if-is_held.ensures)) c.loop-worker.invariant.held);
@@ -69,6 +69,6 @@ returns g c =
     let k = c.loop-worker.worker in
     let size : p.hands.len ≡ length p.hands.items = search rules in
     let hands : length (map hand_of p.hands.items) ≤ k = omega (arith, c.loop-worker-test.false, c.len-worker-end.ensures, size, length-map p.hands.items hand_of) in
-    let lists : length (lists_of p.lists.items) ≤ k = omega (arith, hands, p.workers, length-map p.hands.items hand_of, length-map p.lists.items (λ tasks. map task_of tasks.items)) in
+    let lists : length (task_lists p.lists.items) ≤ k = omega (arith, hands, p.workers, length-map p.hands.items hand_of, length-map p.lists.items (λ tasks. map task_of tasks.items)) in
     done-then (world_of p) q (c.knows.ensures.once q c.requires.from_one c.requires.within) (read g (goal.at.returns g c).After-is_some ∙ c.is_some.ensures ∙ sym c.if-is_some.ensures)
-    (none-at-all (total (in_list q)) (lists_of p.lists.items) k lists c.loop-worker.invariant.listed) (none-at-all (in_hand_once q) (map hand_of p.hands.items) k hands c.loop-worker.invariant.held)
+    (none-at-all (total (in_list q)) (task_lists p.lists.items) k lists c.loop-worker.invariant.listed) (none-at-all (in_hand_once q) (map hand_of p.hands.items) k hands c.loop-worker.invariant.held)

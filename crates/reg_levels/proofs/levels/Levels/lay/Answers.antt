@@ -1,6 +1,6 @@
 use Rattle.std.proofs.Common.{◌≡◌, ◌∷◌, [], length, sym, ap, ◌∙◌, rules}
 use Rattle.std.proofs.lemmas.List.{nil_from_length}
-use Rattle.reg_levels.specs.Levels.{between, places_run}
+use Rattle.reg_levels.specs.Levels.{places_between, places_run}
 use Rattle.reg_levels.proofs.Between.{next_is, none_left}
 use Rattle.reg_levels.proofs.levels.Levels.lay.Goals as goal
 
@@ -23,8 +23,8 @@ loop-outcome-preserved g c =
       context = c.in_ok-lay_one.ensures.context ∙ i.context;
       order = c.in_ok-lay_one.ensures.order ∙ i.order;
       taken = c.in_ok-lay_one.ensures.taken ∙ i.taken;
-      places = next.2 ∙ ap (λ n. between l.order.items n l.taken) (sym c.in_ok-lay_one.ensures.laid)
-          ∙ ap (λ n. between l.order.items new.laid n) (sym c.in_ok-lay_one.ensures.taken) ∙ ap (λ o. between o.items new.laid new.taken) (sym c.in_ok-lay_one.ensures.order);
+      places = next.2 ∙ ap (λ n. places_between l.order.items n l.taken) (sym c.in_ok-lay_one.ensures.laid)
+          ∙ ap (λ n. places_between l.order.items new.laid n) (sym c.in_ok-lay_one.ensures.taken) ∙ ap (λ o. places_between o.items new.laid new.taken) (sym c.in_ok-lay_one.ensures.order);
     }
 
 pub returns-clause-laid : goal.returns-clause-laid

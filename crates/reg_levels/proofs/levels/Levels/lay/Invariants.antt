@@ -1,5 +1,5 @@
 use Rattle.std.proofs.Common.{◌≡◌}
-use Rattle.reg_levels.specs.Levels.{between, places_run}
+use Rattle.reg_levels.specs.Levels.{places_between, places_run}
 use Rattle.reg_levels.proofs.levels.Levels.lay.Given as goal
 
 -- the outcomes that are left are those of the tasks that run
@@ -10,5 +10,5 @@ invariant-loop-outcome g l = record {
   context : l.self.slots.context.now ≡ l.initial.self.slots.context.now;
   order : l.self.order ≡ l.initial.self.order;
   taken : l.self.taken ≡ l.initial.self.taken;
-  places : places_run l.outcome-iterator.rest.items ≡ between l.self.order.items l.self.laid l.self.taken;
+  places : places_run l.outcome-iterator.rest.items ≡ places_between l.self.order.items l.self.laid l.self.taken;
 }

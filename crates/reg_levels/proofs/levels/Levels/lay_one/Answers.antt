@@ -10,7 +10,7 @@ use Rattle.reg_tasks.specs.Parcels.{names_of}
 use Rattle.reg_tasks.specs.Slots.{laid_at}
 use Rattle.reg_tasks.specs.Standing.{stands}
 use Rattle.reg_tasks.proofs.Placing.{laid_left}
-use Rattle.reg_levels.specs.Levels.{StandsBetween, IsByLevel, IsOneLevel, between}
+use Rattle.reg_levels.specs.Levels.{StandsBetween, IsByLevel, IsOneLevel, places_between}
 use Rattle.reg_levels.proofs.Between.{between_first, laid_more}
 use Rattle.reg_levels.proofs.Apart.{untouched_after, level_more}
 use Rattle.reg_levels.proofs.levels.Levels.lay_one.Goals as goal
@@ -37,9 +37,9 @@ invariant_of-self-2 g c =
           ∙ ap (λ (y : Day). map (λ a. (a, x)) (footprint_at y x)) (sym (context.named d e)) in
           let laid : (a : ℕ) → stands c.lay.new.self a ≡ cond (is_among fs a) (Some (a, x)) (stands l.slots a) =
           λ a. c.in-Ok.ensures.laid a ∙ ap (λ ns. laid_at ns (stands l.slots a) a) left ∙ laid_left x fs (stands l.slots a) a in
-          subst (λ y. StandsBetween (the_day y) (take (l.laid + 1) order) (between order (l.laid + 1) l.taken) (stands c.lay.new.self)) (sym c.in-Ok.ensures.context)
-          (subst (λ xs. StandsBetween (the_day context) xs (between order (l.laid + 1) l.taken) (stands c.lay.new.self)) (sym (take_more order l.laid 0 few))
-          (laid_more (the_day context) (take l.laid order) (between order (l.laid + 1) l.taken) x (stands l.slots) (stands c.lay.new.self)
+          subst (λ y. StandsBetween (the_day y) (take (l.laid + 1) order) (places_between order (l.laid + 1) l.taken) (stands c.lay.new.self)) (sym c.in-Ok.ensures.context)
+          (subst (λ xs. StandsBetween (the_day context) xs (places_between order (l.laid + 1) l.taken) (stands c.lay.new.self)) (sym (take_more order l.laid 0 few))
+          (laid_more (the_day context) (take l.laid order) (places_between order (l.laid + 1) l.taken) x (stands l.slots) (stands c.lay.new.self)
           (λ a on. untouched_after c.levels_rise_along_arrows.ensures c.tails_are_last_touchers.ensures c.last_toucher_is_last.ensures (the_day context) context.plan context.planned order l.legal
           a l.laid l.taken c.requires.running l.within l.level on)
           (subst (λ xs. StandsBetween (the_day context) (take l.laid order) xs (stands l.slots)) (between_first order l.laid l.taken c.requires.running l.within) (l.standing d e)) laid));

@@ -1,5 +1,5 @@
 use Rattle.std.proofs.Common.{◌≡◌, ◌+◌, ◌≤◌, vec_len, vec_capacity}
-use Rattle.reg_levels.specs.Levels.{between, places_of}
+use Rattle.reg_levels.specs.Levels.{places_between, places_of}
 use Rattle.reg_levels.proofs.levels.Levels.take.Given as goal
 
 -- the tasks so far are those of the level
@@ -10,5 +10,5 @@ invariant-loop g l = record {
   laid : l.self.laid ≡ l.initial.self.laid;
   taken : l.self.taken ≡ l.counter;
   room : vec_len l.tasks + l.end ≤ vec_capacity l.tasks + l.self.taken;
-  places : places_of l.tasks.items ≡ between l.self.order.items l.self.laid l.self.taken;
+  places : places_of l.tasks.items ≡ places_between l.self.order.items l.self.laid l.self.taken;
 }

@@ -8,7 +8,7 @@ use Rattle.reg_schedules.proofs.Tails.{clash}
 use Rattle.reg_tasks.proofs.Gathering.{no_name}
 use Rattle.reg_tasks.proofs.Placing.{lack_from, err_from}
 use Rattle.reg_tasks.proofs.OrderSteps.{faultless_at, within_at}
-use Rattle.reg_levels.specs.Levels.{StandsBetween, IsByLevel, IsOneLevel, between}
+use Rattle.reg_levels.specs.Levels.{StandsBetween, IsByLevel, IsOneLevel, places_between}
 use Rattle.reg_levels.proofs.Between.{between_more, taken_more}
 use Rattle.reg_levels.proofs.Apart.{ready_next}
 use Rattle.reg_levels.proofs.levels.Levels.take_one.Goals as goal
@@ -49,9 +49,9 @@ invariant_of-self-2 g c =
       ahead = omega (arith, l.ahead);
       within = omega (arith, c.requires.left);
       level = subst (λ x. IsOneLevel x.plan order l.laid (l.taken + 1)) (sym c.in_ok-task.ensures.context) c.requires.level;
-      standing = λ d e. subst (λ x. StandsBetween (the_day x) (take l.laid order) (between order l.laid (l.taken + 1)) (stands c.take.new.self)) (sym c.in_ok-task.ensures.context)
+      standing = λ d e. subst (λ x. StandsBetween (the_day x) (take l.laid order) (places_between order l.laid (l.taken + 1)) (stands c.take.new.self)) (sym c.in_ok-task.ensures.context)
           (subst (λ xs. StandsBetween (the_day context) (take l.laid order) xs (stands c.take.new.self)) (sym (between_more order l.laid l.taken l.ahead c.requires.left))
-          (taken_more (the_day context) (take l.laid order) (between order l.laid l.taken) (get_or order l.taken 0) (stands l.slots) (stands c.take.new.self) (l.standing d e) (subst (λ place. AreTaken (the_day context) place (stands l.slots) (stands c.take.new.self)) is c.in_ok-task.ensures.taken)));
+          (taken_more (the_day context) (take l.laid order) (places_between order l.laid l.taken) (get_or order l.taken 0) (stands l.slots) (stands c.take.new.self) (l.standing d e) (subst (λ place. AreTaken (the_day context) place (stands l.slots) (stands c.take.new.self)) is c.in_ok-task.ensures.taken)));
       rows = l.rows;
       room = l.room;
     }

@@ -7,7 +7,7 @@ use Rattle.reg_tasks.specs.Contexts.{the_day}
 use Rattle.reg_tasks.specs.Parcels.{parcels_of}
 use Rattle.reg_yard.specs.Parcels.{parcel_of}
 use Rattle.reg_yard.specs.Dock.{came_to}
-use Rattle.reg_yard.specs.Held.{is_refused, AreFew}
+use Rattle.reg_yard.specs.Held.{is_refused, FitInDock}
 use Rattle.reg_yard.proofs.Awaiting.{few-more, not-so, with-one, last-there}
 use Rattle.reg_yard.proofs.dock.Dock.deliver.Goals as goal
 
@@ -22,7 +22,7 @@ try_assemble-waiting-requires-clause-few g c =
     let here : came_to dock ≡ Some (parcels_of waiting.items) = ap (option_map (λ parcels. parcels_of parcels.items)) wait in
     let awaited : is_refused day plan dock.place (came_to dock) p ≡ false = not-so (is_refused day plan dock.place (came_to dock) p) c.if-not-awaits.ensures.awaits in
     let now : parcels_of c.push_reserved.new.self.items ≡ parcels_of waiting.items ++ p ∷ [] = ap parcels_of c.push_reserved.ensures.items ∙ with-one waiting.items c.args.parcel in
-    subst (AreFew day plan dock.place) (sym now)
+    subst (FitInDock day plan dock.place) (sym now)
     (few-more day plan dock.place (parcels_of waiting.items) p (dock.few waiting wait) (subst (λ came. is_refused day plan dock.place came p ≡ false) here awaited))
 
 pub returns-clause-has : goal.returns-clause-has
