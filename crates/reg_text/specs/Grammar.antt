@@ -195,54 +195,114 @@ abbrev pub row_kind : Tag → RowKind
 row_kind tag.Format = record { word = codes "format"; place = 10; allowed = between 0 0; Says = Version; fields = λ scope. row_with (last a_version); key = None; most = None }
 row_kind tag.Day = record { word = codes "day"; place = 20; allowed = between 10 10; Says = ℕ × ℕ; fields = λ scope. row_with (a_date ▸ last a_next); key = None; most = None }
 row_kind tag.Period = record {
-  word = codes "period"; place = 30; allowed = by_version (20, 20) (20, 30);
-  Says = ℕ × ℕ; fields = λ scope. row_with period_fields; key = by_years; most = Some MOST_PERIODS
+  word = codes "period";
+  place = 30;
+  allowed = by_version (20, 20) (20, 30);
+  Says = ℕ × ℕ;
+  fields = λ scope. row_with period_fields;
+  key = by_years;
+  most = Some MOST_PERIODS;
 }
 row_kind tag.Current = record {
-  word = codes "current"; place = 35; allowed = by_version nowhere (30, 30);
-  Says = ℕ; fields = λ scope. row_with (last (a_period 1 scope.periods)); key = None; most = None
+  word = codes "current";
+  place = 35;
+  allowed = by_version nowhere (30, 30);
+  Says = ℕ;
+  fields = λ scope. row_with (last (a_period 1 scope.periods));
+  key = None;
+  most = None;
 }
 row_kind tag.Lags = record { word = codes "lags"; place = 40; allowed = by_version (30, 30) (35, 35); Says = Lags; fields = λ scope. row_with lags_fields; key = None; most = None }
 row_kind tag.Surrender = record {
-  word = codes "surrender"; place = 50; allowed = between 40 50;
-  Says = AccountKind × AllowanceKind; fields = λ scope. row_with pair_fields; key = by pair_place; most = None
+  word = codes "surrender";
+  place = 50;
+  allowed = between 40 50;
+  Says = AccountKind × AllowanceKind;
+  fields = λ scope. row_with pair_fields;
+  key = by pair_place;
+  most = None;
 }
 row_kind tag.Admin = record {
-  word = codes "admin"; place = 60; allowed = between 40 60;
-  Says = ℕ; fields = λ scope. row_with (last a_no); key = by (λ n. n); most = Some MOST_ADMINISTRATORS
+  word = codes "admin";
+  place = 60;
+  allowed = between 40 60;
+  Says = ℕ;
+  fields = λ scope. row_with (last a_no);
+  key = by (λ n. n);
+  most = Some MOST_ADMINISTRATORS;
 }
 row_kind tag.Work = record { word = codes "work"; place = 70; allowed = between 40 70; Says = ℕ; fields = λ scope. row_with (last a_date); key = by (λ day. day); most = None }
 row_kind tag.Account = record {
-  word = codes "account"; place = 80; allowed = between 40 89;
-  Says = AccountHead; fields = λ scope. row_with account_fields; key = by (λ h. h.number); most = None
+  word = codes "account";
+  place = 80;
+  allowed = between 40 89;
+  Says = AccountHead;
+  fields = λ scope. row_with account_fields;
+  key = by (λ h. h.number);
+  most = None;
 }
 row_kind tag.Correction = record {
-  word = codes "correction"; place = 81; allowed = by_version nowhere (80, 81);
-  Says = Correction; fields = λ scope. row_with (correction_fields scope.periods); key = by (λ c. c.period); most = None
+  word = codes "correction";
+  place = 81;
+  allowed = by_version nowhere (80, 81);
+  Says = Correction;
+  fields = λ scope. row_with (correction_fields scope.periods);
+  key = by (λ c. c.period);
+  most = None;
 }
 row_kind tag.User = record {
-  word = codes "user"; place = 82; allowed = between 80 82;
-  Says = Representative; fields = λ scope. row_with user_fields; key = by (λ u. u.user); most = Some MOST_USERS
+  word = codes "user";
+  place = 82;
+  allowed = between 80 82;
+  Says = Representative;
+  fields = λ scope. row_with user_fields;
+  key = by (λ u. u.user);
+  most = Some MOST_USERS;
 }
 row_kind tag.Trusted = record {
-  word = codes "trusted"; place = 83; allowed = between 80 83;
-  Says = TrustedEntry; fields = λ scope. row_with trusted_fields; key = by (λ t. t.account); most = Some MOST_TRUSTED
+  word = codes "trusted";
+  place = 83;
+  allowed = between 80 83;
+  Says = TrustedEntry;
+  fields = λ scope. row_with trusted_fields;
+  key = by (λ t. t.account);
+  most = Some MOST_TRUSTED;
 }
 row_kind tag.Retired = record {
-  word = codes "retired"; place = 84; allowed = between 80 84;
-  Says = RetirementRow; fields = λ scope. row_with (retired_fields scope); key = by (λ r. r.number); most = Some MOST_ROWS
+  word = codes "retired";
+  place = 84;
+  allowed = between 80 84;
+  Says = RetirementRow;
+  fields = λ scope. row_with (retired_fields scope);
+  key = by (λ r. r.number);
+  most = Some MOST_ROWS;
 }
 row_kind tag.Emissions = record {
-  word = codes "emissions"; place = 85; allowed = between 80 85;
-  Says = Emission; fields = λ scope. row_with emissions_fields; key = by (λ e. e.year); most = None
+  word = codes "emissions";
+  place = 85;
+  allowed = between 80 85;
+  Says = Emission;
+  fields = λ scope. row_with emissions_fields;
+  key = by (λ e. e.year);
+  most = None;
 }
 row_kind tag.Figure = record {
-  word = codes "figure"; place = 86; allowed = between 80 86;
-  Says = Figure; fields = λ scope. row_with figure_fields; key = by (λ f. f.year); most = None
+  word = codes "figure";
+  place = 86;
+  allowed = between 80 86;
+  Says = Figure;
+  fields = λ scope. row_with figure_fields;
+  key = by (λ f. f.year);
+  most = None;
 }
 row_kind tag.Do = record {
-  word = codes "do"; place = 90; allowed = between 40 90;
-  Says = Instruction; fields = λ scope. instruction_row; key = None; most = Some MOST_INSTRUCTIONS
+  word = codes "do";
+  place = 90;
+  allowed = between 40 90;
+  Says = Instruction;
+  fields = λ scope. instruction_row;
+  key = None;
+  most = Some MOST_INSTRUCTIONS;
 }
 row_kind tag.End = record { word = codes "end"; place = 100; allowed = between 40 90; Says = Unit {0}; fields = λ scope. row_with none; key = None; most = None }
 
