@@ -133,7 +133,7 @@ say_what_was_left_out() {
   [ -z "$left_out" ] || echo "  $left_out"
   [ -z "$refusals_left_out" ] || echo "  $refusals_left_out"
   [ -z "$workers_left_out" ] || echo "  $workers_left_out"
-  echo "  proofs from nothing, the layout of the files, and what else only rt ci looks at"
+  echo "  proofs from nothing, and what else only rt ci looks at"
 }
 
 check_some() {
@@ -146,6 +146,8 @@ check_some() {
   mapfile -t crates <<<"$crates"
   : >"$work/unproved"
   echo "check: ${crates[*]}"
+  echo "tools/layout: the files and the edits of all crates .."
+  count_part "tools/layout" tools/layout
   prove_and_test "${crates[@]}"
   try_edits ${proved[@]+"${proved[@]}"}
   if [ "${#proved[@]}" != "${#crates[@]}" ]; then
