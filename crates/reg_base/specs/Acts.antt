@@ -1,5 +1,5 @@
 -- The table of acts: what each act does with its accounts. All that an act names follows from its row.
-use Rattle.std.specs.Prelude.{ℕ, List, [], ◌∷◌, ◌++◌, map, Option, Some, None}
+use Rattle.std.specs.Prelude.{◌≡◌, ℕ, List, [], ◌∷◌, ◌++◌, map, Option, Some, None}
 use Rattle.std.specs.List.{sum_by}
 use Rattle.reg_base.specs.declared.kinds.AllowanceKind.{AllowanceKind}
 use Rattle.reg_base.specs.declared.kinds.AllowanceKind.TheVariants.{General}
@@ -122,3 +122,13 @@ other_known made = None
 
 abbrev pub also_known : Act → Option ℕ
 also_known act = other_known (change_of act)
+
+-- what leaves the first account is what its change takes away, and of the same kind; others receive just that, or nothing
+abbrev pub Balances : Movement → Change → Type 0
+Balances m (Debit kind amount) = (m.kind ≡ kind) × ((m.leaves ≡ amount) × (total_of m.shares ≡ amount))
+Balances m (Retire way kind amount) = (m.kind ≡ kind) × ((m.leaves ≡ amount) × (m.shares ≡ []))
+Balances m made = (m.leaves ≡ 0) × (m.shares ≡ [])
+
+-- law: so it is in each row of the table
+abbrev pub EachMovementBalances : Type 0
+EachMovementBalances = (act : Act) → Balances (movement_of act) (change_of act)

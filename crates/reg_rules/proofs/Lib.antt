@@ -12,6 +12,7 @@ pub mod Firsts
 pub mod Reversals
 pub mod Applied
 pub mod Figures
+pub mod LatestFigures
 pub mod Limits
 pub mod Moves
 pub mod Rows

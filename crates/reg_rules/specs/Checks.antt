@@ -1,5 +1,5 @@
 -- The table of checks. The first that fails names the refusal.
-use Rattle.std.specs.Prelude.{ℕ, ◌+◌, ℤ, pos, Bool, true, false, not, ◌==◌, ◌&&◌, ◌||◌, nat_le, nat_lt, int_lt, List, [], ◌∷◌, find, reverse, length, Option, None, is_none, Result, Ok, Err, if◌then◌else◌}
+use Rattle.std.specs.Prelude.{ℕ, ◌+◌, ◌≤◌, ℤ, pos, Bool, IsTrue, true, false, not, ◌==◌, ◌&&◌, ◌||◌, nat_le, nat_lt, int_lt, List, [], ◌∷◌, find, reverse, length, Contains, Option, None, is_none, MatchOption, Result, Ok, Err, if◌then◌else◌}
 use Rattle.std.specs.Option.{option_map_or}
 use Rattle.std.specs.List.{list_all, list_any}
 use Rattle.reg_base.specs.declared.limits.TheConstants.{MOST_HELD, MOST_RETIRED, MOST_ROWS, MOST_EMISSIONS}
@@ -16,6 +16,7 @@ use Rattle.reg_base.specs.Calendar.{due}
 use Rattle.reg_base.specs.Rules.{RulesValue, may_surrender, is_year_of, is_in_period}
 use Rattle.reg_base.specs.Footprint.{must_be_known, all_known}
 use Rattle.reg_base.specs.Refusals.{checks}
+use Rattle.reg_base.specs.Rising.{IsRising}
 use Rattle.reg_base.specs.declared.kinds.Retirement.{Retirement}
 use Rattle.reg_base.specs.declared.kinds.Retirement.TheVariants.{Surrendered}
 use Rattle.reg_account.specs.declared.rows.Fate.{Fate}
@@ -25,6 +26,7 @@ use Rattle.reg_account.specs.declared.years.Figure.{Figure}
 use Rattle.reg_account.specs.declared.figure.FigureFault.{FigureFault}
 use Rattle.reg_account.specs.declared.figure.FigureFault.TheVariants.{YearOutsidePeriod as OutsidePeriod, Missing}
 use Rattle.reg_account.specs.Rows.{row_in}
+use Rattle.reg_account.specs.Years.{figure_years}
 use Rattle.reg_account.specs.Account.{AccountValue, held_by, retired_by, unretired}
 use Rattle.reg_account.specs.Figure.{is_row_counted, figure_of}
 use Rattle.reg_rules.specs.declared.rule.KindRule.{KindRule}
@@ -127,6 +129,17 @@ are_rows_full made e = false
 -- the determined figure of the latest year of this period that has one; the figures of an account rise by year
 abbrev pub latest_determined : RulesValue → ℕ → AccountValue → Option Figure
 latest_determined rules period v = find (λ f. is_year_of rules period f.year) (reverse v.figures)
+
+-- the figure is one of the account's determined ones, of a year of this period, and no other such figure is of a later year
+pub record IsLatestDetermined (rules : RulesValue) (period : ℕ) (v : AccountValue) (latest : Figure) : Type 0 where
+  pub determined : Contains v.figures latest
+  pub of_period : IsTrue (is_year_of rules period latest.year)
+  pub last : (f : Figure) → Contains v.figures f → IsTrue (is_year_of rules period f.year) → f.year ≤ latest.year
+
+-- law: if the figures rise by year, the one that is found is that of the latest year of the period; if none is found, none is of the period
+abbrev pub LatestIsOfTheLatestYear : Type 0
+LatestIsOfTheLatestYear = (rules : RulesValue) (period : ℕ) (v : AccountValue) → IsRising (figure_years v.figures)
+    → MatchOption (latest_determined rules period v) ((f : Figure) → Contains v.figures f → ¬ (IsTrue (is_year_of rules period f.year))) (IsLatestDetermined rules period v)
 
 -- there is a figure, and it is below 0
 abbrev pub is_negative : Result ℤ FigureFault → Bool

@@ -2,6 +2,7 @@
 //! calls it.
 
 ghost use Rattle.reg_rules.specs.ActLaws.{ActLaws};
+ghost use Rattle.reg_rules.specs.Checks.{LatestIsOfTheLatestYear};
 ghost use Rattle.reg_rules.specs.Closed.{ClosedIsNeverLeftInStep, ClosedStaysInStep, NothingIsDoneOnClosed};
 ghost use Rattle.reg_rules.specs.Conservation.{StepConserves};
 ghost use Rattle.reg_rules.specs.Laws.{StepLaws};
@@ -42,4 +43,10 @@ pub fn step_keeps_closed()
     ensures nothing_done { NothingIsDoneOnClosed }
     ensures value { ClosedStaysInStep }
     ensures status { ClosedIsNeverLeftInStep }
+{}
+
+/// The determined figure that check 22 looks at is that of the latest year of the period, since an account's figures rise
+/// by year.
+pub fn latest_is_of_the_latest_year()
+    ensures { LatestIsOfTheLatestYear }
 {}

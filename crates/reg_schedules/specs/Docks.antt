@@ -39,11 +39,12 @@ awaited day plan place = names_needed (inward plan.arrows place) (footprint_at d
 abbrev pub of_name : List ParcelValue → ℕ × ℕ → Option ParcelValue
 of_name parcels name = find (λ p. is_name (p.value.number, p.after) name) parcels
 
--- one parcel of each of these names, in their order, if all are there
+-- a parcel before the others, if all of them are there
 abbrev pub before_all : Option ParcelValue → Option (List ParcelValue) → Option (List ParcelValue)
 before_all None more = None
 before_all (Some p) more = option_map (λ ps. p ∷ ps) more
 
+-- one parcel of each of these names, in their order, if all are there
 abbrev pub of_names : List ParcelValue → List (ℕ × ℕ) → Option (List ParcelValue)
 of_names parcels [] = Some []
 of_names parcels (name ∷ more) = before_all (of_name parcels name) (of_names parcels more)

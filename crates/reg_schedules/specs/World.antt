@@ -55,7 +55,7 @@ arrived world place = option_map_or (λ d. d) (at_place world.docks place) None
 
 -- ---- the start
 
--- the opening values that lie in the dock of a place: those of the accounts of its footprint that no arrow leads to
+-- the opening value of an account
 abbrev pub opening_of : Day → ℕ → Option ParcelValue
 opening_of day a = option_map (λ v. record { value = v; after = 0 }) (account day.book.accounts a)
 
@@ -64,6 +64,7 @@ known_of [] = []
 known_of (None ∷ more) = known_of more
 known_of (Some x ∷ more) = x ∷ known_of more
 
+-- the opening values that lie in the dock of a place: those of the accounts of its footprint that no arrow leads to
 abbrev pub opened_at : Day → PlanValue → ℕ → List ParcelValue
 opened_at day plan place = known_of (map (opening_of day) (filter (λ a. tail_of plan place a == 0) (footprint_at day place)))
 
@@ -112,8 +113,7 @@ moved worker from world (Carries None (p ∷ ps)) tasks = Err fault.HandsFull
 moved worker from world (Carries (Some task) ps) tasks = Err fault.HandsFull
 moved worker from world (Holds task) tasks = Err fault.HandsFull
 
--- a task was run: its row is there, the accounts from which no arrow leads on are closing, and the other parcels are in
--- hand
+-- the parcels that a run leaves: the accounts as they stand after its place
 abbrev pub left_by : ℕ → State → List ParcelValue
 left_by place results = map (λ v. record { value = v; after = place }) results
 
@@ -121,6 +121,8 @@ left_by place results = map (λ v. record { value = v; after = place }) results
 abbrev pub goes_on : PlanValue → ParcelValue → Bool
 goes_on plan p = leads_on plan p.after p.value.number
 
+-- a task was run: its row is there, the accounts from which no arrow leads on are closing, and the other parcels are in
+-- hand
 abbrev pub after_run : PlanValue → ℕ → WorldValue → ℕ → State × LogRow → WorldValue
 after_run plan worker world place made = record world {
   hands = slice_set world.hands worker (Carries None (filter (goes_on plan) (left_by place made.0)));
