@@ -110,7 +110,8 @@ proof_of() {
 # Prints what each crate cost, and warns if the sum is above so many minutes. How fast the machine is
 # shows in the proofs of the crates $2, which take $3 processor minutes on the machine of the bound: the
 # sum is turned into minutes of that machine. One crate alone would not do: a proof that runs beside nothing
-# else is cheaper than one that shares the machine.
+# else is cheaper than one that shares the machine. If one of them was kept from an earlier run, the sum is
+# not that of a whole check, and nothing is said of the bound.
 show_costs() {
   local bound=$1 crates=$2 minutes=$3 seconds proof
   times >"$work/times"
@@ -126,7 +127,8 @@ show_costs() {
       printf "the proofs of %s took %.1f minutes,\n", crates, proof / 60
       printf "and take %s on the machine of the bound: there the whole takes about %.1f\n", there, minutes
     }
-    if (minutes > bound) {
+    if (proof == 0) print "Not all of these crates were proved in this run: " crates ". So this is not the cost of a whole check."
+    else if (minutes > bound) {
       printf "WARNING: that is above the bound of %s processor minutes. Make the check cheaper, or raise\n", bound
       print "most_processor_minutes in ./check in the commit that needs it."
     }
