@@ -4,7 +4,7 @@ use crate::fixtures::{account_no, holder, read, surrendered};
 use reg_account::{Account, AccountParts, Holdings, Lists};
 use reg_base::{AccountKind, AllowanceKind, Status};
 use reg_book::{BookDraft, BookFault, SettleFault, Settled, Stale, settle_plain};
-use reg_text::{DayInput, write_book};
+use reg_text::write_book;
 use std::alloc::Global;
 use std::process::Abort;
 
@@ -71,20 +71,6 @@ fn accounts_stand_by_rising_number(rt: HostRuntime) {
     }
 }
 
-#[test]
-fn a_book_finds_its_accounts(rt: HostRuntime) {
-    let book = draft(&rt, rt.alloc(), 3, 5).finish();
-    let listed = Some((AccountKind::Trading, holder(&rt, 11)));
-    for number in 1..4 {
-        let no = account_no(&rt, number);
-        let found = book.get(no).expect(&rt, "an account of the book");
-        assert_eq!(rt; found.number(), no);
-        assert_eq!(rt; book.directory().find(no), listed, "account {number}");
-    }
-    assert!(rt; book.get(account_no(&rt, 4)).is_none());
-    assert_eq!(rt; book.directory().find(account_no(&rt, 4)), None);
-}
-
 // Why a draft refuses an account, which it gives back as it was.
 fn refuse(rt: &impl Abort, alloc: Global, draft: &mut BookDraft, number: u32) -> BookFault {
     let refused = draft.insert(account(rt, alloc, number, 5)).err();
@@ -98,9 +84,6 @@ fn refuse(rt: &impl Abort, alloc: Global, draft: &mut BookDraft, number: u32) ->
 fn an_account_comes_once(rt: HostRuntime) {
     let mut draft = draft(&rt, rt.alloc(), 2, 100);
     assert_eq!(rt; refuse(&rt, rt.alloc(), &mut draft, 1), BookFault::Repeated);
-    let book = draft.finish();
-    assert_eq!(rt; book.accounts().len(), 2);
-    assert_eq!(rt; book.totals(AllowanceKind::General).held, 200);
 }
 
 // Account 1 with a surrender under this record number.
@@ -119,10 +102,6 @@ fn a_surrender_comes_before_the_next_record(rt: HostRuntime) {
     assert_eq!(rt; fault, BookFault::RowAhead);
     assert_eq!(rt; back.rows().len(), 1);
     insert(&rt, &mut draft, with_row(&rt, rt.alloc(), 4));
-    assert_eq!(rt;
-        draft.finish().totals(AllowanceKind::General).surrendered,
-        10
-    );
 }
 
 #[test]
@@ -157,28 +136,6 @@ end
 fn left(rt: &impl Abort, settled: &Settled, number: u32) -> Option<u64> {
     let account = settled.account(account_no(rt, number))?;
     Some(account.held(AllowanceKind::General))
-}
-
-fn settle(rt: &impl Abort, alloc: Global, day: &DayInput) -> Settled {
-    settle_plain(alloc, &day.book, &day.rules, &day.batch).expect(rt, "memory")
-}
-
-// The last record number before the day, and what it leaves on accounts 1, 2 and 3.
-fn settled(rt: &impl Abort, alloc: Global) -> (u64, [Option<u64>; 3]) {
-    let day = read(rt, alloc, DAY);
-    let settled = settle(rt, alloc, &day);
-    let held = [
-        left(rt, &settled, 1),
-        left(rt, &settled, 2),
-        left(rt, &settled, 3),
-    ];
-    (settled.base(), held)
-}
-
-#[test]
-fn a_settled_day_has_the_accounts_that_it_touched(rt: HostRuntime) {
-    let found = settled(&rt, rt.alloc());
-    assert_eq!(rt; found, (0, [Some(30), Some(70), None]));
 }
 
 // Settles the day twice and puts both into its book. Answers why the second one does not follow, and of what is given

@@ -1,12 +1,12 @@
 //! Settlement by workers that steal: what only running threads show.
 
 use crate::fixtures::worked;
-use crate::levels::{BACK, Meeting, TURNS, UNKNOWN, full_batch};
-use crate::orders::{APART, TWICE, settled, told};
+use crate::levels::{Meeting, TURNS, UNKNOWN, full_batch};
+use crate::orders::{APART, settled, told};
 use crossbeam_utils::Backoff;
 use reg_tasks::{Naming, Task};
 use reg_text::DayInput;
-use reg_work::{Gate, OpenGate, Shift, WorkFault, settle_with};
+use reg_work::{Gate, OpenGate, Shift, settle_with};
 use std::alloc::Global;
 use std::process::Abort;
 use std::sync::Wait;
@@ -95,16 +95,6 @@ fn met<R: Abort + Threads + Wait + Sync>(
     told
 }
 
-// Why so many workers do not settle a day.
-fn refused<R: Abort + Threads + Wait + Sync>(
-    rt: &R,
-    alloc: Global,
-    workers: u32,
-) -> Option<WorkFault> {
-    let DayInput { rules, book, batch } = worked(rt, alloc, BACK);
-    settle_with(rt, alloc, &book, &rules, &batch, workers, &OpenGate).err()
-}
-
 #[test]
 fn two_workers_run_at_once(rt: HostRuntime) {
     let told = met(&rt, rt.alloc(), APART, 2);
@@ -131,34 +121,8 @@ fn a_worker_steals_what_is_complete_in_another_ones_deque(rt: HostRuntime) {
 }
 
 #[test]
-fn workers_leave_what_one_instruction_after_another_leaves(rt: HostRuntime) {
-    for instructions in [BACK, TWICE, UNKNOWN] {
-        let day = worked(&rt, rt.alloc(), instructions);
-        for workers in [1, 2, 8] {
-            shifts(&rt, rt.alloc(), &day, workers, &OpenGate);
-        }
-    }
-}
-
-#[test]
-fn eight_workers_find_nothing_to_do(rt: HostRuntime) {
-    let none = "0:0 1:0 2:0 3:0 4:0 5:0 6:0 7:0 ";
-    let day = worked(&rt, rt.alloc(), "");
-    let told = shifts(&rt, rt.alloc(), &day, 8, &OpenGate);
-    assert_eq!(rt; told.as_str(), none);
-}
-
-#[test]
 fn eight_workers_settle_a_full_batch(rt: HostRuntime) {
     let instructions = full_batch(&rt, rt.alloc());
     let day = worked(&rt, rt.alloc(), instructions.as_str());
     shifts(&rt, rt.alloc(), &day, 8, &OpenGate);
-}
-
-#[test]
-fn there_are_one_to_eight_workers(rt: HostRuntime) {
-    for workers in [0, 9] {
-        let fault = refused(&rt, rt.alloc(), workers);
-        assert_eq!(rt; fault, Some(WorkFault::Workers), "{workers} workers");
-    }
 }

@@ -1,10 +1,9 @@
 //! Distributions: one account gives to one to eight others, by all ways of settling.
 
 use crate::crew::shifts;
-use crate::fixtures::{account_no, read, worked};
+use crate::fixtures::{read, worked};
 use crate::levels::is_same;
 use crate::orders::{opening, settled, told};
-use reg_base::{Share, Shares};
 use reg_tasks::{Context, Unnamed, run_order};
 use reg_text::DayInput;
 use reg_work::OpenGate;
@@ -120,17 +119,4 @@ fn all_ways_leave_what_one_instruction_after_another_leaves(rt: HostRuntime) {
 fn a_dock_gives_the_task_with_the_ninth_of_nine_values(rt: HostRuntime) {
     let accounts = [24, 8, 21, 28, 22, 27, 23, 26, 25];
     assert_eq!(rt; awaited(&rt, rt.alloc(), EIGHT_SHARES, &accounts), 9);
-}
-
-#[test]
-fn there_are_one_to_eight_shares(rt: HostRuntime) {
-    let share = Share {
-        to: account_no(&rt, 1),
-        amount: 7,
-    };
-    let nine = [share; 9];
-    for count in 0..10usize {
-        let shares = Shares::new(&nine[..count]);
-        assert_eq!(rt; shares.is_some(), 1 <= count && count <= 8, "{count}");
-    }
 }

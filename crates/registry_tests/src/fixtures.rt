@@ -2,10 +2,8 @@
 
 ghost use Rattle.reg_account.specs.Rows.{FateFits};
 
-use reg_account::{AccountParts, Fate, Holdings, RetirementRow};
-use reg_base::{
-    AccountKind, AccountNo, AllowanceKind, Day, HolderNo, RecordNo, Status, UserNo, Year,
-};
+use reg_account::{Fate, RetirementRow};
+use reg_base::{AccountNo, AllowanceKind, Day, HolderNo, RecordNo};
 use reg_text::{DayInput, read_day};
 use std::alloc::Global;
 use std::process::Abort;
@@ -41,8 +39,8 @@ account,8,allocation,1,open,no,no,0,0,0
 account,9,total,1,open,no,no,0,0,0
 ";
 
-/// The day that lies so many days after 1970-01-01.
-pub(crate) fn day(rt: &impl Abort, count: u32) -> Day {
+// The day that lies so many days after 1970-01-01.
+fn day(rt: &impl Abort, count: u32) -> Day {
     Day::new(count).expect(rt, "a day within its limits")
 }
 
@@ -56,16 +54,6 @@ pub(crate) fn holder(rt: &impl Abort, number: u32) -> HolderNo {
     HolderNo::new(number).expect(rt, "a holder number within its limits")
 }
 
-/// The user number.
-pub(crate) fn user(rt: &impl Abort, number: u32) -> UserNo {
-    UserNo::new(number).expect(rt, "a user number within its limits")
-}
-
-/// The year.
-pub(crate) fn year(rt: &impl Abort, number: u16) -> Year {
-    Year::new(number).expect(rt, "a year within its limits")
-}
-
 /// A surrender of so many general allowances on 2025-03-28 for period 1, under this record number.
 pub(crate) fn surrendered(rt: &impl Abort, number: u64, amount: u64) -> RetirementRow
     ensures { FateFits result.fate }
@@ -77,33 +65,6 @@ pub(crate) fn surrendered(rt: &impl Abort, number: u64, amount: u64) -> Retireme
         amount,
         day: day(rt, 20_175),
         reversed: false,
-    }
-}
-
-/// What the row of an account says, as one value that can be compared.
-#[derive(Clone, Copy, PartialEq, Eq)]
-pub(crate) struct AccountRow {
-    pub number: AccountNo,
-    pub kind: AccountKind,
-    pub holder: HolderNo,
-    pub status: Status,
-    pub outside: bool,
-    pub waiver: bool,
-    pub correction: i64,
-    pub held: Holdings,
-}
-
-/// What the parts of an account say.
-pub(crate) fn row_of_parts(parts: &AccountParts) -> AccountRow {
-    AccountRow {
-        number: parts.number,
-        kind: parts.kind,
-        holder: parts.holder,
-        status: parts.status,
-        outside: parts.outside,
-        waiver: parts.waiver,
-        correction: parts.correction,
-        held: parts.held,
     }
 }
 

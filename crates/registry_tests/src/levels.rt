@@ -6,7 +6,7 @@ use crossbeam_utils::Backoff;
 use reg_graph::{Naming, Task};
 use reg_plan::{OrderFault, Plan};
 use reg_text::DayInput;
-use reg_work::{Gate, OpenGate, WorkFault, settle_waves};
+use reg_work::{Gate, OpenGate, settle_waves};
 use std::alloc::Global;
 use std::process::Abort;
 use std::sync::Wait;
@@ -15,12 +15,6 @@ use std::thread::Threads;
 
 // How often a gate looks before it gives up.
 pub(crate) const TURNS: u32 = 1_000_000;
-
-// A transfer, and another that brings back what the first one moved.
-pub(crate) const BACK: &str = "\
-do,2025-03-31,101,102,transfer,1,2,general,100
-do,2025-03-31,201,202,transfer,2,1,general,100
-";
 
 // Eight transfers to unknown accounts, which touch no account.
 pub(crate) const UNKNOWN: &str = "\
@@ -110,12 +104,6 @@ pub(crate) fn is_same<R: Abort + Threads + Wait>(
     by_workers(rt, alloc, day, workers, &OpenGate) == settled(rt, alloc, day)
 }
 
-// Why so many workers do not settle a day.
-fn refused<R: Abort + Threads + Wait>(rt: &R, alloc: Global, workers: u32) -> Option<WorkFault> {
-    let DayInput { rules, book, batch } = worked(rt, alloc, BACK);
-    settle_waves(rt, alloc, &book, &rules, &batch, workers, &OpenGate).err()
-}
-
 // Of so many workers who each wait until so many have entered: how many waited in vain, and the sum of their numbers.
 fn met<R: Abort + Threads + Wait>(
     rt: &R,
@@ -176,19 +164,6 @@ fn more_workers_than_tasks_run_each_task_once(rt: HostRuntime) {
 }
 
 #[test]
-fn one_worker_runs_one_task_after_another(rt: HostRuntime) {
-    assert_eq!(rt; met(&rt, rt.alloc(), APART, 1, 1), (0, 0));
-}
-
-#[test]
-fn workers_leave_what_one_instruction_after_another_leaves(rt: HostRuntime) {
-    for instructions in ["", BACK, TWICE, UNKNOWN] {
-        let day = worked(&rt, rt.alloc(), instructions);
-        assert!(rt; is_same(&rt, rt.alloc(), &day, 2), "{instructions}");
-    }
-}
-
-#[test]
 fn eight_workers_settle_a_full_batch(rt: HostRuntime) {
     let instructions = full_batch(&rt, rt.alloc());
     let day = worked(&rt, rt.alloc(), instructions.as_str());
@@ -199,12 +174,4 @@ fn eight_workers_settle_a_full_batch(rt: HostRuntime) {
 fn an_instruction_enters_after_those_that_it_waits_for(rt: HostRuntime) {
     let order = noted(&rt, rt.alloc());
     assert_eq!(rt; fault_of(&rt, rt.alloc(), &order), None);
-}
-
-#[test]
-fn there_are_one_to_eight_workers(rt: HostRuntime) {
-    for workers in [0, 9] {
-        let fault = refused(&rt, rt.alloc(), workers);
-        assert_eq!(rt; fault, Some(WorkFault::Workers), "{workers} workers");
-    }
 }

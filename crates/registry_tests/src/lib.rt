@@ -2,17 +2,9 @@
 #![tactic(auto)]
 
 #[cfg(test)]
-mod account;
-#[cfg(test)]
-mod base;
-#[cfg(test)]
 mod book;
 #[cfg(test)]
-mod changes;
-#[cfg(test)]
 mod crew;
-#[cfg(test)]
-mod days;
 #[cfg(test)]
 mod distributions;
 #[cfg(test)]
@@ -27,10 +19,6 @@ mod levels;
 mod orders;
 #[cfg(test)]
 mod periods;
-#[cfg(test)]
-mod plan;
-#[cfg(test)]
-mod rules;
 #[cfg(test)]
 mod texts;
 #[cfg(test)]
