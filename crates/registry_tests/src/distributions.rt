@@ -37,6 +37,55 @@ do,2025-03-31,901,902,distribute,8,general,1,100,77,1
 do,2025-03-31,901,902,central,8,1,general,1
 ";
 
+// An account receives twice.
+const TO_ONE_TWICE: &str = "\
+do,2025-03-31,901,902,create,9,general,1000
+do,2025-03-31,901,902,central,9,8,general,600
+do,2025-03-31,901,902,distribute,8,general,1,100,1,50
+do,2025-03-31,901,902,central,8,1,general,1
+";
+
+// A trading account receives.
+const TO_TRADING: &str = "\
+do,2025-03-31,901,902,create,9,general,1000
+do,2025-03-31,901,902,central,9,8,general,600
+do,2025-03-31,901,902,distribute,8,general,1,100,2,1
+do,2025-03-31,901,902,central,8,1,general,1
+";
+
+// A share of nothing.
+const OF_NOTHING: &str = "\
+do,2025-03-31,901,902,create,9,general,1000
+do,2025-03-31,901,902,central,9,8,general,600
+do,2025-03-31,901,902,distribute,8,general,1,100,3,0
+do,2025-03-31,901,902,central,8,1,general,1
+";
+
+// The shares together are more than 64 bits can say.
+const ABOVE_64_BITS: &str = "\
+do,2025-03-31,901,902,create,9,general,1000
+do,2025-03-31,901,902,central,9,8,general,600
+do,2025-03-31,901,902,distribute,8,general,1,18446744073709551615,3,18446744073709551615
+do,2025-03-31,901,902,central,8,1,general,1
+";
+
+// Account 3 is full, so account 1 receives nothing either.
+const TO_A_FULL_ONE: &str = "\
+format,1
+day,2025-03-31,1
+period,2021,2030
+lags,0,1,1,2
+admin,901
+admin,902
+work,2025-03-31
+account,1,operator,11,open,no,no,0,100,0
+account,3,aircraft,13,open,no,no,0,1000000000000000,50
+account,8,allocation,1,open,no,no,0,600,0
+do,2025-03-31,901,902,distribute,8,general,1,1,3,1
+do,2025-03-31,901,902,central,8,1,general,1
+end
+";
+
 // A distribution to as many accounts as there may be.
 const EIGHT_SHARES: &str = "\
 format,1
@@ -106,13 +155,27 @@ fn awaited(rt: &impl Abort, alloc: Global, text: &str, accounts: &[u32]) -> usiz
 
 #[test]
 fn all_ways_leave_what_one_instruction_after_another_leaves(rt: HostRuntime) {
-    for instructions in [TWO_SHARES, ONE_TOO_MANY, TO_NOBODY] {
+    for instructions in [
+        TWO_SHARES,
+        ONE_TOO_MANY,
+        TO_NOBODY,
+        TO_ONE_TWICE,
+        TO_TRADING,
+        OF_NOTHING,
+        ABOVE_64_BITS,
+    ] {
         let day = worked(&rt, rt.alloc(), instructions);
         assert!(rt;
             are_same(&rt, rt.alloc(), &day, &[1, 2, 3, 4]),
             "{instructions}"
         );
     }
+}
+
+#[test]
+fn all_ways_refuse_a_distribution_to_a_full_account(rt: HostRuntime) {
+    let day = read(&rt, rt.alloc(), TO_A_FULL_ONE);
+    assert!(rt; are_same(&rt, rt.alloc(), &day, &[1, 2]));
 }
 
 #[test]
