@@ -92,19 +92,6 @@ impl<'c, 'a, N: Naming> Levels<'c, 'a, N> {
         Ok(task)
     }
 
-    /// How many tasks of the next level are left to take, or `most` if there are more. It looks at so many at most.
-    pub fn count_left(&self, most: usize) -> usize
-        requires left { self.now.taken < length self.now.order.items }
-        requires most { 1 ≤ most }
-        ensures some { 1 ≤ result }
-        ensures few { result ≤ most }
-        ensures one { IsOneLevel self.now.slots.context.now.plan self.now.order.items self.now.taken (self.now.taken + result) }
-        ensures whole { AreRestOrMost self.now.slots.context.now.plan self.now.order.items most self.now.taken (self.now.taken + result) }
-    {
-        let context = self.slots.context();
-        level_end(context.plan(), &self.order, self.taken, most) - self.taken
-    }
-
     /// Takes the tasks of the next level, by rising place, or the first `most` of them that are left. What was taken before
     /// was laid.
     ///
@@ -119,6 +106,7 @@ impl<'c, 'a, N: Naming> Levels<'c, 'a, N> {
         ensures laid { self.new.laid ≡ self.old.laid }
         ensures tasks { IfOk result (λ tasks. places_of tasks.items ≡ places_between self.new.order.items self.new.laid self.new.taken) }
         ensures some { OnOk result (self.old.taken < self.new.taken) }
+        ensures few { OnOk result (self.new.taken ≤ self.old.taken + most) }
         ensures whole { OnOk result (AreRestOrMost self.new.slots.context.now.plan self.new.order.items most self.new.laid self.new.taken) }
         ensures lack { IfErr result (IsLack N.day) }
     {
