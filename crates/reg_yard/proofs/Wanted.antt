@@ -1,6 +1,6 @@
 -- The names that a place needs: whether one is among them, whether it still is after some came, and that they are as many as
 -- its accounts.
-use Rattle.std.proofs.Common.{◌≡◌, ℕ, ◌+◌, ◌≤◌, Bool, true, false, cond, ◌&&◌, ◌||◌, eqb, List, [], ◌∷◌, length, Some, None, arith, refl, sym, ap, ◌∙◌, subst}
+use Rattle.std.proofs.Common.{◌≡◌, ℕ, Bool, true, false, cond, ◌&&◌, ◌||◌, eqb, List, [], ◌∷◌, arith, refl, sym, ap, ◌∙◌}
 use Rattle.std.specs.Prelude.{not, filter, is_some}
 use Rattle.std.specs.List.{list_any}
 use Rattle.std.proofs.lemmas.Bool.{eqb-true, ne_eqb}
@@ -11,7 +11,7 @@ use Rattle.reg_plan.specs.declared.arrow.Arrow.{Arrow}
 use Rattle.reg_plan.specs.Plans.{PlanValue, inward}
 use Rattle.reg_book.specs.Day.{Day}
 use Rattle.reg_schedules.specs.Pool.{footprint_at, tail_in}
-use Rattle.reg_schedules.specs.Docks.{ParcelValue, is_name, names_needed, awaited, of_name, still_awaited}
+use Rattle.reg_schedules.specs.Docks.{ParcelValue, is_name, names_needed, awaited, of_name}
 use Rattle.reg_schedules.proofs.Needed.{length_needed}
 use Rattle.reg_yard.specs.Held.{FitInDock}
 

@@ -6,6 +6,7 @@ use Rattle.std.specs.declared.vec.Vec.{Vec}
 use Rattle.std.proofs.Common.{Global}
 use Rattle.reg_plan.specs.Plans.{PlanValue}
 use Rattle.reg_book.specs.Day.{Day}
+use Rattle.reg_schedules.specs.Laws.{IsPlanOf}
 use Rattle.reg_schedules.specs.Pool.{footprint_at}
 use Rattle.reg_schedules.specs.Docks.{ParcelValue, TaskValue, complete, still_awaited, is_not_awaited, received}
 use Rattle.reg_tasks.specs.declared.naming.Naming.{Ghosts}
@@ -34,9 +35,18 @@ delivered day plan place (Some came) p = left_of (received day plan place came p
 abbrev pub Takes : Day → PlanValue → ℕ → Option (List ParcelValue) → ParcelValue → Option (List ParcelValue) → Option TaskValue → Type 0
 Takes day plan place before p after task = (is_refused day plan place before p ≡ false) × ◌≡◌ {A = Option (List ParcelValue) × Option TaskValue} (after, task) (delivered day plan place before p)
 
--- so it was at the dock of the place where the parcel goes. What was there before, and is now, stands behind a lock
-abbrev pub IsTaken : Option ℕ → ParcelValue → Option TaskValue → Type 0
-IsTaken goes p task = (day : Day) × (plan : PlanValue) × (place : ℕ) × (before : Option (List ParcelValue)) × (after : Option (List ParcelValue)) × (goes ≡ Some place) × Takes day plan place before p after task
+-- so it was at the dock of the place where the parcel goes, in a day and by a plan of it; if a day is named, it is that one. What was there
+-- before, and is now, stands behind a lock
+pub record IsTaken (name : Option Day) (goes : Option ℕ) (p : ParcelValue) (task : Option TaskValue) : Type 0 where
+  pub day : Day
+  pub plan : PlanValue
+  pub place : ℕ
+  pub before : Option (List ParcelValue)
+  pub after : Option (List ParcelValue)
+  pub named : (d : Day) → name ≡ Some d → day ≡ d
+  pub planned : ∥ IsPlanOf day plan ∥₁
+  pub there : goes ≡ Some place
+  pub takes : Takes day plan place before p after task
 
 -- those that came and those that are still awaited are no more than the accounts that the place's instruction touches
 abbrev pub FitInDock : Day → PlanValue → ℕ → List ParcelValue → Type 0

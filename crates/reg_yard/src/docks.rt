@@ -84,7 +84,7 @@ impl<'c, 'a, N: Naming> Docks<'c, 'a, N> {
         ensures nowhere { goes_to self.now.context.now.plan (parcel_of parcel) ≡ None → is_err result ≡ true }
         ensures place { IfOk result (λ task. IfSome task (λ t. goes_to self.now.context.now.plan (parcel_of parcel) ≡ Some t.place)) }
         ensures has { IfOk result (λ task. IfSome task (λ t. Contains t.parcels.items parcel)) }
-        ensures taken { IfOk result (λ task. IsTaken (goes_to self.now.context.now.plan (parcel_of parcel)) (parcel_of parcel) (option_map task_of task)) }
+        ensures taken { IfOk result (λ task. IsTaken N.day (goes_to self.now.context.now.plan (parcel_of parcel)) (parcel_of parcel) (option_map task_of task)) }
         ensures back { IfErr result (λ p. p ≡ parcel) }
     {
         let Some(place) = place_for(self.context, &parcel) else {

@@ -1,4 +1,4 @@
-use Rattle.std.proofs.Common.{◌≡◌, sym, ap, subst}
+use Rattle.std.proofs.Common.{sym, ap, subst}
 use Rattle.reg_tasks.specs.Contexts.{the_day}
 use Rattle.reg_tasks.specs.Parcels.{parcels_of}
 use Rattle.reg_yard.specs.Held.{FitInDock}
