@@ -33,6 +33,17 @@ fn tell<N: Naming, T: Ticketing>(deque: &mut Deque<N>, table: &TicketTable)
     deque.another::<Telling<T>>();
 }
 
+// A new deque, which has room for 16 tasks.
+#[tactic(auto, using(crate::proofs::Moves::begins))]
+fn new_deque<N: Naming>(alloc: Global) -> Result<Deque<N>, NoMemory>
+    ensures room { IfOk result (λ d. worker_capacity d ≡ 16) }
+    ensures fifo { IfOk result (λ d. worker_flavor d ≡ 0) }
+    ensures fresh { IfOk result (λ d. (worker_view d ≡ fresh_view) × (worker_index d ≡ 0)) }
+{
+    let deque: Deque<N> = Worker::fifo_as(alloc, 16)?;
+    Ok(deque)
+}
+
 impl<N: Naming> Owner<N> {
     // A new deque, which has room for 16 tasks, and its table of tickets.
     pub(crate) fn new(alloc: Global) -> Result<Owner<N>, NoMemory>
@@ -42,7 +53,7 @@ impl<N: Naming> Owner<N> {
         let Ok(table) = Arc::new(alloc, table) else {
             return Err(NoMemory);
         };
-        let mut deque: Deque<N> = Worker::fifo_as(alloc, 16)?;
+        let mut deque: Deque<N> = new_deque(alloc)?;
         tell::<N, Brand>(&mut deque, &table);
         Ok(Owner { deque, table, seat })
     }
