@@ -1,6 +1,6 @@
 -- Counting places in shifts.
-use Rattle.std.proofs.Common.{arith, add-one, ◌≡◌, ℕ, ◌+◌, ◌==◌, List, [], ◌∷◌, ◌++◌, map, append_assoc, refl, ap, sym, ◌∙◌}
-use Rattle.std.proofs.lemmas.List.{map-append}
+use Rattle.std.proofs.Common.{arith, add-one, ◌≡◌, ℕ, ◌+◌, ◌==◌, List, [], ◌∷◌, ◌++◌, map, length, length-append, append-nil, append_assoc, refl, ap, sym, ◌∙◌}
+use Rattle.std.proofs.lemmas.List.{map-append, length-map, nil_from_length}
 use Rattle.reg_counting.specs.Counting.{total, times, one_if}
 use Rattle.reg_counting.proofs.Totals.{total-append}
 use Rattle.reg_work.specs.declared.shift.Shift.{Shift}
@@ -37,3 +37,13 @@ one-moved f all before x y rest left whole items is moved same =
     ∙ ap (λ z. map f before ++ z ∷ left) is
     ∙ ap (λ ys. map f before ++ ys) (sym moved)
     ∙ same
+
+-- if as many were moved as there are, none is left
+pub all-moved : {X Y : Type 0} (f : X → Y) (all : List X) (rest whole : List Y) → map f all ++ rest ≡ whole → length all ≡ length whole → map f all ≡ whole
+all-moved f all rest whole same many =
+    let none : length rest ≡ 0 = omega (arith, ap length same, length-append (map f all) rest, length-map all f, many) in
+    sym (append-nil (map f all)) ∙ ap (λ ys. map f all ++ ys) (sym (nil_from_length rest none)) ∙ same
+
+-- how often a number stands in the images of two lists, one behind the other
+pub times-mapped : {X : Type 0} (f : X → ℕ) (p : ℕ) (all before more : List X) → all ≡ before ++ more → times p (map f all) ≡ times p (map f before) + times p (map f more)
+times-mapped f p all before more items = ap (λ xs. times p (map f xs)) items ∙ ap (times p) (map-append f before more) ∙ times-append p (map f before) (map f more)

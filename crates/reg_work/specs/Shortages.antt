@@ -1,4 +1,5 @@
--- What the workers of a level lacked, as a fault.
+-- What workers lacked, as a fault.
+use Rattle.std.specs.Prelude.{ℕ, ◌≤◌}
 use Rattle.reg_book.specs.declared.settle.SettleFault.{SettleFault}
 use Rattle.reg_book.specs.declared.settle.SettleFault.TheVariants as plain
 use Rattle.reg_work.specs.declared.fault.Shortage.{Shortage}
@@ -15,3 +16,8 @@ fault_of_shortage Memory = fault.NoMemory
 abbrev pub fault_of_context : SettleFault → WorkFault
 fault_of_context (plain.WrongBase next) = fault.WrongBase next
 fault_of_context plain.NoMemory = fault.NoMemory
+
+-- so many workers may lack this: a single one is the calling thread, so it lacks no thread
+abbrev pub IsShortage : ℕ → Shortage → Type 0
+IsShortage workers Thread = 2 ≤ workers
+IsShortage workers Memory = Unit {0}

@@ -1,11 +1,15 @@
 //! Settlement by one worker.
 
-ghost use Rattle.std.specs.Prelude.{◌≡◌, ℕ, ◌≤◌, [], ◌∷◌, ◌++◌, length, IfOk, IfSome, OnOk};
+ghost use Rattle.std.specs.Prelude.{◌≡◌, ℕ, ◌≤◌, [], ◌∷◌, ◌++◌, length, IfOk, IfErr, IfSome, OnOk};
 ghost use Rattle.reg_book.specs.Day.{settled_day};
 ghost use Rattle.reg_book.specs.Settled.{IsOfBook};
 ghost use Rattle.reg_counting.specs.Counting.{times, once};
 ghost use Rattle.reg_tasks.specs.Names.{IsRowOfDay};
+ghost use Rattle.reg_tasks.specs.Contexts.{the_day};
 ghost use Rattle.reg_tasks.specs.Gathering.{AreFirstRows};
+ghost use Rattle.reg_tasks.specs.Slots.{IsLaidBack};
+ghost use Rattle.reg_tasks.specs.Standing.{stands};
+ghost use Rattle.reg_work.specs.declared.fault.Shortage.TheVariants.{Memory};
 ghost use Rattle.reg_work.specs.Shifts.{AreShifts, places_ran};
 
 use crate::fault::Shortage;
@@ -29,6 +33,8 @@ fn run_place<N: Naming, G: Gate>(
     ensures context { slots.new.context.now ≡ slots.old.context.now }
     ensures place { IfOk result (λ kept. kept.0.place ≡ place) }
     ensures row { IfOk result (λ kept. IsRowOfDay N.day place kept.1) }
+    ensures laid { OnOk result (IsLaidBack N.day (the_day slots.old.context.now) place (stands slots.old) (stands slots.new)) }
+    ensures memory { IfErr result (λ lack. lack ≡ Memory) }
 {
     let task = slots.take(alloc, place)?;
     gate.enter(0, &task);
@@ -58,6 +64,7 @@ fn run_in_order<N: Naming, G: Gate>(
     ensures context { slots.new.context.now ≡ slots.old.context.now }
     ensures each_once { IfOk result (λ kept. (p : ℕ) → times p (places_ran kept.0.items) ≡ once (length slots.old.context.now.batch.now.instructions) p) }
     ensures log { IfOk result (λ kept. AreFirstRows N.day (length slots.old.context.now.batch.now.instructions) kept.1.items) }
+    ensures memory { IfErr result (λ lack. lack ≡ Memory) }
 {
     let places = slots.context().batch().len();
     let mut ran = Vec::with_capacity(alloc, places as usize)?;
@@ -83,6 +90,7 @@ pub(crate) fn settle_alone<N: Naming, G: Gate>(
     ensures settled { IfOk result (λ s. IfSome N.day (λ d. s.0 ≡ settled_day d)) }
     ensures of_book { IfOk result (λ s. IsOfBook context.now.book.now s.0) }
     ensures shifts { IfOk result (λ s. AreShifts 1 (length context.now.batch.now.instructions) s.1.items) }
+    ensures memory { IfErr result (λ lack. lack ≡ Memory) }
 {
     let mut slots = Slots::open(alloc, context)?;
     let (ran, log) = run_in_order(alloc, &mut slots, gate)?;

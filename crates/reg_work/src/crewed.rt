@@ -1,14 +1,17 @@
 //! Settlement by workers that steal.
 
-ghost use Rattle.std.specs.Prelude.{◌≡◌, ◌+◌, ◌≤◌, ◌<◌, [], true, length, map, vec_len, All, IfOk, IfSome, MatchResult};
+ghost use Rattle.std.specs.Prelude.{◌≡◌, ℕ, ◌+◌, ◌≤◌, ◌<◌, [], true, length, map, vec_len, All, IfOk, IfErr, IfSome, MatchResult};
 ghost use Rattle.reg_book.specs.Day.{day_of, settled_day};
 ghost use Rattle.reg_book.specs.Settled.{IsOfBook};
 ghost use Rattle.reg_claim.specs.Views.{fresh};
 ghost use Rattle.reg_claim.specs.Seats.{known, seat_table, table_id, places};
+ghost use Rattle.reg_counting.specs.Counting.{times, once};
+ghost use Rattle.reg_tasks.specs.Gathering.{places_of};
 ghost use Rattle.reg_tasks.specs.Names.{IsNamed};
 ghost use Rattle.reg_deques.specs.Yards.{deques, deques_of_pass};
 ghost use Rattle.reg_work.specs.Faults.{are_workers, IsWorkFault};
 ghost use Rattle.reg_work.specs.Shifts.{AreShifts};
+ghost use Rattle.reg_work.specs.Shortages.{IsShortage};
 
 use crate::alone::settle_alone;
 use crate::crew::work_all;
@@ -47,6 +50,7 @@ fn make_posts<N: Naming, B: Room>(
     ensures fresh { IfOk result (λ r. ((known r.0).finished ≡ []) × ((known r.0).seen ≡ 0)) }
     ensures each { IfOk result (λ r. vec_len r.1 ≡ vec_len passes) }
     ensures passes { IfOk result (λ r. map (λ p. p.pass) r.1.items ≡ passes.items) }
+    ensures owners { IfOk result (λ r. map (λ p. p.owner) r.1.items ≡ owners.items) }
 {
     let mut rest = seat;
     let mut posts = Vec::with_capacity(alloc, passes.len())?;
@@ -83,6 +87,7 @@ fn in_room<'c, N: Naming + Send + Sync, B: Room + Send + Sync, R: Threads + Wait
     requires some { 0 < vec_len passes }
     requires few { (vec_len passes ≤ 8) × (vec_len owners ≡ vec_len passes) }
     ensures shifts { IfOk result (λ w. AreShifts (vec_len passes) B.count w.shifts.items) }
+    ensures each_done { IfOk result (λ w. (p : ℕ) → times p (places_of w.done.items) ≡ once B.count p) }
 {
     let (rest, mut posts): (Seat, Vec<Post<N, B>>) = make_posts(
         alloc, &table, seat, owners, passes,
@@ -113,6 +118,7 @@ fn settle_context<N: Naming + Send + Sync, R: Threads + Wait + Sync, G: Gate>(
     ensures settled { IfOk result (λ s. IfSome N.day (λ d. s.0 ≡ settled_day d)) }
     ensures of_book { IfOk result (λ s. IsOfBook context.now.book.now s.0) }
     ensures shifts { IfOk result (λ s. AreShifts workers (length context.now.batch.now.instructions) s.1.items) }
+    ensures lack { IfErr result (IsShortage workers) }
 {
     if workers == 1 {
         return settle_alone(alloc, context, gate);

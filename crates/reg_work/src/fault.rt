@@ -30,7 +30,7 @@ pub enum WorkFault {
     NoMemory,
 }
 
-/// What the workers of a level lacked: the first of these that applies.
+/// What workers lacked: the first of these that applies.
 #[derive(Clone, Copy, Debug, PartialEq, Eq, Error)]
 pub(crate) enum Shortage {
     /// A thread could not be started.
@@ -79,7 +79,8 @@ impl From<AllocError> for Shortage {
     }
 }
 
-/// If a day is named, nothing foreign can come, so that only memory can be lacking.
+/// What is lacking is told as memory. If a day is named and all comes from its own context in a legal order, nothing else
+/// can be lacking.
 impl From<Lack> for Shortage {
     ghost from_gives = { λ _ shortage. shortage ≡ Memory };
 

@@ -4,6 +4,7 @@ ghost use Rattle.std.specs.Prelude.{◌≡◌, ◌≤◌, ◌++◌, [], Err, fla
 ghost use Rattle.reg_work.specs.declared.fault.Shortage.TheVariants.{Thread};
 ghost use Rattle.reg_levels.specs.Levels.{places_of, places_run};
 ghost use Rattle.reg_work.specs.Parts.{joined};
+ghost use Rattle.reg_work.specs.Shortages.{IsShortage};
 
 use crate::fault::Shortage;
 use crate::gate::Gate;
@@ -156,7 +157,8 @@ pub(crate) fn run_level<N: Naming + Send + Sync, R: Threads + Wait, G: Gate>(
     tasks: Vec<Task<N>>,
 ) -> Result<Vec<Outcome<N>>, Shortage>
     requires { 1 ≤ workers }
-    ensures { IfOk result (λ outcomes. places_run outcomes.items ≡ places_of tasks.items) }
+    ensures outcomes { IfOk result (λ outcomes. places_run outcomes.items ≡ places_of tasks.items) }
+    ensures lack { IfErr result (IsShortage workers) }
 {
     let count = tasks.len();
     let parts = count.min(workers as usize);

@@ -41,14 +41,14 @@ pub(crate) struct Post<N: Naming, B: Room> {
 }
 
 impl<N: Naming, B: Room> Post<N, B> {
-    ghost use Rattle.std.specs.Prelude.{true, Some, None, ◌++◌, ◌∷◌, IfOk, IfSome, IfNone, OnOk};
+    ghost use Rattle.std.specs.Prelude.{◌≢◌, ℕ, true, Some, None, ◌++◌, ◌∷◌, IfOk, IfSome, IfNone, OnOk};
     ghost use Rattle.reg_plan.specs.Plans.{inward};
     ghost use Rattle.reg_tasks.specs.Contexts.{the_day};
     ghost use Rattle.reg_tasks.specs.Parcels.{values_of};
     ghost use Rattle.reg_deques.specs.Views.{with_put};
     ghost use Rattle.reg_deques.specs.Steps.{TakesOwn};
     ghost use Rattle.reg_deques.specs.Passes.{owned};
-    ghost use Rattle.reg_deques.specs.Yards.{views};
+    ghost use Rattle.reg_deques.specs.Yards.{views, StealsAt};
     ghost use Rattle.reg_yard.specs.Parcels.{parcel_of, goes_to};
     ghost use Rattle.reg_work.specs.Ends.{sees_end, IsToFinish};
     ghost use Rattle.reg_work.specs.Turns.{reply_at};
@@ -75,7 +75,10 @@ impl<N: Naming, B: Room> Post<N, B> {
 
     /// Whether all places are finished, or the workers are to leave.
     pub(crate) fn is_over(&mut self, board: &Board<'_, N, B>) -> bool
-        ensures { result ≡ sees_end B.count (known self.new.seat) }
+        ensures over { result ≡ sees_end B.count (known self.new.seat) }
+        ensures work { (self.new.ran ≡ self.old.ran) × (self.new.done ≡ self.old.done) × (self.new.closing ≡ self.old.closing) }
+        ensures owner { self.new.owner ≡ self.old.owner }
+        ensures pass { self.new.pass ≡ self.old.pass }
     {
         let look = board.table.look(&mut self.seat);
         look.stopped || look.done >= board.context.batch().len()
@@ -83,7 +86,10 @@ impl<N: Naming, B: Room> Post<N, B> {
 
     /// Tells all workers to leave.
     pub(crate) fn stop(&mut self, board: &Board<'_, N, B>)
-        ensures { sees_end B.count (known self.new.seat) ≡ true }
+        ensures over { sees_end B.count (known self.new.seat) ≡ true }
+        ensures work { (self.new.ran ≡ self.old.ran) × (self.new.done ≡ self.old.done) × (self.new.closing ≡ self.old.closing) }
+        ensures owner { self.new.owner ≡ self.old.owner }
+        ensures pass { self.new.pass ≡ self.old.pass }
     {
         board.table.stop(&mut self.seat);
     }
@@ -91,7 +97,7 @@ impl<N: Naming, B: Room> Post<N, B> {
     /// Opens the next places of the day that no worker has opened. Answers whether there may be more.
     ///
     /// # Errors
-    /// `NoMemory` if memory ran out. If no day is named, also if a dock is of another context.
+    /// `NoMemory` if memory ran out, or if a dock gives back an opening value.
     pub(crate) fn open_next<R: Wait>(
         &mut self,
         rt: &R,
@@ -100,6 +106,7 @@ impl<N: Naming, B: Room> Post<N, B> {
     ) -> Result<bool, NoMemory>
         ensures seat { self.new.seat ≡ self.old.seat }
         ensures work { (self.new.ran ≡ self.old.ran) × (self.new.done ≡ self.old.done) × (self.new.closing ≡ self.old.closing) }
+        ensures pass { self.new.pass ≡ self.old.pass }
     {
         let count = board.context.batch().len();
         if board.opened.load(Ordering::SeqCst) >= count {
@@ -125,6 +132,7 @@ impl<N: Naming, B: Room> Post<N, B> {
         requires within { place ≤ length board.now.context.now.batch.now.instructions }
         ensures seat { self.new.seat ≡ self.old.seat }
         ensures work { (self.new.ran ≡ self.old.ran) × (self.new.done ≡ self.old.done) × (self.new.closing ≡ self.old.closing) }
+        ensures pass { self.new.pass ≡ self.old.pass }
         ensures task { OnOk result (length (inward board.now.context.now.plan.arrows place) ≡ 0 → owned self.new.owner ≡ with_put (place ∷ []) (owned self.old.owner)) }
     {
         if let Some(task) = Task::open(alloc, board.context, place)? {
@@ -142,6 +150,7 @@ impl<N: Naming, B: Room> Post<N, B> {
     fn put(&mut self, task: Task<N>) -> Result<(), NoMemory>
         ensures seat { self.new.seat ≡ self.old.seat }
         ensures work { (self.new.ran ≡ self.old.ran) × (self.new.done ≡ self.old.done) × (self.new.closing ≡ self.old.closing) }
+        ensures pass { self.new.pass ≡ self.old.pass }
         ensures task { OnOk result (owned self.new.owner ≡ with_put (task.place ∷ []) (owned self.old.owner)) }
     {
         if self.owner.put(task).is_err() {
@@ -160,6 +169,7 @@ impl<N: Naming, B: Room> Post<N, B> {
     ) -> Result<(), NoMemory>
         ensures seat { self.new.seat ≡ self.old.seat }
         ensures work { (self.new.ran ≡ self.old.ran) × (self.new.done ≡ self.old.done) × (self.new.closing ≡ self.old.closing) }
+        ensures pass { self.new.pass ≡ self.old.pass }
     {
         match board.docks.deliver(rt, parcel) {
             Ok(complete) => self.put_complete(complete),
@@ -171,6 +181,7 @@ impl<N: Naming, B: Room> Post<N, B> {
     fn put_complete(&mut self, complete: Option<Task<N>>) -> Result<(), NoMemory>
         ensures seat { self.new.seat ≡ self.old.seat }
         ensures work { (self.new.ran ≡ self.old.ran) × (self.new.done ≡ self.old.done) × (self.new.closing ≡ self.old.closing) }
+        ensures pass { self.new.pass ≡ self.old.pass }
         ensures task { OnOk result (IfSome complete (λ t. owned self.new.owner ≡ with_put (t.place ∷ []) (owned self.old.owner))) }
     {
         match complete {
@@ -183,6 +194,7 @@ impl<N: Naming, B: Room> Post<N, B> {
     pub(crate) fn take_own(&mut self) -> Option<Task<N>>
         ensures seat { self.new.seat ≡ self.old.seat }
         ensures work { (self.new.ran ≡ self.old.ran) × (self.new.done ≡ self.old.done) × (self.new.closing ≡ self.old.closing) }
+        ensures pass { self.new.pass ≡ self.old.pass }
         ensures some { IfSome result (λ t. TakesOwn (owned self.old.owner) t.place (owned self.new.owner)) }
         ensures none { IfNone result (owned self.new.owner ≡ owned self.old.owner) }
     {
@@ -194,6 +206,7 @@ impl<N: Naming, B: Room> Post<N, B> {
         ensures seat { self.new.seat ≡ self.old.seat }
         ensures work { (self.new.ran ≡ self.old.ran) × (self.new.done ≡ self.old.done) × (self.new.closing ≡ self.old.closing) }
         ensures owner { self.new.owner ≡ self.old.owner }
+        ensures some { IfSome result (λ t. (from : ℕ) × (from ≢ self.old.pass.worker) × StealsAt from (views self.old.pass) t.place (views self.new.pass)) }
         ensures none { IfNone result (views self.new.pass ≡ views self.old.pass) }
     {
         let own = self.pass.worker();
@@ -224,6 +237,7 @@ impl<N: Naming, B: Room> Post<N, B> {
     ) -> Result<Option<Turn<N>>, NoMemory>
         ensures turn { IfOk result (λ turn. IfSome turn (λ t. IsToFinish t.ran.place (known self.new.seat))) }
         ensures work { (self.new.ran ≡ self.old.ran) × (self.new.done ≡ self.old.done) × (self.new.closing ≡ self.old.closing) }
+        ensures pass { self.new.pass ≡ self.old.pass }
         ensures owner { self.new.owner ≡ self.old.owner }
         ensures place { IfOk result (λ turn. IfSome turn (λ t. t.ran.place ≡ task.place)) }
         ensures made { IfOk result (λ turn. IfSome turn (λ t. reply_at (the_day board.now.context.now) task.place (values_of task.parcels.items) ≡ Some (values_of t.left.items, t.done.reply))) }
@@ -248,7 +262,7 @@ impl<N: Naming, B: Room> Post<N, B> {
     /// with it into the worker's own deque. What no other instruction needs is kept.
     ///
     /// # Errors
-    /// `NoMemory` if memory ran out. If no day is named, also if a parcel is of another context.
+    /// `NoMemory` if memory ran out, or if a dock gives back a parcel that another instruction needs.
     pub(crate) fn hand_on<R: Wait>(
         &mut self,
         rt: &R,
@@ -257,6 +271,7 @@ impl<N: Naming, B: Room> Post<N, B> {
     ) -> Result<(), NoMemory>
         ensures seat { self.new.seat ≡ self.old.seat }
         ensures work { (self.new.ran ≡ self.old.ran) × (self.new.done ≡ self.old.done) }
+        ensures pass { self.new.pass ≡ self.old.pass }
         ensures ran { (turn.new.ran ≡ turn.old.ran) × (turn.new.done ≡ turn.old.done) }
         ensures all { OnOk result (turn.new.left.items ≡ []) }
     {
@@ -277,6 +292,7 @@ impl<N: Naming, B: Room> Post<N, B> {
     ) -> Result<(), NoMemory>
         ensures seat { self.new.seat ≡ self.old.seat }
         ensures work { (self.new.ran ≡ self.old.ran) × (self.new.done ≡ self.old.done) }
+        ensures pass { self.new.pass ≡ self.old.pass }
         ensures last { OnOk result (goes_to board.now.docks.context.now.plan (parcel_of parcel) ≡ None → self.new.closing.items ≡ self.old.closing.items ++ parcel ∷ []) }
     {
         match board.docks.deliver(rt, parcel) {
@@ -294,6 +310,7 @@ impl<N: Naming, B: Room> Post<N, B> {
     ) -> Result<(), NoMemory>
         ensures seat { self.new.seat ≡ self.old.seat }
         ensures work { (self.new.ran ≡ self.old.ran) × (self.new.done ≡ self.old.done) }
+        ensures pass { self.new.pass ≡ self.old.pass }
         ensures owner { self.new.owner ≡ self.old.owner }
         ensures kept { OnOk result (self.new.closing.items ≡ self.old.closing.items ++ parcel ∷ []) }
     {
@@ -315,6 +332,7 @@ impl<N: Naming, B: Room> Post<N, B> {
         ensures done { OnOk result (self.new.done.items ≡ self.old.done.items ++ turn.done ∷ []) }
         ensures closing { self.new.closing ≡ self.old.closing }
         ensures owner { self.new.owner ≡ self.old.owner }
+        ensures pass { self.new.pass ≡ self.old.pass }
     {
         self.ran.reserve(1)?;
         self.done.reserve(1)?;

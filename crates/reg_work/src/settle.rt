@@ -1,11 +1,12 @@
 //! Settlement by levels.
 
-ghost use Rattle.std.specs.Prelude.{◌≡◌, ◌<◌, ◌≤◌, ◌+◌, true, length, nat_lt, IfOk, IfSome, OnOk, MatchResult};
+ghost use Rattle.std.specs.Prelude.{◌≡◌, ◌<◌, ◌≤◌, ◌+◌, true, length, IfOk, IfErr, IfSome, OnOk, MatchResult};
 ghost use Rattle.reg_book.specs.Day.{day_of, settled_day};
 ghost use Rattle.reg_book.specs.Settled.{IsOfBook};
 ghost use Rattle.reg_book.specs.Settling.{IsSettleFault};
 ghost use Rattle.reg_tasks.specs.Names.{IsNamed};
 ghost use Rattle.reg_work.specs.Faults.{are_workers, IsWorkFault};
+ghost use Rattle.reg_work.specs.Shortages.{IsShortage};
 
 use crate::fault::{Shortage, WorkFault};
 use crate::gate::Gate;
@@ -27,46 +28,24 @@ pub(crate) fn is_allowed(workers: u32) -> bool
     1 <= workers && workers <= MOST_WORKERS
 }
 
-// So many tasks take about as long as starting a thread for them.
-const WORTH_A_THREAD: u32 = 256;
-
-// So many levels are divided among threads even if they have fewer tasks than that. So a small day runs as a large one
-// does, and a day of many small levels does not spend its time starting threads.
-const SMALL_LEVELS: u32 = 4;
-
 // So many tasks are taken at once if one worker runs them: their values then stay near the processor.
 const AT_ONCE: usize = 32;
 
-// By how many workers the next tasks are run, and how many of them at most.
-fn share_next<N: Naming>(levels: &Levels<N>, workers: u32, small_levels: &mut u32) -> (u32, usize)
-    requires workers { are_workers workers ≡ true }
-    requires left { levels.now.taken < length levels.now.order.items }
-    ensures workers { 1 ≤ result.0 }
-    ensures most { 1 ≤ result.1 }
+// How many tasks of a level are taken at once, at most: all, unless one worker runs them.
+fn most_at_once(workers: u32) -> usize
+    ensures some { 1 ≤ result }
+    ensures all { 2 ≤ workers → result ≡ usize.MAX }
 {
-    if workers == 1 {
-        return (1, AT_ONCE);
-    }
-    let enough = (workers * WORTH_A_THREAD) as usize;
-    let tasks = levels.count_left(enough);
-    if tasks == enough {
-        return (workers, usize::MAX);
-    }
-    if tasks == 1 || *small_levels == 0 {
-        return (1, AT_ONCE);
-    }
-    *small_levels -= 1;
-    (workers, enough)
+    if workers <= 1 { AT_ONCE } else { usize::MAX }
 }
 
-// Runs the tasks of the next level, or some of them, and lays what they leave.
+// Runs the tasks of the next level, or some of them if one worker runs them, and lays what they leave.
 fn run_next<N: Naming + Send + Sync, R: Threads + Wait, G: Gate>(
     rt: &R,
     alloc: Global,
     context: &Context<N>,
     levels: &mut Levels<N>,
     workers: u32,
-    small_levels: &mut u32,
     gate: &G,
 ) -> Result<(), Shortage>
     requires workers { are_workers workers ≡ true }
@@ -76,9 +55,9 @@ fn run_next<N: Naming + Send + Sync, R: Threads + Wait, G: Gate>(
     ensures order { levels.new.order ≡ levels.old.order }
     ensures laid { OnOk result (levels.new.laid ≡ levels.new.taken) }
     ensures more { OnOk result (levels.old.taken < levels.new.taken) }
+    ensures lack { IfErr result (IsShortage workers) }
 {
-    let (workers, most) = share_next(levels, workers, small_levels);
-    let tasks = levels.take(alloc, most)?;
+    let tasks = levels.take(alloc, most_at_once(workers))?;
     let outcomes = run_level(rt, alloc, context, gate, workers, tasks)?;
     levels.lay(outcomes)?;
     Ok(())
@@ -97,10 +76,10 @@ fn run_all<N: Naming + Send + Sync, R: Threads + Wait, G: Gate>(
     requires laid { levels.old.laid ≡ levels.old.taken }
     ensures context { levels.new.slots.context.now ≡ levels.old.slots.context.now }
     ensures laid { OnOk result (levels.new.laid ≡ length levels.new.order.items) }
+    ensures lack { IfErr result (IsShortage workers) }
 {
-    let mut small_levels = SMALL_LEVELS;
     while levels.are_left() {
-        run_next(rt, alloc, context, levels, workers, &mut small_levels, gate)?;
+        run_next(rt, alloc, context, levels, workers, gate)?;
     }
     Ok(())
 }
@@ -116,6 +95,7 @@ fn settle_context<N: Naming + Send + Sync, R: Threads + Wait, G: Gate>(
     requires workers { are_workers workers ≡ true }
     ensures settled { IfOk result (λ s. IfSome N.day (λ d. s ≡ settled_day d)) }
     ensures of_book { IfOk result (λ s. IsOfBook context.now.book.now s) }
+    ensures lack { IfErr result (IsShortage workers) }
 {
     let mut levels = Levels::open(alloc, context)?;
     run_all(rt, alloc, context, &mut levels, workers, gate)?;
@@ -146,10 +126,7 @@ fn settle_named<N: Naming + Send + Sync, R: Threads + Wait, G: Gate>(
 /// Settles a batch by workers, level by level: the instructions of a level touch no account in common, so they run at the
 /// same time. They are divided among so many workers, or as many as there are instructions in the level if these are fewer,
 /// in parts whose sizes differ by at most one. Each worker has a thread of its own, in which it calls the gate before each
-/// run; a single worker is the calling thread. The book is not changed.
-///
-/// Starting a thread takes about as long as 256 runs. So after the first four levels of two instructions or more, a level
-/// with fewer than 256 instructions for each worker is run by the calling thread alone, as worker 0.
+/// run. A single worker, or that of a level of one instruction, is the calling thread. The book is not changed.
 ///
 /// The settled day is that of `settle_plain`, for each number of workers.
 ///

@@ -1,7 +1,9 @@
 //! Counting up what the workers did.
 
-ghost use Rattle.std.specs.Prelude.{◌≡◌, ◌+◌, ◌<◌, ◌++◌, [], vec_len, IfOk, OnOk};
+ghost use Rattle.std.specs.Prelude.{◌≡◌, ℕ, ◌+◌, ◌<◌, ◌++◌, [], vec_len, IfOk, OnOk};
 ghost use Rattle.reg_claim.specs.Seats.{known, seat_table, table_id, places};
+ghost use Rattle.reg_counting.specs.Counting.{times, once};
+ghost use Rattle.reg_tasks.specs.Gathering.{places_of};
 ghost use Rattle.reg_work.specs.Shifts.{AreShifts, workers_of, times_in};
 ghost use Rattle.reg_work.specs.Stints.{stint_workers, all_done, all_closing};
 ghost use Rattle.reg_work.specs.Shifts.{numbers_below};
@@ -24,8 +26,7 @@ pub(crate) struct Work<N: Naming> {
 }
 
 impl<N: Naming> Work<N> {
-    ghost use Rattle.std.specs.Prelude.{ℕ, ◌∷◌};
-    ghost use Rattle.reg_counting.specs.Counting.{times};
+    ghost use Rattle.std.specs.Prelude.{◌∷◌};
     ghost use Rattle.reg_work.specs.Shifts.{places_ran};
 
     // Nobody did anything yet.
@@ -91,6 +92,7 @@ pub(crate) fn count_up<N: Naming, B: Room>(
     ensures shifts { IfOk result (λ w. AreShifts (vec_len stints) B.count w.shifts.items) }
     ensures done { IfOk result (λ w. w.done.items ≡ all_done stints.items) }
     ensures closing { IfOk result (λ w. w.closing.items ≡ all_closing stints.items) }
+    ensures each_done { IfOk result (λ w. (p : ℕ) → times p (places_of w.done.items) ≡ once B.count p) }
 {
     let mut rest = seat;
     let mut work: Work<N> = Work::new(alloc);

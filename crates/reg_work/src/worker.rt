@@ -94,7 +94,8 @@ fn pause<R: Wait>(rt: &R, backoff: &Backoff) {
     }
 }
 
-/// Runs tasks until all are done, or the workers are to leave. If memory runs out, it tells all workers to leave.
+/// Runs tasks until all are done, or the workers are to leave. If memory runs out, it tells all workers to leave. It leaves
+/// only after a look that shows the one or the other.
 pub(crate) fn work<N: Naming, B: Room, R: Wait, G: Gate>(
     rt: &R,
     alloc: Global,
@@ -108,19 +109,21 @@ pub(crate) fn work<N: Naming, B: Room, R: Wait, G: Gate>(
     let mut post = post;
     let backoff = Backoff::new();
     for _ in rt.forever() {
-        match step(rt, alloc, board, gate, worker, &mut post) {
-            Ok(true) => backoff.reset(),
-            Ok(false) => {
-                if post.is_over(board) {
-                    return Stint { worker, post };
-                }
-                pause(rt, &backoff);
-            }
+        let found = match step(rt, alloc, board, gate, worker, &mut post) {
+            Ok(found) => found,
             Err(_) => {
                 post.stop(board);
-                return Stint { worker, post };
+                false
             }
+        };
+        if found {
+            backoff.reset();
+            continue;
         }
+        if post.is_over(board) {
+            return Stint { worker, post };
+        }
+        pause(rt, &backoff);
     }
     unreachable!()
 }

@@ -1,8 +1,8 @@
-use Rattle.std.proofs.Common.{arith, ◌≡◌, ℕ, ◌+◌, All, length, vec_len, ap, ◌∙◌, subst}
+use Rattle.std.proofs.Common.{arith, ◌≡◌, ℕ, ◌+◌, All, length, vec_len, sym, ap, ◌∙◌, subst}
 use Rattle.std.proofs.lemmas.List.Elements.{All-tail}
 use Rattle.reg_claim.specs.declared.views.View.{View}
 use Rattle.reg_deques.specs.Yards.{deques_of_pass}
-use Rattle.reg_work.proofs.Counting.{one-moved}
+use Rattle.reg_work.proofs.Counting.{one-moved, all-moved}
 use Rattle.reg_work.proofs.crewed.make_posts.Goals as goal
 
 pub loop-pass-preserved : goal.loop-pass-preserved
@@ -25,5 +25,15 @@ loop-pass-preserved g c =
       unseen = ap (λ (v : View). v.seen) first ∙ i.unseen;
       whole = omega arith;
       deques = All-tail (λ p. deques_of_pass p ≡ g.B.Room.deques) c.in-Some.pass c.next.new.self.rest.items (subst (All (λ p. deques_of_pass p ≡ g.B.Room.deques)) items i.deques);
+      owners = one-moved (λ p. p.owner) c.push.new.self.items c.loop-pass.posts.items _ c.in-Some-next.owner c.loop-pass.owners.rest.items c.next-in-loop-pass.new.self.rest.items c.args.owners.items c.in_ok-push.ensures.items c.new.ensures.parts.0 c.in-Some-next.ensures.items i.owners;
       passes = one-moved (λ p. p.pass) c.push.new.self.items c.loop-pass.posts.items _ c.in-Some.pass c.loop-pass.pass-iterator.rest.items c.next.new.self.rest.items c.args.passes.items c.in_ok-push.ensures.items c.new.ensures.parts.1 items i.passes;
     }
+
+pub returns-clause-owners : goal.returns-clause-owners
+returns-clause-owners g c =
+    let i = c.loop-pass.invariant in
+    let whole = i.whole in
+    let few = c.requires.few in
+    let none : length c.loop-pass.pass-iterator.rest.items ≡ 0 = sym c.loop-pass.pass-iterator.rest.ok.0 ∙ c.in-None.ensures.steps.0 in
+    let many : length c.loop-pass.posts.items ≡ length c.args.owners.items = omega (arith, c.loop-pass.posts.ok.0, c.args.owners.ok.0) in
+    all-moved (λ p. p.owner) c.loop-pass.posts.items c.loop-pass.owners.rest.items c.args.owners.items i.owners many

@@ -14,5 +14,6 @@ invariant-loop-pass g l = record {
   unseen : (known l.rest).seen ≡ 0;
   whole : vec_len l.posts + length l.pass-iterator.rest.items ≡ vec_len l.fn.passes;
   deques : All (λ p. deques_of_pass p ≡ g.B.Room.deques) l.pass-iterator.rest.items;
+  owners : map (λ p. p.owner) l.posts.items ++ l.owners.rest.items ≡ l.fn.owners.items;
   passes : map (λ p. p.pass) l.posts.items ++ l.pass-iterator.rest.items ≡ l.fn.passes.items;
 }

@@ -5,7 +5,7 @@ use Rattle.reg_claim.specs.declared.views.View.{View}
 use Rattle.reg_claim.specs.Seats.{known}
 use Rattle.reg_work.specs.Shifts.{workers_of}
 use Rattle.reg_work.specs.Stints.{stint_workers, all_done, all_closing}
-use Rattle.reg_work.proofs.Counting.{times-append}
+use Rattle.reg_work.proofs.Counting.{times-append, times-mapped}
 use Rattle.reg_work.proofs.Ending.{joined-sees, all-finished, was-there}
 use Rattle.reg_work.proofs.tally.count_up.Goals as goal
 
@@ -29,6 +29,10 @@ loop-stint-preserved g c =
           ap (λ (v : View). times p v.finished) view
           ∙ times-append p (known c.loop-stint.rest).finished (known post.seat).finished
           ∙ (let old = i.times p in let new = c.in_ok-add.ensures.times p in let same = ap (times p) post.finished in omega arith);
+      rows = λ p.
+          ap (λ (v : View). times p v.finished) view
+          ∙ times-append p (known c.loop-stint.rest).finished (known post.seat).finished
+          ∙ (let old = i.rows p in let new = times-mapped (λ d. d.place) p c.add.new.self.done.items c.loop-stint.work.done.items post.done.items c.in_ok-add.ensures.done in let same = ap (times p) post.rows in omega arith);
       workers = ap (λ ws. ws ++ stint_workers c.next.new.self.rest.items) c.in_ok-add.ensures.workers
           ∙ append_assoc (workers_of c.loop-stint.work.shifts.items) (c.in-Some.stint.worker ∷ []) (stint_workers c.next.new.self.rest.items)
           ∙ ap (λ ss. workers_of c.loop-stint.work.shifts.items ++ stint_workers ss) (sym items)
@@ -58,4 +62,5 @@ returns g c =
       };
       done = sym (append-nil c.loop-stint.work.done.items) ∙ ap (λ ss. c.loop-stint.work.done.items ++ all_done ss) (sym none) ∙ i.done;
       closing = sym (append-nil c.loop-stint.work.closing.items) ∙ ap (λ ss. c.loop-stint.work.closing.items ++ all_closing ss) (sym none) ∙ i.closing;
+      each_done = λ p. sym (i.rows p) ∙ all.all whole p ∙ ap (λ n. once n p) places_are;
     }

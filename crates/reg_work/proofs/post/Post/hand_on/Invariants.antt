@@ -6,6 +6,7 @@ abbrev pub invariant-loop-parcel : goal.invariant-loop-parcel
 invariant-loop-parcel g l = record {
   seat : l.self.seat ≡ l.initial.self.seat;
   work : (l.self.ran ≡ l.initial.self.ran) × (l.self.done ≡ l.initial.self.done);
+  pass : l.self.pass ≡ l.initial.self.pass;
   ran : (l.turn.ran ≡ l.initial.turn.ran) × (l.turn.done ≡ l.initial.turn.done);
 }
 
