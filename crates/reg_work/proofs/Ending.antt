@@ -1,5 +1,5 @@
 -- What a seat shows of the end of the work, after two seats were made one.
-use Rattle.std.proofs.Common.{arith, refl, ◌≡◌, ◌==◌, ℕ, ◌≤◌, ◌<◌, ◌/◌, ◌||◌, max, Bool, true, false, nat_le, sym, ◌∙◌, ◌⊎◌, inl, inr, ⊎_elim, Result, Ok, Err}
+use Rattle.std.proofs.Common.{arith, refl, ◌≡◌, ℕ, ◌≤◌, ◌<◌, ◌/◌, ◌||◌, max, Bool, true, false, nat_le, sym, ◌∙◌, ◌⊎◌, inl, inr, ⊎_elim, Result, Ok, Err}
 use Rattle.std.specs.Prelude.{OnOk}
 use Rattle.std.proofs.lemmas.Bool.Decides.{nat_tests}
 use mathlib.Core.Logic.{dite}

@@ -1,5 +1,5 @@
 -- What a worker's seat shows of the end of the work.
-use Rattle.std.specs.Prelude.{◌≡◌, ℕ, ◌/◌, Bool, ◌||◌, nat_le, Contains}
+use Rattle.std.specs.Prelude.{ℕ, ◌/◌, Bool, ◌||◌, nat_le, Contains}
 use Rattle.reg_claim.specs.declared.views.View.{View}
 use Rattle.reg_claim.specs.Views.{is_odd}
 

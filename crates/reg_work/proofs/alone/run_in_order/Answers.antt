@@ -1,4 +1,4 @@
-use Rattle.std.proofs.Common.{◌≡◌, arith, refl, ap, ◌∙◌}
+use Rattle.std.proofs.Common.{arith, refl, ap, ◌∙◌}
 use Rattle.reg_counting.specs.Counting.{times}
 use Rattle.reg_book.specs.Day.{log_of}
 use Rattle.reg_work.specs.Shifts.{places_ran}

@@ -1,4 +1,4 @@
-use Rattle.std.proofs.Common.{◌≡◌, ◌++◌, ◌∷◌, [], length, refl, ap, ◌∙◌}
+use Rattle.std.proofs.Common.{◌++◌, ◌∷◌, [], length, refl, ap, ◌∙◌}
 use Rattle.reg_counting.specs.Counting.{once}
 use Rattle.reg_work.specs.declared.shift.Shift.{Shift}
 use Rattle.reg_work.proofs.Ordered.{shift-alone}

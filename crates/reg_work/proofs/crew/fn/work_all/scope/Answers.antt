@@ -1,4 +1,4 @@
-use Rattle.std.proofs.Common.{arith, refl, ◌≡◌, ◌+◌, ◌∙◌, vec_len}
+use Rattle.std.proofs.Common.{arith, refl, ◌∙◌, vec_len}
 use Rattle.reg_work.proofs.Counting.{one-numbered}
 use Rattle.reg_work.proofs.crew.fn.work_all.scope.Goals as goal
 
