@@ -31,7 +31,7 @@ pub use Rattle.reg_text.specs.Words.{account_kind_word, account_kinds, kind_word
 unfoldable pub use Rattle.reg_text.specs.Words.{word_of}
 pub use Rattle.reg_text.specs.Grammar.{Key, Said, by, row, row_read, row_text, tag_word}
 pub use Rattle.reg_text.specs.Plain.{IsPlain, with_commas}
-pub use Rattle.reg_text.specs.Written.{EachBookIsWritten, EachReportIsWritten, EachTextSplits, HasField}
+pub use Rattle.reg_text.specs.Written.{EachTextSplits, HasField}
 pub use Rattle.reg_base.specs.declared.limits.TheConstants.{FIRST_DAY, FIRST_YEAR, LAST_DAY, MOST_ACCOUNTS, MOST_INSTRUCTIONS, MOST_LAG, MOST_NUMBER, MOST_PERIODS, MOST_RECORD, MOST_ROWS}
 pub use Rattle.reg_base.specs.Numbers.{IsAccountNo, IsWithin, IsDayNo, IsRecordNo, IsUserNo, IsYearNo}
 pub use Rattle.reg_base.specs.Instructions.{IsInstruction}
