@@ -2,9 +2,9 @@
 use Rattle.std.proofs.Common.{◌≡◌, ℕ, ℤ, pos, unsigned_abs, Bool, ◌^◌, ◌<◌, ◌≤◌, true, not, ◌&&◌, nat_lt, nat_le, List, [], ◌∷◌, length, Option, Some, None, Ok, refl, ap, ◌∙◌, subst, arith}
 use Rattle.std.specs.Prelude.{IfSome, is_ok, ◌↔◌}
 use Rattle.std.proofs.lemmas.Bool.{and_parts, ltb-true, leb-true, le-leb}
-use Rattle.reg_text.proofs.Names.{MOST_NUMBER, Act, ActName, Transfer, Tag, IsCodec, AreFields}
+use Rattle.reg_text.proofs.Names.{Act, ActName, Transfer, Tag, IsCodec, AreFields}
 use Rattle.reg_text.proofs.Names.{within_limits, a_period, any_number, a_no, factor, later_factor, a_figure, a_date, an_approver, IsRow, row_with, act_names, act_word, act_name, form, said, an_act_name, act_fields, instruction_fields_of, Scope}
-use Rattle.reg_text.proofs.Names.{row, Said, widest, Cause, Codec, IsWithin, IsUserNo, CorrectionFits, FigureFits, ◌>>=◌, test, when, first_cause, fault_of, number, signed, plain_number_of, date_of, signed_of, signed_correction_of, signed_figure_of, bounded_of, user_no_of, approver_of, approver_text, number_tests, correction_tests, figure_tests, approver_tests, IsPlain}
+use Rattle.reg_text.proofs.Names.{row, Said, widest, Cause, Codec, IsWithin, IsUserNo, CorrectionFits, FigureFits, ◌>>=◌, test, when, first_cause, fault_of, number, signed, plain_number_of, date_of, signed_of, signed_correction_of, signed_figure_of, bounded_of, approver_of, approver_text, number_tests, correction_tests, figure_tests, approver_tests, IsPlain}
 use Rattle.reg_base.specs.declared.act.Act.TheVariants as act
 use Rattle.reg_text.specs.declared.reading.instruction_row.ActName.TheVariants.{Distribute}
 use Rattle.reg_text.specs.Words.{kind_word, kinds}
@@ -93,10 +93,10 @@ approver-spelled : (f : List ℕ) (o : Option ℕ) → approver_of f ≡ Ok o �
 unfolding approver_of
 approver-spelled [] o e = subst (λ (p : Option ℕ). ([] ≡ approver_text p) × IfSome p IsUserNo) (ok_is None o e) (refl, tt)
 approver-spelled (b ∷ f) o e =
-    let n = bind_ok (user_no_of (b ∷ f)) (λ n. Ok (Some n)) o e in
+    let n = bind_ok (a_no.read (b ∷ f)) (λ n. Ok (Some n)) o e in
     subst (λ (p : Option ℕ). (b ∷ f ≡ approver_text p) × IfSome p IsUserNo) (ok_is (Some n.0) o n.2) (is-no.spelled (b ∷ f) n.0 n.1)
 
-some-again : (f : List ℕ) (n : ℕ) → 0 < length f → user_no_of f ≡ Ok n → approver_of f ≡ Ok (Some n)
+some-again : (f : List ℕ) (n : ℕ) → 0 < length f → a_no.read f ≡ Ok n → approver_of f ≡ Ok (Some n)
 unfolding approver_of
 some-again [] n h e = absurd (omega arith)
 some-again (b ∷ f) n h e = rw e refl
@@ -109,7 +109,7 @@ approver-again (Some n) h = some-again (number n) n (digit-first n (omega (arith
 approver-fault : (f : List ℕ) → fault_of (approver_of f) ≡ first_cause (approver_tests f)
 unfolding approver_of
 approver-fault [] = refl
-approver-fault (b ∷ f) = done (user_no_of (b ∷ f)) (λ n. Some n) (number_tests 1 MOST_NUMBER (b ∷ f)) (is-no.fault (b ∷ f))
+approver-fault (b ∷ f) = done (a_no.read (b ∷ f)) (λ n. Some n) (a_no.tests (b ∷ f)) (is-no.fault (b ∷ f))
 
 plain-approver : (user : Option ℕ) → IsPlain (approver_text user)
 plain-approver None = refl

@@ -59,15 +59,15 @@ unfoldable pub use Rattle.csv.specs.Reading.{Reached, records_from, strip_bom}
 pub use Rattle.reg_text.specs.Rows.{IsOfMemory, IsOpen, known_rest, records_in, rest_of, rows_left, rows_in_text}
 pub use Rattle.reg_text.specs.declared.reading.instruction_row.ActName.{ActName}
 pub use Rattle.reg_text.specs.declared.reading.instruction_row.ActName.TheVariants.{Transfer}
-pub use Rattle.reg_text.specs.Codecs.{AreFields, Codec, Fields, IsCodec, IsRow, Row, a_date, a_figure, a_no, a_period, a_word, an_approver, any_number, factor, later_factor, forms, holds_of, last, made, named_row, none, provided, row_with, tests_then, within_limits, ◌▸◌}
+pub use Rattle.reg_text.specs.Codecs.{AreFields, Codec, Fields, IsCodec, IsRow, Row, a_date, a_figure, a_no, a_period, a_word, an_approver, any_number, factor, later_factor, approver_tests, approver_text, forms, holds_of, last, made, named_row, none, provided, row_with, tests_then, within_limits, ◌▸◌}
 pub use Rattle.reg_text.specs.Acts.{IsShared, act_fields, act_name, act_names, act_word, an_act_name, form, instruction_fields_of, said}
-pub use Rattle.reg_text.specs.FieldTests.{approver_tests, correction_tests, fault_of, figure_tests, first_cause, number_tests, when}
+pub use Rattle.reg_text.specs.FieldTests.{correction_tests, fault_of, figure_tests, first_cause, number_tests, when}
 pub use Rattle.reg_text.specs.Table.{IsCauseOf, said_tests, tagged_tests, tests_of}
 pub use Rattle.reg_base.specs.declared.act.Act.{Act}
 pub use Rattle.reg_text.specs.Signed.{minus, signed}
 unfoldable pub use Rattle.reg_text.specs.Signed.{signed_correction_of, signed_figure_of, signed_of}
-pub use Rattle.reg_text.specs.Limits.{approver_text, user_no_of}
-unfoldable pub use Rattle.reg_text.specs.Limits.{approver_of, bounded_of}
+unfoldable pub use Rattle.reg_text.specs.Limits.{bounded_of}
+unfoldable pub use Rattle.reg_text.specs.Codecs.{approver_of}
 pub use Rattle.csv.specs.Machine.{Read, ends_at_end, field_after, fields_after, is_end, step}
 unfoldable pub use Rattle.csv.specs.Machine.{next_record}
 pub use Rattle.csv.specs.Records.{fields_of}

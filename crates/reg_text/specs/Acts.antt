@@ -1,6 +1,6 @@
 -- The acts that an instruction's row may name: of each its word, its fields, and how it is made of them.
 use Rattle.std.specs.Prelude.{ℕ, Bool, List, [], ◌∷◌, map, length, ⊤, Result, Ok, codes}
-use Rattle.reg_base.specs.declared.limits.TheConstants.{MOST_RECORD, MOST_SHARES, FIRST_YEAR, LAST_YEAR}
+use Rattle.reg_base.specs.declared.limits.TheConstants.{MOST_SHARES}
 use Rattle.reg_base.specs.declared.kinds.AllowanceKind.{AllowanceKind}
 use Rattle.reg_base.specs.declared.kinds.Status.{Status}
 use Rattle.reg_base.specs.declared.shares.Share.{Share}
@@ -14,7 +14,7 @@ use Rattle.reg_text.specs.declared.reading.instruction_row.ActName.TheVariants.{
 use Rattle.reg_text.specs.Causes.{◌>>=◌}
 use Rattle.reg_text.specs.Records.{Record}
 use Rattle.reg_text.specs.Words.{word_of, kind_word, kind_of, status_word, status_of}
-use Rattle.reg_text.specs.Codecs.{Codec, Fields, within_limits, any_number, a_date, a_no, an_approver, a_word, last, ◌▸◌, made, pairs, forms, Row, row_with, named_row}
+use Rattle.reg_text.specs.Codecs.{Codec, Fields, any_number, a_date, a_no, a_record, a_year, an_approver, a_word, last, ◌▸◌, made, pairs, forms, Row, row_with, named_row}
 
 -- ---- fields of acts
 
@@ -59,7 +59,7 @@ IsShared a = ⊤
 
 -- ACCOUNT,NUMBER
 abbrev pub record_fields : Fields (ℕ × ℕ)
-record_fields = a_no ▸ last (within_limits 1 MOST_RECORD)
+record_fields = a_no ▸ last a_record
 
 -- ACCOUNT,OTHER
 abbrev pub other_fields : Fields (ℕ × ℕ)
@@ -71,11 +71,11 @@ status_fields = a_no ▸ last (a_word status_word status_of)
 
 -- ACCOUNT,YEAR,TONNES
 abbrev pub emission_fields : Fields (ℕ × ℕ × ℕ)
-emission_fields = made (λ p. (p.0, p.1.0, p.1.1)) (λ m. (m.0, (m.1, m.2))) (a_no ▸ within_limits FIRST_YEAR LAST_YEAR ▸ last any_number)
+emission_fields = made (λ p. (p.0, p.1.0, p.1.1)) (λ m. (m.0, (m.1, m.2))) (a_no ▸ a_year ▸ last any_number)
 
 -- ACCOUNT,YEAR
 abbrev pub year_fields : Fields (ℕ × ℕ)
-year_fields = a_no ▸ last (within_limits FIRST_YEAR LAST_YEAR)
+year_fields = a_no ▸ last a_year
 
 -- ---- the acts, a row each
 

@@ -1,6 +1,6 @@
 -- The grammar of a day text: of each tag its word, its place, what its row says, its fields, its order, and how many there may be.
-use Rattle.std.specs.Prelude.{[], ◌∷◌, ℕ, Bool, true, false, not, is_ok, nat_le, ◌+◌, ◌==◌, if◌then◌else◌, List, Option, Some, None, Result, codes}
-use Rattle.reg_base.specs.declared.limits.TheConstants.{MOST_ADMINISTRATORS, MOST_EMISSIONS, MOST_HELD, MOST_INSTRUCTIONS, MOST_PERIODS, MOST_RETIRED, MOST_ROWS, MOST_TRUSTED, MOST_USERS, MOST_LAG, MOST_RECORD, FIRST_YEAR, LAST_YEAR}
+use Rattle.std.specs.Prelude.{[], ◌∷◌, ℕ, Bool, true, false, not, is_ok, nat_le, ◌==◌, if◌then◌else◌, List, Option, Some, None, Result, codes}
+use Rattle.reg_base.specs.declared.limits.TheConstants.{MOST_ADMINISTRATORS, MOST_INSTRUCTIONS, MOST_PERIODS, MOST_ROWS, MOST_TRUSTED, MOST_USERS}
 use Rattle.reg_base.specs.declared.kinds.AccountKind.{AccountKind}
 use Rattle.reg_base.specs.declared.kinds.AccountKind.TheVariants.{Total, Allocation, Operator, Aircraft, Trading}
 use Rattle.reg_base.specs.declared.kinds.AllowanceKind.{AllowanceKind}
@@ -30,34 +30,13 @@ use Rattle.reg_text.specs.Records.{Record}
 use Rattle.reg_text.specs.Words.{kind_word, kind_of, account_kind_word, account_kind_of, status_word, status_of, right_word, right_of, retirement_word, retirement_named, yes_no_word, yes_no_of}
 use Rattle.reg_text.specs.FieldTests.{when}
 use Rattle.reg_text.specs.Acts.{instruction_row}
-use Rattle.reg_text.specs.Codecs.{Codec, Fields, within_limits, a_no, a_period, factor, later_factor, a_figure, a_date, a_word, none, last, maybe, ◌▸◌, made, provided, Row, row_with}
+use Rattle.reg_text.specs.Codecs.{Codec, Fields, a_no, a_record, a_next, a_year, a_lag, a_holding, an_amount, some_tonnes, a_period, factor, later_factor, a_figure, a_date, a_word, none, last, maybe, ◌▸◌, made, provided, Row, row_with}
 
 -- ---- fields of one kind of row
 
 -- the version of the format
 abbrev pub a_version : Codec Version
 a_version = record { spell = version_word; read = version_of; tests = λ f. when (not (is_ok (version_of f))) cause.Version ∷ []; Fits = λ v. Unit {0} }
-
-abbrev pub a_next : Codec ℕ
-a_next = within_limits 1 (MOST_RECORD + 1)
-
-abbrev pub a_year : Codec ℕ
-a_year = within_limits FIRST_YEAR LAST_YEAR
-
-abbrev pub a_lag : Codec ℕ
-a_lag = within_limits 0 MOST_LAG
-
-abbrev pub a_holding : Codec ℕ
-a_holding = within_limits 0 MOST_HELD
-
-abbrev pub a_record : Codec ℕ
-a_record = within_limits 1 MOST_RECORD
-
-abbrev pub an_amount : Codec ℕ
-an_amount = within_limits 1 MOST_RETIRED
-
-abbrev pub some_tonnes : Codec ℕ
-some_tonnes = within_limits 0 MOST_EMISSIONS
 
 abbrev pub yes_or_no : Codec Bool
 yes_or_no = a_word yes_no_word yes_no_of
