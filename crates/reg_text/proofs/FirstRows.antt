@@ -1,6 +1,6 @@
 -- What has not come before a row that comes once, and what comes of a row that was read.
 use Rattle.std.proofs.Common.{◌≡◌, ℕ, Bool, true, false, List, [], Option, Some, None, Result, Ok, Err, refl, arith}
-use Rattle.reg_text.proofs.Names.{Tag, Version, One, Two, Record, DraftValue, IsDraft, Said, row_read, scope_of, place, is_once, as_list, tag_after, SectionStandsAt, in_order, has_room, placed, with, with_row, Cause}
+use Rattle.reg_text.proofs.Names.{Tag, Version, One, Two, Record, DraftValue, IsDraft, Said, row_read, scope_of, place, is_once, option_to_list, tag_after, SectionStandsAt, in_order, has_room, placed, with, with_row, Cause}
 use Rattle.std.specs.Result.{IsErrAnd}
 use Rattle.reg_text.specs.declared.cause.RowError.{RowError}
 use Rattle.reg_text.specs.declared.cause.RowError.TheVariants as failure
@@ -23,7 +23,7 @@ no-current d f h tagged = none-before d tag.Current f h tagged (once-current (sc
 pub no-lags : (d : DraftValue) (f : List ℕ) → IsDraft d → tag_after (scope_of d).version d.last f ≡ Ok tag.Lags → d.lags ≡ []
 no-lags d f h tagged = none-before d tag.Lags f h tagged (once-lags (scope_of d).version)
 
-none-of : {X : Type 0} (o : Option X) → as_list o ≡ [] → o ≡ None
+none-of : {X : Type 0} (o : Option X) → option_to_list o ≡ [] → o ≡ None
 none-of None e = refl
 none-of (Some x) e = absurd cc
 

@@ -44,7 +44,8 @@ pub use Rattle.reg_text.specs.declared.reading.scope.Version.TheVariants.{One, T
 pub use Rattle.reg_text.specs.declared.reading.scope.Scope.{Scope}
 pub use Rattle.reg_text.specs.Scopes.{by_version, widest}
 pub use Rattle.reg_text.specs.Tags.{all_tags, heading_tags, later_tags, list_tags, is_in_version, is_needed, is_once, may_follow, place, rule, tag_after, tag_place}
-pub use Rattle.reg_text.specs.Lasts.{as_list, is_above, last_item}
+pub use Rattle.std.specs.Prelude.{option_to_list}
+pub use Rattle.reg_text.specs.Lasts.{is_above, last_item}
 pub use Rattle.reg_text.specs.Drafts.{DraftValue, account_count, accounts_in, block_closed, draft_of, ended, items_said, nothing_read, scope_of, section_of, sections, sections_to, version_in}
 pub use Rattle.reg_text.specs.Day.{DayValue, current_said, day_said, day_with, is_text_over}
 pub use Rattle.reg_text.specs.Reading.{Begins, CanBeSaid, IsFirstFaulty, IsPair, IsReading, IsVersionOf}

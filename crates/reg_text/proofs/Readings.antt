@@ -6,7 +6,7 @@ use mathlib.Core.List.{map-id}
 use Rattle.std.specs.Prelude.{All, unwrap_or, if◌then◌else◌}
 use Rattle.std.proofs.lemmas.List.Elements.{All-from_recursion}
 use Rattle.std.specs.List.{AllByRecursion}
-use Rattle.reg_text.proofs.Names.{IsRising, IsWithin, IsSection, SectionStandsAt, Instruction, IsShared, Cause, Tag, Version, One, Two, Record, place, is_in_version, Said, row, as_list, items_said, scope_of, version_in, current_said, current_rows, Fits, IsOfPeriods, IsYearNo, IsVersionOf, DraftValue, accounts_in, block_closed, nothing_read, DayValue, day_with, is_text_over, day_said, day_text, IsUserNo, IsDayNo, IsInstruction, AccountValue, IsAccount, IsBehind, IsPair, CanBeSaid, IsReading, FitsSoFar, IsDraft, next_draft, at_row, at_end, after_rows}
+use Rattle.reg_text.proofs.Names.{IsRising, IsWithin, IsSection, SectionStandsAt, Instruction, IsShared, Cause, Tag, Version, One, Two, Record, place, is_in_version, Said, row, option_to_list, items_said, scope_of, version_in, current_said, current_rows, Fits, IsOfPeriods, IsYearNo, IsVersionOf, DraftValue, accounts_in, block_closed, nothing_read, DayValue, day_with, is_text_over, day_said, day_text, IsUserNo, IsDayNo, IsInstruction, AccountValue, IsAccount, IsBehind, IsPair, CanBeSaid, IsReading, FitsSoFar, IsDraft, next_draft, at_row, at_end, after_rows}
 use Rattle.reg_text.proofs.Names.{day_of_rows}
 use Rattle.reg_text.specs.Day.{day_headed}
 use Rattle.reg_text.specs.declared.reading.tag.Tag.TheVariants as tag
@@ -178,12 +178,12 @@ closes d h over =
 
 -- ---- the parts of a closed draft
 
-pub some-of : {X : Type 0} (o : Option X) (x : X) → as_list o ≡ x ∷ [] → o ≡ Some x
+pub some-of : {X : Type 0} (o : Option X) (x : X) → option_to_list o ≡ x ∷ [] → o ≡ Some x
 some-of None x e = absurd cc
 some-of (Some y) x e = cc
 
 -- the current period is that of its row, or the first where the version has no such row
-pub current-or : (version : Version) (o : Option ℕ) (n : ℕ) → as_list o ≡ current_rows version n → current_said version (as_list o) ≡ Some (unwrap_or o 1)
+pub current-or : (version : Version) (o : Option ℕ) (n : ℕ) → option_to_list o ≡ current_rows version n → current_said version (option_to_list o) ≡ Some (unwrap_or o 1)
 current-or One None n e = refl
 current-or One (Some m) n e = absurd cc
 current-or Two None n e = absurd cc

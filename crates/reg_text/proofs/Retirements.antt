@@ -5,7 +5,7 @@ use Rattle.std.specs.List.{AllByRecursion, list_any}
 use Rattle.std.proofs.lemmas.Bool.{leb-true, le-leb, lt-leb, ltb-true, lt-ltb}
 use Rattle.std.proofs.lemmas.List.{append-nil}
 use Rattle.std.proofs.lemmas.List.Sums.{sum_by-append, sum_by-cons}
-use Rattle.reg_text.proofs.Names.{AllowanceKind, General, Aviation, Retirement, Surrendered, Deleted, RetirementRow, RetiredFits, AreBelow, AccountValue, AccountHead, ListsValue, IsBehind, AreRecorded, amount_in, retired_in, row_numbers, as_list, account_with, next_in, is_recorded, is_sum_left}
+use Rattle.reg_text.proofs.Names.{AllowanceKind, General, Aviation, Retirement, Surrendered, Deleted, RetirementRow, RetiredFits, AreBelow, AccountValue, AccountHead, ListsValue, IsBehind, AreRecorded, amount_in, retired_in, row_numbers, option_to_list, account_with, next_in, is_recorded, is_sum_left}
 use Rattle.reg_account.specs.Rows.{retirement_of, is_same_kind, is_same_retirement}
 use Rattle.reg_text.proofs.ListFacts.{all-push}
 
@@ -53,12 +53,12 @@ pub recorded-push : (o : Option ℕ) (accounts : List AccountValue) (rows : List
 recorded-push None accounts rows x h e = tt
 recorded-push (Some next) accounts rows x h e = record { closed = h.closed; opened = below-push next rows x h.opened (ltb-true _ _ e) }
 
-all-behind : (next : ℕ) (accounts : List AccountValue) (l : ListsValue) (head : Option AccountHead) → AllByRecursion (IsBehind next) accounts → AreBelow next (row_numbers l.rows) → AllByRecursion (IsBehind next) (accounts ++ map (account_with l) (as_list head))
+all-behind : (next : ℕ) (accounts : List AccountValue) (l : ListsValue) (head : Option AccountHead) → AllByRecursion (IsBehind next) accounts → AreBelow next (row_numbers l.rows) → AllByRecursion (IsBehind next) (accounts ++ map (account_with l) (option_to_list head))
 all-behind next accounts l None h below = rw append-nil h
 all-behind next accounts l (Some a) h below = all-push (IsBehind next) accounts (account_with l a) h below
 
 -- with all blocks over
-pub recorded-closed : (o : Option ℕ) (accounts : List AccountValue) (l : ListsValue) (head : Option AccountHead) → IfSome o (AreRecorded accounts l.rows) → IfSome o (AreRecorded (accounts ++ map (account_with l) (as_list head)) [])
+pub recorded-closed : (o : Option ℕ) (accounts : List AccountValue) (l : ListsValue) (head : Option AccountHead) → IfSome o (AreRecorded accounts l.rows) → IfSome o (AreRecorded (accounts ++ map (account_with l) (option_to_list head)) [])
 recorded-closed None accounts l head h = tt
 recorded-closed (Some next) accounts l head h = record { closed = all-behind next accounts l head h.closed h.opened; opened = tt }
 
@@ -73,7 +73,7 @@ below-at next [] x others h = lt-ltb _ _ h.0
 below-at next (y ∷ rows) x others h = below-at next rows x others h.1
 
 -- the rows of the open account, once the next number is known
-pub opened-below : (day : Option (ℕ × ℕ)) (next : ℕ) (accounts : List AccountValue) (rows : List RetirementRow) → 1 ≤ length (as_list day) → IfSome day (λ d. next ≡ d.1) → IfSome (next_in (as_list day)) (AreRecorded accounts rows) → AreBelow next (row_numbers rows)
+pub opened-below : (day : Option (ℕ × ℕ)) (next : ℕ) (accounts : List AccountValue) (rows : List RetirementRow) → 1 ≤ length (option_to_list day) → IfSome day (λ d. next ≡ d.1) → IfSome (next_in (option_to_list day)) (AreRecorded accounts rows) → AreBelow next (row_numbers rows)
 opened-below None next accounts rows some same recorded = absurd (omega arith)
 opened-below (Some day) next accounts rows some same recorded = rw same recorded.opened
 

@@ -5,7 +5,7 @@ use Rattle.std.specs.List.{AllByRecursion, flat_map}
 use Rattle.std.proofs.lemmas.List.Elements.{recursion_from_All}
 use Rattle.std.proofs.lemmas.Bool.{le-leb, lt-ltb}
 use Rattle.std.proofs.lemmas.List.{append-nil, map-append}
-use Rattle.reg_text.proofs.Names.{MOST_ACCOUNTS, MOST_ROWS, Instruction, IsShared, MOST_RECORD, IsUserNo, IsDayNo, IsInstruction, IsRising, AccountValue, IsAccount, IsBehind, AreBelow, RetiredFits, RetirementRow, ListsValue, row_numbers, no_lists, AccountHead, IsWithin, IsYearNo, Fits, IsOfPeriods, Correction, Version, One, Two, Scope, widest, Tag, Record, tag_word, last_item, as_list, Said, row, account_head, lists_of, account_with, account_block, list_tags, each_row, section_rows, all_rows, key, follows, IsOrdered, most, is_room, AreAtMost, rule, Section, IsSection, DraftValue, items_said, accounts_in, account_count, nothing_read, scope_of, DayValue}
+use Rattle.reg_text.proofs.Names.{MOST_ACCOUNTS, MOST_ROWS, Instruction, IsShared, MOST_RECORD, IsUserNo, IsDayNo, IsInstruction, IsRising, AccountValue, IsAccount, IsBehind, AreBelow, RetiredFits, RetirementRow, ListsValue, row_numbers, no_lists, AccountHead, IsWithin, IsYearNo, Fits, IsOfPeriods, Correction, Version, One, Two, Scope, widest, Tag, Record, tag_word, last_item, option_to_list, Said, row, account_head, lists_of, account_with, account_block, list_tags, each_row, section_rows, all_rows, key, follows, IsOrdered, most, is_room, AreAtMost, rule, Section, IsSection, DraftValue, items_said, accounts_in, account_count, nothing_read, scope_of, DayValue}
 use Rattle.reg_text.proofs.Names.{lags_in, heading, saying, current_rows, day_text, current_said, IsPair, CanBeSaid, IsVersionOf, with, in_order, has_room, with_row, next_in, next_draft, after_rows}
 use Rattle.reg_text.specs.declared.reading.tag.Tag.TheVariants as tag
 use Rattle.reg_account.specs.Corrections.{LaterFits}
@@ -233,7 +233,7 @@ lists-taken d next a rest v is p h behind more =
     ) may more)
 
 -- an account that is above the ones before it comes after the open one
-next-account : (accounts : List AccountValue) (head : Option AccountHead) (l : ListsValue) (a : AccountValue) (others : List AccountValue) → IsRising (map account_number ((accounts ++ map (account_with l) (as_list head)) ++ a ∷ others)) → follows (key tag.Account) (last_item (as_list head)) (account_head a) ≡ true
+next-account : (accounts : List AccountValue) (head : Option AccountHead) (l : ListsValue) (a : AccountValue) (others : List AccountValue) → IsRising (map account_number ((accounts ++ map (account_with l) (option_to_list head)) ++ a ∷ others)) → follows (key tag.Account) (last_item (option_to_list head)) (account_head a) ≡ true
 next-account accounts None l a others rises = refl
 next-account accounts (Some h) l a others rises =
     let all = rising-above (map account_number (accounts ++ account_with l h ∷ [])) a.number (map account_number others) (rw map-append at rises) in
@@ -241,10 +241,10 @@ next-account accounts (Some h) l a others rises =
 
 pub blocks-taken : (d : DraftValue) (next : ℕ) (others : List AccountValue) (last : Option Tag) (accounts : List AccountValue) (head : Option AccountHead) (l : ListsValue) (rest : List Record) (v : DayValue) → next_in d.days ≡ Some next → MayFollow (scope_of d).version last tag.Account
     → ArePeriodsOf (scope_of d) → AllByRecursion (Fits (scope_of d) None) others → AllByRecursion (IsBehind next) others
-    → IsRising (map account_number ((accounts ++ map (account_with l) (as_list head)) ++ others)) → length ((accounts ++ map (account_with l) (as_list head)) ++ others) ≤ MOST_ACCOUNTS
-    → ((after : Option Tag) (all : List AccountValue) (opened : Option AccountHead) (m : ListsValue) → MayFollow (scope_of d).version after tag.Account → all ++ map (account_with m) (as_list opened) ≡ (accounts ++ map (account_with l) (as_list head)) ++ others → Reach (record d { last = after; accounts = all; head = opened; lists = m }) rest v)
+    → IsRising (map account_number ((accounts ++ map (account_with l) (option_to_list head)) ++ others)) → length ((accounts ++ map (account_with l) (option_to_list head)) ++ others) ≤ MOST_ACCOUNTS
+    → ((after : Option Tag) (all : List AccountValue) (opened : Option AccountHead) (m : ListsValue) → MayFollow (scope_of d).version after tag.Account → all ++ map (account_with m) (option_to_list opened) ≡ (accounts ++ map (account_with l) (option_to_list head)) ++ others → Reach (record d { last = after; accounts = all; head = opened; lists = m }) rest v)
     → Reach (record d { last = last; accounts = accounts; head = head; lists = l }) (flat_map account_block others ++ rest) v
-blocks-taken d next [] last accounts head l rest v is may p fit behind rises few more = more last accounts head l may (sym (append-nil (accounts ++ map (account_with l) (as_list head))))
+blocks-taken d next [] last accounts head l rest v is may p fit behind rises few more = more last accounts head l may (sym (append-nil (accounts ++ map (account_with l) (option_to_list head))))
 blocks-taken d next (a ∷ others) last accounts head l rest v is may p fit behind rises few more =
     let scope = scope_of d in
     let now = record d { last = last; accounts = accounts; head = head; lists = l } in
@@ -364,7 +364,7 @@ said-again One v known h =
     ap (λ (n : ℕ). Some n) one
 said-again Two v known h = refl
 
-whole : (version : Version) (v : DayValue) (accounts : List AccountValue) (head : Option AccountHead) (l : ListsValue) → IsVersionOf v version → CanBeSaid v → v.book.next - 1 ≡ v.batch.base → accounts ++ map (account_with l) (as_list head) ≡ v.book.accounts
+whole : (version : Version) (v : DayValue) (accounts : List AccountValue) (head : Option AccountHead) (l : ListsValue) → IsVersionOf v version → CanBeSaid v → v.book.next - 1 ≡ v.batch.base → accounts ++ map (account_with l) (option_to_list head) ≡ v.book.accounts
     → Reach (record (saying_all (headed version v) (lists_behind version v)) { last = Some tag.End; accounts = accounts; head = head; lists = l; instructions = v.batch.instructions }) [] v
 whole version v accounts head l known h base all number = rw (said-again version v known h, all) (ap (λ (n : ℕ). Ok (record v { batch = record v.batch { base = n } })) base)
 

@@ -4,7 +4,7 @@ ghost use Rattle.std.specs.Prelude.{◌≡◌};
 ghost use Rattle.csv.specs.Records.{fields_of};
 ghost use Rattle.reg_text.specs.declared.reading.tag.Tag.TheVariants as tag;
 ghost use Rattle.reg_text.specs.Scopes.{widest};
-ghost use Rattle.reg_text.specs.Grammar.{row_read, is_surrender_kind as source, pair_place as place, by};
+ghost use Rattle.reg_text.specs.Grammar.{row_read, is_surrender_kind, pair_place, by};
 ghost use Rattle.reg_text.specs.Sections.{follows};
 
 use crate::cause::Cause;
@@ -16,8 +16,8 @@ use csv::ByteRecord;
 use reg_base::{AccountKind, AllowanceKind, Day, UserNo};
 
 // Whether allowances may be surrendered from accounts of this kind, if the rules of a day allow it.
-fn may_surrender(kind: AccountKind) -> bool
-    ensures { result ≡ source kind }
+fn is_surrender_kind(kind: AccountKind) -> bool
+    ensures { result ≡ is_surrender_kind kind }
 {
     match kind {
         AccountKind::Operator | AccountKind::Aircraft => true,
@@ -27,7 +27,7 @@ fn may_surrender(kind: AccountKind) -> bool
 
 // The place of a pair of kinds among the four that may be surrendered, counted from 0.
 fn pair_place(pair: (AccountKind, AllowanceKind)) -> u8
-    ensures { result ≡ place pair }
+    ensures { result ≡ pair_place pair }
 {
     match pair {
         (AccountKind::Aircraft, AllowanceKind::General) => 2,
@@ -42,7 +42,7 @@ pub(crate) fn comes_after(
     before: Option<(AccountKind, AllowanceKind)>,
     pair: (AccountKind, AllowanceKind),
 ) -> bool
-    ensures { result ≡ follows (by place) before pair }
+    ensures { result ≡ follows (by pair_place) before pair }
 {
     match before {
         Some(before) => pair_place(before) < pair_place(pair),
@@ -60,7 +60,7 @@ pub(crate) fn read_surrender_row(row: &ByteRecord) -> Result<(AccountKind, Allow
     }
     let account = read_word(field_at(row, 1))?;
     let allowance = read_word(field_at(row, 2))?;
-    if !may_surrender(account) {
+    if !is_surrender_kind(account) {
         return Err(Cause::Word);
     }
     Ok((account, allowance))

@@ -1,12 +1,12 @@
 //! What each row adds to the draft.
 
-ghost use Rattle.std.specs.Prelude.{◌≡◌, ◌+◌, ◌<◌, ◌≤◌, ◌&&◌, nat_lt, nat_le, ◌∷◌, ◌++◌, [], length, map, false, None, if◌then◌else◌, OnOk, OnErr};
+ghost use Rattle.std.specs.Prelude.{◌≡◌, ◌+◌, ◌<◌, ◌≤◌, ◌&&◌, nat_lt, nat_le, ◌∷◌, ◌++◌, [], length, map, false, None, if◌then◌else◌, option_to_list, OnOk, OnErr};
 ghost use Rattle.reg_base.specs.declared.limits.TheConstants.{MOST_ACCOUNTS, MOST_RETIRED, MOST_INSTRUCTIONS, MOST_RECORD, MOST_ROWS};
 ghost use Rattle.csv.specs.Records.{fields_of};
 ghost use Rattle.reg_base.specs.Rising.{IsRising};
 ghost use Rattle.reg_account.specs.Rows.{retired_in, retirement_of};
 ghost use Rattle.reg_book.specs.Book.{has_row_ahead, with_account};
-ghost use Rattle.reg_text.specs.Lasts.{as_list, last_item};
+ghost use Rattle.reg_text.specs.Lasts.{last_item};
 ghost use Rattle.reg_text.specs.Sections.{key, follows};
 ghost use Rattle.reg_text.specs.Drafts.{draft_of, block_closed};
 ghost use Rattle.reg_text.specs.DraftLimits.{FitsSoFar, IsDraft};
@@ -270,7 +270,7 @@ fn is_sum_left(lists: &Lists, row: RetirementRow) -> bool
 
 // Whether the number of a row is below the next one, if that is known.
 fn is_recorded(day: Option<(Day, u64)>, row: &RetirementRow) -> bool
-    ensures { result ≡ is_recorded (next_in (as_list day)) row.now }
+    ensures { result ≡ is_recorded (next_in (option_to_list day)) row.now }
 {
     match day {
         Some((_, next)) => row.number.get() < next,
@@ -281,7 +281,7 @@ fn is_recorded(day: Option<(Day, u64)>, row: &RetirementRow) -> bool
 // Whether there is a place for one more row, its number is below the next one, and the sum is within the limit with it.
 fn has_row_room(lists: &Lists, day: Option<(Day, u64)>, row: RetirementRow) -> bool
     requires { retired_in (retirement_of row.fate) row.kind lists.now.rows ≤ MOST_RETIRED }
-    ensures { result ≡ has_row_room (next_in (as_list day)) lists.now.rows row }
+    ensures { result ≡ has_row_room (next_in (option_to_list day)) lists.now.rows row }
 {
     lists.rows().len() < MOST_ROWS && (is_recorded(day, &row) && is_sum_left(lists, row))
 }
@@ -306,7 +306,7 @@ fn comes_last(lists: &Lists, row: &RetirementRow) -> bool
 // Whether a row comes behind those in the lists, and there is room for it.
 fn check_row(lists: &Lists, day: Option<(Day, u64)>, row: &RetirementRow) -> Result<(), Cause>
     requires { retired_in (retirement_of row.now.fate) row.now.kind lists.now.rows ≤ MOST_RETIRED }
-    ensures { result ≡ placed (follows (key tag.Retired) (last_item lists.now.rows) row.now) (has_row_room (next_in (as_list day)) lists.now.rows row.now) tt }
+    ensures { result ≡ placed (follows (key tag.Retired) (last_item lists.now.rows) row.now) (has_row_room (next_in (option_to_list day)) lists.now.rows row.now) tt }
 {
     if !comes_last(lists, row) {
         return Err(Cause::Order);
@@ -361,7 +361,7 @@ fn take_figure(draft: &mut Draft, row: &ByteRecord) -> Result<(), RowError>
 // Whether there is a record number for one more of so many instructions, if the next number is known.
 fn is_number_left(day: Option<(Day, u64)>, count: usize) -> bool
     requires { count < MOST_INSTRUCTIONS }
-    ensures { result ≡ is_number_left (next_in (as_list day)) count }
+    ensures { result ≡ is_number_left (next_in (option_to_list day)) count }
 {
     match day {
         Some((_, next)) => next <= MOST_RECORD - count as u64,
@@ -371,7 +371,7 @@ fn is_number_left(day: Option<(Day, u64)>, count: usize) -> bool
 
 // Whether there is a place and a record number for one more instruction.
 fn has_number(day: Option<(Day, u64)>, count: usize) -> bool
-    ensures { result ≡ (nat_lt count MOST_INSTRUCTIONS && is_number_left (next_in (as_list day)) count) }
+    ensures { result ≡ (nat_lt count MOST_INSTRUCTIONS && is_number_left (next_in (option_to_list day)) count) }
 {
     count < MOST_INSTRUCTIONS && is_number_left(day, count)
 }

@@ -112,7 +112,7 @@ fn named_period(period: u8) -> Option<u8>
 }
 
 // The period that the row of a surrender or a deletion names.
-fn period_of(fate: Fate) -> Option<u8>
+fn period_said(fate: Fate) -> Option<u8>
     ensures { result ≡ period_said fate }
 {
     match fate {
@@ -127,7 +127,7 @@ fn put_period(row: &mut RowText, fate: Fate)
     ensures text { row.new ≡ with_commas ((retired_period widest).spell (period_said fate)) row.old }
     ensures short { length row.new ≤ length row.old + MOST_FIELD }
 {
-    if let Some(period) = period_of(fate) {
+    if let Some(period) = period_said(fate) {
         row.number(period.into());
     }
 }
