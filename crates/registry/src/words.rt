@@ -1,9 +1,11 @@
 //! The program's words: which command they ask for.
 
 ghost use Rattle.std.specs.Prelude.{◌≡◌, ℕ, List, IfSome, Some, codes};
-ghost use Rattle.clap.specs.Matches.{found_of, one_text, subcommand_name_of};
-ghost use Rattle.reg_front.specs.declared.command.Command.TheVariants.{Settle, Statement};
-ghost use Rattle.registry.specs.Words.{command_name, word_number};
+ghost use Rattle.clap.specs.Matches.{found_of, subcommand_name_of};
+ghost use Rattle.clap.specs.Walk.{one_of, rows_of};
+ghost use Rattle.reg_base.specs.Numbers.{IsAccountNo};
+ghost use Rattle.reg_front.specs.declared.command.Command.TheVariants.{Settle, Plan, Statement, Figures, Totals};
+ghost use Rattle.registry.specs.Words.{HasNumber, IsNumberWord, command_name, rows_found, word_number};
 
 use clap::builder::ValueParser;
 use clap::error::ErrorKind;
@@ -52,7 +54,15 @@ fn find_words<'a, S: AsStr>(
 
 // The command that was found among the words, with its values.
 fn find_command(matches: &ArgMatches<'_>) -> Option<Command>
-    ensures { IfSome result (λ command. subcommand_name_of matches.now ≡ Some (command_name command)) }
+    ensures name { IfSome result (λ command. subcommand_name_of matches.now ≡ Some (command_name command)) }
+    ensures number { IfSome result (HasNumber (rows_found matches.now)) }
+    ensures settle { subcommand_name_of matches.now ≡ Some (codes "settle") → (word : List ℕ) → one_of (codes "workers") (rows_found matches.now) ≡ Some word
+        → IsNumberWord word → result ≡ Some (Settle (word_number word)) }
+    ensures statement { subcommand_name_of matches.now ≡ Some (codes "statement") → (word : List ℕ) → one_of (codes "account") (rows_found matches.now) ≡ Some word
+        → IsNumberWord word → IsAccountNo (word_number word) → result ≡ Some (Statement (word_number word)) }
+    ensures plan { subcommand_name_of matches.now ≡ Some (codes "plan") → result ≡ Some Plan }
+    ensures figures { subcommand_name_of matches.now ≡ Some (codes "figures") → result ≡ Some Figures }
+    ensures totals { subcommand_name_of matches.now ≡ Some (codes "totals") → result ≡ Some Totals }
 {
     if let Some(found) = matches.subcommand_matches("settle") {
         return settle_found(found);
@@ -74,7 +84,8 @@ fn find_command(matches: &ArgMatches<'_>) -> Option<Command>
 
 fn settle_found(found: &ArgMatches<'_>) -> Option<Command>
     ensures name { IfSome result (λ command. command_name command ≡ codes "settle") }
-    ensures workers { (word : List ℕ) → one_text (found_of found.now) (codes "workers") ≡ Some word → IfSome result (λ command. command ≡ Settle (word_number word)) }
+    ensures number { IfSome result (HasNumber (rows_of (found_of found.now))) }
+    ensures found { (word : List ℕ) → one_of (codes "workers") (rows_of (found_of found.now)) ≡ Some word → IsNumberWord word → result ≡ Some (Settle (word_number word)) }
 {
     let workers = found.get_one::<u32>("workers")?;
     Some(Command::Settle { workers })
@@ -82,9 +93,12 @@ fn settle_found(found: &ArgMatches<'_>) -> Option<Command>
 
 fn statement_found(found: &ArgMatches<'_>) -> Option<Command>
     ensures name { IfSome result (λ command. command_name command ≡ codes "statement") }
-    ensures account { (word : List ℕ) → one_text (found_of found.now) (codes "account") ≡ Some word → IfSome result (λ command. command ≡ Statement (word_number word)) }
+    ensures number { IfSome result (HasNumber (rows_of (found_of found.now))) }
+    ensures found { (word : List ℕ) → one_of (codes "account") (rows_of (found_of found.now)) ≡ Some word
+        → IsNumberWord word → IsAccountNo (word_number word) → result ≡ Some (Statement (word_number word)) }
 {
-    let account = AccountNo::new(found.get_one::<u32>("account")?)?;
+    let number = found.get_one::<u32>("account")?;
+    let account = AccountNo::new(number)?;
     Some(Command::Statement { account })
 }
 
