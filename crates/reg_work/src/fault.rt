@@ -79,8 +79,8 @@ impl From<AllocError> for Shortage {
     }
 }
 
-/// What is lacking is told as memory. If a day is named and all comes from its own context in a legal order, nothing else
-/// can be lacking.
+/// What is lacking is told as memory. If a day is named and all comes from its own context in a legal order, nothing
+/// else can be lacking.
 impl From<Lack> for Shortage {
     ghost from_gives = { λ _ shortage. shortage ≡ Memory };
 

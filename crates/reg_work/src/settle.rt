@@ -123,17 +123,18 @@ fn settle_named<N: Naming + Send + Sync, R: Threads + Wait, G: Gate>(
     Ok(settle_context(rt, alloc, &context, workers, gate)?)
 }
 
-/// Settles a batch by workers, level by level: the instructions of a level touch no account in common, so they run at the
-/// same time. They are divided among so many workers, or as many as there are instructions in the level if these are fewer,
-/// in parts whose sizes differ by at most one. Each worker has a thread of its own, in which it calls the gate before each
-/// run. A single worker, or that of a level of one instruction, is the calling thread. The book is not changed.
+/// Settles a batch by workers, level by level: the instructions of a level touch no account in common, so they run at
+/// the same time. They are divided among so many workers, or as many as there are instructions in the level if these
+/// are fewer, in parts whose sizes differ by at most one. Each worker has a thread of its own, in which it calls the
+/// gate before each run. A single worker, or that of a level of one instruction, is the calling thread. The book is not
+/// changed.
 ///
 /// The settled day is that of `settle_plain`, for each number of workers.
 ///
 /// # Errors
-/// The first of these that applies. `Workers` if the number of workers is not 1 to 8. `WrongBase` if the first record number
-/// of the batch is not the book's next record number. `NoThread` if a thread could not be started. `NoMemory` if memory ran
-/// out. All threads have ended then.
+/// The first of these that applies. `Workers` if the number of workers is not 1 to 8. `WrongBase` if the first record
+/// number of the batch is not the book's next record number. `NoThread` if a thread could not be started, which only
+/// several workers need. `NoMemory` if memory ran out. All threads have ended then.
 pub fn settle_waves<R: Threads + Wait, G: Gate>(
     rt: &R,
     alloc: Global,

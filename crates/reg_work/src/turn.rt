@@ -4,8 +4,8 @@ ghost use Rattle.std.specs.Prelude.{◌≡◌};
 
 use reg_tasks::{Done, Naming, Parcel, Ran};
 
-/// An instruction that a worker claimed and ran, and the parcels that it has still to hand on. It is finished only when none
-/// is left.
+/// An instruction that a worker claimed and ran, and the parcels that it has still to hand on. It is finished only when
+/// none is left.
 #[derive(Drop)]
 pub(crate) struct Turn<N: Naming> {
     pub(crate) ran: Ran<N>,

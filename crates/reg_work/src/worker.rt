@@ -94,8 +94,8 @@ fn pause<R: Wait>(rt: &R, backoff: &Backoff) {
     }
 }
 
-/// Runs tasks until all are done, or the workers are to leave. If memory runs out, it tells all workers to leave. It leaves
-/// only after a look that shows the one or the other.
+/// Runs tasks until all are done, or the workers are to leave. If memory runs out, it tells all workers to leave. It
+/// leaves only after a look that shows the one or the other.
 pub(crate) fn work<N: Naming, B: Room, R: Wait, G: Gate>(
     rt: &R,
     alloc: Global,

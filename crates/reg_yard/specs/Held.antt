@@ -35,8 +35,8 @@ delivered day plan place (Some came) p = left_of (received day plan place came p
 abbrev pub Takes : Day → PlanValue → ℕ → Option (List ParcelValue) → ParcelValue → Option (List ParcelValue) → Option TaskValue → Type 0
 Takes day plan place before p after task = (is_refused day plan place before p ≡ false) × ◌≡◌ {A = Option (List ParcelValue) × Option TaskValue} (after, task) (delivered day plan place before p)
 
--- so it was at the dock of the place where the parcel goes, in a day and by a plan of it; if a day is named, it is that one. What was there
--- before, and is now, stands behind a lock
+-- so it was at the dock of the place where the parcel goes, in a day and by a plan of it. If a day is named, it is that
+-- one. What was there before, and is now, stands behind a lock
 pub record IsTaken (name : Option Day) (goes : Option ℕ) (p : ParcelValue) (task : Option TaskValue) : Type 0 where
   pub day : Day
   pub plan : PlanValue

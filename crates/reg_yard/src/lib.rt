@@ -1,5 +1,5 @@
-//! The docks of a day: one for each instruction, in which the values that it needs come together. The deques of the workers,
-//! which are their yard, come from `reg_deques`.
+//! The docks of a day: one for each instruction, in which the values that it needs come together. The deques of the
+//! workers, which are their yard, come from `reg_deques`.
 //!
 //! A use of it, proved in `registry_uses/src/yard.rt`:
 //!
