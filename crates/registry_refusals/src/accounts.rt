@@ -7,7 +7,9 @@ ghost use Rattle.reg_account.specs.Account.{CanRetire, retired_by};
 ghost use Rattle.reg_account.specs.Rows.{retirement_of};
 ghost use Rattle.reg_rules.specs.Effect.{IsBehind};
 
-use crate::call::{Call, Ended, rehearse, shown, try_call};
+use crate::call::{Call, rehearse, try_call, try_rehearsed};
+use crate::digest::{Digest, digest_of};
+use crate::endings::{Ended, how_ended};
 use crate::stop::Stop;
 use reg_account::{Account, Fate, RetirementRow};
 use reg_base::{
@@ -21,26 +23,11 @@ use std::io::Write;
 #[derive(Drop)]
 struct Copying<'d> {
     account: &'d Account,
-    copy: Option<Account>,
 }
 
 impl Call for Copying<'_> {
     fn make(&mut self, alloc: Global) -> Ended {
-        match self.account.copy(alloc) {
-            Ok(copy) => {
-                self.copy = Some(copy);
-                Ended::Done
-            }
-            Err(NoMemory) => Ended::NoMemory,
-        }
-    }
-
-    fn lent(&mut self, alloc: Global) -> Result<String, Stop> {
-        shown(alloc, self.account)
-    }
-
-    fn left(&mut self, alloc: Global) -> Result<String, Stop> {
-        shown(alloc, &self.copy)
+        how_ended(self.account.copy(alloc))
     }
 }
 
@@ -59,13 +46,7 @@ pub(crate) fn try_copy<W: Write>(
     writer: &mut W,
 ) -> Result<(), Stop> {
     let account = first_account(day)?;
-    let mut call = Copying {
-        account,
-        copy: None,
-    };
-    let wanted = rehearse(alloc, &mut call)?;
-    call.copy = None;
-    try_call(alloc, &mut call, wanted.as_str(), writer)
+    try_rehearsed(alloc, day, &mut Copying { account }, writer)
 }
 
 /// A change of an account that takes memory.
@@ -79,14 +60,6 @@ pub(crate) enum Change {
     SetEmissions,
     /// Determines -15 tonnes for 2022.
     Determine,
-}
-
-// How a call ended that answers nothing but that memory ran out.
-fn ended(answer: Result<(), NoMemory>) -> Ended {
-    match answer {
-        Ok(()) => Ended::Done,
-        Err(NoMemory) => Ended::NoMemory,
-    }
 }
 
 // How much of this kind the account has surrendered, or deleted, as the row does.
@@ -136,7 +109,7 @@ fn can_retire(account: &Account, row: &RetirementRow) -> bool
     row.amount <= MOST_RETIRED - retired(account, row)
 }
 
-fn retire(account: &mut Account, number: RecordNo, day: Day) -> Ended {
+fn retire(account: &mut Account, number: RecordNo, day: Day) -> Result<(), Ended> {
     let row = RetirementRow {
         number,
         fate: Fate::Surrendered { period: 1 },
@@ -146,33 +119,33 @@ fn retire(account: &mut Account, number: RecordNo, day: Day) -> Ended {
         reversed: false,
     };
     if !can_retire(account, &row) {
-        return Ended::Otherwise;
+        return Err(Ended::Otherwise);
     }
-    ended(account.retire(row))
+    Ok(account.retire(row)?)
 }
 
-fn trust(account: &mut Account, day: Day) -> Ended {
+fn trust(account: &mut Account, day: Day) -> Result<(), Ended> {
     let Some(other) = AccountNo::new(3) else {
-        return Ended::Otherwise;
+        return Err(Ended::Otherwise);
     };
     if account.trusted_entries().len() >= MOST_TRUSTED {
-        return Ended::Otherwise;
+        return Err(Ended::Otherwise);
     }
-    ended(account.trust(other, day))
+    Ok(account.trust(other, day)?)
 }
 
-fn set_emissions(account: &mut Account) -> Ended {
+fn set_emissions(account: &mut Account) -> Result<(), Ended> {
     let Some(year) = Year::new(2021) else {
-        return Ended::Otherwise;
+        return Err(Ended::Otherwise);
     };
-    ended(account.set_emissions(year, 60))
+    Ok(account.set_emissions(year, 60)?)
 }
 
-fn determine(account: &mut Account) -> Ended {
+fn determine(account: &mut Account) -> Result<(), Ended> {
     let Some(year) = Year::new(2022) else {
-        return Ended::Otherwise;
+        return Err(Ended::Otherwise);
     };
-    ended(account.determine(year, -15))
+    Ok(account.determine(year, -15)?)
 }
 
 // A change of an account.
@@ -186,30 +159,31 @@ struct Changing {
 
 impl Call for Changing {
     fn make(&mut self, _alloc: Global) -> Ended {
-        match self.change {
-            Change::Retire => retire(&mut self.account, self.number, self.day),
-            Change::Trust => trust(&mut self.account, self.day),
-            Change::SetEmissions => set_emissions(&mut self.account),
-            Change::Determine => determine(&mut self.account),
+        let account = &mut self.account;
+        let answer = match self.change {
+            Change::Retire => retire(account, self.number, self.day),
+            Change::Trust => trust(account, self.day),
+            Change::SetEmissions => set_emissions(account),
+            Change::Determine => determine(account),
+        };
+        match answer {
+            Ok(()) => Ended::Done(digest_of(&self.account)),
+            Err(ended) => ended,
         }
     }
 
-    fn lent(&mut self, alloc: Global) -> Result<String, Stop> {
-        shown(alloc, &self.account)
-    }
-
-    fn left(&mut self, alloc: Global) -> Result<String, Stop> {
-        shown(alloc, &self.account)
+    fn lent(&self) -> Digest {
+        digest_of(&self.account)
     }
 }
 
 // A change of a copy of the first account.
 fn make_changing(alloc: Global, day: &DayInput, change: Change) -> Result<Changing, Stop> {
-    let Ok(account) = first_account(day)?.copy(alloc) else {
-        return Err(Stop::Short);
-    };
     let Some(number) = RecordNo::new(day.book.next_record()) else {
         return Err(Stop::Input);
+    };
+    let Ok(account) = first_account(day)?.copy(alloc) else {
+        return Err(Stop::Short);
     };
     Ok(Changing {
         account,
@@ -226,7 +200,7 @@ pub(crate) fn try_change<W: Write>(
     change: Change,
     writer: &mut W,
 ) -> Result<(), Stop> {
-    let wanted = rehearse(alloc, &mut make_changing(alloc, day, change)?)?;
+    let wanted = rehearse(alloc, &mut make_changing(alloc, day, change)?);
     let mut call = make_changing(alloc, day, change)?;
-    try_call(alloc, &mut call, wanted.as_str(), writer)
+    try_call(alloc, day, &mut call, wanted, writer)
 }

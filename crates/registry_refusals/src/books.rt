@@ -1,6 +1,8 @@
 //! A book in the making, and a directory.
 
-use crate::call::{Call, Ended, rehearse, shown, try_call};
+use crate::call::{Call, rehearse, try_call};
+use crate::digest::{Digest, digest_of};
+use crate::endings::Ended;
 use crate::stop::Stop;
 use reg_account::Account;
 use reg_base::{Directory, NoMemory};
@@ -22,7 +24,7 @@ impl Call for Inserting {
             return Ended::Otherwise;
         };
         match self.draft.insert(account) {
-            Ok(()) => Ended::Done,
+            Ok(()) => Ended::Done(digest_of(&self.draft)),
             Err((account, BookFault::NoMemory)) => {
                 self.account = Some(account);
                 Ended::NoMemory
@@ -31,14 +33,10 @@ impl Call for Inserting {
         }
     }
 
-    fn lent(&mut self, alloc: Global) -> Result<String, Stop> {
-        let draft = shown(alloc, &self.draft)?;
-        let account = shown(alloc, &self.account)?;
-        shown(alloc, &(draft, account))
-    }
-
-    fn left(&mut self, alloc: Global) -> Result<String, Stop> {
-        shown(alloc, &self.draft)
+    fn lent(&self) -> Digest {
+        let mut digest = digest_of(&self.draft);
+        digest.add(&self.account);
+        digest
     }
 }
 
@@ -50,17 +48,23 @@ fn copy_of(alloc: Global, account: &Account) -> Result<Account, Stop> {
     }
 }
 
-// A draft of the first accounts of a day, so many, and the account after them.
-fn make_inserting(alloc: Global, day: &DayInput, before: usize) -> Result<Inserting, Stop> {
+// A draft of the first accounts of a day, so many.
+fn draft_of(alloc: Global, day: &DayInput, count: usize) -> Result<BookDraft, Stop> {
     let mut draft = BookDraft::new(alloc, day.book.next_record());
-    for account in day.book.accounts().iter().take(before) {
+    for account in day.book.accounts().iter().take(count) {
         if draft.insert(copy_of(alloc, account)?).is_err() {
             return Err(Stop::Short);
         }
     }
+    Ok(draft)
+}
+
+// A draft of the first accounts of a day, so many, and the account after them.
+fn make_inserting(alloc: Global, day: &DayInput, before: usize) -> Result<Inserting, Stop> {
     let Some(account) = day.book.accounts().get(before) else {
         return Err(Stop::Input);
     };
+    let draft = draft_of(alloc, day, before)?;
     let account = Some(copy_of(alloc, account)?);
     Ok(Inserting { draft, account })
 }
@@ -72,9 +76,9 @@ pub(crate) fn try_draft<W: Write>(
     before: usize,
     writer: &mut W,
 ) -> Result<(), Stop> {
-    let wanted = rehearse(alloc, &mut make_inserting(alloc, day, before)?)?;
+    let wanted = rehearse(alloc, &mut make_inserting(alloc, day, before)?);
     let mut call = make_inserting(alloc, day, before)?;
-    try_call(alloc, &mut call, wanted.as_str(), writer)
+    try_call(alloc, day, &mut call, wanted, writer)
 }
 
 // `Directory::insert` of the account at a place of the book, counted from 0.
@@ -91,24 +95,14 @@ impl Call for Entering<'_> {
             .directory
             .insert(account.number(), account.kind(), account.holder())
         {
-            Ok(true) => Ended::Done,
+            Ok(true) => Ended::Done(digest_of(&self.directory)),
             Ok(false) => Ended::Otherwise,
             Err(NoMemory) => Ended::NoMemory,
         }
     }
 
-    fn lent(&mut self, alloc: Global) -> Result<String, Stop> {
-        shown(alloc, &self.directory)
-    }
-
-    // What it finds then, and whether the account can be entered again.
-    fn left(&mut self, alloc: Global) -> Result<String, Stop> {
-        let account = self.account;
-        let found = self.directory.find(account.number());
-        let again = self
-            .directory
-            .insert(account.number(), account.kind(), account.holder());
-        shown(alloc, &(found, again))
+    fn lent(&self) -> Digest {
+        digest_of(&self.directory)
     }
 }
 
@@ -136,7 +130,7 @@ pub(crate) fn try_directory<W: Write>(
     is_late: bool,
     writer: &mut W,
 ) -> Result<(), Stop> {
-    let wanted = rehearse(alloc, &mut make_entering(alloc, day, is_late)?)?;
+    let wanted = rehearse(alloc, &mut make_entering(alloc, day, is_late)?);
     let mut call = make_entering(alloc, day, is_late)?;
-    try_call(alloc, &mut call, wanted.as_str(), writer)
+    try_call(alloc, day, &mut call, wanted, writer)
 }

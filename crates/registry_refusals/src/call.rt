@@ -1,68 +1,25 @@
 //! A call that takes memory, and how it is tried.
 
+use crate::digest::{Digest, digest_of};
+use crate::endings::Ended;
 use crate::stop::Stop;
 use std::alloc::Global;
 use std::fmt::{Debug, Display};
 use std::io::Write;
 
-/// How a call ended.
-#[derive(Clone, Copy, Debug, PartialEq, Eq)]
-pub(crate) enum Ended {
-    /// With what it is there for.
-    Done,
-    /// It answered that memory ran out.
-    NoMemory,
-    /// It answered that a thread could not be started.
-    NoThread,
-    /// It gave back what it was given.
-    GivenBack,
-    /// In another way.
-    Otherwise,
-}
-
-impl Ended {
-    /// The word for it.
-    pub(crate) fn word(self) -> &'static str {
-        match self {
-            Ended::Done => "done",
-            Ended::NoMemory => "no memory",
-            Ended::NoThread => "no thread",
-            Ended::GivenBack => "given back",
-            Ended::Otherwise => "otherwise",
-        }
-    }
-
-    // Whether the call was refused something.
-    fn is_refused(self) -> bool {
-        match self {
-            Ended::NoMemory | Ended::NoThread | Ended::GivenBack => true,
-            Ended::Done | Ended::Otherwise => false,
-        }
-    }
-}
-
-/// A call that takes memory, with all that it is lent and what it has left.
+/// A call that takes memory, with all that it is lent.
 pub(crate) trait Call {
-    /// Makes what the call takes with it and does not give back.
-    fn prepare(&mut self, _alloc: Global) -> Result<(), Stop> {
-        Ok(())
-    }
-
-    /// Makes the call, and keeps what it leaves. Nothing else in here takes memory.
+    /// Makes the call. Nothing else in here takes memory.
     fn make(&mut self, alloc: Global) -> Ended;
 
-    /// What the call is lent, as a text: a refused call changes nothing of it.
-    fn lent(&mut self, alloc: Global) -> Result<String, Stop>;
+    /// The digest of what the call is lent and could change: a refused call changes nothing of it.
+    fn lent(&self) -> Digest {
+        Digest::new()
+    }
 
-    /// What the call has left, as a text. Afterwards it is gone.
-    fn left(&mut self, alloc: Global) -> Result<String, Stop>;
-}
-
-/// A value as a text.
-pub(crate) fn shown<T: Debug>(alloc: Global, value: &T) -> Result<String, Stop> {
-    match format!(in alloc; "{:?}", value) {
-        Ok(text) => Ok(text),
-        Err(_) => Err(Stop::Short),
+    /// How the call ended, with what is looked at only after it, since that takes memory. Afterwards it is gone.
+    fn look_after(&mut self, ended: Ended) -> Ended {
+        ended
     }
 }
 
@@ -77,79 +34,90 @@ pub(crate) fn tell<W: Write>(writer: &mut W, line: &impl Display) -> Result<(), 
     Ok(())
 }
 
-/// Writes whether what a call was lent is as before.
-pub(crate) fn tell_whether_same<W: Write>(
-    before: &str,
-    after: &str,
+// Writes the first word if something is so, and else the second.
+fn tell_whether<W: Write>(
     writer: &mut W,
+    is_so: bool,
+    words: (&'static str, &'static str),
 ) -> Result<(), Stop> {
-    let word = if before == after {
-        "unchanged"
-    } else {
-        "changed"
-    };
-    tell(writer, &word)
+    tell(writer, &if is_so { words.0 } else { words.1 })
 }
 
-/// Writes whether what a call left is what is wanted.
-pub(crate) fn tell_whether_right<W: Write>(
-    left: &str,
-    wanted: &str,
-    writer: &mut W,
-) -> Result<(), Stop> {
-    let word = if left == wanted { "right" } else { "wrong" };
-    tell(writer, &word)
-}
-
-// Makes the call between the lines `begin` and `end`, and writes how it ended.
-fn make_marked<C: Call, W: Write>(
-    alloc: Global,
-    call: &mut C,
-    writer: &mut W,
-) -> Result<Ended, Stop> {
-    tell(writer, &"begin")?;
-    let ended = call.make(alloc);
+// Writes `end`, and how the call ended.
+fn tell_end<W: Write>(writer: &mut W, ended: Ended) -> Result<(), Stop> {
     tell(writer, &"end")?;
-    tell(writer, &ended.word())?;
-    Ok(ended)
+    tell(writer, &ended.word())
 }
 
-// Makes a refused call again, and writes whether what it was lent is as before, and how it ends now.
-fn make_again<C: Call, W: Write>(
+// Writes whether what a refused call was lent is as before.
+fn tell_unchanged<W: Write>(writer: &mut W, is_so: bool) -> Result<(), Stop> {
+    tell_whether(writer, is_so, ("unchanged", "changed"))
+}
+
+// Writes whether a call left what is wanted.
+fn tell_right<W: Write>(writer: &mut W, is_so: bool) -> Result<(), Stop> {
+    tell_whether(writer, is_so, ("right", "wrong"))
+}
+
+/// Makes a call between the lines `begin` and `end`, and makes it again if it was refused something. Writes how each ended,
+/// whether a refused call left what it was lent as it was, and whether at last it ended as is wanted.
+///
+/// `ground` is what the call is lent by `&`.
+pub(crate) fn try_call<G: Debug, C: Call, W: Write>(
     alloc: Global,
+    ground: &G,
     call: &mut C,
-    before: &str,
+    wanted: Ended,
     writer: &mut W,
 ) -> Result<(), Stop> {
-    let after = call.lent(alloc)?;
-    tell_whether_same(before, after.as_str(), writer)?;
-    call.prepare(alloc)?;
-    tell(writer, &call.make(alloc).word())
+    let before = digest_of(ground);
+    let lent = call.lent();
+    tell(writer, &"begin")?;
+    let mut ended = call.make(alloc);
+    tell_end(writer, ended)?;
+    if ended.is_refused() {
+        tell_unchanged(writer, digest_of(ground) == before && call.lent() == lent)?;
+        ended = call.make(alloc);
+        tell(writer, &ended.word())?;
+    }
+    tell_right(writer, call.look_after(ended) == wanted)
 }
 
-/// Makes the call, and makes it again if it was refused something. Writes how each ended, whether a refused call left
-/// what it was lent as it was, and whether at last it left what is wanted.
-pub(crate) fn try_call<C: Call, W: Write>(
+/// How a call ends that is refused nothing.
+pub(crate) fn rehearse<C: Call>(alloc: Global, call: &mut C) -> Ended {
+    let ended = call.make(alloc);
+    call.look_after(ended)
+}
+
+/// Tries a call that is lent all by `&` and keeps nothing: it is to end as it ends where nothing is refused.
+pub(crate) fn try_rehearsed<G: Debug, C: Call, W: Write>(
     alloc: Global,
+    ground: &G,
     call: &mut C,
-    wanted: &str,
     writer: &mut W,
 ) -> Result<(), Stop> {
-    call.prepare(alloc)?;
-    let before = call.lent(alloc)?;
-    if make_marked(alloc, call, writer)?.is_refused() {
-        make_again(alloc, call, before.as_str(), writer)?;
-    }
-    let left = call.left(alloc)?;
-    tell_whether_right(left.as_str(), wanted, writer)
+    let wanted = call.make(alloc);
+    try_call(alloc, ground, call, wanted, writer)
 }
 
-/// What a call leaves that is refused nothing.
-pub(crate) fn rehearse<C: Call>(alloc: Global, call: &mut C) -> Result<String, Stop> {
-    call.prepare(alloc)?;
-    match call.make(alloc) {
-        Ended::Done => call.left(alloc),
-        Ended::NoMemory | Ended::NoThread | Ended::GivenBack => Err(Stop::Short),
-        Ended::Otherwise => Err(Stop::Input),
+/// Tries a call that starts threads. It is no [`Call`], since a method of a trait does not know that the threads may share
+/// what starts them.
+pub(crate) fn try_threads<G: Debug, F: Fn() -> Ended, W: Write>(
+    ground: &G,
+    call: F,
+    wanted: Ended,
+    writer: &mut W,
+) -> Result<(), Stop>
+    requires { F.IsAlwaysCallable call }
+{
+    let before = digest_of(ground);
+    tell(writer, &"begin")?;
+    let mut ended = call();
+    tell_end(writer, ended)?;
+    if ended.is_refused() {
+        tell_unchanged(writer, digest_of(ground) == before)?;
+        ended = call();
+        tell(writer, &ended.word())?;
     }
+    tell_right(writer, ended == wanted)
 }

@@ -1,112 +1,47 @@
-//! A command, from a fixed input to a fixed place for its output.
+//! A command, from a fixed input into a digest.
 
-use crate::call::{Ended, shown, tell, tell_whether_right, tell_whether_same};
+use crate::call::try_threads;
+use crate::digest::Digest;
+use crate::endings::Ended;
 use crate::stop::Stop;
-use reg_front::{Command, Counted, FrontFault, run};
+use reg_front::{Command, Counted, run};
 use std::alloc::Global;
 use std::io::Write;
 use std::sync::Wait;
 use std::thread::Threads;
 
-// The most bytes of an output.
-const MOST_OUTPUT: usize = 1 << 16;
-
-// Where a command writes, and how many bytes it has written there.
-#[derive(Drop)]
-struct Output {
-    place: Vec<u8>,
-    written: usize,
-}
-
-fn make_output(alloc: Global) -> Result<Output, Stop> {
-    Ok(Output {
-        place: Vec::from_elem(alloc, 0, MOST_OUTPUT)?,
-        written: 0,
-    })
-}
-
-// What was written, as a text.
-fn told(alloc: Global, output: &Output) -> Result<String, Stop> {
-    let written = output.place.get(..output.written);
-    shown(alloc, &written)
-}
-
-// `run`. It reads from a slice and writes into one, which takes no memory.
-fn run_into<R: Threads + Wait + Sync>(
+// `run`. It reads from a slice and writes into a digest, which takes no memory. A command that is refused something writes
+// nothing.
+fn run_command<R: Threads + Wait + Sync>(
     rt: &R,
     alloc: Global,
     text: &[u8],
     command: &Command,
-    output: &mut Output,
 ) -> Ended {
     let mut rest = text;
-    let mut place = output.place.as_mut_slice();
-    let all = place.len();
+    let mut written = Digest::new();
     let mut reader = Counted::new(&mut rest);
-    let mut writer = Counted::new(&mut place);
+    let mut writer = Counted::new(&mut written);
     let answer = run(rt, alloc, &mut reader, &mut writer, *command);
-    output.written = all.saturating_sub(place.len());
     match answer {
-        Ok(()) => Ended::Done,
-        Err(FrontFault::NoMemory) => Ended::NoMemory,
-        Err(FrontFault::NoThread) => Ended::NoThread,
+        Ok(()) => Ended::Done(written),
+        Err(fault) if written == Digest::new() => fault.into(),
         Err(_) => Ended::Otherwise,
     }
 }
 
-// What a command writes if nothing is refused.
-fn wanted_of<R: Threads + Wait + Sync>(
-    rt: &R,
-    alloc: Global,
-    text: &[u8],
-    command: &Command,
-) -> Result<String, Stop> {
-    let mut output = make_output(alloc)?;
-    match run_into(rt, alloc, text, command, &mut output) {
-        Ended::Done => told(alloc, &output),
-        _ => Err(Stop::Short),
-    }
-}
-
-// Runs a command again after it was refused something, and writes whether nothing was written before.
-fn run_again<R: Threads + Wait + Sync, W: Write>(
-    rt: &R,
-    alloc: Global,
-    text: &[u8],
-    command: &Command,
-    output: &mut Output,
-    writer: &mut W,
-) -> Result<(), Stop> {
-    let before = shown(alloc, &0usize)?;
-    let after = shown(alloc, &output.written)?;
-    tell_whether_same(before.as_str(), after.as_str(), writer)?;
-    match run_into(rt, alloc, text, command, output) {
-        Ended::Done => Ok(()),
-        _ => Err(Stop::Short),
-    }
-}
-
-// Tries `run` with a command, which is to write the wanted text. It is no [`Call`](crate::call::Call), since a method of a
-// trait does not know that the threads may share `rt`.
+/// Tries `run` with a command. What it writes is wanted as another command writes it.
 fn try_run<R: Threads + Wait + Sync, W: Write>(
     rt: &R,
     alloc: Global,
     text: &[u8],
-    command: &Command,
-    wanted: &str,
+    commands: (Command, Command),
     writer: &mut W,
 ) -> Result<(), Stop> {
-    let mut output = make_output(alloc)?;
-    tell(writer, &"begin")?;
-    let ended = run_into(rt, alloc, text, command, &mut output);
-    tell(writer, &"end")?;
-    if ended != Ended::Done {
-        tell(writer, &ended.word())?;
-        run_again(rt, alloc, text, command, &mut output, writer)?;
-    }
-    tell(writer, &Ended::Done.word())?;
-    let left = told(alloc, &output)?;
-    tell_whether_right(left.as_str(), wanted, writer)
+    let (command, model) = commands;
+    let wanted = run_command(rt, alloc, text, &model);
+    let call = || run_command(rt, alloc, text, &command);
+    try_threads(&text, call, wanted, writer)
 }
 
 /// Tries `run` with a command.
@@ -117,8 +52,7 @@ pub(crate) fn try_command<R: Threads + Wait + Sync, W: Write>(
     command: Command,
     writer: &mut W,
 ) -> Result<(), Stop> {
-    let wanted = wanted_of(rt, alloc, text, &command)?;
-    try_run(rt, alloc, text, &command, wanted.as_str(), writer)
+    try_run(rt, alloc, text, (command, command), writer)
 }
 
 /// Tries `run` that settles by so many workers. What it writes is wanted as one worker writes it, who starts no thread.
@@ -130,7 +64,11 @@ pub(crate) fn try_settle<R: Threads + Wait + Sync, W: Write>(
     writer: &mut W,
 ) -> Result<(), Stop> {
     let alone = Command::Settle { workers: 1 };
-    let wanted = wanted_of(rt, alloc, text, &alone)?;
-    let command = Command::Settle { workers };
-    try_run(rt, alloc, text, &command, wanted.as_str(), writer)
+    try_run(
+        rt,
+        alloc,
+        text,
+        (Command::Settle { workers }, alone),
+        writer,
+    )
 }

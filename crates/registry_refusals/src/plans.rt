@@ -1,10 +1,12 @@
 //! A plan: making it, checking an order, writing it.
 
-use crate::call::{Call, Ended, rehearse, shown, try_call};
+use crate::call::{Call, try_call, try_rehearsed};
+use crate::digest::digest_of;
+use crate::endings::{Ended, how_ended};
 use crate::settling::batch_order;
 use crate::stop::Stop;
 use reg_base::NoMemory;
-use reg_plan::{OrderFault, Plan};
+use reg_plan::Plan;
 use reg_text::{DayInput, plan_text};
 use std::alloc::Global;
 use std::io::Write;
@@ -13,26 +15,11 @@ use std::io::Write;
 #[derive(Drop)]
 struct Planning<'d> {
     day: &'d DayInput,
-    plan: Option<Plan>,
 }
 
 impl Call for Planning<'_> {
     fn make(&mut self, alloc: Global) -> Ended {
-        match Plan::of(alloc, &self.day.batch, self.day.book.directory()) {
-            Ok(plan) => {
-                self.plan = Some(plan);
-                Ended::Done
-            }
-            Err(NoMemory) => Ended::NoMemory,
-        }
-    }
-
-    fn lent(&mut self, alloc: Global) -> Result<String, Stop> {
-        shown(alloc, self.day)
-    }
-
-    fn left(&mut self, alloc: Global) -> Result<String, Stop> {
-        shown(alloc, &self.plan)
+        how_ended(Plan::of(alloc, &self.day.batch, self.day.book.directory()))
     }
 }
 
@@ -42,10 +29,7 @@ pub(crate) fn try_plan<W: Write>(
     day: &DayInput,
     writer: &mut W,
 ) -> Result<(), Stop> {
-    let mut call = Planning { day, plan: None };
-    let wanted = rehearse(alloc, &mut call)?;
-    call.plan = None;
-    try_call(alloc, &mut call, wanted.as_str(), writer)
+    try_rehearsed(alloc, day, &mut Planning { day }, writer)
 }
 
 fn plan_of(alloc: Global, day: &DayInput) -> Result<Plan, Stop> {
@@ -59,28 +43,12 @@ fn plan_of(alloc: Global, day: &DayInput) -> Result<Plan, Stop> {
 #[derive(Drop)]
 struct Checking<'p> {
     plan: &'p Plan,
-    order: Vec<u32>,
-    answer: Option<Result<(), OrderFault>>,
+    order: &'p [u32],
 }
 
 impl Call for Checking<'_> {
     fn make(&mut self, alloc: Global) -> Ended {
-        let answer = self.plan.check_order(alloc, self.order.as_slice());
-        if answer == Err(OrderFault::NoMemory) {
-            return Ended::NoMemory;
-        }
-        self.answer = Some(answer);
-        Ended::Done
-    }
-
-    fn lent(&mut self, alloc: Global) -> Result<String, Stop> {
-        let plan = shown(alloc, self.plan)?;
-        let order = shown(alloc, &self.order)?;
-        shown(alloc, &(plan, order))
-    }
-
-    fn left(&mut self, alloc: Global) -> Result<String, Stop> {
-        shown(alloc, &self.answer)
+        how_ended(self.plan.check_order(alloc, self.order))
     }
 }
 
@@ -90,41 +58,24 @@ pub(crate) fn try_check<W: Write>(
     day: &DayInput,
     writer: &mut W,
 ) -> Result<(), Stop> {
+    let order = batch_order(alloc, day)?;
     let plan = plan_of(alloc, day)?;
     let mut call = Checking {
         plan: &plan,
-        order: batch_order(alloc, day)?,
-        answer: None,
+        order: order.as_slice(),
     };
-    let legal: Option<Result<(), OrderFault>> = Some(Ok(()));
-    let wanted = shown(alloc, &legal)?;
-    try_call(alloc, &mut call, wanted.as_str(), writer)
+    try_call(alloc, &plan, &mut call, Ended::Done(digest_of(&())), writer)
 }
 
 // `plan_text`.
 #[derive(Drop)]
 struct Writing<'p> {
     plan: &'p Plan,
-    text: Option<Vec<u8>>,
 }
 
 impl Call for Writing<'_> {
     fn make(&mut self, alloc: Global) -> Ended {
-        match plan_text(alloc, self.plan) {
-            Ok(text) => {
-                self.text = Some(text);
-                Ended::Done
-            }
-            Err(NoMemory) => Ended::NoMemory,
-        }
-    }
-
-    fn lent(&mut self, alloc: Global) -> Result<String, Stop> {
-        shown(alloc, self.plan)
-    }
-
-    fn left(&mut self, alloc: Global) -> Result<String, Stop> {
-        shown(alloc, &self.text)
+        how_ended(plan_text(alloc, self.plan))
     }
 }
 
@@ -135,11 +86,5 @@ pub(crate) fn try_plan_text<W: Write>(
     writer: &mut W,
 ) -> Result<(), Stop> {
     let plan = plan_of(alloc, day)?;
-    let mut call = Writing {
-        plan: &plan,
-        text: None,
-    };
-    let wanted = rehearse(alloc, &mut call)?;
-    call.text = None;
-    try_call(alloc, &mut call, wanted.as_str(), writer)
+    try_rehearsed(alloc, &plan, &mut Writing { plan: &plan }, writer)
 }

@@ -1,23 +1,21 @@
 //! Settling a day, in each way.
 
-use crate::call::{Call, Ended, shown, tell, tell_whether_right, tell_whether_same, try_call};
+use crate::call::{Call, try_call, try_rehearsed, try_threads};
+use crate::digest::digest_of;
+use crate::endings::{Ended, how_ended};
 use crate::stop::Stop;
-use reg_book::{SettleFault, Settled, settle_plain};
-use reg_tasks::{Context, RunFault, Unnamed, run_order};
+use reg_book::{SettleFault, settle_plain};
+use reg_tasks::{Context, Unnamed, run_order};
 use reg_text::DayInput;
-use reg_work::{OpenGate, WorkFault, settle_waves, settle_with};
+use reg_work::{OpenGate, settle_waves, settle_with};
 use std::alloc::Global;
 use std::io::Write;
 use std::sync::Wait;
 use std::thread::Threads;
 
-/// What settling one instruction after another leaves.
-pub(crate) fn plain_day(alloc: Global, day: &DayInput) -> Result<String, Stop> {
-    match settle_plain(alloc, &day.book, &day.rules, &day.batch) {
-        Ok(settled) => shown(alloc, &Some(settled)),
-        Err(SettleFault::NoMemory) => Err(Stop::Short),
-        Err(SettleFault::WrongBase { .. }) => Err(Stop::Input),
-    }
+/// How settling one instruction after another ends.
+pub(crate) fn settled_plainly(alloc: Global, day: &DayInput) -> Ended {
+    how_ended(settle_plain(alloc, &day.book, &day.rules, &day.batch))
 }
 
 /// The context of a day.
@@ -32,41 +30,15 @@ pub(crate) fn context_of<'a>(
     }
 }
 
-/// How a call ended that settles by workers and was refused for this reason.
-fn ended_by(fault: WorkFault) -> Ended {
-    match fault {
-        WorkFault::NoMemory => Ended::NoMemory,
-        WorkFault::NoThread => Ended::NoThread,
-        WorkFault::Workers | WorkFault::WrongBase { .. } => Ended::Otherwise,
-    }
-}
-
 // `settle_plain`.
 #[derive(Drop)]
 struct Plainly<'d> {
     day: &'d DayInput,
-    settled: Option<Settled>,
 }
 
 impl Call for Plainly<'_> {
     fn make(&mut self, alloc: Global) -> Ended {
-        let day = self.day;
-        match settle_plain(alloc, &day.book, &day.rules, &day.batch) {
-            Ok(settled) => {
-                self.settled = Some(settled);
-                Ended::Done
-            }
-            Err(SettleFault::NoMemory) => Ended::NoMemory,
-            Err(SettleFault::WrongBase { .. }) => Ended::Otherwise,
-        }
-    }
-
-    fn lent(&mut self, alloc: Global) -> Result<String, Stop> {
-        shown(alloc, self.day)
-    }
-
-    fn left(&mut self, alloc: Global) -> Result<String, Stop> {
-        shown(alloc, &self.settled)
+        settled_plainly(alloc, self.day)
     }
 }
 
@@ -76,38 +48,19 @@ pub(crate) fn try_plain<W: Write>(
     day: &DayInput,
     writer: &mut W,
 ) -> Result<(), Stop> {
-    let wanted = plain_day(alloc, day)?;
-    let mut call = Plainly { day, settled: None };
-    try_call(alloc, &mut call, wanted.as_str(), writer)
+    try_rehearsed(alloc, day, &mut Plainly { day }, writer)
 }
 
 // `run_order` of all places in batch order.
 #[derive(Drop)]
 struct InOrder<'d> {
-    day: &'d DayInput,
     context: &'d Context<'d, Unnamed>,
-    order: Vec<u32>,
-    settled: Option<Settled>,
+    order: &'d [u32],
 }
 
 impl Call for InOrder<'_> {
     fn make(&mut self, alloc: Global) -> Ended {
-        match run_order(alloc, self.context, self.order.as_slice()) {
-            Ok(settled) => {
-                self.settled = Some(settled);
-                Ended::Done
-            }
-            Err(RunFault::NoMemory) => Ended::NoMemory,
-            Err(RunFault::Order(_)) => Ended::Otherwise,
-        }
-    }
-
-    fn lent(&mut self, alloc: Global) -> Result<String, Stop> {
-        shown(alloc, self.day)
-    }
-
-    fn left(&mut self, alloc: Global) -> Result<String, Stop> {
-        shown(alloc, &self.settled)
+        how_ended(run_order(alloc, self.context, self.order))
     }
 }
 
@@ -128,15 +81,13 @@ pub(crate) fn try_order<W: Write>(
     day: &DayInput,
     writer: &mut W,
 ) -> Result<(), Stop> {
-    let wanted = plain_day(alloc, day)?;
+    let order = batch_order(alloc, day)?;
     let context = context_of(alloc, day)?;
     let mut call = InOrder {
-        day,
         context: &context,
-        order: batch_order(alloc, day)?,
-        settled: None,
+        order: order.as_slice(),
     };
-    try_call(alloc, &mut call, wanted.as_str(), writer)
+    try_call(alloc, day, &mut call, settled_plainly(alloc, day), writer)
 }
 
 // `settle_waves`.
@@ -145,30 +96,19 @@ struct InWaves<'d, R> {
     rt: &'d R,
     day: &'d DayInput,
     workers: u32,
-    settled: Option<Settled>,
 }
 
 impl<R: Threads + Wait> Call for InWaves<'_, R> {
     fn make(&mut self, alloc: Global) -> Ended {
-        let day = self.day;
-        let workers = self.workers;
-        match settle_waves(
-            self.rt, alloc, &day.book, &day.rules, &day.batch, workers, &OpenGate,
-        ) {
-            Ok(settled) => {
-                self.settled = Some(settled);
-                Ended::Done
-            }
-            Err(fault) => ended_by(fault),
-        }
-    }
-
-    fn lent(&mut self, alloc: Global) -> Result<String, Stop> {
-        shown(alloc, self.day)
-    }
-
-    fn left(&mut self, alloc: Global) -> Result<String, Stop> {
-        shown(alloc, &self.settled)
+        how_ended(settle_waves(
+            self.rt,
+            alloc,
+            &self.day.book,
+            &self.day.rules,
+            &self.day.batch,
+            self.workers,
+            &OpenGate,
+        ))
     }
 }
 
@@ -180,49 +120,27 @@ pub(crate) fn try_waves<R: Threads + Wait, W: Write>(
     workers: u32,
     writer: &mut W,
 ) -> Result<(), Stop> {
-    let wanted = plain_day(alloc, day)?;
-    let mut call = InWaves {
-        rt,
-        day,
-        workers,
-        settled: None,
-    };
-    try_call(alloc, &mut call, wanted.as_str(), writer)
+    let mut call = InWaves { rt, day, workers };
+    try_call(alloc, day, &mut call, settled_plainly(alloc, day), writer)
 }
 
-// What `settle_with` leaves, or how it ended.
-fn settle_by_workers<R: Threads + Wait + Sync>(
+// `settle_with`, of which the settled day alone is looked at.
+fn settled_by_workers<R: Threads + Wait + Sync>(
     rt: &R,
     alloc: Global,
     day: &DayInput,
     workers: u32,
-) -> Result<Settled, Ended> {
-    match settle_with(
+) -> Ended {
+    let answer = settle_with(
         rt, alloc, &day.book, &day.rules, &day.batch, workers, &OpenGate,
-    ) {
-        Ok((settled, _)) => Ok(settled),
-        Err(fault) => Err(ended_by(fault)),
+    );
+    match answer {
+        Ok((settled, _)) => Ended::Done(digest_of(&settled)),
+        Err(fault) => fault.into(),
     }
 }
 
-// Settles again after a call that ended without a settled day, and writes how both ended.
-fn settle_again<R: Threads + Wait + Sync, W: Write>(
-    rt: &R,
-    alloc: Global,
-    day: &DayInput,
-    workers: u32,
-    before: &str,
-    writer: &mut W,
-) -> Result<Settled, Stop> {
-    let after = shown(alloc, day)?;
-    tell_whether_same(before, after.as_str(), writer)?;
-    let Ok(settled) = settle_by_workers(rt, alloc, day, workers) else {
-        return Err(Stop::Short);
-    };
-    Ok(settled)
-}
-
-/// Tries `settle_with`. It is no [`Call`], since a method of a trait does not know that the threads may share `rt`.
+/// Tries `settle_with`.
 pub(crate) fn try_workers<R: Threads + Wait + Sync, W: Write>(
     rt: &R,
     alloc: Global,
@@ -230,19 +148,6 @@ pub(crate) fn try_workers<R: Threads + Wait + Sync, W: Write>(
     workers: u32,
     writer: &mut W,
 ) -> Result<(), Stop> {
-    let wanted = plain_day(alloc, day)?;
-    let before = shown(alloc, day)?;
-    tell(writer, &"begin")?;
-    let answer = settle_by_workers(rt, alloc, day, workers);
-    tell(writer, &"end")?;
-    let settled = match answer {
-        Ok(settled) => settled,
-        Err(ended) => {
-            tell(writer, &ended.word())?;
-            settle_again(rt, alloc, day, workers, before.as_str(), writer)?
-        }
-    };
-    tell(writer, &Ended::Done.word())?;
-    let left = shown(alloc, &Some(settled))?;
-    tell_whether_right(left.as_str(), wanted.as_str(), writer)
+    let call = || settled_by_workers(rt, alloc, day, workers);
+    try_threads(day, call, settled_plainly(alloc, day), writer)
 }

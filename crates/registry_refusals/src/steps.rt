@@ -1,6 +1,6 @@
 //! One instruction, executed on copies of the accounts that it touches.
 
-ghost use Rattle.std.specs.Prelude.{◌≡◌, All, IsTrue, IfOk, OnOk, OnErr};
+ghost use Rattle.std.specs.Prelude.{◌≡◌, All, IsTrue, OnErr};
 ghost use Rattle.std.specs.List.{list_all};
 ghost use Rattle.std.specs.Prelude.{nat_lt};
 ghost use Rattle.reg_base.specs.Footprint.{footprint};
@@ -8,7 +8,9 @@ ghost use Rattle.reg_rules.specs.State.{numbers};
 ghost use Rattle.reg_rules.specs.Effect.{IsBehind};
 
 use crate::accounts::has_rows_below;
-use crate::call::{shown, tell, tell_whether_same};
+use crate::call::{Call, try_call};
+use crate::digest::{Digest, digest_of};
+use crate::endings::Ended;
 use crate::stop::Stop;
 use reg_account::Account;
 use reg_base::{AccountNo, Directory, Instruction, NoMemory, RecordNo};
@@ -18,37 +20,25 @@ use reg_text::DayInput;
 use std::alloc::Global;
 use std::io::Write;
 
-fn numbers_of(alloc: Global, accounts: &[Account]) -> Result<Vec<AccountNo>, Stop>
-    ensures { IfOk result (λ found. found.items ≡ numbers accounts.now) }
+// Whether these accounts have these numbers, in this order.
+fn have_numbers(accounts: &[Account], wanted: &[AccountNo]) -> bool
+    ensures { IsTrue result → numbers accounts.now ≡ wanted.now }
 {
-    let mut found = Vec::new(alloc);
-    for account in accounts {
-        found.push(account.number())?;
+    match (accounts.split_first(), wanted.split_first()) {
+        (Some((account, accounts)), Some((number, wanted))) => {
+            account.number() == *number && have_numbers(accounts, wanted)
+        }
+        (None, None) => true,
+        _ => false,
     }
-    Ok(found)
 }
 
-fn are_same(left: &[AccountNo], right: &[AccountNo]) -> bool
-    ensures { IsTrue result → left.now ≡ right.now }
+// Whether these are the accounts that the instruction touches, in its order.
+fn are_touched(accounts: &[Account], instruction: &Instruction, directory: &Directory) -> bool
+    ensures { IsTrue result → numbers accounts.now ≡ footprint directory.now instruction.now.act }
 {
-    left == right
-}
-
-// Goes on only if these are the accounts that the instruction touches, in its order.
-fn need_touched(
-    alloc: Global,
-    accounts: &[Account],
-    instruction: &Instruction,
-    directory: &Directory,
-) -> Result<(), Stop>
-    ensures { OnOk result (numbers accounts.now ≡ footprint directory.now instruction.now.act) }
-{
-    let found = numbers_of(alloc, accounts)?;
     let touched = instruction.touches(directory);
-    if !are_same(&found, touched.as_slice()) {
-        return Err(Stop::Input);
-    }
-    Ok(())
+    have_numbers(accounts, touched.as_slice())
 }
 
 fn have_rows_below(accounts: &[Account], number: RecordNo) -> bool
@@ -63,16 +53,6 @@ fn are_behind(accounts: &[Account], number: RecordNo) -> bool
     ensures { IsTrue result → All (IsBehind number) accounts.now }
 {
     have_rows_below(accounts, number)
-}
-
-// Goes on only if all surrenders and deletions of these accounts have lower numbers.
-fn need_behind(accounts: &[Account], number: RecordNo) -> Result<(), Stop>
-    ensures { OnOk result (All (IsBehind number) accounts.now) }
-{
-    if !are_behind(accounts, number) {
-        return Err(Stop::Input);
-    }
-    Ok(())
 }
 
 // An instruction, and the day and the record number under which it is executed.
@@ -109,37 +89,43 @@ fn execute_on(
     Ok(log_row(setting.number, on, instruction, reply))
 }
 
-fn shown_all(alloc: Global, accounts: &[Account]) -> Result<String, Stop> {
-    shown(alloc, &accounts)
+// Executes the instruction on these accounts, if they are those that it touches.
+fn execute_checked(alloc: Global, setting: &Setting, accounts: &mut [Account]) -> Ended {
+    if !are_touched(accounts, &setting.instruction, setting.directory) {
+        return Ended::Otherwise;
+    }
+    if !are_behind(accounts, setting.number) {
+        return Ended::Otherwise;
+    }
+    match execute_on(alloc, setting, accounts) {
+        Ok(row) => Ended::Done(digest_after(&row, accounts)),
+        Err(NoMemory) => Ended::NoMemory,
+    }
 }
 
-// Executes the instruction between the lines `begin` and `end`, and again if memory was refused.
-fn execute_twice<W: Write>(
-    alloc: Global,
-    setting: &Setting,
-    accounts: &mut [Account],
-    writer: &mut W,
-) -> Result<LogRow, Stop>
-    requires own { numbers accounts.old ≡ footprint setting.now.directory.now setting.now.instruction.act }
-    requires behind { All (IsBehind setting.now.number) accounts.old }
-{
-    let before = shown_all(alloc, accounts)?;
-    tell(writer, &"begin")?;
-    let answer = execute_on(alloc, setting, accounts);
-    tell(writer, &"end")?;
-    if let Ok(row) = answer {
-        tell(writer, &"done")?;
-        return Ok(row);
+// The digest of a row and the accounts that its instruction has left.
+fn digest_after(row: &LogRow, accounts: &[Account]) -> Digest {
+    let mut digest = digest_of(row);
+    for account in accounts {
+        digest.add(account);
     }
-    tell(writer, &"no memory")?;
-    let after = shown_all(alloc, accounts)?;
-    tell_whether_same(before.as_str(), after.as_str(), writer)?;
-    match execute_on(alloc, setting, accounts) {
-        Ok(row) => {
-            tell(writer, &"done")?;
-            Ok(row)
-        }
-        Err(NoMemory) => Err(Stop::Short),
+    digest
+}
+
+// `execute`.
+#[derive(Drop)]
+struct Executing<'d> {
+    setting: Setting<'d>,
+    accounts: Vec<Account>,
+}
+
+impl Call for Executing<'_> {
+    fn make(&mut self, alloc: Global) -> Ended {
+        execute_checked(alloc, &self.setting, self.accounts.as_mut_slice())
+    }
+
+    fn lent(&self) -> Digest {
+        digest_of(&self.accounts)
     }
 }
 
@@ -170,36 +156,27 @@ fn first_of(day: &DayInput) -> Result<(Instruction, RecordNo), Stop> {
     Ok((*instruction, number))
 }
 
-// Executes the instruction on these accounts, if they are those that it touches.
-fn execute_checked<W: Write>(
-    alloc: Global,
-    setting: &Setting,
-    accounts: &mut [Account],
-    writer: &mut W,
-) -> Result<LogRow, Stop> {
-    need_touched(alloc, accounts, &setting.instruction, setting.directory)?;
-    need_behind(accounts, setting.number)?;
-    execute_twice(alloc, setting, accounts, writer)
+// What the first instruction and these accounts are to be on a settled day.
+fn wanted_of(accounts: &[Account], settled: &Settled) -> Result<Digest, Stop> {
+    let Some(row) = settled.rows().first() else {
+        return Err(Stop::Input);
+    };
+    let mut digest = digest_of(row);
+    for account in accounts {
+        let Some(account) = settled.account(account.number()) else {
+            return Err(Stop::Input);
+        };
+        digest.add(account);
+    }
+    Ok(digest)
 }
 
-// Whether the first row and these accounts are those of a settled day.
-fn are_of(
-    alloc: Global,
-    row: LogRow,
-    accounts: &[Account],
-    settled: &Settled,
-) -> Result<bool, Stop> {
-    let row = shown(alloc, &Some(row))?;
-    if row != shown(alloc, &settled.rows().first())? {
-        return Ok(false);
+// What settling the day leaves of the first instruction and these accounts.
+fn settled_of(alloc: Global, day: &DayInput, accounts: &[Account]) -> Result<Digest, Stop> {
+    match settle_plain(alloc, &day.book, &day.rules, &day.batch) {
+        Ok(settled) => wanted_of(accounts, &settled),
+        Err(_) => Err(Stop::Short),
     }
-    for account in accounts {
-        let is = shown(alloc, &Some(account))?;
-        if is != shown(alloc, &settled.account(account.number()))? {
-            return Ok(false);
-        }
-    }
-    Ok(true)
 }
 
 /// Tries `execute` of the first instruction. No other instruction may touch its accounts.
@@ -208,9 +185,6 @@ pub(crate) fn try_execute<W: Write>(
     day: &DayInput,
     writer: &mut W,
 ) -> Result<(), Stop> {
-    let Ok(settled) = settle_plain(alloc, &day.book, &day.rules, &day.batch) else {
-        return Err(Stop::Short);
-    };
     let (instruction, number) = first_of(day)?;
     let setting = Setting {
         day,
@@ -218,12 +192,8 @@ pub(crate) fn try_execute<W: Write>(
         instruction,
         number,
     };
-    let mut accounts = copies(alloc, day, &setting.instruction)?;
-    let row = execute_checked(alloc, &setting, &mut accounts, writer)?;
-    let word = if are_of(alloc, row, &accounts, &settled)? {
-        "right"
-    } else {
-        "wrong"
-    };
-    tell(writer, &word)
+    let accounts = copies(alloc, day, &instruction)?;
+    let wanted = settled_of(alloc, day, accounts.as_slice())?;
+    let mut call = Executing { setting, accounts };
+    try_call(alloc, day, &mut call, Ended::Done(wanted), writer)
 }

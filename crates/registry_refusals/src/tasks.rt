@@ -3,45 +3,30 @@
 ghost use Rattle.std.specs.Prelude.{◌≡◌};
 ghost use Rattle.reg_base.specs.Touches.{touches, is_touched};
 
-use crate::call::{Call, Ended, shown, try_call};
-use crate::settling::{context_of, plain_day};
+use crate::call::{Call, rehearse, try_call, try_rehearsed};
+use crate::digest::{Digest, digest_of};
+use crate::endings::{Ended, how_ended};
+use crate::settling::{context_of, settled_plainly};
 use crate::stop::Stop;
 use reg_base::{AccountNo, Batch, Directory, Instruction, NoMemory};
-use reg_book::{SettleFault, Settled};
 use reg_rules::LogRow;
 use reg_tasks::{Context, Outcome, Parcel, Task, Unnamed};
 use reg_text::DayInput;
 use std::alloc::Global;
 use std::io::Write;
 
-// `Context::of`.
+// `Context::of`, of which the plan alone is looked at.
 #[derive(Drop)]
 struct Opening<'d> {
     day: &'d DayInput,
-    context: Option<Context<'d, Unnamed>>,
 }
 
 impl Call for Opening<'_> {
     fn make(&mut self, alloc: Global) -> Ended {
         let day = self.day;
-        match Context::of(alloc, &day.book, &day.rules, &day.batch) {
-            Ok(context) => {
-                self.context = Some(context);
-                Ended::Done
-            }
-            Err(SettleFault::NoMemory) => Ended::NoMemory,
-            Err(SettleFault::WrongBase { .. }) => Ended::Otherwise,
-        }
-    }
-
-    fn lent(&mut self, alloc: Global) -> Result<String, Stop> {
-        shown(alloc, self.day)
-    }
-
-    fn left(&mut self, alloc: Global) -> Result<String, Stop> {
-        match &self.context {
-            Some(context) => shown(alloc, context.plan()),
-            None => Err(Stop::Input),
+        match Context::<Unnamed>::of(alloc, &day.book, &day.rules, &day.batch) {
+            Ok(context) => Ended::Done(digest_of(context.plan())),
+            Err(fault) => fault.into(),
         }
     }
 }
@@ -52,9 +37,7 @@ pub(crate) fn try_context<W: Write>(
     day: &DayInput,
     writer: &mut W,
 ) -> Result<(), Stop> {
-    let wanted = shown(alloc, context_of(alloc, day)?.plan())?;
-    let mut call = Opening { day, context: None };
-    try_call(alloc, &mut call, wanted.as_str(), writer)
+    try_rehearsed(alloc, day, &mut Opening { day }, writer)
 }
 
 fn touches(instruction: &Instruction, directory: &Directory, number: AccountNo) -> bool
@@ -88,29 +71,14 @@ fn open<'a>(
 struct OpeningOne<'c> {
     context: &'c Context<'c, Unnamed>,
     number: AccountNo,
-    parcel: Option<Parcel<Unnamed>>,
 }
 
 impl Call for OpeningOne<'_> {
     fn make(&mut self, alloc: Global) -> Ended {
         match open(alloc, self.context, self.number) {
-            Some(Ok(parcel)) => {
-                self.parcel = Some(parcel);
-                Ended::Done
-            }
+            Some(Ok(parcel)) => Ended::Done(digest_of(parcel.value())),
             Some(Err(NoMemory)) => Ended::NoMemory,
             None => Ended::Otherwise,
-        }
-    }
-
-    fn lent(&mut self, alloc: Global) -> Result<String, Stop> {
-        shown(alloc, self.context.book())
-    }
-
-    fn left(&mut self, alloc: Global) -> Result<String, Stop> {
-        match &self.parcel {
-            Some(parcel) => shown(alloc, parcel.value()),
-            None => Err(Stop::Input),
         }
     }
 }
@@ -121,17 +89,21 @@ pub(crate) fn try_opening<W: Write>(
     day: &DayInput,
     writer: &mut W,
 ) -> Result<(), Stop> {
-    let context = context_of(alloc, day)?;
     let Some(account) = day.book.accounts().first() else {
         return Err(Stop::Input);
     };
-    let wanted = shown(alloc, account)?;
+    let context = context_of(alloc, day)?;
     let mut call = OpeningOne {
         context: &context,
         number: account.number(),
-        parcel: None,
     };
-    try_call(alloc, &mut call, wanted.as_str(), writer)
+    try_call(
+        alloc,
+        day,
+        &mut call,
+        Ended::Done(digest_of(account)),
+        writer,
+    )
 }
 
 // The opening values of the accounts that the instruction at a place touches.
@@ -202,22 +174,17 @@ fn run(
     }
 }
 
-// Runs all tasks of a day whose instructions wait for no other, except the first.
-fn run_others(alloc: Global, context: &Context<Unnamed>) -> Result<Left, Stop> {
+// Runs all tasks of a day whose instructions wait for no other.
+fn run_all(alloc: Global, context: &Context<Unnamed>) -> Result<Left, Stop> {
     let mut left = Left {
         rows: Vec::new(alloc),
         parcels: Vec::new(alloc),
     };
-    for before in 1..context.batch().len() {
+    for before in 0..context.batch().len() {
         let task = task_of(alloc, context, before + 1)?;
         left.add(run(alloc, context, task)?)?;
     }
     Ok(left)
-}
-
-fn gather(alloc: Global, context: &Context<Unnamed>, left: Left) -> Result<Settled, NoMemory> {
-    let Left { rows, parcels } = left;
-    context.gather(alloc, rows, parcels)
 }
 
 // `Task::run`.
@@ -225,7 +192,17 @@ fn gather(alloc: Global, context: &Context<Unnamed>, left: Left) -> Result<Settl
 struct Running<'c> {
     context: &'c Context<'c, Unnamed>,
     task: Option<Task<Unnamed>>,
-    outcome: Option<Outcome<Unnamed>>,
+}
+
+// The digest of the row and the parcels that an instruction has left.
+fn digest_after(outcome: Outcome<Unnamed>) -> Digest {
+    let (_, row, parcels) = outcome.into_parts();
+    let mut digest = digest_of(&row);
+    for parcel in &parcels {
+        digest.add(parcel.value());
+        digest.add(&parcel.after());
+    }
+    digest
 }
 
 impl Call for Running<'_> {
@@ -234,10 +211,7 @@ impl Call for Running<'_> {
             return Ended::Otherwise;
         };
         match task.run(alloc, self.context) {
-            Ok(outcome) => {
-                self.outcome = Some(outcome);
-                Ended::Done
-            }
+            Ok(outcome) => Ended::Done(digest_after(outcome)),
             Err(task) => {
                 self.task = Some(task);
                 Ended::GivenBack
@@ -245,79 +219,41 @@ impl Call for Running<'_> {
         }
     }
 
-    fn lent(&mut self, alloc: Global) -> Result<String, Stop> {
-        let book = shown(alloc, self.context.book())?;
-        let task = match &self.task {
-            Some(task) => (task.place(), task.parcel_count()),
-            None => (0, 0),
-        };
-        shown(alloc, &(book, task))
-    }
-
-    // The day that is gathered from its outcome and those of the others.
-    fn left(&mut self, alloc: Global) -> Result<String, Stop> {
-        let Some(outcome) = self.outcome.take() else {
-            return Err(Stop::Input);
-        };
-        let mut left = run_others(alloc, self.context)?;
-        left.add(outcome)?;
-        match gather(alloc, self.context, left) {
-            Ok(settled) => shown(alloc, &Some(settled)),
-            Err(NoMemory) => Err(Stop::Short),
+    fn lent(&self) -> Digest {
+        match &self.task {
+            Some(task) => digest_of(&(task.place(), task.parcel_count())),
+            None => Digest::new(),
         }
     }
 }
 
-/// Tries `Task::run` of the first instruction, on a day whose instructions wait for no other.
-pub(crate) fn try_run<W: Write>(alloc: Global, day: &DayInput, writer: &mut W) -> Result<(), Stop> {
-    let wanted = plain_day(alloc, day)?;
-    let context = context_of(alloc, day)?;
-    let task = task_of(alloc, &context, 1)?;
-    let mut call = Running {
-        context: &context,
-        task: Some(task),
-        outcome: None,
-    };
-    try_call(alloc, &mut call, wanted.as_str(), writer)
+// `Task::run` of the first instruction.
+fn make_running<'c>(alloc: Global, context: &'c Context<'c, Unnamed>) -> Result<Running<'c>, Stop> {
+    let task = Some(task_of(alloc, context, 1)?);
+    Ok(Running { context, task })
 }
 
-// `Context::gather`.
+/// Tries `Task::run` of the first instruction, which waits for no other.
+pub(crate) fn try_run<W: Write>(alloc: Global, day: &DayInput, writer: &mut W) -> Result<(), Stop> {
+    let context = context_of(alloc, day)?;
+    let wanted = rehearse(alloc, &mut make_running(alloc, &context)?);
+    let mut call = make_running(alloc, &context)?;
+    try_call(alloc, day, &mut call, wanted, writer)
+}
+
+// `Context::gather`, which keeps what it is given: so each time it is made it takes the last of these.
 #[derive(Drop)]
 struct Gathering<'c> {
     context: &'c Context<'c, Unnamed>,
-    given: Option<Left>,
-    settled: Option<Settled>,
+    given: Vec<Left>,
 }
 
 impl Call for Gathering<'_> {
-    // All tasks, the first one last.
-    fn prepare(&mut self, alloc: Global) -> Result<(), Stop> {
-        let mut given = run_others(alloc, self.context)?;
-        let task = task_of(alloc, self.context, 1)?;
-        given.add(run(alloc, self.context, task)?)?;
-        self.given = Some(given);
-        Ok(())
-    }
-
     fn make(&mut self, alloc: Global) -> Ended {
-        let Some(given) = self.given.take() else {
+        let Some(Left { rows, parcels }) = self.given.pop() else {
             return Ended::Otherwise;
         };
-        match gather(alloc, self.context, given) {
-            Ok(settled) => {
-                self.settled = Some(settled);
-                Ended::Done
-            }
-            Err(NoMemory) => Ended::NoMemory,
-        }
-    }
-
-    fn lent(&mut self, alloc: Global) -> Result<String, Stop> {
-        shown(alloc, self.context.book())
-    }
-
-    fn left(&mut self, alloc: Global) -> Result<String, Stop> {
-        shown(alloc, &self.settled)
+        how_ended(self.context.gather(alloc, rows, parcels))
     }
 }
 
@@ -327,12 +263,13 @@ pub(crate) fn try_gather<W: Write>(
     day: &DayInput,
     writer: &mut W,
 ) -> Result<(), Stop> {
-    let wanted = plain_day(alloc, day)?;
     let context = context_of(alloc, day)?;
+    let mut given = Vec::new(alloc);
+    given.push(run_all(alloc, &context)?)?;
+    given.push(run_all(alloc, &context)?)?;
     let mut call = Gathering {
         context: &context,
-        given: None,
-        settled: None,
+        given,
     };
-    try_call(alloc, &mut call, wanted.as_str(), writer)
+    try_call(alloc, day, &mut call, settled_plainly(alloc, day), writer)
 }

@@ -161,7 +161,7 @@ fn try_on_workers<W: Write>(
         "dock_new" => try_dock(alloc, day, writer),
         "docks_new" => try_docks(alloc, day, writer),
         "yard_new" => try_yard(alloc, number, writer),
-        "put" => try_put(alloc, day, number as usize, writer),
+        "put" => try_put(alloc, day, number, writer),
         _ => try_on_texts(alloc, name, day, writer),
     }
 }

@@ -3,8 +3,10 @@
 ghost use Rattle.std.specs.Prelude.{◌≡◌, ◌≤◌, length};
 ghost use Rattle.reg_schedules.specs.declared.event.TheConstants.{MOST_WORKERS};
 
-use crate::call::{Call, Ended, shown, try_call};
-use crate::settling::{context_of, plain_day};
+use crate::call::{Call, rehearse, try_call, try_rehearsed};
+use crate::digest::Digest;
+use crate::endings::Ended;
+use crate::settling::context_of;
 use crate::stop::Stop;
 use reg_base::NoMemory;
 use reg_graph::{Context, Event, EventFault, MOST_WORKERS, Unnamed, Whereabouts, World};
@@ -26,44 +28,21 @@ fn start<'c>(
     Some(World::new(alloc, context, workers))
 }
 
-// The first possible event of a worker, from the last of a turn to the first. Answers whether there is one.
-fn step_of(world: &mut WorldOf<'_>, worker: u32) -> bool {
-    for event in [
-        Event::Push { worker },
-        Event::Deliver { worker },
-        Event::Run { worker },
-        Event::Pop { worker },
-    ] {
-        if world.event(event).is_ok() {
-            return true;
-        }
+// Where a place is.
+fn found(world: &WorldOf<'_>, place: u32) -> Option<Whereabouts> {
+    if place == 0 || place > world.context().batch().len() {
+        return None;
     }
-    false
+    Some(world.whereabouts(place))
 }
 
-fn step(world: &mut WorldOf<'_>, workers: u32) -> bool {
-    for worker in 0..workers {
-        if step_of(world, worker) {
-            return true;
-        }
+// The digest of where each place is.
+fn places_of(world: &WorldOf<'_>) -> Digest {
+    let mut places = Digest::new();
+    for before in 0..world.context().batch().len() {
+        places.add(&found(world, before + 1));
     }
-    false
-}
-
-// What the world leaves at its end. No schedule has more events than three for each instruction and one for each arrow.
-fn ended(alloc: Global, world: WorldOf<'_>, workers: u32) -> Result<String, Stop> {
-    let mut world = world;
-    let arrows = world.context().plan().arrows().len();
-    let most = arrows.saturating_add(3 * world.context().batch().len() as usize);
-    for _ in 0..most {
-        if !step(&mut world, workers) {
-            break;
-        }
-    }
-    match world.into_settled() {
-        Ok(settled) => shown(alloc, &Some(settled)),
-        Err(_) => Err(Stop::Short),
-    }
+    places
 }
 
 // `World::new`.
@@ -71,29 +50,14 @@ fn ended(alloc: Global, world: WorldOf<'_>, workers: u32) -> Result<String, Stop
 struct Starting<'c> {
     context: &'c Context<'c, Unnamed>,
     workers: u32,
-    world: Option<WorldOf<'c>>,
 }
 
 impl Call for Starting<'_> {
     fn make(&mut self, alloc: Global) -> Ended {
         match start(alloc, self.context, self.workers) {
-            Some(Ok(world)) => {
-                self.world = Some(world);
-                Ended::Done
-            }
+            Some(Ok(world)) => Ended::Done(places_of(&world)),
             Some(Err(NoMemory)) => Ended::NoMemory,
             None => Ended::Otherwise,
-        }
-    }
-
-    fn lent(&mut self, alloc: Global) -> Result<String, Stop> {
-        shown(alloc, self.context.book())
-    }
-
-    fn left(&mut self, alloc: Global) -> Result<String, Stop> {
-        match self.world.take() {
-            Some(world) => ended(alloc, world, self.workers),
-            None => Err(Stop::Input),
         }
     }
 }
@@ -105,61 +69,47 @@ pub(crate) fn try_start<W: Write>(
     workers: u32,
     writer: &mut W,
 ) -> Result<(), Stop> {
-    let wanted = plain_day(alloc, day)?;
     let context = context_of(alloc, day)?;
     let mut call = Starting {
         context: &context,
         workers,
-        world: None,
     };
-    try_call(alloc, &mut call, wanted.as_str(), writer)
+    try_rehearsed(alloc, day, &mut call, writer)
 }
 
 // `World::event` with `Run` of worker 0, which holds a task.
 #[derive(Drop)]
 struct Running<'c> {
-    world: Option<WorldOf<'c>>,
-    workers: u32,
-}
-
-// Where a place is.
-fn found(world: &WorldOf<'_>, place: u32) -> Option<Whereabouts> {
-    if place == 0 || place > world.context().batch().len() {
-        return None;
-    }
-    Some(world.whereabouts(place))
+    world: WorldOf<'c>,
 }
 
 impl Call for Running<'_> {
     fn make(&mut self, _alloc: Global) -> Ended {
-        let Some(world) = &mut self.world else {
-            return Ended::Otherwise;
-        };
-        match world.event(Event::Run { worker: 0 }) {
-            Ok(()) => Ended::Done,
+        match self.world.event(Event::Run { worker: 0 }) {
+            Ok(()) => Ended::Done(places_of(&self.world)),
             Err(EventFault::NoMemory) => Ended::NoMemory,
             Err(_) => Ended::Otherwise,
         }
     }
 
-    // Where each place is.
-    fn lent(&mut self, alloc: Global) -> Result<String, Stop> {
-        let Some(world) = &self.world else {
-            return Err(Stop::Input);
-        };
-        let mut places = Vec::new(alloc);
-        for before in 0..world.context().batch().len() {
-            places.push(found(world, before + 1))?;
-        }
-        shown(alloc, &places)
+    fn lent(&self) -> Digest {
+        places_of(&self.world)
     }
+}
 
-    fn left(&mut self, alloc: Global) -> Result<String, Stop> {
-        match self.world.take() {
-            Some(world) => ended(alloc, world, self.workers),
-            None => Err(Stop::Input),
-        }
+// A world in which worker 0 holds a task.
+fn make_running<'c>(
+    alloc: Global,
+    context: &'c Context<'c, Unnamed>,
+    workers: u32,
+) -> Result<Running<'c>, Stop> {
+    let Some(Ok(mut world)) = start(alloc, context, workers) else {
+        return Err(Stop::Input);
+    };
+    if world.event(Event::Pop { worker: 0 }).is_err() {
+        return Err(Stop::Input);
     }
+    Ok(Running { world })
 }
 
 /// Tries `World::event` with `Run`.
@@ -169,17 +119,8 @@ pub(crate) fn try_event<W: Write>(
     workers: u32,
     writer: &mut W,
 ) -> Result<(), Stop> {
-    let wanted = plain_day(alloc, day)?;
     let context = context_of(alloc, day)?;
-    let Some(Ok(mut world)) = start(alloc, &context, workers) else {
-        return Err(Stop::Input);
-    };
-    if world.event(Event::Pop { worker: 0 }).is_err() {
-        return Err(Stop::Input);
-    }
-    let mut call = Running {
-        world: Some(world),
-        workers,
-    };
-    try_call(alloc, &mut call, wanted.as_str(), writer)
+    let wanted = rehearse(alloc, &mut make_running(alloc, &context, workers)?);
+    let mut call = make_running(alloc, &context, workers)?;
+    try_call(alloc, day, &mut call, wanted, writer)
 }

@@ -2,13 +2,16 @@
 
 ghost use Rattle.std.specs.Prelude.{◌≡◌, ◌≤◌};
 
-use crate::call::{Call, Ended, rehearse, shown, try_call};
+use crate::call::{Call, rehearse, try_call};
+use crate::digest::{Digest, digest_of};
+use crate::endings::Ended;
 use crate::settling::context_of;
 use crate::stop::Stop;
+use crate::tasks::task_of;
 use reg_base::NoMemory;
 use reg_tasks::{Task, Unnamed};
 use reg_text::DayInput;
-use reg_yard::{Docks, Owner, Pass, Yard};
+use reg_yard::{Owner, Pass, Yard};
 use std::alloc::Global;
 use std::io::Write;
 
@@ -22,56 +25,29 @@ fn yard(alloc: Global, workers: u32) -> Option<Result<Made, NoMemory>> {
     Some(Yard::new(alloc, workers))
 }
 
-// `Yard::new`.
+// `Yard::new`, of which is looked at how many deques, owners and passes there are.
 #[derive(Drop)]
 struct Making {
     workers: u32,
-    owners: Vec<Owner<Unnamed>>,
-    passes: Vec<Pass<Unnamed>>,
-    yard: Option<Yard<Unnamed>>,
 }
 
 impl Call for Making {
     fn make(&mut self, alloc: Global) -> Ended {
         match yard(alloc, self.workers) {
             Some(Ok((yard, owners, passes))) => {
-                self.yard = Some(yard);
-                self.owners = owners;
-                self.passes = passes;
-                Ended::Done
+                Ended::Done(digest_of(&(yard.workers(), owners.len(), passes.len())))
             }
             Some(Err(NoMemory)) => Ended::NoMemory,
             None => Ended::Otherwise,
         }
     }
-
-    fn lent(&mut self, alloc: Global) -> Result<String, Stop> {
-        shown(alloc, &self.workers)
-    }
-
-    // How many deques, owners and passes there are.
-    fn left(&mut self, alloc: Global) -> Result<String, Stop> {
-        let Some(yard) = &self.yard else {
-            return Err(Stop::Input);
-        };
-        shown(
-            alloc,
-            &(yard.workers(), self.owners.len(), self.passes.len()),
-        )
-    }
 }
 
 /// Tries `Yard::new`.
 pub(crate) fn try_yard<W: Write>(alloc: Global, workers: u32, writer: &mut W) -> Result<(), Stop> {
-    let mut call = Making {
-        workers,
-        owners: Vec::new(alloc),
-        passes: Vec::new(alloc),
-        yard: None,
-    };
     let counts = (workers as usize, workers as usize, workers as usize);
-    let wanted = shown(alloc, &counts)?;
-    try_call(alloc, &mut call, wanted.as_str(), writer)
+    let wanted = Ended::Done(digest_of(&counts));
+    try_call(alloc, &workers, &mut Making { workers }, wanted, writer)
 }
 
 // More tasks than this are not taken out of a deque: far more than were put.
@@ -90,7 +66,7 @@ impl Call for Putting {
             return Ended::Otherwise;
         };
         match self.owner.put(task) {
-            Ok(()) => Ended::Done,
+            Ok(()) => Ended::Done(Digest::new()),
             Err(task) => {
                 self.task = Some(task);
                 Ended::GivenBack
@@ -99,57 +75,77 @@ impl Call for Putting {
     }
 
     // The place of the task that is to be put.
-    fn lent(&mut self, alloc: Global) -> Result<String, Stop> {
+    fn lent(&self) -> Digest {
         match &self.task {
-            Some(task) => shown(alloc, &task.place()),
-            None => Err(Stop::Input),
+            Some(task) => digest_of(&task.place()),
+            None => Digest::new(),
         }
     }
 
     // The places of the tasks that are taken out, until none is left.
-    fn left(&mut self, alloc: Global) -> Result<String, Stop> {
-        let mut places = Vec::new(alloc);
+    fn look_after(&mut self, ended: Ended) -> Ended {
+        let mut places = Digest::new();
         for _ in 0..MOST_TASKS {
             let Some(task) = self.owner.take_own() else {
                 break;
             };
-            places.push(task.place())?;
+            places.add(&task.place());
         }
-        shown(alloc, &places)
+        match ended {
+            Ended::Done(_) => Ended::Done(places),
+            other => other,
+        }
+    }
+}
+
+impl Putting {
+    // Puts the task that was to be put, and has this one put next.
+    fn go_on(&mut self, next: Task<Unnamed>) -> Result<(), Stop> {
+        let Some(task) = self.task.replace(next) else {
+            return Ok(());
+        };
+        match self.owner.put(task) {
+            Ok(()) => Ok(()),
+            Err(_) => Err(Stop::Short),
+        }
+    }
+}
+
+// The first owner of a yard of two.
+fn owner(alloc: Global) -> Result<Owner<Unnamed>, Stop> {
+    let Ok((_yard, mut owners, _passes)) = Yard::new(alloc, 2) else {
+        return Err(Stop::Short);
+    };
+    match owners.pop() {
+        Some(owner) => Ok(owner),
+        None => Err(Stop::Short),
     }
 }
 
 // The first owner of a yard of two, with the first tasks of a day in its deque, so many, and the task after them. The first
-// instructions of the day touch no account.
-fn make_putting(alloc: Global, day: &DayInput, before: usize) -> Result<Putting, Stop> {
+// instructions of the day wait for no other.
+fn make_putting(alloc: Global, day: &DayInput, before: u32) -> Result<Putting, Stop> {
     let context = context_of(alloc, day)?;
-    let Ok((_docks, tasks)) = Docks::new(alloc, &context) else {
-        return Err(Stop::Short);
+    let mut putting = Putting {
+        owner: owner(alloc)?,
+        task: None,
     };
-    let Ok((_yard, mut owners, _passes)) = Yard::new(alloc, 2) else {
-        return Err(Stop::Short);
-    };
-    let Some(mut owner) = owners.pop() else {
-        return Err(Stop::Short);
-    };
-    let mut tasks = tasks.into_iter();
-    for task in tasks.by_ref().take(before) {
-        if owner.put(task).is_err() {
-            return Err(Stop::Short);
-        }
+    for place in 0..before {
+        putting.go_on(task_of(alloc, &context, place + 1)?)?;
     }
-    let task = tasks.next();
-    Ok(Putting { owner, task })
+    let last = task_of(alloc, &context, before.saturating_add(1))?;
+    putting.go_on(last)?;
+    Ok(putting)
 }
 
 /// Tries `Owner::put` of the task after so many.
 pub(crate) fn try_put<W: Write>(
     alloc: Global,
     day: &DayInput,
-    before: usize,
+    before: u32,
     writer: &mut W,
 ) -> Result<(), Stop> {
-    let wanted = rehearse(alloc, &mut make_putting(alloc, day, before)?)?;
+    let wanted = rehearse(alloc, &mut make_putting(alloc, day, before)?);
     let mut call = make_putting(alloc, day, before)?;
-    try_call(alloc, &mut call, wanted.as_str(), writer)
+    try_call(alloc, day, &mut call, wanted, writer)
 }
