@@ -6,7 +6,7 @@ use crate::endings::Ended;
 use crate::stop::Stop;
 use reg_account::Account;
 use reg_base::{Directory, NoMemory};
-use reg_book::{BookDraft, BookFault};
+use reg_book::BookDraft;
 use reg_text::DayInput;
 use std::alloc::Global;
 use std::io::Write;
@@ -25,11 +25,10 @@ impl Call for Inserting {
         };
         match self.draft.insert(account) {
             Ok(()) => Ended::Done(digest_of(&self.draft)),
-            Err((account, BookFault::NoMemory)) => {
+            Err((account, fault)) => {
                 self.account = Some(account);
-                Ended::NoMemory
+                fault.into()
             }
-            Err(_) => Ended::Otherwise,
         }
     }
 

@@ -2,7 +2,7 @@
 
 use crate::digest::{Digest, digest_of};
 use reg_base::NoMemory;
-use reg_book::SettleFault;
+use reg_book::{BookFault, SettleFault};
 use reg_front::FrontFault;
 use reg_plan::OrderFault;
 use reg_tasks::RunFault;
@@ -57,6 +57,15 @@ pub(crate) fn how_ended<T: Debug + Drop, F: Into<Ended>>(answer: Result<T, F>) -
 impl From<NoMemory> for Ended {
     fn from(_fault: NoMemory) -> Ended {
         Ended::NoMemory
+    }
+}
+
+impl From<BookFault> for Ended {
+    fn from(fault: BookFault) -> Ended {
+        match fault {
+            BookFault::NoMemory => Ended::NoMemory,
+            _ => Ended::Otherwise,
+        }
     }
 }
 

@@ -30,17 +30,17 @@ fn run_command<R: Threads + Wait + Sync>(
     }
 }
 
-/// Tries `run` with a command. What it writes is wanted as another command writes it.
+// Tries `run` with a command. What it writes is wanted as another command writes it.
 fn try_run<R: Threads + Wait + Sync, W: Write>(
     rt: &R,
     alloc: Global,
     text: &[u8],
-    commands: (Command, Command),
+    command: &Command,
+    model: &Command,
     writer: &mut W,
 ) -> Result<(), Stop> {
-    let (command, model) = commands;
-    let wanted = run_command(rt, alloc, text, &model);
-    let call = || run_command(rt, alloc, text, &command);
+    let wanted = run_command(rt, alloc, text, model);
+    let call = || run_command(rt, alloc, text, command);
     try_threads(&text, call, wanted, writer)
 }
 
@@ -52,7 +52,7 @@ pub(crate) fn try_command<R: Threads + Wait + Sync, W: Write>(
     command: Command,
     writer: &mut W,
 ) -> Result<(), Stop> {
-    try_run(rt, alloc, text, (command, command), writer)
+    try_run(rt, alloc, text, &command, &command, writer)
 }
 
 /// Tries `run` that settles by so many workers. What it writes is wanted as one worker writes it, who starts no thread.
@@ -63,12 +63,7 @@ pub(crate) fn try_settle<R: Threads + Wait + Sync, W: Write>(
     workers: u32,
     writer: &mut W,
 ) -> Result<(), Stop> {
+    let command = Command::Settle { workers };
     let alone = Command::Settle { workers: 1 };
-    try_run(
-        rt,
-        alloc,
-        text,
-        (Command::Settle { workers }, alone),
-        writer,
-    )
+    try_run(rt, alloc, text, &command, &alone, writer)
 }

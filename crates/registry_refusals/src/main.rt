@@ -6,6 +6,9 @@
 //! that was refused something the program writes `unchanged` if all that the call was lent is as it was before, and makes
 //! the call again. At last it writes `right` if the call left what it is to leave: a settled day as settling one
 //! instruction after another leaves it, anything else as the same call leaves it beside, where nothing is refused.
+//!
+//! No call keeps what it left: a digest of that is made at once, which takes no memory, and digests are compared. So
+//! nothing that owns memory lives where the program writes, and the prover has little to free at its many exits.
 #![tactic(auto)]
 
 mod accounts;

@@ -257,6 +257,15 @@ impl Call for Gathering<'_> {
     }
 }
 
+// What two calls are given.
+fn given_twice(alloc: Global, context: &Context<Unnamed>) -> Result<Vec<Left>, Stop> {
+    let mut given = Vec::with_capacity(alloc, 2)?;
+    for _ in 0..2 {
+        given.push(run_all(alloc, context)?)?;
+    }
+    Ok(given)
+}
+
 /// Tries `Context::gather`, on a day whose instructions wait for no other.
 pub(crate) fn try_gather<W: Write>(
     alloc: Global,
@@ -264,12 +273,9 @@ pub(crate) fn try_gather<W: Write>(
     writer: &mut W,
 ) -> Result<(), Stop> {
     let context = context_of(alloc, day)?;
-    let mut given = Vec::new(alloc);
-    given.push(run_all(alloc, &context)?)?;
-    given.push(run_all(alloc, &context)?)?;
     let mut call = Gathering {
         context: &context,
-        given,
+        given: given_twice(alloc, &context)?,
     };
     try_call(alloc, day, &mut call, settled_plainly(alloc, day), writer)
 }
