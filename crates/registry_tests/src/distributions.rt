@@ -108,6 +108,22 @@ do,2025-03-31,901,902,distribute,8,general,28,1,27,2,26,3,25,4,24,5,23,6,22,7,21
 end
 ";
 
+// A distribution to two accounts.
+const TO_TWO: &str = "\
+format,1
+day,2025-03-31,1
+period,2021,2030
+lags,0,1,1,2
+admin,901
+admin,902
+work,2025-03-31
+account,1,operator,11,open,no,no,0,100,0
+account,3,aircraft,13,open,no,no,0,0,50
+account,8,allocation,1,open,no,no,0,600,0
+do,2025-03-31,901,902,distribute,8,general,1,100,3,50
+end
+";
+
 // What the instructions of a day leave in this order, each on its own values.
 fn in_order(rt: &impl Abort, alloc: Global, day: &DayInput, order: &[u32]) -> String {
     let context = Context::<Unnamed>::of(alloc, &day.book, &day.rules, &day.batch).expect(
@@ -179,7 +195,8 @@ fn all_ways_refuse_a_distribution_to_a_full_account(rt: HostRuntime) {
 }
 
 #[test]
-fn a_dock_gives_the_task_with_the_ninth_of_nine_values(rt: HostRuntime) {
+fn a_dock_gives_the_task_with_its_last_value(rt: HostRuntime) {
     let accounts = [24, 8, 21, 28, 22, 27, 23, 26, 25];
+    assert_eq!(rt; awaited(&rt, rt.alloc(), TO_TWO, &[3, 8, 1]), 3);
     assert_eq!(rt; awaited(&rt, rt.alloc(), EIGHT_SHARES, &accounts), 9);
 }
