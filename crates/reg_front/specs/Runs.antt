@@ -4,9 +4,8 @@ use Rattle.std.specs.Io.KnownBytes.{Appends}
 use Rattle.reg_plan.specs.Plans.{PlanValue, IsPlan}
 use Rattle.reg_book.specs.Book.{BookValue, directory_of}
 use Rattle.reg_book.specs.Settled.{committed}
-use Rattle.reg_book.specs.Day.{settled_day, log_of}
+use Rattle.reg_book.specs.Day.{Day, settled_day, log_of}
 use Rattle.reg_work.specs.Faults.{are_workers}
-use Rattle.reg_text.specs.Day.{DayValue}
 use Rattle.reg_text.specs.Rows.{rows_in_text}
 use Rattle.reg_text.specs.Faults.{day_of_rows}
 use Rattle.reg_text.specs.Reading.{IsReading}
@@ -31,19 +30,19 @@ command_fault Figures book = None
 command_fault Totals book = None
 
 -- the book after the day
-abbrev pub book_after : DayValue → BookValue
+abbrev pub book_after : Day → BookValue
 book_after day = committed day.book (settled_day day)
 
 -- the report of a day: its log, the book after it, the totals and the row end
-abbrev pub report_of : DayValue → List ℕ
+abbrev pub report_of : Day → List ℕ
 report_of day = text_of (report_rows (book_after day) (log_of day))
 
 -- this is the text of the plan of the day's instructions
-abbrev pub IsPlanText : DayValue → List ℕ → Type 0
+abbrev pub IsPlanText : Day → List ℕ → Type 0
 IsPlanText day text = (plan : PlanValue) × IsPlan (directory_of day.book.accounts) day.batch.instructions plan × (text ≡ text_of (plan_rows plan))
 
 -- this is the text that the command writes for a day
-abbrev pub IsTextFor : Command → DayValue → List ℕ → Type 0
+abbrev pub IsTextFor : Command → Day → List ℕ → Type 0
 IsTextFor (Settle workers) day text = text ≡ report_of day
 IsTextFor Plan day text = IsPlanText day text
 IsTextFor (Statement account) day text = text ≡ text_of (statement_of day.book (log_of day) account)
@@ -52,11 +51,11 @@ IsTextFor Totals day text = text ≡ text_of (totals_rows (book_after day))
 
 -- the input is a day text, the command is not refused for that day, and this is the text that it writes
 abbrev pub IsText : Command → List ℕ → List ℕ → Type 0
-IsText command input text = (day : DayValue) × IsReading (rows_in_text input) day × (command_fault command day.book ≡ None) × IsTextFor command day text
+IsText command input text = (day : Day) × IsReading (rows_in_text input) day × (command_fault command day.book ≡ None) × IsTextFor command day text
 
 -- the input is a day text, and the command is refused for that day for this reason
 abbrev pub IsRefused : Command → List ℕ → FrontFault → Type 0
-IsRefused command input fault = (day : DayValue) × IsReading (rows_in_text input) day × (command_fault command day.book ≡ Some fault)
+IsRefused command input fault = (day : Day) × IsReading (rows_in_text input) day × (command_fault command day.book ≡ Some fault)
 
 -- the command starts threads
 abbrev pub StartsThreads : Command → Type 0
@@ -69,7 +68,7 @@ IsFault command input (Row row cause) = day_of_rows (rows_in_text input) ≡ Err
 IsFault command input Workers = IsRefused command input Workers
 IsFault command input NoAccount = IsRefused command input NoAccount
 IsFault command input WriteFailed = (text : List ℕ) × IsText command input text
-IsFault command input NoThread = StartsThreads command × ((day : DayValue) × IsReading (rows_in_text input) day × (command_fault command day.book ≡ None))
+IsFault command input NoThread = StartsThreads command × ((day : Day) × IsReading (rows_in_text input) day × (command_fault command day.book ≡ None))
 IsFault command input Read = ⊤
 IsFault command input NoMemory = ⊤
 

@@ -1,7 +1,7 @@
 -- The row that a fault names is the first with which no day text begins, and its cause is the first of the table's.
 use Rattle.std.proofs.Common.{◌≡◌, ◌⊎◌, inl, inr, ℕ, suc, ◌+◌, ◌-◌, ◌<◌, ◌≤◌, Bool, false, not, true, List, [], ◌∷◌, ◌++◌, length, take, get_or, Option, Some, None, Result, Ok, Err, refl, sym, ap, subst, ◌∙◌, arith, append_assoc}
 use Rattle.std.proofs.lemmas.List.{append-nil}
-use Rattle.reg_text.proofs.Names.{MOST_LAG, FIRST_DAY, FIRST_YEAR, Cause, Tag, Version, One, Two, SectionStandsAt, place, scope_of, Record, Said, row, DraftValue, nothing_read, DayValue, is_text_over, day_said, IsDraft, IsReading, Begins, IsFirstFaulty, fault_of, with, in_order, has_room, next_draft, drafted, at_row, at_end, after_rows, day_of_rows, IsCauseOf}
+use Rattle.reg_text.proofs.Names.{MOST_LAG, FIRST_DAY, FIRST_YEAR, Cause, Tag, Version, One, Two, SectionStandsAt, place, scope_of, Record, Said, row, DraftValue, nothing_read, Day, is_text_over, day_said, IsDraft, IsReading, Begins, IsFirstFaulty, fault_of, with, in_order, has_room, next_draft, drafted, at_row, at_end, after_rows, day_of_rows, IsCauseOf}
 use Rattle.reg_text.specs.declared.cause.Cause.TheVariants as cause
 use Rattle.reg_text.specs.declared.reading.tag.Tag.TheVariants as tag
 use Rattle.reg_text.specs.Grammar.{row_text}
@@ -114,12 +114,12 @@ record Stops (number : ℕ) (d : DraftValue) (rows : List Record) (row : ℕ) (c
   stays : count < length rows → (more : List Record) → after_rows number d (take (count + 1) rows ++ more) ≡ Err (row, c)
   too_short : count ≡ length rows → c ≡ cause.End
 
-faulty_row : (number : ℕ) (read : Result DraftValue Cause) (more : DraftValue → Result DayValue (ℕ × Cause)) (row : ℕ) (c : Cause) → at_row number read more ≡ Err (row, c)
+faulty_row : (number : ℕ) (read : Result DraftValue Cause) (more : DraftValue → Result Day (ℕ × Cause)) (row : ℕ) (c : Cause) → at_row number read more ≡ Err (row, c)
     → ((read ≡ Err c) × (row ≡ number)) ⊎ ((d : DraftValue) × (read ≡ Ok d) × (more d ≡ Err (row, c)))
 faulty_row number (Ok d) more row c e = inr (d, refl, e)
 faulty_row number (Err b) more row c e = let pair : ◌≡◌ {A = ℕ × Cause} (number, b) (row, c) = cc in inl (ap (λ (p : ℕ × Cause). Err p.1) pair, sym (ap (λ (p : ℕ × Cause). p.0) pair))
 
-fault_at_end : (number : ℕ) (o : Option DayValue) (row : ℕ) (c : Cause) → at_end number o ≡ Err (row, c) → (row ≡ number) × (c ≡ cause.End)
+fault_at_end : (number : ℕ) (o : Option Day) (row : ℕ) (c : Cause) → at_end number o ≡ Err (row, c) → (row ≡ number) × (c ≡ cause.End)
 fault_at_end number (Some v) row c e = absurd cc
 fault_at_end number None row c e = let pair : ◌≡◌ {A = ℕ × Cause} (row, c) (number, cause.End) = cc in (ap (λ (p : ℕ × Cause). p.0) pair, ap (λ (p : ℕ × Cause). p.1) pair)
 
@@ -148,7 +148,7 @@ stops (r ∷ rows) number d row c h e = elim (faulty_row number (next_draft d r)
 
 -- ---- the law
 
-no_value : (rows : List Record) (v : DayValue) (row : ℕ) (c : Cause) → day_of_rows rows ≡ Err (row, c) → IsReading rows v → ⊥
+no_value : (rows : List Record) (v : Day) (row : ℕ) (c : Cause) → day_of_rows rows ≡ Err (row, c) → IsReading rows v → ⊥
 no_value rows v row c e reading = let value = reading-to rows v reading in cc
 
 pub first-faulty : (rows : List Record) (row : ℕ) (c : Cause) → day_of_rows rows ≡ Err (row, c) → IsFirstFaulty rows row × (row ≡ length rows + 1 → c ≡ cause.End)

@@ -47,7 +47,8 @@ pub use Rattle.reg_text.specs.Tags.{all_tags, heading_tags, later_tags, list_tag
 pub use Rattle.std.specs.Prelude.{option_to_list}
 pub use Rattle.reg_text.specs.Lasts.{is_above, last_item}
 pub use Rattle.reg_text.specs.Drafts.{DraftValue, account_count, accounts_in, block_closed, draft_of, ended, items_said, nothing_read, scope_of, section_of, sections, sections_to, version_in}
-pub use Rattle.reg_text.specs.Day.{DayValue, current_said, day_said, day_with, is_text_over}
+pub use Rattle.reg_book.specs.Day.{Day}
+pub use Rattle.reg_text.specs.Day.{current_said, day_said, day_with, is_text_over}
 pub use Rattle.reg_text.specs.Reading.{Begins, CanBeSaid, IsFirstFaulty, IsPair, IsReading, IsVersionOf}
 pub use Rattle.reg_text.specs.Faults.{AnswersFault, after_rows, at_end, at_row, day_of_rows, drafted, has_room, in_order, is_number_left, is_recorded, is_sum_left, next_draft, next_in, placed, ready_for, saying, with}
 unfoldable pub use Rattle.reg_text.specs.Faults.{with_row}

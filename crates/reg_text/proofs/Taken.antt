@@ -5,7 +5,7 @@ use Rattle.std.specs.List.{AllByRecursion, flat_map}
 use Rattle.std.proofs.lemmas.List.Elements.{recursion_from_All}
 use Rattle.std.proofs.lemmas.Bool.{le-leb, lt-ltb}
 use Rattle.std.proofs.lemmas.List.{append-nil, map-append}
-use Rattle.reg_text.proofs.Names.{MOST_ACCOUNTS, MOST_ROWS, Instruction, IsShared, MOST_RECORD, IsUserNo, IsDayNo, IsInstruction, IsRising, AccountValue, IsAccount, IsBehind, AreBelow, RetiredFits, RetirementRow, ListsValue, row_numbers, no_lists, AccountHead, IsWithin, IsYearNo, Fits, IsOfPeriods, Correction, Version, One, Two, Scope, widest, Tag, Record, tag_word, last_item, option_to_list, Said, row, account_head, lists_of, account_with, account_block, list_tags, each_row, section_rows, all_rows, key, follows, IsOrdered, most, is_room, AreAtMost, rule, Section, IsSection, DraftValue, items_said, accounts_in, account_count, nothing_read, scope_of, DayValue}
+use Rattle.reg_text.proofs.Names.{MOST_ACCOUNTS, MOST_ROWS, Instruction, IsShared, MOST_RECORD, IsUserNo, IsDayNo, IsInstruction, IsRising, AccountValue, IsAccount, IsBehind, AreBelow, RetiredFits, RetirementRow, ListsValue, row_numbers, no_lists, AccountHead, IsWithin, IsYearNo, Fits, IsOfPeriods, Correction, Version, One, Two, Scope, widest, Tag, Record, tag_word, last_item, option_to_list, Said, row, account_head, lists_of, account_with, account_block, list_tags, each_row, section_rows, all_rows, key, follows, IsOrdered, most, is_room, AreAtMost, rule, Section, IsSection, DraftValue, items_said, accounts_in, account_count, nothing_read, scope_of, Day}
 use Rattle.reg_text.proofs.Names.{lags_in, heading, saying, current_rows, day_text, current_said, IsPair, CanBeSaid, IsVersionOf, with, in_order, has_room, with_row, next_in, next_draft, after_rows}
 use Rattle.reg_text.specs.declared.reading.tag.Tag.TheVariants as tag
 use Rattle.reg_account.specs.Corrections.{LaterFits}
@@ -21,10 +21,10 @@ use Rattle.reg_text.proofs.DraftSteps.{count-accounts, rows_then, lists_in, list
 use Rattle.reg_text.proofs.TagLaws.{MayFollow, tag-again, goes_on, later}
 
 -- whatever the number of the first row, these rows say this day after the draft
-abbrev pub Reach : DraftValue → List Record → DayValue → Type 0
+abbrev pub Reach : DraftValue → List Record → Day → Type 0
 Reach d rows v = (number : ℕ) → after_rows number d rows ≡ Ok v
 
-reach-row : (d e : DraftValue) (r : Record) (rows : List Record) (v : DayValue) → next_draft d r ≡ Ok e → Reach e rows v → Reach d (r ∷ rows) v
+reach-row : (d e : DraftValue) (r : Record) (rows : List Record) (v : Day) → next_draft d r ≡ Ok e → Reach e rows v → Reach d (r ∷ rows) v
 reach-row d e r rows v step more number = rw step (more (number + 1))
 
 by_row : (t : Tag) (d : DraftValue) (x : Said t) → (row (scope_of d) t).Fits x → in_order t d x ≡ true → has_room t d x ≡ true → with_row t d (row_text t x) ≡ Ok (with t d x)
@@ -62,7 +62,7 @@ pub section-taken : (version : Version) (t : Tag) (state : Option Tag → List (
     → (Stands : Option Tag → Type 0) → ((last : Option Tag) → Stands last → MayFollow version last t) → Stands (Some t)
     → (Whole : List (Said t) → Type 0) → ((l : List (Said t)) → Whole l → IsOrdered (key t) l)
     → ((last : Option Tag) (xs : List (Said t)) (x : Said t) (others : List (Said t)) → Whole (xs ++ x ∷ others) → IsNext t (state last xs) x)
-    → (others : List (Said t)) (last : Option Tag) (xs : List (Said t)) (rest : List Record) (v : DayValue) → Stands last → Whole (xs ++ others)
+    → (others : List (Said t)) (last : Option Tag) (xs : List (Said t)) (rest : List Record) (v : Day) → Stands last → Whole (xs ++ others)
     → ((after : Option Tag) → Stands after → Reach (state after (xs ++ others)) rest v) → Reach (state last xs) (section_rows (Some t, others) ++ rest) v
 section-taken version t state g Stands may again Whole is next [] last xs rest v stands whole more = let then = more last stands in rw append-nil at then
 section-taken version t state g Stands may again Whole is next (x ∷ others) last xs rest v stands whole more =
@@ -75,7 +75,7 @@ section-taken version t state g Stands may again Whole is next (x ∷ others) la
 pub list-taken : (scope : Scope) (t : Tag) (state : Option Tag → List (Said t) → DraftValue) → Grown scope.version t state → ((last : Option Tag) (xs : List (Said t)) → scope_of (state last xs) ≡ scope) → MayFollow scope.version (Some t) t
     → (Whole : List (Said t) → Type 0) → ((l : List (Said t)) → Whole l → IsSection scope (Some t, l))
     → ((last : Option Tag) (xs : List (Said t)) (x : Said t) (others : List (Said t)) → Whole (xs ++ x ∷ others) → has_room t (state last xs) x ≡ true)
-    → (others : List (Said t)) (last : Option Tag) (xs : List (Said t)) (rest : List Record) (v : DayValue) → MayFollow scope.version last t → Whole (xs ++ others)
+    → (others : List (Said t)) (last : Option Tag) (xs : List (Said t)) (rest : List Record) (v : Day) → MayFollow scope.version last t → Whole (xs ++ others)
     → ((after : Option Tag) → MayFollow scope.version after t → Reach (state after (xs ++ others)) rest v) → Reach (state last xs) (section_rows (Some t, others) ++ rest) v
 list-taken scope t state g here again Whole is room others last xs rest v may whole more =
     section-taken scope.version t state g (λ l. MayFollow scope.version l t) (λ l m. m) again Whole (λ l w. (is l w).listed.ordered) (λ last' ys x zs w. record {
@@ -159,7 +159,7 @@ AreTaken scope d [] next = Unit {0}
 AreTaken scope d ((None, xs) ∷ ss) next = ⊥
 AreTaken scope d ((Some t, xs) ∷ ss) next = IsTaken scope d t (first_of ss next) xs × AreTaken scope (saying t d xs) ss next
 
-all-taken : (scope : Scope) (d : DraftValue) (ss : List Section) (next : Tag) (last : Option Tag) (rest : List Record) (v : DayValue) → AreTaken scope d ss next → MayFollow scope.version last (first_of ss next)
+all-taken : (scope : Scope) (d : DraftValue) (ss : List Section) (next : Tag) (last : Option Tag) (rest : List Record) (v : Day) → AreTaken scope d ss next → MayFollow scope.version last (first_of ss next)
     → ((behind : Option Tag) → MayFollow scope.version behind next → Reach (record (saying_all d ss) { last = behind }) rest v) → Reach (record d { last = last }) (rows_then ss rest) v
 all-taken scope d [] next last rest v h may more = more last may
 all-taken scope d ((None, xs) ∷ ss) next last rest v h may more = absurd h
@@ -183,7 +183,7 @@ no-corrections : (count : ℕ) (xs : List Correction) → AllByRecursion LaterFi
 no-corrections count [] fits of few = refl
 no-corrections count (c ∷ xs) fits of few = absurd (omega (arith, fits.0.later.low, of.0))
 
-corrections-taken : (version : Version) (d : DraftValue) (next : Tag) (a : AccountValue) (rest : List Record) (v : DayValue) → (scope_of d).version ≡ version → ((w : Version) → (rule w next).from ≤ 80) → ((w : Version) → 81 ≤ (rule w next).to) → ArePeriodsOf (scope_of d) → Fits (scope_of d) None a
+corrections-taken : (version : Version) (d : DraftValue) (next : Tag) (a : AccountValue) (rest : List Record) (v : Day) → (scope_of d).version ≡ version → ((w : Version) → (rule w next).from ≤ 80) → ((w : Version) → 81 ≤ (rule w next).to) → ArePeriodsOf (scope_of d) → Fits (scope_of d) None a
     → ((last : Option Tag) → MayFollow (scope_of d).version last next → Reach (record d { last = last; lists = record no_lists { corrections = a.corrections } }) rest v)
     → Reach (record d { last = Some tag.Account; lists = no_lists }) (each_row tag.Correction a.corrections ++ rest) v
 corrections-taken One d next a rest v is low high p h more =
@@ -201,7 +201,7 @@ corrections-taken Two d next a rest v is low high p h more =
       behind-correction Two last is may = later Two last tag.Correction next (low Two) (high Two) may
 
 -- behind the row of an account the rows of its lists are taken
-lists-taken : (d : DraftValue) (next : ℕ) (a : AccountValue) (rest : List Record) (v : DayValue) → next_in d.days ≡ Some next → ArePeriodsOf (scope_of d) → Fits (scope_of d) None a → IsBehind next a
+lists-taken : (d : DraftValue) (next : ℕ) (a : AccountValue) (rest : List Record) (v : Day) → next_in d.days ≡ Some next → ArePeriodsOf (scope_of d) → Fits (scope_of d) None a → IsBehind next a
     → ((last : Option Tag) → MayFollow (scope_of d).version last tag.Account → Reach (record d { last = last; lists = lists_of a }) rest v)
     → Reach (record d { last = Some tag.Account; lists = no_lists }) (rows_then (lists_in (lists_of a) list_tags) rest) v
 lists-taken d next a rest v is p h behind more =
@@ -239,7 +239,7 @@ next-account accounts (Some h) l a others rises =
     let all = rising-above (map account_number (accounts ++ account_with l h ∷ [])) a.number (map account_number others) (rw map-append at rises) in
     rw (map-append account_number accounts (account_with l h ∷ []), last_of-append (map account_number accounts) h.number) at all
 
-pub blocks-taken : (d : DraftValue) (next : ℕ) (others : List AccountValue) (last : Option Tag) (accounts : List AccountValue) (head : Option AccountHead) (l : ListsValue) (rest : List Record) (v : DayValue) → next_in d.days ≡ Some next → MayFollow (scope_of d).version last tag.Account
+pub blocks-taken : (d : DraftValue) (next : ℕ) (others : List AccountValue) (last : Option Tag) (accounts : List AccountValue) (head : Option AccountHead) (l : ListsValue) (rest : List Record) (v : Day) → next_in d.days ≡ Some next → MayFollow (scope_of d).version last tag.Account
     → ArePeriodsOf (scope_of d) → AllByRecursion (Fits (scope_of d) None) others → AllByRecursion (IsBehind next) others
     → IsRising (map account_number ((accounts ++ map (account_with l) (option_to_list head)) ++ others)) → length ((accounts ++ map (account_with l) (option_to_list head)) ++ others) ≤ MOST_ACCOUNTS
     → ((after : Option Tag) (all : List AccountValue) (opened : Option AccountHead) (m : ListsValue) → MayFollow (scope_of d).version after tag.Account → all ++ map (account_with m) (option_to_list opened) ≡ (accounts ++ map (account_with l) (option_to_list head)) ++ others → Reach (record d { last = after; accounts = all; head = opened; lists = m }) rest v)
@@ -261,26 +261,26 @@ blocks-taken d next (a ∷ others) last accounts head l rest v is may p fit behi
 
 -- ---- the sections of a day
 
-surrender-section : (scope : Scope) (v : DayValue) → CanBeSaid v → IsSection scope (Some tag.Surrender, v.rules.surrender)
+surrender-section : (scope : Scope) (v : Day) → CanBeSaid v → IsSection scope (Some tag.Surrender, v.rules.surrender)
 surrender-section scope v h = record { fits = all-weaker IsPair (row scope tag.Surrender).Fits (λ p is. ((tt, tt), is)) v.rules.surrender (recursion_from_All IsPair v.rules.surrender h.pairs); listed = record { ordered = h.pairs_rise; few = tt } }
 
-admin-section : (scope : Scope) (v : DayValue) → CanBeSaid v → IsSection scope (Some tag.Admin, v.rules.admins)
+admin-section : (scope : Scope) (v : Day) → CanBeSaid v → IsSection scope (Some tag.Admin, v.rules.admins)
 admin-section scope v h = record { fits = recursion_from_All IsUserNo v.rules.admins h.day.rules.each_admin; listed = record { ordered = subst IsRising (sym (map-id v.rules.admins)) h.day.rules.fit.admins_rise; few = h.day.rules.fit.few_admins } }
 
-work-section : (scope : Scope) (v : DayValue) → CanBeSaid v → IsSection scope (Some tag.Work, v.rules.calendar)
+work-section : (scope : Scope) (v : Day) → CanBeSaid v → IsSection scope (Some tag.Work, v.rules.calendar)
 work-section scope v h = let days = h.day.rules.working_days in record { fits = recursion_from_All IsDayNo v.rules.calendar days.each_day; listed = record { ordered = subst IsRising (sym (map-id v.rules.calendar)) days.rising; few = tt } }
 
-do-section : (scope : Scope) (v : DayValue) → CanBeSaid v → IsSection scope (Some tag.Do, v.batch.instructions)
+do-section : (scope : Scope) (v : Day) → CanBeSaid v → IsSection scope (Some tag.Do, v.batch.instructions)
 do-section scope v h = record { fits = all-both IsInstruction (λ (i : Instruction). IsShared i.act) (row scope tag.Do).Fits fit-instruction v.batch.instructions (recursion_from_All IsInstruction v.batch.instructions h.day.batch.each) (recursion_from_All (λ (i : Instruction). IsShared i.act) v.batch.instructions h.shares); listed = record { ordered = tt; few = h.day.batch.few } }
 
 both : (scope : Scope) (xs : List AccountValue) → AllByRecursion IsAccount xs → AllByRecursion (IsOfPeriods scope.periods) xs → AllByRecursion (Fits scope None) xs
 both scope [] h k = tt
 both scope (a ∷ xs) h k = ((h.0, k.0), both scope xs h.1 k.1)
 
-accounts : (scope : Scope) (v : DayValue) → scope.periods ≡ length v.rules.periods → CanBeSaid v → AllByRecursion (Fits scope None) v.book.accounts
+accounts : (scope : Scope) (v : Day) → scope.periods ≡ length v.rules.periods → CanBeSaid v → AllByRecursion (Fits scope None) v.book.accounts
 accounts scope v is h = both scope v.book.accounts (recursion_from_All IsAccount v.book.accounts h.day.book.within_limits) (rw is (recursion_from_All (IsOfPeriods (length v.rules.periods)) v.book.accounts h.periods))
 
-period-section : (scope : Scope) (v : DayValue) → CanBeSaid v → IsSection scope (Some tag.Period, v.rules.periods)
+period-section : (scope : Scope) (v : Day) → CanBeSaid v → IsSection scope (Some tag.Period, v.rules.periods)
 period-section scope v h =
     let periods = h.day.rules.fit.periods_fit in
     record {
@@ -289,7 +289,7 @@ period-section scope v h =
     }
 
 -- in the first version one row of a period is taken, and in the second one or more
-periods-taken : (version : Version) (d : DraftValue) (periods : List (ℕ × ℕ)) (rest : List Record) (v : DayValue) → (scope_of d).version ≡ version → (version ≡ One → length periods ≡ 1) → 1 ≤ length periods → IsSection (scope_of d) (Some tag.Period, periods)
+periods-taken : (version : Version) (d : DraftValue) (periods : List (ℕ × ℕ)) (rest : List Record) (v : Day) → (scope_of d).version ≡ version → (version ≡ One → length periods ≡ 1) → 1 ≤ length periods → IsSection (scope_of d) (Some tag.Period, periods)
     → Reach (record d { last = Some tag.Period; periods = periods }) rest v → Reach (record d { last = Some tag.Day; periods = [] }) (section_rows (Some tag.Period, periods) ++ rest) v
 periods-taken version d [] rest v is one some within more = absurd (omega arith)
 periods-taken One d (p ∷ []) rest v is one some within more =
@@ -304,7 +304,7 @@ periods-taken Two d (p ∷ ps) rest v is one some within more =
     ps (Some tag.Period) (p ∷ []) rest v refl within (λ after e. subst (λ (l : Option Tag). Reach (state l (p ∷ ps)) rest v) (sym e) more))
 
 -- the row of the current period, where the version has one, and that of the lags
-lags-taken : (version : Version) (d : DraftValue) (current : ℕ) (lags : Said tag.Lags) (rest : List Record) (v : DayValue) → (scope_of d).version ≡ version → d.current ≡ [] → d.lags ≡ [] → IsWithin 1 (length d.periods) current → current < 2 ^ 64 → (row widest tag.Lags).Fits lags
+lags-taken : (version : Version) (d : DraftValue) (current : ℕ) (lags : Said tag.Lags) (rest : List Record) (v : Day) → (scope_of d).version ≡ version → d.current ≡ [] → d.lags ≡ [] → IsWithin 1 (length d.periods) current → current < 2 ^ 64 → (row widest tag.Lags).Fits lags
     → Reach (record d { last = Some tag.Lags; current = current_rows version current; lags = lags ∷ [] }) rest v → Reach (record d { last = Some tag.Period }) (section_rows (Some tag.Current, current_rows version current) ++ row_text tag.Lags lags ∷ rest) v
 lags-taken One d current lags rest v is none no_lags fit small fits more =
     let from = record d { last = Some tag.Period } in
@@ -316,7 +316,7 @@ lags-taken Two d current lags rest v is none no_lags fit small fits more =
     (reach-row then (record then { last = Some tag.Lags; lags = d.lags ++ lags ∷ [] }) (row_text tag.Lags lags) rest v (taken tag.Lags then lags (rw is refl) fits refl refl) (rw (no_lags, none) more))
 
 -- the drafts on the way
-abbrev headed : Version → DayValue → DraftValue
+abbrev headed : Version → Day → DraftValue
 headed version v = record nothing_read {
   last = Some tag.Lags;
   versions = version ∷ [];
@@ -327,14 +327,14 @@ headed version v = record nothing_read {
 }
 
 -- the lists behind the row of the lags
-abbrev lists_behind : Version → DayValue → List Section
+abbrev lists_behind : Version → Day → List Section
 lists_behind version v = drop 5 (heading version v)
 
-one-period : (version : Version) (v : DayValue) → IsVersionOf v version → version ≡ One → length (v.rules.periods) ≡ 1
+one-period : (version : Version) (v : Day) → IsVersionOf v version → version ≡ One → length (v.rules.periods) ≡ 1
 one-period One v known e = known
 one-period Two v known e = absurd cc
 
-head-taken : (version : Version) (v : DayValue) (rest : List Record) → IsVersionOf v version → CanBeSaid v → Reach (headed version v) rest v
+head-taken : (version : Version) (v : Day) (rest : List Record) → IsVersionOf v version → CanBeSaid v → Reach (headed version v) rest v
     → Reach nothing_read (row_text tag.Format version ∷ row_text tag.Day (v.batch.day, v.book.next) ∷ section_rows (Some tag.Period, v.rules.periods) ++ (section_rows (Some tag.Current, current_rows version v.rules.current) ++ row_text tag.Lags (lags_in v.rules) ∷ rest)) v
 head-taken version v rest known h more =
     let lags = h.day.rules.fit.lags_fit in
@@ -353,25 +353,25 @@ head-taken version v rest known h more =
     (lags-taken version d3 v.rules.current (lags_in v.rules) rest v refl refl refl h.day.rules.fit.current_fits (omega (arith, h.day.rules.fit.current_fits.high, h.day.rules.fit.periods_fit.few)) fits more)))
 
 -- the instructions, each with a record number
-abbrev AreNumbered : Scope → DayValue → List (Said tag.Do) → Type 0
+abbrev AreNumbered : Scope → Day → List (Said tag.Do) → Type 0
 AreNumbered scope v l = IsSection scope (Some tag.Do, l) × (v.book.next + length l ≤ MOST_RECORD + 1)
 
 -- what was said of the current period
-said-again : (version : Version) (v : DayValue) → IsVersionOf v version → CanBeSaid v → current_said version (current_rows version v.rules.current) ≡ Some v.rules.current
+said-again : (version : Version) (v : Day) → IsVersionOf v version → CanBeSaid v → current_said version (current_rows version v.rules.current) ≡ Some v.rules.current
 said-again One v known h =
     let fit = h.day.rules.fit.current_fits in
     let one : 1 ≡ v.rules.current = omega (arith, known, fit.low, fit.high) in
     ap (λ (n : ℕ). Some n) one
 said-again Two v known h = refl
 
-whole : (version : Version) (v : DayValue) (accounts : List AccountValue) (head : Option AccountHead) (l : ListsValue) → IsVersionOf v version → CanBeSaid v → v.book.next - 1 ≡ v.batch.base → accounts ++ map (account_with l) (option_to_list head) ≡ v.book.accounts
+whole : (version : Version) (v : Day) (accounts : List AccountValue) (head : Option AccountHead) (l : ListsValue) → IsVersionOf v version → CanBeSaid v → v.book.next - 1 ≡ v.batch.base → accounts ++ map (account_with l) (option_to_list head) ≡ v.book.accounts
     → Reach (record (saying_all (headed version v) (lists_behind version v)) { last = Some tag.End; accounts = accounts; head = head; lists = l; instructions = v.batch.instructions }) [] v
 whole version v accounts head l known h base all number = rw (said-again version v known h, all) (ap (λ (n : ℕ). Ok (record v { batch = record v.batch { base = n } })) base)
 
-periods-of : (version : Version) (v : DayValue) → IsVersionOf v version → CanBeSaid v → ArePeriodsOf (scope_of (headed version v))
+periods-of : (version : Version) (v : Day) → IsVersionOf v version → CanBeSaid v → ArePeriodsOf (scope_of (headed version v))
 periods-of version v known h = let periods = h.day.rules.fit.periods_fit in record { some = periods.some; few = periods.few; one = λ is. let one = one-period version v known is in omega (arith, one) }
 
-pub text-taken : (version : Version) (v : DayValue) → IsVersionOf v version → CanBeSaid v → Reach nothing_read (day_text version v) v
+pub text-taken : (version : Version) (v : Day) → IsVersionOf v version → CanBeSaid v → Reach nothing_read (day_text version v) v
 text-taken version v known h =
     let base : v.book.next - 1 ≡ v.batch.base = omega (arith, h.day.follows) in
     let d0 = headed version v in

@@ -18,7 +18,8 @@ use Rattle.reg_text.specs.Tags.{tag_after}
 use Rattle.reg_text.specs.Grammar.{Said, row}
 use Rattle.reg_text.specs.Sections.{key, follows, most, is_room}
 use Rattle.reg_text.specs.Drafts.{DraftValue, items_said, part, account_count, block_closed, nothing_read, scope_of}
-use Rattle.reg_text.specs.Day.{DayValue, is_text_over, day_said}
+use Rattle.reg_book.specs.Day.{Day}
+use Rattle.reg_text.specs.Day.{is_text_over, day_said}
 
 -- ---- one row
 
@@ -99,17 +100,17 @@ at_row number (Ok x) more = more x
 at_row number (Err c) more = Err (number, c)
 
 -- the day after the last row, or that a row with this number must follow
-abbrev pub at_end : ℕ → Option DayValue → Result DayValue (ℕ × Cause)
+abbrev pub at_end : ℕ → Option Day → Result Day (ℕ × Cause)
 at_end number (Some day) = Ok day
 at_end number None = Err (number, cause.End)
 
 -- the day that these rows say after a draft, the first of them with this number
-abbrev pub after_rows : ℕ → DraftValue → List Record → Result DayValue (ℕ × Cause)
+abbrev pub after_rows : ℕ → DraftValue → List Record → Result Day (ℕ × Cause)
 after_rows number d [] = at_end number (day_said d)
 after_rows number d (r ∷ rows) = at_row number (next_draft d r) (λ e. after_rows (number + 1) e rows)
 
 -- the day that the rows of a text say, or the first faulty row and its cause
-abbrev pub day_of_rows : List Record → Result DayValue (ℕ × Cause)
+abbrev pub day_of_rows : List Record → Result Day (ℕ × Cause)
 day_of_rows rows = after_rows 1 nothing_read rows
 
 -- ---- what calls answer

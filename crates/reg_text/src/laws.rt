@@ -19,7 +19,7 @@ ghost use Rattle.reg_text.specs.Dates.{date, date_of};
 ghost use Rattle.reg_text.specs.Limits.{bounded_of};
 ghost use Rattle.reg_text.specs.Words.{kind_word, kind_of, account_kind_word, account_kind_of, status_word, status_of, right_word, right_of, retirement_word, retirement_named, yes_no_word, yes_no_of};
 ghost use Rattle.reg_text.specs.Records.{Record};
-ghost use Rattle.reg_text.specs.Day.{DayValue};
+ghost use Rattle.reg_book.specs.Day.{Day};
 ghost use Rattle.reg_text.specs.Reading.{IsReading, IsFirstFaulty};
 ghost use Rattle.reg_text.specs.Drafts.{DraftValue};
 ghost use Rattle.reg_text.specs.Faults.{day_of_rows, next_draft};
@@ -68,12 +68,12 @@ pub fn one_word_of_each_value()
 
 /// Rows are read as a day exactly if they are the spelling of that day and the day is within the limits.
 pub fn reads_what_is_spelled()
-    ensures { (rows : List Record) (v : DayValue) → (day_of_rows rows ≡ Ok v) ↔ IsReading rows v }
+    ensures { (rows : List Record) (v : Day) → (day_of_rows rows ≡ Ok v) ↔ IsReading rows v }
 {}
 
 /// Rows spell at most one day.
 pub fn at_most_one_reading()
-    ensures { (rows : List Record) (v w : DayValue) → IsReading rows v → IsReading rows w → v ≡ w }
+    ensures { (rows : List Record) (v w : Day) → IsReading rows v → IsReading rows w → v ≡ w }
 {}
 
 /// A fault names the first row such that no day text begins with the rows up to it. If a day text begins with all the
