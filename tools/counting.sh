@@ -38,6 +38,7 @@ try_cases() {
   : >"$work/cases-begun"
   count_part "cases/run-cases" cases/run-cases "$1" cases
   count_part "cases/run-decision-table" cases/run-decision-table "$1"
+  count_part "cases/run-second-answer" cases/run-second-answer "$1"
   count_part "cases/run-large-cases" cases/run-large-cases "$1"
   count_part "cases/run-prefixes" cases/run-prefixes "$1"
   count_part "cases/run-streams" cases/run-streams "$1"
@@ -67,7 +68,7 @@ try_workers() {
 # Whether all cases have passed on this program since it was built, and as they are now.
 have_cases_passed() {
   [ -e "$cases_passed" ] && [ ! "$1" -nt "$cases_passed" ] &&
-    [ -z "$(find cases examples docs README.md tools/*-to-* tools/texts.py -newer "$cases_passed" -print -quit)" ]
+    [ -z "$(find cases examples docs README.md tools/*-to-* tools/texts.py tools/rules.py -newer "$cases_passed" -print -quit)" ]
 }
 
 # Watches from now on which crates the processor time goes to. Nothing but the table is lost if
