@@ -68,7 +68,7 @@ try_workers() {
 # Whether all cases have passed on this program since it was built, and as they are now.
 have_cases_passed() {
   [ -e "$cases_passed" ] && [ ! "$1" -nt "$cases_passed" ] &&
-    [ -z "$(find cases examples docs README.md tools/*-to-* tools/texts.py tools/rules.py -newer "$cases_passed" -print -quit)" ]
+    [ -z "$(find cases examples docs README.md tools/*-to-* tools/texts.py tools/rules.py tools/faults.py -newer "$cases_passed" -print -quit)" ]
 }
 
 # Watches from now on which crates the processor time goes to. Nothing but the table is lost if
