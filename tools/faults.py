@@ -7,16 +7,16 @@ import datetime
 import re
 from dataclasses import dataclass, field
 
+from rules import KINDS, MOST_HELD, MOST_RETIRED, MOST_ROWS, MOST_TONNES, MOST_TRUSTED, OPERATORS
+
 MOST_U64 = 2**64 - 1
-MOST_RECORD = MOST_HELD = MOST_RETIRED = MOST_CORRECTION = 10**15
-MOST_TONNES = 10**12
+MOST_RECORD = MOST_CORRECTION = 10**15
 MOST_FIGURE = 4 * 10**15
 MOST_PERIODS = 8
 # The most rows of a list; of all others, and of the years of an account, there may be any number.
-MOST = {"admin": 64, "account": 100_000, "user": 64, "trusted": 256, "retired": 4_096, "do": 16_384}
+MOST = {"admin": 64, "account": 100_000, "user": 64, "trusted": MOST_TRUSTED, "retired": MOST_ROWS, "do": 16_384}
 
 ACCOUNT_KINDS = ("operator", "aircraft", "total", "allocation", "trading")
-KINDS = ("general", "aviation")
 STATUSES = ("open", "blocked", "excluded", "closed")
 YES_NO = ("yes", "no")
 
@@ -185,7 +185,7 @@ class Reading:
         if not self.may_stand(tag):
             raise Fault("tag")
         values = [read(word) for read, word in zip(self.fields(tag, words), words)]
-        if tag == "surrender" and values[0] not in ("operator", "aircraft"):
+        if tag == "surrender" and values[0] not in OPERATORS:
             raise Fault("word")
         if tag == "retired" and values[1] == "deletion" and len(values) == 7:
             raise Fault("limit")
