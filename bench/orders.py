@@ -3,7 +3,7 @@
 
 usage: orders.py [--repeat N] [--samples N] [--seed N]
 
-It starts crates/registry_orders/out/registry_orders, which `cd crates/registry_orders && rt run` builds.
+It starts crates/registry_workers/out/registry_workers, which `cd crates/registry_workers && rt run` builds.
 
 Tries
   - batches of up to six instructions: every permutation of the places. As many must give the day that
@@ -30,7 +30,7 @@ import sys
 import days
 
 TOP = os.path.dirname(os.path.dirname(os.path.abspath(__file__)))
-PROGRAM = os.path.join(TOP, "crates", "registry_orders", "out", "registry_orders")
+PROGRAM = os.path.join(TOP, "crates", "registry_workers", "out", "registry_workers")
 
 
 def program(data, *words):
@@ -175,10 +175,10 @@ def measure(repeat, chance):
         "wide": (2 * most, [(2 * k + 1, 2 * k + 2) for k in range(most)]),
         "mixed": (2_000, draw_pairs(2_000, most, chance)),
     }
-    print(f"{'':9}{'read':>9}{'plain':>9}{'plan':>9}{'batch':>9}{'workers':>9}   (seconds; the last four without reading)")
+    print(f"{'':9}{'read':>9}{'plain':>9}{'plan':>9}{'order':>9}{'schedule':>9}   (seconds; the last four without reading)")
     for name, (accounts, transfers) in batches.items():
         data = days.of_transfers(accounts, transfers)
-        words = ("read", "plain", "plan", "batch", "workers")
+        words = ("read", "plain", "plan", "order", "schedule")
         least = {word: min(program(data, word)[1] for _ in range(repeat)) for word in words}
         rest = "".join(f"{least[word] - least['read']:9.3f}" for word in words[1:])
         print(f"{name:9}{least['read']:9.3f}{rest}")

@@ -1,11 +1,17 @@
-//! Settles the day text of standard input in several ways, to measure them beside each other, and tells which worker ran
-//! what. `bench/workers.py` starts it.
+//! Settles the day text of standard input in several ways, to measure them beside each other and to try many, and tells which
+//! worker ran what. `bench/orders.py` and `bench/workers.py` start it.
 //!
-//! The first word says what is done: `read` reads the text alone, `plain` settles one instruction after another, `order` runs
-//! them in batch order on values of their own, `levels` settles level by level, `crew` by workers that steal. `lanes` writes
-//! which places each worker ran, in order. `try` settles by workers that steal and are delayed before each run, and writes
-//! `same` if the settled day is that of `plain`, each place was run once, the order in which workers entered the gate is legal,
-//! and each worker's shift is what it entered with.
+//! The first word says what is done: `read` reads the text alone, `plain` settles one instruction after another, `plan` makes
+//! the plan, `order` runs the instructions in batch order on values of their own, `schedule` by a schedule of four workers,
+//! `levels` settles level by level, `crew` by workers that steal. `lanes` writes which places each worker ran, in order.
+//!
+//! `orders` runs the instructions in each order that a further word lists, such as `2,1,3`, and writes a line for each: `same`
+//! if the settled day is that of `plain`, or the fault. A word such as `4:17` stands for a schedule of 4 workers whose events
+//! the number 17 chooses.
+//!
+//! `try` settles by workers that steal and are delayed before each run, and writes `same` if the settled day is that of
+//! `plain`, each place was run once, the order in which workers entered the gate is legal, and each worker's shift is what it
+//! entered with.
 //!
 //! For `levels`, `crew`, `lanes` and `try` the second word is the number of workers. For `lanes` the third is a seed from which
 //! delays are drawn, or 0 for none. For `try` the third is a worker, counted from 0, that is held up, or a higher number for
@@ -13,54 +19,25 @@
 #![tactic(auto)]
 
 mod gates;
+mod orders;
+mod schedules;
+mod stop;
 
 use crate::gates::{Delays, NOBODY, Noting};
+use crate::orders::{make_plan, run_batch, run_four, try_orders};
+use crate::stop::{Stop, tell, told};
 use reg_book::{Settled, settle_plain};
 use reg_plan::Plan;
-use reg_tasks::{Context, Naming, Unnamed, run_order};
+use reg_tasks::Naming;
 use reg_text::{DayInput, read_day};
 use reg_work::{Gate, OpenGate, Shift, WorkFault, settle_waves, settle_with};
 use std::alloc::{AllocError, Global};
 use std::env;
-use std::fmt::Display;
 use std::io::{Read, Write};
 use std::marker::Brand;
 use std::process::ExitCode;
 use std::sync::Wait;
 use std::thread::Threads;
-
-// Why nothing more was done.
-enum Stop {
-    // The words or the text are not taken.
-    Input,
-    // Memory ran out, or a thread could not be started.
-    Short,
-    // The output was not taken.
-    Output,
-}
-
-impl From<AllocError> for Stop {
-    fn from(_refused: AllocError) -> Stop {
-        Stop::Short
-    }
-}
-
-impl From<WorkFault> for Stop {
-    fn from(fault: WorkFault) -> Stop {
-        match fault {
-            WorkFault::NoThread | WorkFault::NoMemory => Stop::Short,
-            WorkFault::Workers | WorkFault::WrongBase { .. } => Stop::Input,
-        }
-    }
-}
-
-// Writes a line.
-fn tell<W: Write>(writer: &mut W, line: &impl Display) -> Result<(), Stop> {
-    if writeln!(writer, "{line}").is_err() {
-        return Err(Stop::Output);
-    }
-    Ok(())
-}
 
 // The number that stands at this place of the words.
 fn number_at(words: &[String], place: usize) -> Result<u32, Stop> {
@@ -70,23 +47,6 @@ fn number_at(words: &[String], place: usize) -> Result<u32, Stop> {
     match word.as_str().parse::<u32>() {
         Ok(number) => Ok(number),
         Err(_) => Err(Stop::Input),
-    }
-}
-
-// Runs the instructions in batch order, on values of their own.
-fn run_batch(alloc: Global, day: &DayInput) -> Result<(), Stop> {
-    let Ok(context) = Context::<Unnamed>::of(alloc, &day.book, &day.rules, &day.batch) else {
-        return Err(Stop::Short);
-    };
-    let mut order = Vec::with_capacity(alloc, day.batch.len() as usize)?;
-    for before in 0..day.batch.len() {
-        if order.push(before + 1).is_err() {
-            return Err(Stop::Short);
-        }
-    }
-    match run_order(alloc, &context, order.as_slice()) {
-        Ok(_) => Ok(()),
-        Err(_) => Err(Stop::Short),
     }
 }
 
@@ -136,13 +96,6 @@ fn are_whole<N: Naming>(
         note_places(times.as_mut_slice(), shift);
     }
     Ok(times.iter().skip(1).all(|count| *count == 1))
-}
-
-fn told(alloc: Global, settled: &Settled) -> Result<String, Stop> {
-    match format!(in alloc; "{:?}", settled) {
-        Ok(text) => Ok(text),
-        Err(_) => Err(Stop::Short),
-    }
 }
 
 // What a run by workers that were noted is like, in a word: `same` if it is as it has to be.
@@ -277,7 +230,10 @@ fn carry_out<R: Threads + Wait + Sync, W: Write>(
     match first.as_str() {
         "read" => Ok(()),
         "plain" => settle_plainly(alloc, day),
+        "plan" => make_plan(alloc, day),
         "order" => run_batch(alloc, day),
+        "schedule" => run_four(alloc, day),
+        "orders" => try_orders(alloc, day, rest, writer),
         "levels" => settle_levels(rt, alloc, day, number_at(rest, 0)?),
         "crew" => settle_crew(rt, alloc, day, number_at(rest, 0)?),
         "lanes" => tell_lanes(rt, alloc, day, rest, writer),

@@ -1,0 +1,48 @@
+//! Why a run ends early, and what is written.
+
+use reg_book::Settled;
+use reg_work::WorkFault;
+use std::alloc::{AllocError, Global};
+use std::fmt::Display;
+use std::io::Write;
+
+/// Why nothing more was done.
+pub(crate) enum Stop {
+    /// The words or the text are not taken.
+    Input,
+    /// Memory ran out, or a thread could not be started.
+    Short,
+    /// The output was not taken.
+    Output,
+}
+
+impl From<AllocError> for Stop {
+    fn from(_refused: AllocError) -> Stop {
+        Stop::Short
+    }
+}
+
+impl From<WorkFault> for Stop {
+    fn from(fault: WorkFault) -> Stop {
+        match fault {
+            WorkFault::NoThread | WorkFault::NoMemory => Stop::Short,
+            WorkFault::Workers | WorkFault::WrongBase { .. } => Stop::Input,
+        }
+    }
+}
+
+/// Writes a line.
+pub(crate) fn tell<W: Write>(writer: &mut W, line: &impl Display) -> Result<(), Stop> {
+    if writeln!(writer, "{line}").is_err() {
+        return Err(Stop::Output);
+    }
+    Ok(())
+}
+
+/// What a settled day is, in a text that tells two different ones apart.
+pub(crate) fn told(alloc: Global, settled: &Settled) -> Result<String, Stop> {
+    match format!(in alloc; "{:?}", settled) {
+        Ok(text) => Ok(text),
+        Err(_) => Err(Stop::Short),
+    }
+}
