@@ -4,8 +4,8 @@
 //! A use of it, proved in `registry_uses/src/work.rt`:
 //!
 //! ```rust
-//! /// Settles a day by four workers, each in a thread of its own. The settled day is that of the instructions one after
-//! /// another.
+//! /// Settles a day by four workers: the calling thread, and three threads of their own. The settled day is that of the
+//! /// instructions one after another.
 //! ///
 //! /// # Errors
 //! /// As [`settle_with`].
