@@ -3,8 +3,12 @@
 It was written from the rules in words, and not from the program or its definitions: so it is a second answer, to compare
 the program with (`cases/run-second-answer`). It is slow, and reads only day texts without a fault.
 """
+import bisect
+import codecs
 import csv
 import datetime
+import io
+import sys
 from dataclasses import dataclass, field
 
 KINDS = ("general", "aviation")
@@ -93,8 +97,8 @@ class Day:
 
     def due(self, day, lag):
         """The working day on or after `day` that so many working days come before, from `day` on; None if there is none."""
-        later = [working_day for working_day in self.working_days if working_day >= day]
-        return later[lag] if lag < len(later) else None
+        place = bisect.bisect_left(self.working_days, day) + lag
+        return self.working_days[place] if place < len(self.working_days) else None
 
     def period_of(self, year):
         return next((place for place, (first, last) in enumerate(self.periods, 1) if first <= year <= last), None)
@@ -112,10 +116,20 @@ class Day:
 # Reading.
 
 
+def rows_of(text):
+    """The rows of a text, which is given as bytes: lists of fields without their quotes. An empty line is no row."""
+    # One letter stands for each byte, since a text with a fault may have any bytes. The reader refuses the byte 0. No valid
+    # field has it, nor the byte 1, which stands in its place: so the faults are the same.
+    letters = text.removeprefix(codecs.BOM_UTF8).replace(b"\0", b"\1").decode("latin-1")
+    # A field may be as long as the text.
+    csv.field_size_limit(sys.maxsize)
+    return filter(None, csv.reader(io.StringIO(letters, newline="")))
+
+
 def read_day(text):
     """The day of a text without a fault."""
     day, account = None, None
-    for tag, *words in csv.reader(filter(None, text.splitlines())):
+    for tag, *words in rows_of(text):
         if tag == "day":
             day = Day(date_of(words[0]), int(words[1]))
         elif tag == "account":
@@ -477,21 +491,32 @@ def plan(day):
         last.update(dict.fromkeys(own, place))
 
 
-def statement(number, opening, log):
+def log_by_account(accounts, log):
+    """For each account the log rows of the instructions that touched it."""
+    of_account = {number: [] for number in accounts}
+    for logged in log:
+        for number in logged.touched:
+            of_account[number].append(logged)
+    return of_account
+
+
+def statement(number, opening, own_log):
     held = opening
     yield f"opening,{number},{opening['general']},{opening['aviation']}"
-    for logged in (it for it in log if number in it.touched):
+    for logged in own_log:
         yield logged.line
         held = logged.held.get(number, held)
     yield f"closing,{number},{held['general']},{held['aviation']}"
 
 
 def answers(text):
-    """What the program has to write of a day text, by the words of each command; of `statement`, for each account."""
+    """What the program has to write of a day text, which is given as bytes, by the words of each command; of `statement`,
+    for each account."""
     day = read_day(text)
     opening = {number: dict(it.held) for number, it in day.accounts.items()}
     waits = [*plan(day)]
     log = [*settle(day)]
+    own_logs = log_by_account(day.accounts, log)
     accounts = [it for _, it in sorted(day.accounts.items())]
     book = [f"book,{day.next_record + len(log)}", *(row for it in accounts for row in account_rows(it))]
     figures = [f"determined,{it.number},{year},{tonnes}" for it in accounts for year, tonnes in sorted(it.figures.items())]
@@ -500,6 +525,6 @@ def answers(text):
         "plan": waits,
         "figures": figures,
         "totals": [*totals(accounts)],
-        **{f"statement {number}": [*statement(number, held, log)] for number, held in opening.items()},
+        **{f"statement {number}": [*statement(number, held, own_logs[number])] for number, held in opening.items()},
     }
     return {words: "\n".join([*lines, "end", ""]) for words, lines in texts.items()}
