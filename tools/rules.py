@@ -1,7 +1,13 @@
+#!/usr/bin/env python3
 """The rules of docs/RULES.md once more, in plain Python: what each command of the program has to write of a day text.
 
+  tools/rules.py settle < DAY                 what the program has to write of this day; so for plan, figures and totals
+  tools/rules.py statement ACCOUNT < DAY      the statement of one account
+
 It was written from the rules in words, and not from the program or its definitions: so it is a second answer, to compare
-the program with (`cases/run-second-answer`). It is slow, and reads only day texts without a fault.
+the program with (`cases/run-second-answer`), and to look at before the kit is installed. It is not the proved program. It is
+slow, and reads only day texts without a fault; of another one it tells the first fault, by `faults.py`. The exit statuses
+are those of the program.
 """
 import bisect
 import codecs
@@ -528,3 +534,38 @@ def answers(text):
         **{f"statement {number}": [*statement(number, held, own_logs[number])] for number, held in opening.items()},
     }
     return {words: "\n".join([*lines, "end", ""]) for words, lines in texts.items()}
+
+
+COMMANDS = ("settle", "plan", "figures", "totals", "statement")
+# The exit statuses if the words are not taken, and if the text has a fault.
+NOT_TAKEN, FAULTY = 2, 3
+
+
+def main(arguments):
+    """Writes the text of a command, or the line of a fault, and answers the exit status."""
+    if arguments in (["-h"], ["--help"]):
+        print(__doc__, end="")
+        return 0
+    command, *account = arguments or [""]
+    if command not in COMMANDS or len(account) != (command == "statement"):
+        print(__doc__, end="", file=sys.stderr)
+        return NOT_TAKEN
+    # (it takes its words from this file, as a module)
+    from faults import first_fault
+
+    text = sys.stdin.buffer.read()
+    fault = first_fault(text)
+    if fault:
+        sys.stderr.write(fault)
+        return FAULTY
+    written = answers(text).get(" ".join([command, *(it.lstrip("0") for it in account)]))
+    if written is None:
+        print("no such account", file=sys.stderr)
+        return NOT_TAKEN
+    sys.stdout.write(written)
+    return 0
+
+
+if __name__ == "__main__":
+    sys.dont_write_bytecode = True
+    sys.exit(main(sys.argv[1:]))
