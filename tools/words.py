@@ -5,23 +5,31 @@
 
 `./run` asks this before there is a built program, so that these answers come at once. Each text is one of cases/program,
 which `cases/run-cases` compares with what the built program writes, or such a text with another word in it. The texts are
-those of `clap`, which reads the words in the program. Of an unknown option it may also tell a similar one: that tip is
-left out here.
+those of `clap`, which reads the words in the program.
 
-The exit status is that of the program, 0 or 2. If the words ask for the text of a day, nothing is written, and it is 10.
+The exit status is that of the program, 0 or 2. It is 10, and nothing is written, if only the program can answer: if the words
+ask for the text of a day, or are so odd that their answer is not known here.
 """
 import re
 import sys
+from dataclasses import dataclass
 from pathlib import Path
 
 STORED = Path(__file__).resolve().parent.parent / "cases" / "program"
 COMMANDS = ("settle", "plan", "statement", "figures", "totals", "help")
 MOST_NUMBER = 999_999_999
-MOST_WORKERS_READ = 2**32 - 1
-ASKS_FOR_A_DAY = 10
+# By command, and for the program itself: the long options that it has, if `help` is not the only one, and the word that its
+# usage shows as needed.
+LONG_OPTIONS = {None: ["help", "version"], "settle": ["workers", "help"]}
+NEEDED = {None: "<COMMAND>", "statement": "<ACCOUNT>"}
+ASKS_THE_PROGRAM = 10
 NOT_TAKEN = 2
-# A command is told as similar to a word from this similarity on.
+# A name is told as similar to a word above this similarity.
 LEAST_SIMILARITY = 0.7
+
+
+class AskTheProgram(Exception):
+    """Ends the reading of words whose answer is not known here."""
 
 
 class Answer(Exception):
@@ -46,13 +54,9 @@ def usage_of(command):
     return next(line for line in lines if line.startswith("Usage: "))
 
 
-def refused(why, command=None, has_usage=True):
-    usage = f"{usage_of(command)}\n\n" if has_usage else ""
-    return Answer(f"error: {why}\n\n{usage}For more information, try '--help'.\n")
-
-
-def unexpected(word, command, tip=""):
-    return refused(f"unexpected argument '{word}' found{tip}", command)
+def refused(why, usage=None):
+    shown = f"{usage}\n\n" if usage else ""
+    return Answer(f"error: {why}\n\n{shown}For more information, try '--help'.\n")
 
 
 def matching_letters(one, other):
@@ -80,65 +84,114 @@ def similarity(one, other):
     return (count / len(one) + count / len(other) + (count - moved) / count) / 3
 
 
-def unknown_command(word, has_tip=True):
-    similar = [(similarity(word, it), place, it) for place, it in enumerate(COMMANDS)] if has_tip else []
-    names = [f"'{name}'" for likeness, _, name in sorted(similar) if likeness > LEAST_SIMILARITY]
+def similar_to(word, names):
+    """The names that are similar to a word, the most similar one last."""
+    found = sorted((similarity(word, name), place, name) for place, name in enumerate(names))
+    return [name for likeness, _, name in found if likeness > LEAST_SIMILARITY]
+
+
+def unknown_command(word, has_tip=True, command=None):
+    names = [f"'{name}'" for name in similar_to(word, COMMANDS)] if has_tip else []
     several = "a similar subcommand exists" if len(names) == 1 else "some similar subcommands exist"
     tip = f"\n\n  tip: {several}: {', '.join(names)}" if names else ""
-    return refused(f"unrecognized subcommand '{word}'{tip}")
+    return refused(f"unrecognized subcommand '{word}'{tip}", usage_of(command))
 
 
-def read_number(word, argument, least, most):
-    """Ends the reading if the word is no number within these limits."""
-    def invalid(why):
-        return refused(f"invalid value '{word}' for '{argument}': {why}", has_usage=False)
-
-    if not re.fullmatch(r"[+-]?[0-9]+", word):
-        raise invalid("invalid digit found in string")
-    number = int(word)
-    if not -(2**63) <= number < 2**63:
-        raise invalid(f"number too {'large' if number > 0 else 'small'} to fit in target type")
-    if not least <= number <= most:
-        raise invalid(f"{number} is not in {least}..={most}")
+def unknown_option(word, command):
+    """The refusal of an option that the command does not have. It tells a similar one."""
+    similar = similar_to(word[2:], LONG_OPTIONS.get(command, ["help"])) if word.startswith("--") else []
+    if similar:
+        option = f"--{similar[-1]}" + (" <N>" if similar[-1] == "workers" else "")
+        needed = NEEDED.get(command, "")
+        usage = f"Usage: {' '.join(filter(None, ['registry', command, option, needed]))}"
+        return refused(f"unexpected argument '{word}' found\n\n  tip: a similar argument exists: '--{similar[-1]}'", usage)
+    tip = f"\n\n  tip: to pass '{word}' as a value, use '-- {word}'" if command == "statement" else ""
+    return refused(f"unexpected argument '{word}' found{tip}", usage_of(command))
 
 
-def read_option(words, command):
-    """Takes one word that begins with `-`, and its value, from the front of the words."""
-    word = words.pop(0)
-    if word.startswith("--"):
-        name, equals, value = word.partition("=")
-    else:
-        name, equals, value = word[:2], "", ""
-    if name in ("-h", "--help") and not equals:
-        raise help_of(command)
-    if name != "--workers" or command != "settle":
-        tip = f"\n\n  tip: to pass '{name}' as a value, use '-- {name}'" if command == "statement" else ""
-        raise unexpected(name, command, tip)
-    if not equals:
-        if not words or words[0].startswith("-"):
-            raise refused("a value is required for '--workers <N>' but none was supplied", has_usage=False)
-        value = words.pop(0)
-    return value
+@dataclass
+class Value:
+    """A word for an argument that takes a number."""
 
+    word: str
+    argument: str
+    # The numbers that the argument takes, and those that are read at all.
+    taken: range
+    read: range
 
-def read_words_of(command, words):
-    """Reads what stands behind the command's name. Ends the reading if it is not taken."""
-    workers, accounts = [], []
-    while words:
-        if words[0].startswith("-") and words[0] != "-":
-            workers.append(read_option(words, command))
-            if len(workers) > 1:
-                raise refused("the argument '--workers <N>' cannot be used multiple times", command)
-        elif command != "statement" or accounts:
-            raise unexpected(words[0], command)
+    def refusal(self):
+        """Why the word is not taken, if it is not."""
+        if not self.word:
+            why = "cannot parse integer from empty string"
+        elif not re.fullmatch(r"[+-]?[0-9]+", self.word):
+            why = "invalid digit found in string"
+        elif int(self.word) not in self.read:
+            why = f"number too {'large' if int(self.word) > 0 else 'small'} to fit in target type"
+        elif int(self.word) not in self.taken:
+            why = f"{int(self.word)} is not in {self.taken[0]}..={self.taken[-1]}"
         else:
-            accounts.append(words.pop(0))
-    for word in workers:
-        read_number(word, "--workers <N>", 0, MOST_WORKERS_READ)
-    for word in accounts:
-        read_number(word, "<ACCOUNT>", 1, MOST_NUMBER)
-    if command == "statement" and not accounts:
-        raise refused("the following required arguments were not provided:\n  <ACCOUNT>", command)
+            return None
+        return refused(f"invalid value '{self.word}' for '{self.argument}': {why}")
+
+
+def workers_of(word):
+    return Value(word, "--workers <N>", range(2**32), range(-(2**63), 2**63))
+
+
+def account_of(word):
+    return Value(word, "<ACCOUNT>", range(1, MOST_NUMBER + 1), range(2**64))
+
+
+class Reading:
+    """The words behind the name of a command, as far as they are read."""
+
+    def __init__(self, command, words):
+        self.command, self.words = command, words
+        self.workers, self.accounts = [], []
+        self.lacks_value = False
+
+    def read(self):
+        """Reads all words. Ends if they are not taken."""
+        while self.words:
+            word = self.words.pop(0)
+            if word.startswith("-") and word != "-":
+                self.read_option(word)
+            elif self.command != "statement" or self.accounts:
+                raise refused(f"unexpected argument '{word}' found", usage_of(self.command))
+            else:
+                self.accounts.append(account_of(word))
+        if self.lacks_value:
+            raise refused("a value is required for '--workers <N>' but none was supplied")
+        if len(self.workers) > 1:
+            raise refused("the argument '--workers <N>' cannot be used multiple times", usage_of(self.command))
+        self.refuse_values()
+        if self.command == "statement" and not self.accounts:
+            raise refused("the following required arguments were not provided:\n  <ACCOUNT>", usage_of(self.command))
+
+    def refuse_values(self):
+        for value in [*self.workers, *self.accounts]:
+            refusal = value.refusal()
+            if refusal:
+                raise refusal
+
+    def read_option(self, word):
+        name, equals, value = word.partition("=")
+        is_known = name in ("-h", "--help") or (name == "--workers" and self.command == "settle")
+        is_bundle = not word.startswith("--") and len(word) > 2
+        has_refused = any(it.refusal() for it in [*self.workers, *self.accounts])
+        if word == "--" or is_bundle and not word[1].isdigit() or is_known and self.lacks_value or has_refused:
+            raise AskTheProgram
+        if not is_known:
+            raise unknown_option(name if word.startswith("--") else word[:2], self.command)
+        if name != "--workers":
+            raise AskTheProgram if equals else help_of(self.command)
+        if equals:
+            self.workers.append(workers_of(value))
+            self.refuse_values()
+        elif self.words and (not self.words[0].startswith("-") or self.words[0] == "-"):
+            self.workers.append(workers_of(self.words.pop(0)))
+        else:
+            self.lacks_value = True
 
 
 def read_words(words):
@@ -152,10 +205,16 @@ def read_words(words):
     if first == "help":
         if rest and rest[0] not in COMMANDS:
             raise unknown_command(rest[0], has_tip=False)
-        raise help_of(rest[0] if rest else None)
-    if first not in COMMANDS:
-        raise unexpected(first.partition("=")[0], None) if first.startswith("-") else unknown_command(first)
-    read_words_of(first, rest)
+        if len(rest) > 1:
+            raise AskTheProgram
+        raise help_of(*rest)
+    if first in COMMANDS:
+        Reading(first, rest).read()
+        raise AskTheProgram
+    if first.startswith("-") and first != "-":
+        is_odd = first == "--" or "=" in first or not first.startswith("--") and len(first) > 2 or {*rest} & {*COMMANDS}
+        raise AskTheProgram if is_odd else unknown_option(first, None)
+    raise unknown_command(first)
 
 
 def main():
@@ -164,7 +223,9 @@ def main():
     except Answer as answer:
         (sys.stderr if answer.status else sys.stdout).write(answer.text)
         return answer.status
-    return ASKS_FOR_A_DAY
+    except AskTheProgram:
+        return ASKS_THE_PROGRAM
+    return 0
 
 
 if __name__ == "__main__":
