@@ -26,7 +26,7 @@ laid_over None (Some v) other same is = absurd cc
 laid_over (Some w) None other same is = absurd cc
 laid_over (Some w) (Some v) other same is = ap (λ (o : Option AccountValue). option_map (unwrap_or o) (Some v)) is
 
-left_alone : (opening other : Option AccountValue) → other ≡ None → option_map (unwrap_or other) opening ≡ opening
+pub left_alone : (opening other : Option AccountValue) → other ≡ None → option_map (unwrap_or other) opening ≡ opening
 left_alone None other is = refl
 left_alone (Some v) other is = ap (λ (o : Option AccountValue). option_map (unwrap_or o) (Some v)) is
 
@@ -45,7 +45,7 @@ account-map f keeps (v ∷ vs) a =
     go true more = refl
     go false more = more
 
-account-overlay : (s others : State) (a : ℕ) → account (overlay s others) a ≡ option_map (unwrap_or (account others a)) (account s a)
+pub account-overlay : (s others : State) (a : ℕ) → account (overlay s others) a ≡ option_map (unwrap_or (account others a)) (account s a)
 account-overlay s others a =
     account-map (λ v. unwrap_or (account others v.number) v) (placed_number others) s a
     ∙ at_number others a (account s a) (λ v e. (found_in s a v e).1)

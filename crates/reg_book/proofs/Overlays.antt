@@ -112,13 +112,16 @@ popped all cur new w front parts =
       ap (λ (zs : State). drop (length new) zs) whole ∙ drop_at new (w ∷ drop (length cur) all) (length new) refl,
     )
 
--- the last of so many accounts, found in a list that has the same first ones
+-- the last of so many accounts is found in a list that has the same first ones
+pub taken_at : (all cur : State) (k : ℕ) (w : AccountValue) → 0 < k → take k cur ≡ take k all → w ≡ get_or cur (k - 1) w → get_or all (k - 1) w ≡ w
+taken_at all cur k w some same at =
+    sym (get_or-take k all (k - 1) w (omega (arith, some))) ∙ ap (λ (zs : State). get_or zs (k - 1) w) (sym same) ∙ get_or-take k cur (k - 1) w (omega (arith, some)) ∙ sym at
+
+-- and so the first ones are those before it, and it
 pub last_taken : (all cur : State) (k : ℕ) (w : AccountValue) → 0 < k → k ≤ length all → take k cur ≡ take k all → w ≡ get_or cur (k - 1) w → take k all ≡ take (k - 1) all ++ w ∷ []
 last_taken all cur k w some few same at =
-    let there : get_or all (k - 1) w ≡ w =
-    sym (get_or-take k all (k - 1) w (omega (arith, some))) ∙ ap (λ (zs : State). get_or zs (k - 1) w) (sym same) ∙ get_or-take k cur (k - 1) w (omega (arith, some)) ∙ sym at in
     let whole : k - 1 + 1 ≡ k = omega (arith, some) in
-    ap (λ (n : ℕ). take n all) (sym whole) ∙ take_more all (k - 1) w (omega (arith, some, few)) ∙ ap (λ (o : AccountValue). take (k - 1) all ++ o ∷ []) there
+    ap (λ (n : ℕ). take n all) (sym whole) ∙ take_more all (k - 1) w (omega (arith, some, few)) ∙ ap (λ (o : AccountValue). take (k - 1) all ++ o ∷ []) (taken_at all cur k w some same at)
 
 -- one account fewer of both is the same, too
 pub taken_fewer : (cur all : State) (k : ℕ) → take k cur ≡ take k all → take (k - 1) cur ≡ take (k - 1) all
@@ -205,7 +208,7 @@ higher-last ns cur new w until higher parts k le within =
     let above = higher (length new) (omega (arith, size)) k le within in
     omega (arith, above, last)
 
-climbs : (xs : List ℕ) → IsRising xs → (i j : ℕ) → i < j → j < length xs → get_or xs i 0 < get_or xs j 0
+pub climbs : (xs : List ℕ) → IsRising xs → (i j : ℕ) → i < j → j < length xs → get_or xs i 0 < get_or xs j 0
 climbs xs rising i zero lt within = absurd (omega arith)
 climbs xs rising i (suc j) lt within =
     let next : get_or xs j 0 < get_or xs (suc j) 0 = let h = rising j (omega (arith, within)) in rw add-one at h in

@@ -1,6 +1,6 @@
 //! The book of all accounts.
 
-ghost use Rattle.std.specs.Prelude.{◌≡◌, ◌≢◌, ◌+◌, ◌-◌, ◌<◌, ◌≤◌, [], ◌∷◌, All, length, slice_index, sum_by, MatchResult};
+ghost use Rattle.std.specs.Prelude.{◌≡◌, ◌≢◌, ◌+◌, ◌-◌, ◌<◌, ◌≤◌, [], ◌∷◌, All, length, slice_index, sum_by, MatchResult, IfOk};
 ghost use Rattle.std.specs.Option.{option_copied};
 ghost use Rattle.reg_base.specs.declared.limits.TheConstants.{MOST_ACCOUNTS};
 ghost use Rattle.reg_base.specs.Rising.{IsRising};
@@ -28,9 +28,19 @@ pub struct Totals {
 }
 
 /// The accounts that a commit has replaced, as they were before. Nothing is done with them but to free them, or not to.
+/// A contract sees them as a list.
 #[derive(Debug, Drop)]
 pub struct Replaced {
     accounts: Vec<Account>,
+}
+
+impl Model for Replaced {
+    ghost use Rattle.std.specs.Prelude.{List};
+    ghost use Rattle.reg_account.specs.Account.{AccountValue};
+
+    ghost Value = { List AccountValue };
+
+    ghost view = { λ r. r.accounts.items };
 }
 
 /// The accounts of a registry, by rising number, and the next record number. A contract sees the book as plain data.
@@ -53,7 +63,7 @@ impl Model for Book {
 
 impl Book {
     ghost use Rattle.reg_book.specs.Book.{directory_of, IsBook, IsBookKept, total_held, total_retired};
-    ghost use Rattle.reg_book.specs.Settled.{IsOfBook, committed};
+    ghost use Rattle.reg_book.specs.Settled.{IsOfBook, committed, replaced};
 
     /// The book of these accounts, which must be in the order of their numbers and in the directory.
     pub(crate) fn from_sorted(accounts: Vec<Account>, directory: Directory, next: u64) -> Self
@@ -138,7 +148,8 @@ impl Book {
         Ok(rows)
     }
 
-    /// The same as [`Book::commit`], but the accounts that were replaced are not freed: they are handed back.
+    /// The same as [`Book::commit`], but the accounts that were replaced are not freed: they are handed back, as they
+    /// were in the book, by rising number.
     ///
     /// # Errors
     /// As [`Book::commit`].
@@ -150,6 +161,7 @@ impl Book {
         ensures answer { MatchResult result
             (λ kept. (settled.base + 1 ≡ self.old.next) × (self.new ≡ committed self.old settled) × (kept.0.items ≡ settled.rows))
             (λ e. (settled.base + 1 ≢ self.old.next) × (self.new ≡ self.old) × (e.0 ≡ settled) × (e.1.next ≡ self.old.next)) }
+        ensures replaced { IfOk result (λ kept. kept.1 ≡ replaced self.old settled) }
         ensures directory { directory_of self.new.accounts ≡ directory_of self.old.accounts }
     {
         let next = self.next;
@@ -170,6 +182,7 @@ fn replace_accounts(accounts: &mut Vec<Account>, settled: &mut Vec<Account>)
     requires settled_rising { IsRising (numbers settled.old.items) }
     requires within_limits { All IsAccount accounts.old.items }
     ensures items { accounts.new.items ≡ overlay accounts.old.items settled.old.items }
+    ensures replaced { settled.new.items ≡ overlay settled.old.items accounts.old.items }
     ensures within_limits { All IsAccount accounts.new.items }
 {
     let mut until = accounts.len();
@@ -188,6 +201,7 @@ fn replace_account(accounts: &mut Vec<Account>, until: usize, account: &mut Acco
     requires within { until ≤ length accounts.old.items }
     requires higher { AreHigher (numbers accounts.old.items) until account.old.number }
     ensures items { accounts.new.items ≡ overlay accounts.old.items (account.old ∷ []) }
+    ensures replaced { account.new ∷ [] ≡ overlay (account.old ∷ []) accounts.old.items }
     ensures within_limits { All IsAccount accounts.new.items }
     ensures within { result ≤ length accounts.old.items }
     ensures higher { AreHigher (numbers accounts.old.items) result account.old.number }

@@ -1,4 +1,4 @@
-use Rattle.std.proofs.Common.{◌-◌, ◌≤◌, length, arith, sym, subst, ap, ◌∙◌}
+use Rattle.std.proofs.Common.{◌-◌, ◌≤◌, [], ◌∷◌, length, arith, sym, subst, ap, ◌∙◌}
 use Rattle.std.specs.Prelude.{slice_set}
 use Rattle.std.proofs.lemmas.Bool.{eqb-true}
 use Rattle.std.proofs.lemmas.List.Elements.{All-set}
@@ -6,6 +6,7 @@ use Rattle.reg_account.specs.Account.{AccountValue, IsAccount}
 use Rattle.reg_rules.specs.State.{State, numbers}
 use Rattle.reg_book.specs.Book.{AreHigher}
 use Rattle.reg_book.proofs.Overlays.{set_at, not_there, numbers_below, lower_than}
+use Rattle.reg_book.proofs.Replacements.{comes_out, comes_back}
 use Rattle.reg_book.proofs.book.replace_account.Goals as goal
 use Rattle.reg_book.proofs.book.replace_account.Goals.{else-count-gt0-via-then-count-gt0+else-eq, else-count-gt0-via-else-count-gt0}
 
@@ -32,6 +33,18 @@ returns-else-count-gt0-clause-items c =
           let none = w.if-count-gt0.false in
           not_there xs c.args.account.now c.count_not_higher-count.result c.requires.rising within higher (λ some. absurd (omega (arith, none, some)))
     ]
+
+pub returns-then-eq-clause-replaced : goal.returns-then-eq-clause-replaced
+returns-then-eq-clause-replaced c =
+    let within = subst (λ (s : State). c.count_not_higher-count.result ≤ length s) c.deref.ensures.value c.count_not_higher-count.ensures.within in
+    let same = sym c.number.ensures ∙ eqb-true c.number.result c.number-number.result (sym c.if-eq.ensures) ∙ c.number-number.ensures in
+    let some = c.if-count-gt0.true in
+    ap (λ (v : AccountValue). v ∷ []) c.swap.ensures.y_after
+    ∙ comes_out c.args.accounts.now.items c.args.account.now c.index.result.now c.index_mut.result.now (c.count_not_higher-count.result - 1) c.requires.rising (omega (arith, within, some))
+    c.index.ensures same c.index_mut.ensures.value
+
+pub returns-else-count-gt0-clause-replaced : goal.returns-else-count-gt0-clause-replaced
+returns-else-count-gt0-clause-replaced c = comes_back c.args.accounts.now.items c.args.account.now (returns-else-count-gt0-clause-items c)
 
 pub returns-then-eq-clause-within_limits : goal.returns-then-eq-clause-within_limits
 returns-then-eq-clause-within_limits c =

@@ -7,17 +7,19 @@ use Rattle.reg_rules.specs.State.{State, numbers}
 use Rattle.reg_book.specs.Book.{overlay, AreHigher}
 use Rattle.reg_book.proofs.Directories.{length-numbers}
 use Rattle.reg_book.proofs.Overlays.{over_nothing, over_more, popped, last_taken, taken_fewer, numbers-overlay, length-overlay, higher-last, lower-left}
+use Rattle.reg_book.proofs.Replacements.{one_more_out}
 use Rattle.reg_book.proofs.book.replace_accounts.Goals as goal
 
 pub loop-left-init : goal.loop-left-init
 loop-left-init c =
     let count : c.len-left.result ≡ length c.args.settled.now.items = omega (arith, c.len-left.ensures) in
+    let none_left : drop c.len-left.result c.args.settled.now.items ≡ [] = ap (λ (k : ℕ). drop k c.args.settled.now.items) count ∙ drop-length c.args.settled.now.items in
     record {
       few = omega (arith, count);
       size = refl;
       rest = refl;
-      done = sym (ap (λ (k : ℕ). overlay c.args.accounts.now.items (drop k c.args.settled.now.items)) count
-          ∙ ap (λ d. overlay c.args.accounts.now.items d) (drop-length c.args.settled.now.items) ∙ over_nothing c.args.accounts.now.items);
+      out = none_left ∙ sym (ap (λ (d : State). overlay d c.args.accounts.now.items) none_left);
+      done = sym (ap (λ (d : State). overlay c.args.accounts.now.items d) none_left ∙ over_nothing c.args.accounts.now.items);
       fit = c.requires.within_limits;
       within = omega (arith, c.len-until.ensures);
       higher = λ j lt k le within. absurd (omega (arith, c.len-until.ensures, length-numbers c.args.accounts.now.items, le, within));
@@ -57,6 +59,8 @@ loop-left-preserved c =
       few = omega (arith, inv.few);
       size = length-set cur (left - 1) c.replace_account-until.new.account ∙ inv.size;
       rest = take-set cur (left - 1) c.replace_account-until.new.account ∙ taken_fewer cur all left inv.rest;
+      out = one_more_out xs all cur left w c.replace_account-until.new.account c.requires.settled_rising c.loop-left-test.true inv.few inv.size inv.rest c.index_mut.ensures.value inv.out
+          (c.replace_account-until.ensures.replaced ∙ ap (λ (s : State). overlay (w ∷ []) s) inv.done);
       done = c.replace_account-until.ensures.items
           ∙ ap (λ (xs : State). overlay xs (w ∷ [])) inv.done
           ∙ over_more xs (drop left all) w

@@ -11,6 +11,7 @@ invariant-loop-left l = record {
   few : l.left ≤ length l.fn.settled.items;
   size : length l.settled.items ≡ length l.fn.settled.items;
   rest : take l.left l.settled.items ≡ take l.left l.fn.settled.items;
+  out : drop l.left l.settled.items ≡ overlay (drop l.left l.fn.settled.items) l.fn.accounts.items;
   done : l.accounts.items ≡ overlay l.fn.accounts.items (drop l.left l.fn.settled.items);
   fit : All IsAccount l.accounts.items;
   within : l.until ≤ length l.fn.accounts.items;
