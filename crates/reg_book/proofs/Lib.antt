@@ -12,7 +12,9 @@ pub mod Orders
 pub mod Overlays
 pub mod Standing
 pub mod Ranks
+pub mod Replacements
 pub mod Turns
 pub mod Values
 pub mod Conserved
 pub mod ClosedStay
+pub mod Chains

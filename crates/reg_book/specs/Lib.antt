@@ -8,3 +8,4 @@ pub mod Places
 pub mod Marks
 pub mod Turns
 pub mod Conservation
+pub mod Chains

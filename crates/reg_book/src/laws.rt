@@ -2,6 +2,7 @@
 //! function whose proof needs a law calls it.
 
 ghost use Rattle.reg_book.specs.Conservation.{FoldConserves};
+ghost use Rattle.reg_book.specs.Chains.{IsChain, IsChainByHand, ChainLeavesABook, ChainKeepsAccounts, ChainLaws};
 ghost use Rattle.reg_book.specs.Laws.{EachIsAStep, NumbersStay, UntouchedStay, ValueIsLastTouchers, ClosedStays, ClosedIsNeverLeft, StaysReady, SettledAreTouched, CommittedIsClosing, SettledIsInOrder, SettledIsOfBook};
 
 use reg_rules::{step_conserves, step_keeps_closed, step_laws};
@@ -67,4 +68,23 @@ pub fn fold_conserves()
 {
     step_laws();
     step_conserves();
+}
+
+/// Days one after another, each with the book that the day before left: the record numbers of all days go on without a
+/// gap, an account that was closed stays as it was on all later days, and over all days the number of allowances of a
+/// kind changes only by accepted creations, deletions and reversals of deletions. The same is true if each book is
+/// changed by hand before its day, as far as such a change leaves the next record number, closed accounts and the number
+/// of allowances. Without changes by hand no account is added, removed or moved, and each day leaves a book again.
+pub fn every_chain()
+    ensures books { ChainLeavesABook }
+    ensures accounts { ChainKeepsAccounts }
+    ensures plain { ChainLaws IsChain }
+    ensures by_hand { ChainLaws IsChainByHand }
+{
+    stays_ready();
+    untouched_stay();
+    settled_is_of_book();
+    settled_is_closing();
+    fold_keeps_closed();
+    fold_conserves();
 }
