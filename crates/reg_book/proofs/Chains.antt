@@ -1,5 +1,5 @@
 -- Days one after another, by induction on the list of days.
-use Rattle.std.proofs.Common.{◌≡◌, ℕ, zero, suc, ◌+◌, ◌<◌, ◌≤◌, List, [], ◌∷◌, ◌++◌, map, take, length, Some, refl, sym, ap, subst, ◌∙◌, arith}
+use Rattle.std.proofs.Common.{◌≡◌, ℕ, zero, suc, ◌+◌, ◌<◌, ◌≤◌, List, [], ◌∷◌, ◌++◌, take, length, Some, refl, sym, ap, subst, ◌∙◌, arith}
 use Rattle.std.specs.Prelude.{All, slice_get}
 use Rattle.std.specs.Option.{option_map}
 use Rattle.std.proofs.lemmas.List.{map-append, take_all}
@@ -7,7 +7,6 @@ use Rattle.std.proofs.lemmas.Option.{same_Some}
 use Rattle.std.proofs.lemmas.List.Sums.{sum_by-cons}
 use Rattle.reg_base.specs.declared.kinds.AllowanceKind.{AllowanceKind}
 use Rattle.reg_base.specs.declared.kinds.Status.TheVariants.{Closed}
-use Rattle.reg_base.specs.declared.limits.TheConstants.{MOST_RECORD}
 use Rattle.reg_base.specs.Rising.{count_up}
 use Rattle.reg_account.specs.Account.{AccountValue, IsAccount}
 use Rattle.reg_rules.specs.declared.reply.LogRow.{LogRow}

@@ -3,13 +3,14 @@ use Rattle.std.specs.Prelude.{◌≡◌, ℕ, List, Option, Some, None, Err, ⊤
 use Rattle.std.specs.Io.KnownBytes.{Appends}
 use Rattle.reg_plan.specs.Plans.{PlanValue, IsPlan}
 use Rattle.reg_book.specs.Book.{BookValue, directory_of}
-use Rattle.reg_book.specs.Settled.{committed}
-use Rattle.reg_book.specs.Day.{Day, settled_day, log_of}
+use Rattle.reg_book.specs.Day.{Day, log_of}
+use Rattle.reg_book.specs.Chains.{book_after}
 use Rattle.reg_work.specs.Faults.{are_workers}
 use Rattle.reg_text.specs.Rows.{rows_in_text}
 use Rattle.reg_text.specs.Faults.{day_of_rows}
 use Rattle.reg_text.specs.Reading.{IsReading}
-use Rattle.reg_text.specs.Report.{text_of, report_rows}
+use Rattle.reg_text.specs.Report.{text_of}
+use Rattle.reg_text.specs.NextDays.{report_of}
 use Rattle.reg_text.specs.Determined.{figures_rows}
 use Rattle.reg_text.specs.Totals.{totals_rows}
 use Rattle.reg_text.specs.PlanText.{plan_rows}
@@ -28,14 +29,6 @@ command_fault Plan book = None
 command_fault (Statement account) book = if has_account book account then None else Some NoAccount
 command_fault Figures book = None
 command_fault Totals book = None
-
--- the book after the day
-abbrev pub book_after : Day → BookValue
-book_after day = committed day.book (settled_day day)
-
--- the report of a day: its log, the book after it, the totals and the row end
-abbrev pub report_of : Day → List ℕ
-report_of day = text_of (report_rows (book_after day) (log_of day))
 
 -- this is the text of the plan of the day's instructions
 abbrev pub IsPlanText : Day → List ℕ → Type 0

@@ -1,17 +1,19 @@
 //! The text of each command, for a day that was read.
 
 ghost use Rattle.std.specs.Prelude.{◌≡◌, ◌+◌, true, None, IfOk, MatchResult};
+ghost use Rattle.reg_book.specs.Chains.{book_after};
 ghost use Rattle.reg_book.specs.Day.{settled_day, log_of};
 ghost use Rattle.reg_book.specs.Settled.{IsOfBook};
 ghost use Rattle.reg_work.specs.Faults.{are_workers};
 ghost use Rattle.reg_text.specs.Inputs.{day_of_input};
+ghost use Rattle.reg_text.specs.NextDays.{report_of};
 ghost use Rattle.reg_text.specs.Report.{text_of};
 ghost use Rattle.reg_text.specs.Determined.{figures_rows};
 ghost use Rattle.reg_text.specs.Totals.{totals_rows};
 ghost use Rattle.reg_text.specs.Statement.{statement_of, has_account};
 ghost use Rattle.reg_front.specs.declared.command.Command.TheVariants.{Settle, Statement};
 ghost use Rattle.reg_front.specs.declared.fault.FrontFault.TheVariants as front;
-ghost use Rattle.reg_front.specs.Runs.{report_of, book_after, command_fault, IsPlanText, IsTextFor, IsCommandFault};
+ghost use Rattle.reg_front.specs.Runs.{command_fault, IsPlanText, IsTextFor, IsCommandFault};
 
 use crate::command::Command;
 use crate::fault::FrontFault;

@@ -1,8 +1,7 @@
-use Rattle.std.proofs.Common.{◌≡◌, ℕ, ◌∙◌, ◌+◌, ◌-◌, ◌≤◌, ◌++◌, ◌∷◌, [], refl, sym, ap, length, take, drop, arith, subst}
+use Rattle.std.proofs.Common.{◌≡◌, ℕ, ◌∙◌, ◌-◌, ◌++◌, ◌∷◌, [], refl, sym, ap, length, take, drop, arith, subst}
 use Rattle.std.proofs.lemmas.List.{take-set, length-set, length-take-le}
 use Rattle.std.proofs.Math.Seq.{drop-length}
 use Rattle.reg_base.specs.Rising.{IsRising}
-use Rattle.reg_account.specs.Account.{AccountValue}
 use Rattle.reg_rules.specs.State.{State, numbers}
 use Rattle.reg_book.specs.Book.{overlay, AreHigher}
 use Rattle.reg_book.proofs.Directories.{length-numbers}
