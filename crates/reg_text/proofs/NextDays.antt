@@ -1,12 +1,10 @@
 -- The report of a day, put into the text of the next day, is read as the book that the day left.
-use Rattle.std.proofs.Common.{◌≡◌, ℕ, ◌+◌, ◌≤◌, Bool, true, false, cond, eqb, List, [], ◌∷◌, ◌++◌, map, take, length, Option, Some, None, Result, Ok, Err, codes, refl, sym, ap, subst, ◌∙◌, arith, append_assoc}
-use Rattle.std.specs.Prelude.{All, ℤ}
+use Rattle.std.proofs.Common.{◌≡◌, ℕ, ◌+◌, ◌≤◌, Bool, true, false, cond, eqb, List, [], ◌∷◌, ◌++◌, map, take, length, Option, Some, None, Result, Ok, Err, refl, sym, ap, subst, ◌∙◌, arith, append_assoc}
+use Rattle.std.specs.Prelude.{ℤ}
 use Rattle.std.specs.Option.{option_map_or}
 use Rattle.std.specs.List.{AllByRecursion}
-use Rattle.std.proofs.lemmas.Grind.{flat_map-append}
 use Rattle.std.proofs.lemmas.List.{append_cancel_left, append_cancel_right}
 use Rattle.std.proofs.lemmas.List.Elements.{All-from_recursion, recursion_from_All}
-use Rattle.csv.specs.Writing.{row_text}
 use Rattle.reg_base.specs.declared.kinds.AllowanceKind.{AllowanceKind}
 use Rattle.reg_base.specs.declared.kinds.Retirement.{Retirement}
 use Rattle.reg_base.specs.declared.kinds.Retirement.TheVariants.{Surrendered, Deleted}
@@ -22,27 +20,26 @@ use Rattle.reg_account.specs.declared.rows.Fate.{Fate}
 use Rattle.reg_account.specs.declared.rows.Fate.TheVariants as fate
 use Rattle.reg_account.specs.declared.rows.RetirementRow.{RetirementRow}
 use Rattle.reg_account.specs.declared.corrections.Correction.{Correction}
-use Rattle.reg_account.specs.Rows.{row_in, marked_reversed, with_mark}
+use Rattle.reg_account.specs.Rows.{row_in, with_mark}
 use Rattle.reg_account.specs.Account.{AccountValue, unretired_row, credited}
 use Rattle.reg_account.specs.Figure.{figure_of}
 use Rattle.reg_rules.specs.State.{State, Setting}
 use Rattle.reg_rules.specs.Trust.{effective_day}
 use Rattle.reg_rules.specs.Checks.{refusal}
-use Rattle.reg_rules.specs.Effect.{fate_of, new_row, assessed, listed_from, made_by, share_of, given, by_part, changed_by, effect}
+use Rattle.reg_rules.specs.Effect.{fate_of, new_row, assessed, listed_from, made_by, share_of, given, changed_by}
 use Rattle.reg_rules.specs.Step.{step, step_by}
 use Rattle.reg_book.specs.Book.{BookValue, IsBook}
 use Rattle.reg_book.specs.Fold.{state_after}
-use Rattle.reg_book.specs.Day.{Day, setting, closing_state, log_of}
+use Rattle.reg_book.specs.Day.{Day, setting, log_of}
 use Rattle.reg_book.specs.Laws.{CommittedIsClosing}
 use Rattle.reg_book.specs.Chains.{book_after, IsChain, ChainLeavesABook}
 use Rattle.reg_text.specs.Sections.{FateIsOf, IsOfPeriods}
 use Rattle.reg_text.specs.Reading.{CanBeSaid}
-use Rattle.reg_text.specs.Records.{Record}
 use Rattle.reg_text.specs.Report.{text_of, log_rows, written_book}
 use Rattle.reg_text.specs.Rows.{rows_in_text}
 use Rattle.reg_text.specs.Faults.{day_of_rows}
 use Rattle.reg_text.specs.ReadAgain.{accounts_text, book_line, IsBlocks, BookIsReadAgain}
-use Rattle.reg_text.specs.NextDays.{rows_behind, report_of, StandInReport, IsTextOf, AreTexts, IsNextDay, GoOn, ReportsAreReadOn}
+use Rattle.reg_text.specs.NextDays.{rows_behind, StandInReport, IsTextOf, AreTexts, IsNextDay, GoOn, ReportsAreReadOn}
 use Rattle.reg_text.proofs.ListFacts.{all-push}
 use Rattle.reg_text.proofs.ReadAgain.{text-append, book-text-parts}
 
