@@ -3,6 +3,7 @@
 It was written from the rules in words, and not from the program or its definitions: so it is a second answer, to compare
 the program with (`cases/run-second-answer`). It is slow, and reads only day texts without a fault.
 """
+import bisect
 import csv
 import datetime
 from dataclasses import dataclass, field
@@ -93,8 +94,8 @@ class Day:
 
     def due(self, day, lag):
         """The working day on or after `day` that so many working days come before, from `day` on; None if there is none."""
-        later = [working_day for working_day in self.working_days if working_day >= day]
-        return later[lag] if lag < len(later) else None
+        place = bisect.bisect_left(self.working_days, day) + lag
+        return self.working_days[place] if place < len(self.working_days) else None
 
     def period_of(self, year):
         return next((place for place, (first, last) in enumerate(self.periods, 1) if first <= year <= last), None)
@@ -114,8 +115,13 @@ class Day:
 
 def read_day(text):
     """The day of a text without a fault."""
+    return day_of(csv.reader(filter(None, text.splitlines())))
+
+
+def day_of(rows):
+    """The day of these rows, each a list of fields."""
     day, account = None, None
-    for tag, *words in csv.reader(filter(None, text.splitlines())):
+    for tag, *words in rows:
         if tag == "day":
             day = Day(date_of(words[0]), int(words[1]))
         elif tag == "account":
@@ -128,6 +134,15 @@ def read_day(text):
         elif tag in HEADING_ROWS:
             HEADING_ROWS[tag](day, words)
     return day
+
+
+def account_of(rows):
+    """The account of these rows: its `account` row, and those of its lists."""
+    (_, *words), *lists = rows
+    account = read_account(words)
+    for tag, *more in lists:
+        LIST_ROWS[tag](account, more)
+    return account
 
 
 def date_of(word):
@@ -375,11 +390,14 @@ def name_of(check):
 # Settling.
 
 
+def named(i):
+    """The accounts that the act moves allowances between, or is about, in order."""
+    return [*dict.fromkeys([i.first, *(to for to, _ in i.shares)])]
+
+
 def touched(day, i):
     """The accounts that the instruction reads or changes, in order."""
-    if any(number not in day.accounts for number in asked_for(i)):
-        return []
-    return [*dict.fromkeys([i.first, *(to for to, _ in i.shares)])]
+    return [] if any(number not in day.accounts for number in asked_for(i)) else named(i)
 
 
 def carry_out(day, i, record):
@@ -486,6 +504,16 @@ def statement(number, opening, log):
     yield f"closing,{number},{held['general']},{held['aviation']}"
 
 
+def report(day, log):
+    """The rows of the report, without its last one, of a day that was settled with this log."""
+    accounts = [it for _, it in sorted(day.accounts.items())]
+    yield from (it.line for it in log)
+    yield f"book,{day.next_record + len(log)}"
+    for it in accounts:
+        yield from account_rows(it)
+    yield from totals(accounts)
+
+
 def answers(text):
     """What the program has to write of a day text, by the words of each command; of `statement`, for each account."""
     day = read_day(text)
@@ -493,10 +521,9 @@ def answers(text):
     waits = [*plan(day)]
     log = [*settle(day)]
     accounts = [it for _, it in sorted(day.accounts.items())]
-    book = [f"book,{day.next_record + len(log)}", *(row for it in accounts for row in account_rows(it))]
     figures = [f"determined,{it.number},{year},{tonnes}" for it in accounts for year, tonnes in sorted(it.figures.items())]
     texts = {
-        "settle": [*(it.line for it in log), *book, *totals(accounts)],
+        "settle": [*report(day, log)],
         "plan": waits,
         "figures": figures,
         "totals": [*totals(accounts)],
