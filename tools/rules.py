@@ -432,26 +432,29 @@ def carry_out(day, i, record):
 
 @dataclass
 class Logged:
-    """A log row, the accounts that its instruction touched, and what they held then, if it was done."""
+    """A log row, the accounts that its instruction touched, what they held then, if it was done, and its due day, if there is
+    one."""
 
     line: str
     touched: list
     held: dict
+    due: datetime.date | None
 
 
 def settle(day):
     """Settles the instructions one after another, and gives their log rows."""
     for record, i in enumerate(day.instructions, day.next_record):
         asked = Asked(day, i)
+        due = None if unknown_account(asked) else asked.due()
         place = next((place for place, check in enumerate(CHECKS) if check(asked)), None)
         start = f"log,{record},{day.date},{','.join(i.fields)}"
         if place is not None:
-            yield Logged(f"{start},refused,{place + 1},{name_of(CHECKS[place])}", touched(day, i), {})
+            yield Logged(f"{start},refused,{place + 1},{name_of(CHECKS[place])}", touched(day, i), {}, due)
             continue
         figure = carry_out(day, i, record)
         held = {number: dict(day.accounts[number].held) for number in touched(day, i)}
         closing = "".join(f",{number},{own['general']},{own['aviation']}" for number, own in held.items())
-        yield Logged(f"{start},done,{'' if figure is None else figure}{closing}", touched(day, i), held)
+        yield Logged(f"{start},done,{'' if figure is None else figure}{closing}", touched(day, i), held, due)
 
 
 # Writing.

@@ -24,9 +24,8 @@ from dataclasses import dataclass
 
 import rules
 from day.errors import FOUND, WordsFault
-from day.pairs import must_belong
+from day.pairs import read_pair
 from day.progress import progress
-from day.reading import read_day, read_report
 from texts import grouped, table
 
 EXAMPLE = "./day compliance day.csv report.csv --year 2024"
@@ -174,9 +173,7 @@ def as_table(day, rows, year):
 
 
 def run(words):
-    day = read_day(words.day)
-    report = read_report(words.report)
-    must_belong(day, report)
+    day, report = read_pair(words.day, words.report)
     year = last_year_over(day.head) if words.year is None else words.year
     rows = [*standings(day, report, year)]
     if words.csv:

@@ -12,7 +12,8 @@ class WordsFault(Exception):
 
 
 class FileFault(Exception):
-    """A file is not what it must be: where, the name of the field or row, what was found there, and what was expected."""
+    """A file is not what it must be: where, the name of the field or row, what was found there, and what was expected. If the
+    whole file is meant, `found` says all."""
 
     status = FILE
 
@@ -22,6 +23,8 @@ class FileFault(Exception):
 
     def __str__(self):
         place = f"{self.path}:{self.line}" if self.line else str(self.path)
+        if not self.expected:
+            return f"{place}: {self.found}"
         field = f"{self.field}: " if self.field else ""
         return f"{place}: {field}found {self.found}; expected {self.expected}"
 

@@ -1,5 +1,6 @@
 """Finds the command that the words name, runs it, and answers the exit status."""
 import argparse
+import gc
 import importlib
 import os
 import sys
@@ -10,6 +11,8 @@ from day.progress import progress
 # Each command is a module of its own. It has its help as its own text, an EXAMPLE, and the functions `add_words`, which tells a
 # parser its words, and `run`, which answers the exit status.
 COMMANDS = {
+    "statements": "writes the statements of all accounts, each in a file",
+    "log": "writes the logs of reports as one table with a header",
     "compliance": "shows which operators are compliant for a year, and why others are not",
 }
 
@@ -44,6 +47,8 @@ def parser_of(name, module):
 
 def run(name, arguments):
     """Runs a command. What it finds wrong is told on standard error."""
+    # (a book is a million small objects, none of which refers to itself: looking for such takes a third of the time)
+    gc.disable()
     module = importlib.import_module(f"day.{name}")
     words = parser_of(name, module).parse_args(arguments)
     try:

@@ -1,5 +1,6 @@
 """Whether a report is that of a day: the same instructions under the next record numbers, and the same accounts."""
 from day.errors import FileFault, shown
+from day.reading import read_day, read_report
 from faults import FIELDS
 
 # The fields of an `account` row that no act changes, by their places in the row.
@@ -78,7 +79,14 @@ def line_behind(text, number):
     return text.source.line(last.index + last.count if last else text.first_account)
 
 
+def read_pair(day_path, report_path):
+    """A day text and its report. Ends the command if the report is not that of the day."""
+    day = read_day(day_path)
+    report = read_report(report_path, day)
+    must_belong(day, report)
+    return day, report
+
+
 def must_belong(day, report):
-    """Ends the command if the report is not that of the day."""
     for difference in differences(day, report):
         raise difference

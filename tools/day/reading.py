@@ -5,6 +5,7 @@ have a million rows, the blocks of accounts are first looked at by one pattern, 
 The values are the records of `rules`: `Day` of the first rows, `Account` of a block, `Instruction` of a `do` row.
 """
 import csv
+import dataclasses
 import datetime
 import functools
 import io
@@ -58,7 +59,7 @@ def bytes_of(path):
     try:
         return Path(path).read_bytes()
     except OSError as error:
-        raise FileFault(path, 0, "", f"no file that can be read ({error.strerror})", "a text") from None
+        raise FileFault(path, 0, "", f"it cannot be read: {error.strerror}", "") from None
 
 
 def rows_of(path):
@@ -179,8 +180,18 @@ class Block:
         return self.source.rows[self.index : self.index + self.count]
 
     @property
+    def list_rows(self):
+        """The rows behind the `account` row."""
+        return self.source.rows[self.index + 1 : self.index + self.count]
+
+    @property
     def kind(self):
         return self.source.rows[self.index].split(",", 3)[2]
+
+    @property
+    def held_fields(self):
+        """What the account holds, as its row says it: general and aviation."""
+        return self.source.rows[self.index].split(",")[8:]
 
     @property
     def line(self):
@@ -193,6 +204,24 @@ class Block:
     def account(self):
         """The account that the rows tell."""
         return rules.account_of(row.split(",") for row in self.rows)
+
+
+class Accounts(dict):
+    """The accounts of a book, each made of its block when it is first asked for: few days touch all of them."""
+
+    def __init__(self, book):
+        super().__init__()
+        self.book = book
+
+    def __missing__(self, number):
+        self[number] = self.book[number].account()
+        return self[number]
+
+    def __contains__(self, number):
+        return number in self.book
+
+    def get(self, number, default=None):
+        return self[number] if number in self else default
 
 
 class Reader:
@@ -218,8 +247,9 @@ class Reader:
             return self.source.fault(index, f"{fields[0]} row", row, fault.expected)
         return self.source.fault(index, fault.name or fields[0], shown(fields[fault.place - 1]), fault.expected)
 
-    def blocks(self, first):
-        """The accounts whose blocks begin at this row, by number, and the place of the row behind them."""
+    def blocks(self, first, known=None):
+        """The accounts whose blocks begin at this row, by number, and the place of the row behind them. A block that stands so
+        in `known`, a book without a fault, needs no second look."""
         source, book = self.source, {}
         ends = ("do,", "totals,")
         end = next((it for it in range(first, len(source)) if source.rows[it] == "end" or source.rows[it].startswith(ends)), len(source))
@@ -229,20 +259,21 @@ class Reader:
         pattern = list_row(len(self.reading.last_years) if self.reading.version == 2 else 1)
         what = f"reading the accounts of {source.path}"
         for start, behind in progress.over(zip(starts, [*starts[1:], end]), what, len(starts)):
-            number = self.block(start, behind, pattern)
+            number = self.block(start, behind, pattern, known or {})
             book[number] = Block(number, source, start, behind - start)
         return book, end
 
-    def block(self, start, behind, pattern):
+    def block(self, start, behind, pattern, known):
         """The number of an account, whose block has no fault."""
-        rows, reading = self.source.rows, self.reading
-        match = ACCOUNT_ROW.fullmatch(rows[start])
+        rows, reading = self.source.rows[start:behind], self.reading
+        match = ACCOUNT_ROW.fullmatch(rows[0])
         last, count = reading.before.get("account", 0), reading.counts.get("account", 0)
         number = int(match[1]) if match else 0
         is_plain = number > last and count < faults.MOST["account"] and not self.source.unplain
-        if is_plain and has_no_fault(rows[start + 1 : behind], pattern, reading.next_record):
+        is_known = is_plain and number in known and known[number].list_rows == rows[1:]
+        if is_known or is_plain and has_no_fault(rows[1:], pattern, reading.next_record):
             reading.before["account"], reading.counts["account"] = number, count + 1
-            reading.last = rows[behind - 1].partition(",")[0]
+            reading.last = rows[-1].partition(",")[0]
             return number
         for index in range(start, behind):
             self.add(index)
@@ -288,8 +319,8 @@ class DayText:
         return self.source.line(self.first_do + place)
 
     def day(self):
-        """The whole day, as the rules settle it."""
-        return rules.day_of(row.split(",") for row in self.source.rows)
+        """The day as the rules settle it. Each call makes another one, whose accounts may change."""
+        return dataclasses.replace(self.head, accounts=Accounts(self.book), instructions=self.instructions)
 
 
 def read_day(path):
@@ -463,12 +494,12 @@ def written_row(source, index, tag, fields):
     return [LogFields(Reader(source, None), index).checked(it, place) for place, it in enumerate(fields, 1)]
 
 
-def read_report(path):
-    """A report without a fault."""
-    return report_of(rows_of(path))
+def read_report(path, day=None):
+    """A report without a fault. If it is that of a day which was read before, that is quicker."""
+    return report_of(rows_of(path), day)
 
 
-def report_of(source):
+def report_of(source, day=None):
     if source.rows and source.rows[0].startswith("format,"):
         raise source.fault(0, "", "a day text", "a report, whose first row is a log row or book,NEXT")
     # The book of a report is spelled as in a text of version 2; how many periods there were is not written.
@@ -483,7 +514,8 @@ def report_of(source):
     (next_record,) = written_row(source, index, "book", BOOK)
     reader.reading.next_record = next_record
     first_account = index + 1
-    book, index = reader.blocks(first_account)
+    known = day.book if day and day.head.next_record <= next_record else None
+    book, index = reader.blocks(first_account, known)
     first_totals, totals = index, {}
     for kind in rules.KINDS:
         fields = [faults.one_of(kind, [kind]), *sums("HELD", "SURRENDERED", "DELETED")]
