@@ -7,7 +7,7 @@ from pathlib import Path
 from day.errors import FileFault
 
 RULES = Path(__file__).resolve().parents[2] / "docs" / "RULES.md"
-ROW = re.compile(r"\| ([0-9]+) \| (\w+) \| (.+) \| (.+) \|")
+ROW = re.compile(r"\| ([0-9]+) \| (\w+) \| ([^|]+) \| ([^|]+) \|")
 LINK = re.compile(r"\[([^]]+)\]\(([^)]*)\)")
 
 

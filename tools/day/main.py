@@ -11,6 +11,9 @@ from day.progress import progress
 # Each command is a module of its own. It has its help as its own text, an EXAMPLE, and the functions `add_words`, which tells a
 # parser its words, and `run`, which answers the exit status.
 COMMANDS = {
+    "next": "writes the next day's text from a day and its report",
+    "chain": "looks whether days and reports follow from each other, and nothing is lost",
+    "verify": "works a day out once more, without the program, and compares the report",
     "statements": "writes the statements of all accounts, each in a file",
     "log": "writes the logs of reports as one table with a header",
     "compliance": "shows which operators are compliant for a year, and why others are not",

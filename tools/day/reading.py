@@ -305,9 +305,13 @@ class DayText:
         """The rows before the accounts."""
         return self.source.rows[: self.first_account]
 
+    @functools.cached_property
+    def places(self):
+        return {row: place for place, row in enumerate(self.heading)}
+
     def line_of(self, row):
         """The line of a row before the accounts."""
-        return self.source.line(self.heading.index(row))
+        return self.source.line(self.places[row])
 
     def line_of_tag(self, tag):
         """The line of the first row with this tag before the accounts; of the row behind them, if there is none."""
@@ -346,6 +350,36 @@ def day_of(source):
     head = rules.day_of(row.split(",") for row in source.rows[:first_account])
     instructions = [rules.read_instruction(row.split(",")[1:]) for row in source.rows[first_do:-1]]
     return DayText(source, reader.reading.version, head, book, instructions, first_account, first_do)
+
+
+# Parts of day texts.
+
+
+def read_rows_of(tag, path, reading):
+    """The rows of a file that has only rows with this tag, and perhaps `end`. `reading` says what stood before them."""
+    source = part_of_day(path)
+    reader = Reader(source, reading)
+    for index, row in enumerate(source.rows):
+        if row.partition(",")[0] != tag:
+            raise source.fault(index, "tag", shown(row.partition(",")[0]), f"only {tag} rows in this file")
+        reader.add(index)
+    return source
+
+
+def read_blocks(path, reading):
+    """The accounts of a file that has only their blocks, and perhaps `end`, by number."""
+    source = part_of_day(path)
+    book, behind = Reader(source, reading).blocks(0)
+    if behind < len(source):
+        raise source.fault(behind, "tag", shown(source.fields(behind)[0]), "account rows, and the rows of their lists")
+    return book
+
+
+def part_of_day(path):
+    source = rows_of(path)
+    if source.rows[-1:] == ["end"]:
+        source.rows.pop()
+    return source
 
 
 # Reports.
@@ -503,7 +537,7 @@ def report_of(source, day=None):
     if source.rows and source.rows[0].startswith("format,"):
         raise source.fault(0, "", "a day text", "a report, whose first row is a log row or book,NEXT")
     # The book of a report is spelled as in a text of version 2; how many periods there were is not written.
-    years = [*range(faults.MOST_PERIODS)]
+    years = [last for _, last in day.head.periods] if day else [*range(faults.MOST_PERIODS)]
     reader = Reader(source, faults.Reading(last="work", version=2, last_years=years))
     log, index = [], 0
     while index < len(source) and source.rows[index].startswith("log,"):
