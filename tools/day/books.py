@@ -2,10 +2,10 @@
 
 The rows are taken apart here and not read into accounts: a book may have a million of them.
 """
-from dataclasses import dataclass
 from typing import NamedTuple
 
 import rules
+from faults import RETIRED_AS
 
 
 class Retired(NamedTuple):
@@ -26,31 +26,33 @@ def retired_of(block):
             yield Retired(place, *row.split(",")[1:7])
 
 
-@dataclass
-class Sums:
+class Sums(NamedTuple):
     """What accounts hold together, have surrendered and have deleted of a kind, without what was reversed."""
 
-    held: int = 0
-    surrender: int = 0
-    deletion: int = 0
+    held: int
+    surrendered: int
+    deleted: int
+
+    @property
+    def allowances(self):
+        """How many there are: held and surrendered together."""
+        return self.held + self.surrendered
 
 
-def sums_of(blocks):
-    """The sums over accounts, by kind."""
-    sums = {kind: Sums() for kind in rules.KINDS}
-    for block in blocks:
-        for kind, held in zip(rules.KINDS, block.held_fields):
-            sums[kind].held += int(held)
-        for row in retired_of(block):
-            if row.is_reversed == "no":
-                of = sums[row.kind]
-                setattr(of, row.what, getattr(of, row.what) + int(row.amount))
-    return sums
-
-
-def allowances(blocks):
-    """What accounts hold and have surrendered together, by kind."""
-    return {kind: of.held + of.surrender for kind, of in sums_of(blocks).items()}
+def sums_of(rows):
+    """The sums over the accounts of these rows, by kind."""
+    held, retired = dict.fromkeys(rules.KINDS, 0), {(what, kind): 0 for what in RETIRED_AS for kind in rules.KINDS}
+    for row in rows:
+        # (only these two of the rows of a book begin with these letters)
+        if row[0] == "r":
+            _, _, what, kind, amount, _, is_reversed, *_ = row.split(",")
+            if is_reversed == "no":
+                retired[what, kind] += int(amount)
+        elif row[0] == "a":
+            fields = row.split(",")
+            held["general"] += int(fields[8])
+            held["aviation"] += int(fields[9])
+    return {kind: Sums(held[kind], *(retired[what, kind] for what in RETIRED_AS)) for kind in rules.KINDS}
 
 
 def open_by_late_begin(head, book):

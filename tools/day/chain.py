@@ -20,7 +20,7 @@ from dataclasses import dataclass, field
 
 import faults
 import rules
-from day.books import allowances, open_by_late_begin, retired_of, sums_of
+from day.books import open_by_late_begin, retired_of, sums_of
 from day.errors import FOUND, FileFault, WordsFault, shown
 from day.pairs import ACCOUNT_FIELDS, differences, line_behind, list_of
 from day.progress import progress
@@ -66,12 +66,11 @@ class Findings:
 # A day and its report.
 
 
-def look_at_pair(day, report, found):
+def look_at_pair(day, report, sums, found):
     for difference in differences(day, report):
         found.add(difference)
-    for kind, of in sums_of(report.book.values()).items():
-        names = zip(("HELD", "SURRENDERED", "DELETED"), report.totals[kind], (of.held, of.surrender, of.deletion))
-        for name, there, expected in names:
+    for kind in rules.KINDS:
+        for name, there, expected in zip(("HELD", "SURRENDERED", "DELETED"), report.totals[kind], sums[kind]):
             if there != expected:
                 found.add(FileFault(report.path, report.totals_line(kind), name, there, f"{expected}, the sum over all accounts"))
 
@@ -322,23 +321,23 @@ def changes_of(paths):
 
 def look_at(pairs, changes, program):
     """All that is found, and the balances at the end with what there is."""
-    found, calendars, balances, before, end = Findings(), Calendars(), None, None, None
+    found, calendars, balances, before, end = Findings(), Calendars(), {}, None, {}
     for day_path, report_path in pairs:
-        day = read_day(day_path)
+        day = read_day(day_path, before and before[1].known(before[0]))
         report = read_report(report_path, day)
-        begin = allowances(day.book.values())
-        if before is None:
-            balances = {kind: Balance(begin[kind]) for kind in rules.KINDS}
-        else:
+        begin, sums = sums_of(day.book_rows), sums_of(report.book_rows)
+        if before:
             look_at_next_day(*before, day, changes, found)
             for kind, balance in balances.items():
-                balance.by_hand += begin[kind] - end[kind]
+                balance.by_hand += begin[kind].allowances - end[kind]
+        else:
+            balances = {kind: Balance(begin[kind].allowances) for kind in rules.KINDS}
         calendars.look_at(day, found)
-        look_at_pair(day, report, found)
+        look_at_pair(day, report, sums, found)
         if program:
             settle_again(program, day, report, found)
         count_changes(report, balances)
-        end = allowances(report.book.values())
+        end = {kind: sums[kind].allowances for kind in rules.KINDS}
         look_at_allowances(balances, report, end, found)
         before = day, report
     return found, balances, end

@@ -2,7 +2,7 @@
 
 FOUND, WORDS, FILE = 1, 2, 3
 # No value of a message is longer.
-MOST_SHOWN = 60
+MOST_SHOWN = 160
 
 
 class WordsFault(Exception):

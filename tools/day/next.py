@@ -19,7 +19,7 @@ import sys
 import faults
 import rules
 from day import pending
-from day.books import allowances, open_by_late_begin
+from day.books import open_by_late_begin, sums_of
 from day.errors import FileFault, WordsFault
 from day.output import NewFile
 from day.pairs import read_pair
@@ -129,10 +129,12 @@ def tell_change(report, old, new, notes):
 
 def tell_effect(report, changes, notes):
     """Warns if the changes create allowances or make them vanish."""
-    before, after = allowances(report.book[it] for it in changes if it in report.book), allowances(changes.values())
+    old = [report.book[it] for it in changes if it in report.book]
+    before, after = (sums_of(row for block in blocks for row in block.rows) for blocks in (old, changes.values()))
     for kind in rules.KINDS:
-        if before[kind] != after[kind]:
-            notes.warn(f"by hand: {after[kind] - before[kind]:+,} {kind} allowances, held and surrendered together")
+        change = after[kind].allowances - before[kind].allowances
+        if change:
+            notes.warn(f"by hand: {change:+,} {kind} allowances, held and surrendered together")
 
 
 # The instructions.

@@ -224,6 +224,21 @@ class Accounts(dict):
         return self[number] if number in self else default
 
 
+@dataclass
+class Known:
+    """A book that was read before without a fault, in a text with so many periods and this next record number: an account that
+    stands so in a later text, too, needs no second look."""
+
+    book: dict
+    periods: int
+    next_record: int
+
+    def book_for(self, reading):
+        """The book, as far as it says something of a text that is read now."""
+        is_within = self.periods <= len(reading.last_years) and self.next_record <= reading.next_record
+        return self.book if is_within else {}
+
+
 class Reader:
     """Reads the rows of a file one after another, and ends with a fault of the file at the first one that cannot stand there."""
 
@@ -248,8 +263,7 @@ class Reader:
         return self.source.fault(index, fault.name or fields[0], shown(fields[fault.place - 1]), fault.expected)
 
     def blocks(self, first, known=None):
-        """The accounts whose blocks begin at this row, by number, and the place of the row behind them. A block that stands so
-        in `known`, a book without a fault, needs no second look."""
+        """The accounts whose blocks begin at this row, by number, and the place of the row behind them."""
         source, book = self.source, {}
         ends = ("do,", "totals,")
         end = next((it for it in range(first, len(source)) if source.rows[it] == "end" or source.rows[it].startswith(ends)), len(source))
@@ -257,9 +271,10 @@ class Reader:
         if not starts or starts[0] != first:
             return book, first
         pattern = list_row(len(self.reading.last_years) if self.reading.version == 2 else 1)
+        known_book = known.book_for(self.reading) if known else {}
         what = f"reading the accounts of {source.path}"
         for start, behind in progress.over(zip(starts, [*starts[1:], end]), what, len(starts)):
-            number = self.block(start, behind, pattern, known or {})
+            number = self.block(start, behind, pattern, known_book)
             book[number] = Block(number, source, start, behind - start)
         return book, end
 
@@ -322,17 +337,24 @@ class DayText:
         """The line of an instruction by its place, counted from 0."""
         return self.source.line(self.first_do + place)
 
+    @property
+    def book_rows(self):
+        return self.source.rows[self.first_account : self.first_do]
+
+    def known(self):
+        return Known(self.book, len(self.head.periods), self.head.next_record)
+
     def day(self):
         """The day as the rules settle it. Each call makes another one, whose accounts may change."""
         return dataclasses.replace(self.head, accounts=Accounts(self.book), instructions=self.instructions)
 
 
-def read_day(path):
-    """A day text without a fault."""
-    return day_of(rows_of(path))
+def read_day(path, known=None):
+    """A day text without a fault. That is quicker with the `known` book of the report before it."""
+    return day_of(rows_of(path), known)
 
 
-def day_of(source):
+def day_of(source, known=None):
     if source.rows and source.rows[0].startswith(("log,", "book,")):
         raise source.fault(0, "", "a report", "a day text, whose first row is format,1 or format,2")
     reader = Reader(source, faults.Reading())
@@ -341,7 +363,7 @@ def day_of(source):
         reader.add(index)
         index += 1
     first_account = index
-    book, index = reader.blocks(index)
+    book, index = reader.blocks(index, known)
     first_do = index
     for index in range(first_do, len(source)):
         reader.add(index)
@@ -421,6 +443,13 @@ class Report:
     @property
     def path(self):
         return self.source.path
+
+    @property
+    def book_rows(self):
+        return self.source.rows[self.first_account : self.first_totals]
+
+    def known(self, day):
+        return Known(self.book, len(day.head.periods), self.next_record)
 
     @property
     def book_line(self):
@@ -548,8 +577,7 @@ def report_of(source, day=None):
     (next_record,) = written_row(source, index, "book", BOOK)
     reader.reading.next_record = next_record
     first_account = index + 1
-    known = day.book if day and day.head.next_record <= next_record else None
-    book, index = reader.blocks(first_account, known)
+    book, index = reader.blocks(first_account, day and day.known())
     first_totals, totals = index, {}
     for kind in rules.KINDS:
         fields = [faults.one_of(kind, [kind]), *sums("HELD", "SURRENDERED", "DELETED")]
