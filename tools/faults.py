@@ -35,6 +35,8 @@ class Fault(Exception):
     def __init__(self, cause, expected="", place=0, name=""):
         super().__init__(cause)
         self.cause, self.expected, self.place, self.name = cause, expected, place, name
+        # Of an `order` fault, the row before it in its list, if it is known.
+        self.earlier = ""
 
 
 class Field(NamedTuple):

@@ -29,6 +29,17 @@ class FileFault(Exception):
         return f"{place}: {field}found {self.found}; expected {self.expected}"
 
 
+class RowFault(FileFault):
+    """A row has a fault: its number and the cause, as the program says it."""
+
+    def __init__(self, number, cause, *parts):
+        super().__init__(*parts)
+        self.number, self.cause = number, cause
+
+    def as_program(self):
+        return f"row {self.number}: {self.cause}"
+
+
 def shown(word):
     """A field as a message shows it: between quotes, with what nobody sees made visible."""
     if word == "":

@@ -15,6 +15,7 @@ COMMANDS = {
     "chain": "looks whether days and reports follow from each other, and nothing is lost",
     "verify": "works a day out once more, without the program, and compares the report",
     "statements": "writes the statements of all accounts, each in a file",
+    "explain": "says what is wrong with a day text, and mends what a spreadsheet did to it",
     "log": "writes the logs of reports as one table with a header",
     "compliance": "shows which operators are compliant for a year, and why others are not",
 }

@@ -15,7 +15,7 @@ from pathlib import Path
 
 import faults
 import rules
-from day.errors import FileFault, shown
+from day.errors import FileFault, RowFault, shown
 from day.progress import progress
 
 NEWLINE = re.compile("\r\n|\r")
@@ -49,7 +49,7 @@ class Rows:
         return self.unplain.get(index) or self.rows[index].split(",")
 
     def fault(self, index, name, found, expected):
-        """What is wrong with a row, for somebody who has the file open."""
+        """What is wrong with a row of another text than a day text, for somebody who has the file open."""
         return FileFault(self.path, self.line(index), name, found, expected)
 
 
@@ -165,6 +165,13 @@ def has_no_fault(rows, pattern, next_record):
     return True
 
 
+def starts_of_blocks(source, first):
+    """The places of the `account` rows from this row on, and the place of the first row behind their blocks."""
+    rows, ends = source.rows, ("do,", "totals,")
+    end = next((it for it in range(first, len(rows)) if rows[it] == "end" or rows[it].startswith(ends)), len(rows))
+    return [it for it in range(first, end) if rows[it].startswith("account,")], end
+
+
 @dataclass
 class Block:
     """An account of a book: its number, and where its rows stand."""
@@ -257,20 +264,21 @@ class Reader:
         """What a fault of a row is, for somebody who has the file open."""
         row = shown(",".join(fields))
         if fault.cause == "fields":
-            return self.source.fault(index, f"{fields[0]} row", f"{len(fields)} fields in {row}", fault.expected)
-        if not fault.place:
-            return self.source.fault(index, f"{fields[0]} row", row, fault.expected)
-        return self.source.fault(index, fault.name or fields[0], shown(fields[fault.place - 1]), fault.expected)
+            name, found = f"{fields[0]} row", f"{len(fields)} fields in {row}"
+        elif not fault.place:
+            name, found = f"{fields[0]} row", row
+        else:
+            name, found = fault.name or fields[0], shown(fields[fault.place - 1])
+        place = self.source.path, self.source.line(index)
+        return RowFault(index + 1, fault.cause, *place, name, found, fault.expected)
 
     def blocks(self, first, known=None):
         """The accounts whose blocks begin at this row, by number, and the place of the row behind them."""
         source, book = self.source, {}
-        ends = ("do,", "totals,")
-        end = next((it for it in range(first, len(source)) if source.rows[it] == "end" or source.rows[it].startswith(ends)), len(source))
-        starts = [it for it in range(first, end) if source.rows[it].startswith("account,")]
+        starts, end = starts_of_blocks(source, first)
         if not starts or starts[0] != first:
             return book, first
-        pattern = list_row(len(self.reading.last_years) if self.reading.version == 2 else 1)
+        pattern = self.pattern()
         known_book = known.book_for(self.reading) if known else {}
         what = f"reading the accounts of {source.path}"
         for start, behind in progress.over(zip(starts, [*starts[1:], end]), what, len(starts)):
@@ -278,21 +286,31 @@ class Reader:
             book[number] = Block(number, source, start, behind - start)
         return book, end
 
+    def pattern(self):
+        """The pattern of the rows of the lists, by the periods that were read."""
+        return list_row(len(self.reading.last_years) if self.reading.version == 2 else 1)
+
     def block(self, start, behind, pattern, known):
         """The number of an account, whose block has no fault."""
+        if not self.skip_block(start, behind, pattern, known):
+            for index in range(start, behind):
+                self.add(index)
+        return self.reading.before["account"]
+
+    def skip_block(self, start, behind, pattern, known):
+        """Adds the rows of a block, if a quick look finds no fault."""
         rows, reading = self.source.rows[start:behind], self.reading
         match = ACCOUNT_ROW.fullmatch(rows[0])
         last, count = reading.before.get("account", 0), reading.counts.get("account", 0)
         number = int(match[1]) if match else 0
-        is_plain = number > last and count < faults.MOST["account"] and not self.source.unplain
-        is_known = is_plain and number in known and known[number].list_rows == rows[1:]
-        if is_known or is_plain and has_no_fault(rows[1:], pattern, reading.next_record):
-            reading.before["account"], reading.counts["account"] = number, count + 1
-            reading.last = rows[-1].partition(",")[0]
-            return number
-        for index in range(start, behind):
-            self.add(index)
-        return reading.before["account"]
+        if number <= last or count >= faults.MOST["account"] or self.source.unplain:
+            return False
+        is_known = number in known and known[number].list_rows == rows[1:]
+        if not is_known and not has_no_fault(rows[1:], pattern, reading.next_record):
+            return False
+        reading.before["account"], reading.counts["account"] = number, count + 1
+        reading.last = rows[-1].partition(",")[0]
+        return True
 
 
 # Day texts.
@@ -351,12 +369,13 @@ class DayText:
 
 def read_day(path, known=None):
     """A day text without a fault. That is quicker with the `known` book of the report before it."""
-    return day_of(rows_of(path), known)
+    source = rows_of(path)
+    if source.rows and source.rows[0].startswith(("log,", "book,")):
+        raise source.fault(0, "", "a report", "a day text, whose first row is format,1 or format,2")
+    return day_of(source, known)
 
 
 def day_of(source, known=None):
-    if source.rows and source.rows[0].startswith(("log,", "book,")):
-        raise source.fault(0, "", "a report", "a day text, whose first row is format,1 or format,2")
     reader = Reader(source, faults.Reading())
     index = 0
     while index < len(source) and not source.rows[index].startswith(("account,", "do,")) and source.rows[index] != "end":
@@ -368,7 +387,8 @@ def day_of(source, known=None):
     for index in range(first_do, len(source)):
         reader.add(index)
     if reader.reading.last != "end":
-        raise source.fault(len(source), "end", "the end of the file", f"a row {' or '.join(reader.reading.may_follow())}")
+        lacking = f"a row {' or '.join(reader.reading.may_follow())}"
+        raise RowFault(len(source) + 1, "end", source.path, source.line(len(source)), "end", "the end of the file", lacking)
     head = rules.day_of(row.split(",") for row in source.rows[:first_account])
     instructions = [rules.read_instruction(row.split(",")[1:]) for row in source.rows[first_do:-1]]
     return DayText(source, reader.reading.version, head, book, instructions, first_account, first_do)
