@@ -44,6 +44,8 @@ try_cases() {
   count_part "cases/run-streams" cases/run-streams "$1"
   count_part "cases/run-documents" cases/run-documents "$1"
   count_part "cases/run-tools" cases/run-tools
+  count_part "cases/run-day" cases/run-day "$1"
+  count_part "cases/run-explain" cases/run-explain "$1"
   count_part "cases/run-words" cases/run-words
   rm -f -- "$cases_passed"
   [ "$failed" != "$failed_before" ] || mv -- "$work/cases-begun" "$cases_passed"
@@ -68,7 +70,7 @@ try_workers() {
 # Whether all cases have passed on this program since it was built, and as they are now.
 have_cases_passed() {
   [ -e "$cases_passed" ] && [ ! "$1" -nt "$cases_passed" ] &&
-    [ -z "$(find cases examples docs README.md tools/*-to-* tools/texts.py tools/rules.py tools/faults.py -newer "$cases_passed" -print -quit)" ]
+    [ -z "$(find cases examples docs README.md day tools/day tools/*-to-* tools/*.py -newer "$cases_passed" -print -quit)" ]
 }
 
 # Watches from now on which crates the processor time goes to. Nothing but the table is lost if

@@ -246,22 +246,24 @@ class Reading:
             raise Fault("end", "no row behind the row end")
         if tag not in allowed:
             raise Fault("tag", f"a row {' or '.join(allowed)}", 1, "tag")
-        values = [*map(read_field, self.fields(tag, words), words, range(2, len(words) + 2))]
+        fields = self.fields(tag, words)
+        values = [*map(read_field, fields, words, range(2, len(words) + 2))]
         if tag == "surrender" and values[0] not in OPERATORS:
             raise Fault("word", "operator or aircraft", 2, "ACCOUNTKIND")
         if tag == "retired" and values[1] == "deletion" and len(values) == 7:
             raise Fault("limit", "no period, since a deletion is of none", 8, "PERIOD")
-        self.add_to_list(tag, values)
+        self.add_to_list(tag, values, fields[0].name if fields else "")
         if tag == "format":
             self.version = int(values[0])
         elif tag == "day":
             self.next_record = values[1]
         self.last = tag
 
-    def add_to_list(self, tag, values):
+    def add_to_list(self, tag, values, name):
         key, count = self.key(tag, values), self.counts.get(tag, 0)
         if key is not None and tag in self.before and key <= self.before[tag]:
-            raise Fault("order", f"{tag} rows that rise: this one stands behind {tag},{words_of_key(tag, self.before[tag])}", 2)
+            expected = f"{tag} rows that rise: this one stands behind {tag},{words_of_key(tag, self.before[tag])}"
+            raise Fault("order", expected, 2, name)
         if tag == "period":
             self.add_period(*values)
         if count >= MOST.get(tag, MOST_U64):

@@ -177,13 +177,7 @@ def where(told, text):
         raw = text.raw_fields(told.place - 1)
         place += f", character {1 + sum(len(it) + 1 for it in raw[: field - 1])}"
     of_row = "" if field == 1 else f" of the {shown(tag)[1:-1]} row"
-    return f"{place}, field {field}: {told.fault.name or text_name(told)}{of_row}"
-
-
-def text_name(told):
-    """The name of the field by which a list rises."""
-    fields = faults.FIELDS.get(told.row[0], [])
-    return fields[told.fault.place - 2].name if told.fault.place - 2 < len(fields) else "PERIOD"
+    return f"{place}, field {field}: {told.fault.name}{of_row}"
 
 
 def found_words(told):

@@ -22,6 +22,8 @@ SEPARATED = re.compile(r"-?[0-9]{1,3}([.,'_\u00a0\u202f\u2009 ][0-9]{3})+")
 
 def guess(fault, row, version):
     """A guess for a fault of a row, given as its fields; nothing if there is no likely one."""
+    if any("\n" in it for it in row):
+        return "a double quote is not closed: the field goes on over the lines behind it"
     by_cause = {"tag": of_tag, "fields": of_fields, "number": of_number, "date": of_date, "word": of_word, "order": of_order}
     if fault.cause in by_cause:
         return by_cause[fault.cause](fault, row, version)
@@ -68,6 +70,8 @@ def of_known_tag(fault, tag):
 
 
 def of_fields(_fault, row, version):
+    if row[0] == "format" and len(row) > 9:
+        return "all rows stand in one line: the line ends are lost"
     if row[0] == "retired" and len(row) == 8 and version == 1:
         return "a period in a retired row is only in version 2"
     if row[0] == "do" and len(row) > 3 and row[3] in faults.ACT_WORDS:

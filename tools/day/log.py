@@ -107,7 +107,7 @@ def is_wanted(row, words):
 def run(words):
     reports, days = [read_report(it) for it in words.reports], [read_day(it) for it in words.days]
     for day in days:
-        if day.head.date not in map(report_date, reports):
+        if day.instructions and day.head.date not in map(report_date, reports):
             raise WordsFault(f"no report is of {day.head.date}, the day of {day.path}")
     stream = io.StringIO()
     writer = csv.writer(stream, lineterminator="\n")

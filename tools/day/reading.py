@@ -268,7 +268,7 @@ class Reader:
         elif not fault.place:
             name, found = f"{fields[0]} row", row
         else:
-            name, found = fault.name or fields[0], shown(fields[fault.place - 1])
+            name, found = fault.name, shown(fields[fault.place - 1])
         place = self.source.path, self.source.line(index)
         return RowFault(index + 1, fault.cause, *place, name, found, fault.expected)
 
