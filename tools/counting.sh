@@ -37,6 +37,7 @@ try_cases() {
   mkdir -p out
   : >"$work/cases-begun"
   count_part "cases/run-cases" cases/run-cases "$1" cases
+  count_part "cases/run-first-answers" cases/run-first-answers --try "$1"
   count_part "cases/run-decision-table" cases/run-decision-table "$1"
   count_part "cases/run-second-answer" cases/run-second-answer "$1"
   count_part "cases/run-large-cases" cases/run-large-cases "$1"
@@ -70,7 +71,7 @@ try_workers() {
 # Whether all cases have passed on this program since it was built, and as they are now.
 have_cases_passed() {
   [ -e "$cases_passed" ] && [ ! "$1" -nt "$cases_passed" ] &&
-    [ -z "$(find cases examples docs README.md day tools/day tools/*-to-* tools/*.py -newer "$cases_passed" -print -quit)" ]
+    [ -z "$(find run day cases examples docs README.md tools -newer "$cases_passed" -print -quit)" ]
 }
 
 # Watches from now on which crates the processor time goes to. Nothing but the table is lost if

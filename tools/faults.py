@@ -8,9 +8,10 @@ import re
 from dataclasses import dataclass, field
 from typing import Callable, NamedTuple
 
-from rules import KINDS, MOST_HELD, MOST_RETIRED, MOST_ROWS, MOST_TONNES, MOST_TRUSTED, OPERATORS
+from rules import KINDS, MOST_HELD, MOST_RETIRED, MOST_ROWS, MOST_TONNES, MOST_TRUSTED, OPERATORS, rows_of
 
 MOST_U64 = 2**64 - 1
+MOST_DIGITS = len(str(MOST_U64))
 MOST_RECORD = MOST_CORRECTION = 10**15
 MOST_FIGURE = 4 * 10**15
 MOST_PERIODS = 8
@@ -53,9 +54,14 @@ class Field(NamedTuple):
 # Fields: each is read by a function, which answers what it says.
 
 
+def is_too_large(digits):
+    # (Python does not read numbers of thousands of digits)
+    return len(digits) > MOST_DIGITS or int(digits) > MOST_U64
+
+
 def number(name, low, high):
     def read(word):
-        if not re.fullmatch("0|[1-9][0-9]*", word) or int(word) > MOST_U64:
+        if not re.fullmatch("0|[1-9][0-9]*", word) or is_too_large(word):
             raise Fault("number")
         if not low <= int(word) <= high:
             raise Fault("limit")
@@ -66,7 +72,7 @@ def number(name, low, high):
 
 def signed(name, most, may_be_zero=True):
     def read(word):
-        if not re.fullmatch("0|-?[1-9][0-9]*", word) or abs(int(word)) > MOST_U64:
+        if not re.fullmatch("0|-?[1-9][0-9]*", word) or is_too_large(word.removeprefix("-")):
             raise Fault("number")
         if abs(int(word)) > most or (int(word) == 0 and not may_be_zero):
             raise Fault("limit")
@@ -311,13 +317,12 @@ def words_of_key(tag, key):
 
 
 def first_fault(text):
-    """The line that the program has to write on standard error of a day text, whose fields have no quotes; nothing if the text
+    """The line that the program has to write on standard error of a day text, which is given as bytes; nothing if the text
     has no fault."""
-    reading = Reading()
-    rows = [line.split(",") for line in text.split("\n") if line]
-    for place, row in enumerate(rows, 1):
+    reading, place = Reading(), 0
+    for place, row in enumerate(rows_of(text), 1):
         try:
             reading.add(row)
         except Fault as fault:
             return f"row {place}: {fault.cause}\n"
-    return "" if reading.last == "end" else f"row {len(rows) + 1}: end\n"
+    return "" if reading.last == "end" else f"row {place + 1}: end\n"

@@ -1,11 +1,20 @@
+#!/usr/bin/env python3
 """The rules of docs/RULES.md once more, in plain Python: what each command of the program has to write of a day text.
 
+  tools/rules.py settle < DAY                 what the program has to write of this day; so for plan, figures and totals
+  tools/rules.py statement ACCOUNT < DAY      the statement of one account
+
 It was written from the rules in words, and not from the program or its definitions: so it is a second answer, to compare
-the program with (`cases/run-second-answer`). It is slow, and reads only day texts without a fault.
+the program with (`cases/run-second-answer`), and to look at before the kit is installed. It is not the proved program. It is
+slow, and reads only day texts without a fault; of another one it tells the first fault, by `faults.py`. The exit statuses
+are those of the program.
 """
 import bisect
+import codecs
 import csv
 import datetime
+import io
+import sys
 from dataclasses import dataclass, field
 
 KINDS = ("general", "aviation")
@@ -113,9 +122,19 @@ class Day:
 # Reading.
 
 
+def rows_of(text):
+    """The rows of a text, which is given as bytes: lists of fields without their quotes. An empty line is no row."""
+    # One letter stands for each byte, since a text with a fault may have any bytes. The reader refuses the byte 0. No valid
+    # field has it, nor the byte 1, which stands in its place: so the faults are the same.
+    letters = text.removeprefix(codecs.BOM_UTF8).replace(b"\0", b"\1").decode("latin-1")
+    # A field may be as long as the text.
+    csv.field_size_limit(sys.maxsize)
+    return filter(None, csv.reader(io.StringIO(letters, newline="")))
+
+
 def read_day(text):
     """The day of a text without a fault."""
-    return day_of(csv.reader(filter(None, text.splitlines())))
+    return day_of(rows_of(text))
 
 
 def day_of(rows):
@@ -498,10 +517,19 @@ def plan(day):
         last.update(dict.fromkeys(own, place))
 
 
-def statement(number, opening, log):
+def log_by_account(accounts, log):
+    """For each account the log rows of the instructions that touched it."""
+    of_account = {number: [] for number in accounts}
+    for logged in log:
+        for number in logged.touched:
+            of_account[number].append(logged)
+    return of_account
+
+
+def statement(number, opening, own_log):
     held = opening
     yield f"opening,{number},{opening['general']},{opening['aviation']}"
-    for logged in (it for it in log if number in it.touched):
+    for logged in own_log:
         yield logged.line
         held = logged.held.get(number, held)
     yield f"closing,{number},{held['general']},{held['aviation']}"
@@ -518,11 +546,13 @@ def report(day, log):
 
 
 def answers(text):
-    """What the program has to write of a day text, by the words of each command; of `statement`, for each account."""
+    """What the program has to write of a day text, which is given as bytes, by the words of each command; of `statement`,
+    for each account."""
     day = read_day(text)
     opening = {number: dict(it.held) for number, it in day.accounts.items()}
     waits = [*plan(day)]
     log = [*settle(day)]
+    own_logs = log_by_account(day.accounts, log)
     accounts = [it for _, it in sorted(day.accounts.items())]
     figures = [f"determined,{it.number},{year},{tonnes}" for it in accounts for year, tonnes in sorted(it.figures.items())]
     texts = {
@@ -530,6 +560,41 @@ def answers(text):
         "plan": waits,
         "figures": figures,
         "totals": [*totals(accounts)],
-        **{f"statement {number}": [*statement(number, held, log)] for number, held in opening.items()},
+        **{f"statement {number}": [*statement(number, held, own_logs[number])] for number, held in opening.items()},
     }
     return {words: "\n".join([*lines, "end", ""]) for words, lines in texts.items()}
+
+
+COMMANDS = ("settle", "plan", "figures", "totals", "statement")
+# The exit statuses if the words are not taken, and if the text has a fault.
+NOT_TAKEN, FAULTY = 2, 3
+
+
+def main(arguments):
+    """Writes the text of a command, or the line of a fault, and answers the exit status."""
+    if arguments in (["-h"], ["--help"]):
+        print(__doc__, end="")
+        return 0
+    command, *account = arguments or [""]
+    if command not in COMMANDS or len(account) != (command == "statement"):
+        print(__doc__, end="", file=sys.stderr)
+        return NOT_TAKEN
+    # (it takes its words from this file, as a module)
+    from faults import first_fault
+
+    text = sys.stdin.buffer.read()
+    fault = first_fault(text)
+    if fault:
+        sys.stderr.write(fault)
+        return FAULTY
+    written = answers(text).get(" ".join([command, *(it.lstrip("0") for it in account)]))
+    if written is None:
+        print("no such account", file=sys.stderr)
+        return NOT_TAKEN
+    sys.stdout.write(written)
+    return 0
+
+
+if __name__ == "__main__":
+    sys.dont_write_bytecode = True
+    sys.exit(main(sys.argv[1:]))

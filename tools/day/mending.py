@@ -3,6 +3,7 @@ empty fields or rows that only pad a table. No value is guessed: no such thing i
 import csv
 import io
 import re
+import sys
 from dataclasses import dataclass, field
 
 from day.reading import Rows, bytes_of, rows_of_text
@@ -90,7 +91,7 @@ def mended(path):
 
 def separated(text, separator):
     """The rows of a text with another separator, and their lines."""
-    csv.field_size_limit(max(len(text), 1))
+    csv.field_size_limit(sys.maxsize)
     reader = csv.reader(io.StringIO(text, newline=""), delimiter=separator)
     raw, lines, last = [], [], 0
     for fields in reader:

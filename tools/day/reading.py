@@ -10,6 +10,7 @@ import datetime
 import functools
 import io
 import re
+import sys
 from dataclasses import dataclass, field
 from pathlib import Path
 
@@ -81,9 +82,10 @@ def rows_of_text(path, text):
 
 def rows_with_quotes(path, text):
     """The rows of a text in which a quote stands: a row may then go on in the next line."""
-    csv.field_size_limit(max(len(text), 1))
+    csv.field_size_limit(sys.maxsize)
     rows, lines, unplain, last = [], [], {}, 0
-    reader = csv.reader(io.StringIO(text, newline=""))
+    # (an older reader refuses the character 0; no valid field has it, nor the character 1)
+    reader = csv.reader(io.StringIO(text.replace("\0", "\1"), newline=""))
     try:
         for fields in reader:
             line, last = last + 1, reader.line_num

@@ -4,6 +4,13 @@
 //! A use of it, proved in `registry_uses/src/account.rt`:
 //!
 //! ```rust
+//! ghost use Rattle.std.specs.Prelude.{◌≡◌, ◌+◌, ◌&&◌, nat_le, MatchBool};
+//! ghost use Rattle.reg_account.specs.Account.{held_by, credited, debited};
+//! ghost use Rattle.reg_base.specs.declared.limits.TheConstants.{MOST_HELD};
+//!
+//! use reg_account::Account;
+//! use reg_base::{AllowanceKind, MOST_HELD};
+//!
 //! /// Moves allowances of a kind from one account to another, if the first holds them and the second has room for them.
 //! /// Answers whether it did. Nothing else changes.
 //! pub fn pass_on(from: &mut Account, to: &mut Account, kind: AllowanceKind, amount: u64) -> bool

@@ -4,6 +4,13 @@
 //! A use of it, proved in `registry_uses/src/base.rt`:
 //!
 //! ```rust
+//! ghost use Rattle.std.specs.Prelude.{◌≡◌, ℕ, MatchResult};
+//! ghost use Rattle.reg_base.specs.Rising.{FirstNotRising};
+//! ghost use Rattle.reg_base.specs.Calendar.{IsCalendar, due};
+//! ghost use Rattle.reg_base.specs.declared.calendar.CalendarFault.TheVariants.{NotRising};
+//!
+//! use reg_base::{Calendar, CalendarFault, Day};
+//!
 //! /// The day on which an instruction falls due that was proposed on `proposed`: the working day with exactly `lag` working
 //! /// days from `proposed` up to it, if these working days have such a day.
 //! ///

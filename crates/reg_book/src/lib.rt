@@ -3,6 +3,16 @@
 //! A use of it, proved in `registry_uses/src/book.rt`:
 //!
 //! ```rust
+//! ghost use Rattle.std.specs.Prelude.{◌≡◌, IfOk, IfErr, OnOk, OnErr};
+//! ghost use Rattle.reg_book.specs.Day.{day_of, settled_day, log_of};
+//! ghost use Rattle.reg_book.specs.Settled.{committed};
+//! ghost use Rattle.reg_book.specs.Settling.{IsSettleFault};
+//!
+//! use reg_base::{Batch, Rules};
+//! use reg_book::{Book, SettleFault, settle_plain};
+//! use reg_rules::LogRow;
+//! use std::alloc::Global;
+//!
 //! /// Settles a day, puts it into the book, and answers its log.
 //! ///
 //! /// # Errors

@@ -4,6 +4,11 @@
 //! A use of it, proved in `registry_uses/src/claim.rt`:
 //!
 //! ```rust
+//! ghost use Rattle.std.specs.Prelude.{◌≡◌, IfOk, true, false};
+//!
+//! use reg_claim::{ClaimTable, NoMemory};
+//! use std::alloc::Global;
+//!
 //! /// Claims the one place of a table twice, and finishes it. Answers both claims, and how many places are finished.
 //! ///
 //! /// # Errors

@@ -4,6 +4,9 @@
 //! A use of it, proved in `registry_uses/src/counting.rt`:
 //!
 //! ```rust
+//! ghost use Rattle.std.specs.Prelude.{◌≡◌};
+//! ghost use Rattle.reg_counting.specs.Counting.{times};
+//!
 //! /// How often a number stands in a list.
 //! pub fn count(numbers: &[u32], wanted: u32) -> usize
 //!     ensures { result ≡ times wanted numbers.now }

@@ -4,6 +4,16 @@
 //! A use of it, proved in `registry_uses/src/front.rt`:
 //!
 //! ```rust
+//! ghost use Rattle.std.specs.Prelude.{Some, OnOk};
+//! ghost use Rattle.reg_front.specs.Streams.{CanFail};
+//! ghost use Rattle.reg_front.specs.Runs.{WritesText};
+//! ghost use Rattle.reg_front.specs.declared.command.Command.TheVariants.{Totals};
+//!
+//! use reg_front::{Command, Counted, FrontFault, Sink, run};
+//! use std::alloc::Global;
+//! use std::sync::Wait;
+//! use std::thread::Threads;
+//!
 //! /// Settles the day of a text, and writes the totals after it.
 //! ///
 //! /// # Errors

@@ -4,6 +4,14 @@
 //! A use of it, proved in `registry_uses/src/graph.rt`:
 //!
 //! ```rust
+//! ghost use Rattle.std.specs.Prelude.{◌≡◌, IfSome};
+//! ghost use Rattle.reg_book.specs.Day.{settled_day};
+//! ghost use Rattle.reg_tasks.specs.Contexts.{the_day};
+//!
+//! use reg_book::Settled;
+//! use reg_graph::{Context, Event, Naming, World};
+//! use std::alloc::Global;
+//!
 //! /// Carries out these events of two workers. The day is settled if all instructions are done then, whatever the events
 //! /// were. `None` if an event is not possible, if something is left to do, or if memory ran out.
 //! pub fn run_schedule<N: Naming>(

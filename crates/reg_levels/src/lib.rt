@@ -3,6 +3,14 @@
 //! A use of it, proved in `registry_uses/src/levels.rt`:
 //!
 //! ```rust
+//! ghost use Rattle.std.specs.Prelude.{◌≡◌, IfSome};
+//! ghost use Rattle.reg_book.specs.Day.{settled_day};
+//!
+//! use reg_book::Settled;
+//! use reg_levels::Levels;
+//! use reg_tasks::{Context, Naming};
+//! use std::alloc::Global;
+//!
 //! /// Settles a day level by level. `None` if memory ran out, or, if no day is named, if a value is not of this day.
 //! pub fn settle_by_levels<N: Naming>(alloc: Global, context: &Context<N>) -> Option<Settled>
 //!     ensures { IfSome result (λ s. IfSome N.day (λ day. s ≡ settled_day day)) }

@@ -4,6 +4,14 @@
 //! A use of it, proved in `registry_uses/src/plan.rt`:
 //!
 //! ```rust
+//! ghost use Rattle.std.specs.Prelude.{◌↔◌, IsTrue, IfOk};
+//! ghost use Rattle.reg_plan.specs.Arrows.{IsArrow};
+//! ghost use Rattle.reg_plan.specs.declared.arrow.Arrow.{Arrow};
+//!
+//! use reg_base::{Batch, Directory, NoMemory};
+//! use reg_plan::Plan;
+//! use std::alloc::Global;
+//!
 //! /// Whether no instruction of a batch has to wait for another one, since no two of them touch the same account.
 //! ///
 //! /// # Errors

@@ -4,6 +4,20 @@
 //! A use of it, proved in `registry_uses/src/rules.rt`:
 //!
 //! ```rust
+//! ghost use Rattle.std.specs.Prelude.{◌≡◌, All, IfOk, OnOk, OnErr};
+//! ghost use Rattle.reg_base.specs.Footprint.{footprint};
+//! ghost use Rattle.reg_base.specs.declared.refusals.Refusal.{Refusal};
+//! ghost use Rattle.reg_rules.specs.declared.reply.Reply.TheVariants.{Refused};
+//! ghost use Rattle.reg_rules.specs.State.{numbers};
+//! ghost use Rattle.reg_rules.specs.Effect.{IsBehind};
+//! ghost use Rattle.reg_rules.specs.Step.{row_of};
+//! ghost use Rattle.reg_rules.specs.Laws.{after_step, reply_to};
+//!
+//! use reg_account::Account;
+//! use reg_base::{Instruction, NoMemory, RecordNo};
+//! use reg_rules::{LogRow, Setting, execute, log_row};
+//! use std::alloc::Global;
+//!
 //! /// Carries an instruction out on the accounts that it touches, or refuses it, and answers its row in the log. If it is
 //! /// refused, the accounts stay as they are.
 //! ///

@@ -4,6 +4,15 @@
 //! A use of it, proved in `registry_uses/src/schedules.rt`:
 //!
 //! ```rust
+//! ghost use Rattle.std.specs.Prelude.{◌≡◌, ℕ, List, Some};
+//! ghost use Rattle.reg_plan.specs.Plans.{PlanValue};
+//! ghost use Rattle.reg_plan.specs.Orders.{IsLegalOrder};
+//! ghost use Rattle.reg_book.specs.Day.{Day};
+//! ghost use Rattle.reg_schedules.specs.Laws.{IsPlanOf};
+//! ghost use Rattle.reg_schedules.specs.Pool.{Progress, meaning_of};
+//!
+//! use reg_schedules::laws::every_order;
+//!
 //! /// Two legal orders of a day's instructions leave the same accounts. This function does nothing: a function whose proof
 //! /// needs the law calls it, as this one calls `every_order`.
 //! pub fn orders_agree()

@@ -4,6 +4,17 @@
 //! A use of it, proved in `registry_uses/src/tasks.rt`:
 //!
 //! ```rust
+//! ghost use Rattle.std.specs.Prelude.{◌≡◌, ◌≤◌, true, length, IfSome, OnSome};
+//! ghost use Rattle.reg_plan.specs.Plans.{inward};
+//! ghost use Rattle.reg_schedules.specs.Pool.{footprint_at};
+//! ghost use Rattle.reg_schedules.specs.Docks.{names_needed};
+//! ghost use Rattle.reg_tasks.specs.Contexts.{the_day};
+//! ghost use Rattle.reg_tasks.specs.Names.{has_names, IsRowOfDay, AreLeft};
+//! ghost use Rattle.reg_tasks.specs.Parcels.{names_of};
+//!
+//! use reg_tasks::{Context, Naming, Outcome, Parcel, Task};
+//! use std::alloc::Global;
+//!
 //! /// Runs the instruction at a place on these values of accounts, if they are those that it needs. If a day is named, its
 //! /// row is the day's. `None` if they are others, or memory ran out.
 //! pub fn run_on<N: Naming>(

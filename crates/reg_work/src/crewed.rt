@@ -169,8 +169,9 @@ fn settle_named<N: Naming + Send + Sync, R: Threads + Wait + Sync, G: Gate>(
 /// and finishes the place. It leaves after it saw that all places are finished, or that the workers are to leave. The book
 /// is not changed.
 ///
-/// A single worker is the calling thread. Nobody waits for it, so it needs no deque, no dock and no claim: it runs the
-/// instructions in the order of the batch, each on what those before it left, and passes the gate before each.
+/// The last of several workers is the calling thread, and each other one has a thread of its own. A single worker is the
+/// calling thread. Nobody waits for it, so it needs no deque, no dock and no claim: it runs the instructions in the order
+/// of the batch, each on what those before it left, and passes the gate before each.
 ///
 /// The settled day is that of `settle_plain`, whatever the number of workers and the order in which they work. There is a
 /// shift for each worker, from worker 0 on, and each place from 1 to the number of instructions is in one shift, once.

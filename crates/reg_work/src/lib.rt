@@ -4,8 +4,19 @@
 //! A use of it, proved in `registry_uses/src/work.rt`:
 //!
 //! ```rust
-//! /// Settles a day by four workers, each in a thread of its own. The settled day is that of the instructions one after
-//! /// another.
+//! ghost use Rattle.std.specs.Prelude.{◌≡◌, ◌+◌, MatchResult};
+//! ghost use Rattle.reg_book.specs.Day.{day_of, settled_day};
+//! ghost use Rattle.reg_work.specs.Faults.{IsWorkFault};
+//!
+//! use reg_base::{Batch, Rules};
+//! use reg_book::{Book, Settled};
+//! use reg_work::{OpenGate, WorkFault, settle_with};
+//! use std::alloc::Global;
+//! use std::sync::Wait;
+//! use std::thread::Threads;
+//!
+//! /// Settles a day by four workers: the calling thread, and three threads of their own. The settled day is that of the
+//! /// instructions one after another.
 //! ///
 //! /// # Errors
 //! /// As [`settle_with`].

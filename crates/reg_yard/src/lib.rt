@@ -4,6 +4,14 @@
 //! A use of it, proved in `registry_uses/src/yard.rt`:
 //!
 //! ```rust
+//! ghost use Rattle.std.specs.Prelude.{◌≡◌, Some, IfSome};
+//! ghost use Rattle.reg_yard.specs.Parcels.{parcel_of, goes_to};
+//!
+//! use reg_tasks::{Context, Naming, Outcome, Parcel};
+//! use reg_yard::Docks;
+//! use std::alloc::Global;
+//! use std::sync::Wait;
+//!
 //! /// Delivers the value of an account to the instruction that needs it next, and runs that one if it was the last value that
 //! /// it awaited. `None` if it awaits more, if no instruction awaits the value, or if memory ran out.
 //! pub fn deliver_and_run<N: Naming, R: Wait>(

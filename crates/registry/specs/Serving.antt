@@ -41,8 +41,8 @@ pub record Obeys (command : Command) (status : ℕ) (old new : Streams) : Type 0
   pub answered : status ≡ status_after fault
   pub told : IsToldAfter fault old.faults new.faults
 
--- a status in place of a command's: help was shown (0), the words were not taken (2), or memory ran out (4), of which the line
--- tells; only help is written to the writer
+-- a status in place of a command's: help or the version was shown (0), the words were not taken (2), or memory ran out (4), of
+-- which the line tells; only help or the version is written to the writer
 pub record IsShown (status : ℕ) (old new before after : Stream) : Type 0 where
   pub answered : Contains (0 ∷ 2 ∷ 4 ∷ []) status
   pub kept : status ≢ 0 → new ≡ old

@@ -26,8 +26,8 @@ use std::thread::Threads;
 use std::{env, io};
 
 /// Carries out the command of these words, which stand without the program's name: reads a day text from `reader`
-/// and writes the command's text to `writer`. Help goes to `writer` too. Each stream is any reader or writer, whose failed
-/// calls are counted.
+/// and writes the command's text to `writer`. Help and the version go to `writer` too. Each stream is any reader or writer,
+/// whose failed calls are counted.
 ///
 /// Answers the exit status of the program: 0, or the status of the fault. A fault is written as one line to `faults`,
 /// and words that are not taken as a longer text, before any input is read. The status is the same if these can't be

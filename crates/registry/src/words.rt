@@ -15,6 +15,9 @@ use reg_front::Command;
 use std::alloc::{AllocError, Global};
 use std::convert::AsStr;
 
+// The version of the program. No source can name its own commit: `./run --version` tells that.
+const VERSION: &str = "1.0";
+
 const WHAT_IT_DOES: &str = "\
 Settles one day of an emission allowance registry: reads a day text from standard input,
 and writes the text of a command to standard output";
@@ -115,6 +118,7 @@ fn describe_program<'a>(alloc: Global) -> Result<Program<'a>, AllocError> {
 fn describe_registry<'a>(alloc: Global) -> Result<Program<'a>, AllocError> {
     let program = Program::new(alloc, "registry")
         .bin_name("registry")?
+        .version(VERSION)
         .about(WHAT_IT_DOES)
         .after_help(EXAMPLE_AND_STATUSES)
         .no_binary_name(true)
