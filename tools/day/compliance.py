@@ -145,7 +145,7 @@ def counts(rows):
     of = {verdict: sum(it.verdict == verdict for it in rows) for verdict in VERDICTS}
     missing = sum(it.missing or 0 for it in rows)
     said = ", ".join(f"{count} {verdict}" for verdict, count in of.items() if count)
-    return [f"{len(rows)} accounts: {said or 'none'}", f"{grouped(missing)} allowances are missing now, as far as there are figures"]
+    return [f"accounts {len(rows)}: {said or 'none'}", f"{grouped(missing)} allowances are missing now, as far as there are figures"]
 
 
 def as_csv(rows):

@@ -228,7 +228,7 @@ def run(words):
     said = first_line(words.day)
     if not said:
         counts = [sum(row.startswith(tag) for row in text.source.rows) for tag in ("account,", "do,")]
-        print(f"{words.day} has no fault: {len(text.source)} rows, {counts[0]} accounts, {counts[1]} instructions")
+        print(f"{words.day} has no fault: rows {len(text.source)}, accounts {counts[0]}, instructions {counts[1]}")
         return 0
     lines, _ = explained(text)
     print("\n".join([said, *lines]))

@@ -47,5 +47,5 @@ def run(words):
     if difference:
         print(difference)
         return FOUND
-    print(f"{words.report} is what the rules make of {words.day}: {len(day.instructions)} instructions, {len(day.book)} accounts")
+    print(f"{words.report} is what the rules make of {words.day}: instructions {len(day.instructions)}, accounts {len(day.book)}")
     return 0
