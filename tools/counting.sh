@@ -45,6 +45,8 @@ try_cases() {
   count_part "cases/run-streams" cases/run-streams "$1"
   count_part "cases/run-documents" cases/run-documents "$1"
   count_part "cases/run-tools" cases/run-tools
+  count_part "cases/run-day" cases/run-day "$1"
+  count_part "cases/run-explain" cases/run-explain "$1"
   count_part "cases/run-words" cases/run-words
   rm -f -- "$cases_passed"
   [ "$failed" != "$failed_before" ] || mv -- "$work/cases-begun" "$cases_passed"
@@ -69,7 +71,7 @@ try_workers() {
 # Whether all cases have passed on this program since it was built, and as they are now.
 have_cases_passed() {
   [ -e "$cases_passed" ] && [ ! "$1" -nt "$cases_passed" ] &&
-    [ -z "$(find run cases examples docs README.md tools -newer "$cases_passed" -print -quit)" ]
+    [ -z "$(find run day cases examples docs README.md tools -newer "$cases_passed" -print -quit)" ]
 }
 
 # Watches from now on which crates the processor time goes to. Nothing but the table is lost if

@@ -1,11 +1,12 @@
 """The faults of a day text once more, in plain Python: its first faulty row and the cause.
 
 It was written from docs/FORMATS.md, and not from the program or its definitions: so it is a second answer, to compare the
-program with (`cases/run-second-answer`).
+program with (`cases/run-second-answer`). The commands of `./day` read each row by it, and say what it expected.
 """
 import datetime
 import re
 from dataclasses import dataclass, field
+from typing import Callable, NamedTuple
 
 from rules import KINDS, MOST_HELD, MOST_RETIRED, MOST_ROWS, MOST_TONNES, MOST_TRUSTED, OPERATORS, rows_of
 
@@ -14,22 +15,43 @@ MOST_DIGITS = len(str(MOST_U64))
 MOST_RECORD = MOST_CORRECTION = 10**15
 MOST_FIGURE = 4 * 10**15
 MOST_PERIODS = 8
+FIRST_YEAR, LAST_YEAR = 2021, 2100
 # The most rows of a list; of all others, and of the years of an account, there may be any number.
 MOST = {"admin": 64, "account": 100_000, "user": 64, "trusted": MOST_TRUSTED, "retired": MOST_ROWS, "do": 16_384}
 
 ACCOUNT_KINDS = ("operator", "aircraft", "total", "allocation", "trading")
 STATUSES = ("open", "blocked", "excluded", "closed")
 YES_NO = ("yes", "no")
+RIGHTS = ("propose", "approve", "both")
+RETIRED_AS = ("surrender", "deletion")
 
 LISTS = ("lags", "surrender", "admin", "work")
 BLOCK = ("account", "correction", "user", "trusted", "retired", "emissions", "figure")
 
 
 class Fault(Exception):
-    """The cause why a row cannot stand where it does."""
+    """The cause why a row cannot stand where it does; the place of the faulty field, counted from 1, with its name, where it
+    is a field's; and what is expected, in words."""
+
+    def __init__(self, cause, expected="", place=0, name=""):
+        super().__init__(cause)
+        self.cause, self.expected, self.place, self.name = cause, expected, place, name
+        # Of an `order` fault, the row before it in its list, if it is known.
+        self.earlier = ""
 
 
-# Fields: each function reads one, and answers what it says.
+class Field(NamedTuple):
+    """A field of a row: its name, how it is read, and what it may hold, in words."""
+
+    name: str
+    read: Callable
+    expected: str
+
+    def called(self, name):
+        return self._replace(name=name)
+
+
+# Fields: each is read by a function, which answers what it says.
 
 
 def is_too_large(digits):
@@ -37,7 +59,7 @@ def is_too_large(digits):
     return len(digits) > MOST_DIGITS or int(digits) > MOST_U64
 
 
-def number(low, high):
+def number(name, low, high):
     def read(word):
         if not re.fullmatch("0|[1-9][0-9]*", word) or is_too_large(word):
             raise Fault("number")
@@ -45,10 +67,10 @@ def number(low, high):
             raise Fault("limit")
         return int(word)
 
-    return read
+    return Field(name, read, f"a number from {low} to {high}, in plain digits")
 
 
-def signed(most, may_be_zero=True):
+def signed(name, most, may_be_zero=True):
     def read(word):
         if not re.fullmatch("0|-?[1-9][0-9]*", word) or is_too_large(word.removeprefix("-")):
             raise Fault("number")
@@ -56,10 +78,10 @@ def signed(most, may_be_zero=True):
             raise Fault("limit")
         return int(word)
 
-    return read
+    return Field(name, read, f"a number from -{most} to {most}{'' if may_be_zero else ', but not 0'}, in plain digits")
 
 
-def date(word):
+def read_date(word):
     if not re.fullmatch("[0-9]{4}-[0-9]{2}-[0-9]{2}", word):
         raise Fault("date")
     year, month, day = map(int, word.split("-"))
@@ -68,61 +90,96 @@ def date(word):
         datetime.date(year or 2000, month, day)
     except ValueError:
         raise Fault("date") from None
-    if not 2021 <= year <= 2100:
+    if not FIRST_YEAR <= year <= LAST_YEAR:
         raise Fault("limit")
     return word
 
 
-def one_of(words, cause="word"):
+def date(name):
+    return Field(name, read_date, f"a date YYYY-MM-DD that exists, from {FIRST_YEAR}-01-01 to {LAST_YEAR}-12-31")
+
+
+def one_of(name, words, cause="word"):
     def read(word):
         if word not in words:
             raise Fault(cause)
         return word
 
-    return read
+    return Field(name, read, "one of the words " + ", ".join(words) if len(words) > 1 else words[0])
 
 
-def maybe(read):
-    return lambda word: word and read(word)
+def maybe(it):
+    return Field(it.name, lambda word: word and it.read(word), f"nothing, or {it.expected}")
 
 
-a_number = number(1, 999_999_999)
-a_record = number(1, MOST_RECORD)
-a_year = number(2021, 2100)
-a_holding = number(0, MOST_HELD)
-any_amount = number(0, MOST_U64)
-a_kind = one_of(KINDS)
-yes_or_no = one_of(YES_NO)
+def an_account(name):
+    return number(name, 1, 999_999_999)
+
+
+user = an_account("USER")
+record = number("NUMBER", 1, MOST_RECORD)
+year = number("YEAR", FIRST_YEAR, LAST_YEAR)
+any_amount = number("AMOUNT", 0, MOST_U64)
+kind = one_of("KIND", KINDS)
+status = one_of("STATUS", STATUSES)
 
 # The fields of each row behind its tag; what depends on earlier rows is in `Reading.fields`.
 FIELDS = {
-    "format": [one_of(("1", "2"), "version")],
-    "day": [date, number(1, MOST_RECORD + 1)],
-    "period": [a_year, a_year],
-    "lags": [number(0, 1_000)] * 4,
-    "surrender": [one_of(ACCOUNT_KINDS), a_kind],
-    "admin": [a_number],
-    "work": [date],
+    "format": [one_of("VERSION", ("1", "2"), "version")],
+    "day": [date("DATE"), number("NEXT", 1, MOST_RECORD + 1)],
+    "period": [year.called("FIRST"), year.called("LAST")],
+    "lags": [number(name, 0, 1_000) for name in ("TRUSTED", "OTHER", "LIST", "REVERSAL")],
+    "surrender": [one_of("ACCOUNTKIND", ACCOUNT_KINDS), kind],
+    "admin": [user],
+    "work": [date("DATE")],
     "account": [
-        a_number, one_of(ACCOUNT_KINDS), a_number, one_of(STATUSES), yes_or_no, yes_or_no, signed(MOST_CORRECTION),
-        a_holding, a_holding,
+        an_account("NO"), one_of("KIND", ACCOUNT_KINDS), an_account("HOLDER"), status, one_of("OUTSIDE", YES_NO),
+        one_of("WAIVER", YES_NO), signed("CORRECTION", MOST_CORRECTION), number("GENERAL", 0, MOST_HELD),
+        number("AVIATION", 0, MOST_HELD),
     ],
-    "user": [a_number, one_of(("propose", "approve", "both"))],
-    "trusted": [a_number, date],
-    "retired": [a_record, one_of(("surrender", "deletion")), a_kind, number(1, MOST_RETIRED), date, yes_or_no],
-    "emissions": [a_year, number(0, MOST_TONNES)],
-    "figure": [a_year, signed(MOST_FIGURE)],
+    "user": [user, one_of("RIGHT", RIGHTS)],
+    "trusted": [an_account("NO"), date("DATE")],
+    "retired": [
+        record, one_of("WHAT", RETIRED_AS), kind, number("AMOUNT", 1, MOST_RETIRED), date("DATE"), one_of("REVERSED", YES_NO),
+    ],
+    "emissions": [year, number("TONNES", 0, MOST_TONNES)],
+    "figure": [year, signed("FIGURE", MOST_FIGURE)],
     "end": [],
 }  # fmt: skip
-MOVE = [a_number, a_number, a_kind, any_amount]
-ONE_SIDED = [a_number, a_kind, any_amount]
+PROPOSAL = [date("PROPOSED"), an_account("PROPOSER"), maybe(an_account("APPROVER"))]
+FROM, TO, ACCOUNT = map(an_account, ("FROM", "TO", "ACCOUNT"))
+MOVE = [FROM, TO, kind, any_amount]
 ACTS = {
-    "transfer": MOVE, "return": MOVE, "central": MOVE, "surrender": ONE_SIDED, "delete": ONE_SIDED, "create": ONE_SIDED,
-    "reverse": [a_number, a_record], "trust": [a_number, a_number], "untrust": [a_number, a_number],
-    "status": [a_number, one_of(STATUSES)], "emissions": [a_number, a_year, any_amount], "assess": [a_number, a_year],
+    "transfer": MOVE, "return": MOVE, "central": MOVE, "surrender": [FROM, kind, any_amount], "delete": [FROM, kind, any_amount],
+    "create": [TO, kind, any_amount], "reverse": [ACCOUNT, record], "trust": [ACCOUNT, an_account("OTHER")],
+    "untrust": [ACCOUNT, an_account("OTHER")], "status": [ACCOUNT, status],
+    "emissions": [ACCOUNT, year, any_amount.called("TONNES")], "assess": [ACCOUNT, year],
 }  # fmt: skip
 FEWEST_SHARES, MOST_SHARES = 1, 8
+ACT_WORDS = (*ACTS, "distribute")
+act = one_of("ACT", ACT_WORDS)
 RISING = {"surrender", "admin", "work", *BLOCK}
+
+
+def fields_of_act(word, count):
+    """The fields of an act that has so many; None if it cannot have so many."""
+    if word != "distribute":
+        return ACTS[word] if count == len(ACTS[word]) else None
+    shares, odd = divmod(count - 2, 2)
+    if odd or not FEWEST_SHARES <= shares <= MOST_SHARES:
+        return None
+    return [FROM, kind, *[TO, any_amount] * shares]
+
+
+def form_of(tag, fields):
+    """A row as docs/FORMATS.md shows it."""
+    return ",".join([tag, *(it.name for it in fields)])
+
+
+def forms_of_act(word):
+    own = [FROM, kind, TO, any_amount] if word == "distribute" else ACTS[word]
+    more = ",.. with TO,AMOUNT 1 to 8 times" if word == "distribute" else ""
+    return form_of("do", [*PROPOSAL, act.called(word), *own]) + more
 
 
 @dataclass
@@ -137,45 +194,49 @@ class Reading:
     counts: dict = field(default_factory=dict)
     retired: dict = field(default_factory=dict)
 
-    def may_stand(self, tag):
-        """Whether a row with the tag may follow the last row."""
-        heading = {"": {"format"}, "format": {"day"}, "day": {"period"}, "current": {"lags"}}
-        heading["period"] = {"lags"} if self.version == 1 else {"period", "current"}
+    def may_follow(self):
+        """The tags of rows that may stand behind the last row, in their order."""
+        heading = {"": ["format"], "format": ["day"], "day": ["period"], "current": ["lags"]}
+        heading["period"] = ["lags"] if self.version == 1 else ["period", "current"]
         if self.last in heading:
-            return tag in heading[self.last]
-        if tag == "correction" and self.version == 1:
-            return False
-        for rows in (LISTS, BLOCK):
-            if self.last in rows and tag in rows:
-                return rows.index(self.last) <= rows.index(tag) != 0 or tag == "account"
-        return tag in ("do", "end") or (tag == "account" and self.last != "do")
+            return heading[self.last]
+        if self.last == "end":
+            return []
+        if self.last == "do":
+            return ["do", "end"]
+        rows = LISTS if self.last in LISTS else BLOCK
+        later = [tag for tag in rows[rows.index(self.last) :] if tag not in ("lags", "account")]
+        if self.version == 1 and "correction" in later:
+            later.remove("correction")
+        return [*later, "account", "do", "end"]
 
     def fields(self, tag, words):
-        """The readers of a row's fields, or the cause why there are too many or too few of them."""
+        """The fields of a row, or the cause why there are too many or too few of them."""
         periods = len(self.last_years)
         if tag == "do":
-            readers = self.fields_of_instruction(words)
-        elif tag == "current":
-            readers = [number(1, periods)]
+            return self.fields_of_instruction(words)
+        later_period = number("PERIOD", 2, periods)
+        if tag == "current":
+            fields = [number("PERIOD", 1, periods)]
         elif tag == "correction":
-            readers = [number(2, periods), signed(MOST_CORRECTION, may_be_zero=False)]
+            fields = [later_period, signed("FACTOR", MOST_CORRECTION, may_be_zero=False)]
         elif tag == "retired" and self.version == 2 and len(words) == 7:
-            readers = [*FIELDS[tag], number(2, periods)]
+            fields = [*FIELDS[tag], later_period]
         else:
-            readers = FIELDS[tag]
-        if len(readers) != len(words):
-            raise Fault("fields")
-        return readers
+            fields = FIELDS[tag]
+        if len(fields) != len(words):
+            raise Fault("fields", f"{len(fields) + 1} fields: {form_of(tag, fields)}")
+        return fields
 
     def fields_of_instruction(self, words):
         if len(words) < 4:
-            raise Fault("fields")
-        act = one_of({*ACTS, "distribute"})(words[3])
-        pairs = (len(words) - 6) // 2
-        if act == "distribute" and not FEWEST_SHARES <= pairs <= MOST_SHARES:
-            raise Fault("fields")
-        own = [a_number, a_kind, *[a_number, any_amount] * pairs] if act == "distribute" else ACTS[act]
-        return [date, a_number, maybe(a_number), str, *own]
+            raise Fault("fields", "at least 5 fields: " + form_of("do", [*PROPOSAL, act]) + ",..")
+        if words[3] not in ACT_WORDS:
+            raise Fault("word", act.expected, 5, act.name)
+        own = fields_of_act(words[3], len(words) - 4)
+        if own is None:
+            raise Fault("fields", forms_of_act(words[3]))
+        return [*PROPOSAL, act, *own]
 
     def key(self, tag, values):
         """By what the rows of a list rise."""
@@ -186,32 +247,35 @@ class Reading:
     def add(self, row):
         """Adds what a row says, if it has no fault."""
         tag, *words = row
-        if self.last == "end":
-            raise Fault("end")
-        if not self.may_stand(tag):
-            raise Fault("tag")
-        values = [read(word) for read, word in zip(self.fields(tag, words), words)]
+        allowed = self.may_follow()
+        if not allowed:
+            raise Fault("end", "no row behind the row end")
+        if tag not in allowed:
+            raise Fault("tag", f"a row {' or '.join(allowed)}", 1, "tag")
+        fields = self.fields(tag, words)
+        values = [*map(read_field, fields, words, range(2, len(words) + 2))]
         if tag == "surrender" and values[0] not in OPERATORS:
-            raise Fault("word")
+            raise Fault("word", "operator or aircraft", 2, "ACCOUNTKIND")
         if tag == "retired" and values[1] == "deletion" and len(values) == 7:
-            raise Fault("limit")
-        self.add_to_list(tag, values)
+            raise Fault("limit", "no period, since a deletion is of none", 8, "PERIOD")
+        self.add_to_list(tag, values, fields[0].name if fields else "")
         if tag == "format":
             self.version = int(values[0])
         elif tag == "day":
             self.next_record = values[1]
         self.last = tag
 
-    def add_to_list(self, tag, values):
+    def add_to_list(self, tag, values, name):
         key, count = self.key(tag, values), self.counts.get(tag, 0)
         if key is not None and tag in self.before and key <= self.before[tag]:
-            raise Fault("order")
+            expected = f"{tag} rows that rise: this one stands behind {tag},{words_of_key(tag, self.before[tag])}"
+            raise Fault("order", expected, 2, name)
         if tag == "period":
             self.add_period(*values)
         if count >= MOST.get(tag, MOST_U64):
-            raise Fault("limit")
+            raise Fault("limit", f"at most {MOST[tag]} {tag} rows{' of an account' if tag in BLOCK[1:] else ''}")
         if tag == "do" and self.next_record + count > MOST_RECORD:
-            raise Fault("limit")
+            raise Fault("limit", f"record numbers up to {MOST_RECORD}: this instruction would get {self.next_record + count}")
         if tag == "retired":
             self.add_retired(*values[:6])
         if tag == "account":
@@ -223,17 +287,33 @@ class Reading:
         self.before[tag], self.counts[tag] = key, count + 1
 
     def add_period(self, first, last):
-        if last < first or (self.last_years and first <= self.last_years[-1]):
-            raise Fault("order")
+        if last < first:
+            raise Fault("order", f"a last year from {first} on", 3, "LAST")
+        if self.last_years and first <= self.last_years[-1]:
+            raise Fault("order", f"a first year after {self.last_years[-1]}, the last one of the period before", 2, "FIRST")
         if len(self.last_years) >= MOST_PERIODS:
-            raise Fault("limit")
+            raise Fault("limit", f"at most {MOST_PERIODS} period rows")
         self.last_years.append(last)
 
-    def add_retired(self, record, what, kind, amount, day, is_reversed):
+    def add_retired(self, number, what, kind, amount, day, is_reversed):
         together = self.retired.get((what, kind), 0) + (amount if is_reversed == "no" else 0)
-        if record >= self.next_record or together > MOST_RETIRED:
-            raise Fault("limit")
+        if number >= self.next_record:
+            raise Fault("limit", f"a record number below the next one, {self.next_record}", 2, "NUMBER")
+        if together > MOST_RETIRED:
+            raise Fault("limit", f"at most {MOST_RETIRED} {kind} allowances in all {what} rows that are not reversed", 5, "AMOUNT")
         self.retired[what, kind] = together
+
+
+def read_field(it, word, place):
+    """What a field says. A fault gets the field's place, counted from 1."""
+    try:
+        return it.read(word)
+    except Fault as fault:
+        raise Fault(fault.cause, it.expected, place, it.name) from None
+
+
+def words_of_key(tag, key):
+    return f"{ACCOUNT_KINDS[key[0]]},{KINDS[key[1]]}" if tag == "surrender" else key
 
 
 def first_fault(text):
@@ -243,6 +323,6 @@ def first_fault(text):
     for place, row in enumerate(rows_of(text), 1):
         try:
             reading.add(row)
-        except Fault as cause:
-            return f"row {place}: {cause}\n"
+        except Fault as fault:
+            return f"row {place}: {fault.cause}\n"
     return "" if reading.last == "end" else f"row {place + 1}: end\n"

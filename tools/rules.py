@@ -134,8 +134,13 @@ def rows_of(text):
 
 def read_day(text):
     """The day of a text without a fault."""
+    return day_of(rows_of(text))
+
+
+def day_of(rows):
+    """The day of these rows, each a list of fields."""
     day, account = None, None
-    for tag, *words in rows_of(text):
+    for tag, *words in rows:
         if tag == "day":
             day = Day(date_of(words[0]), int(words[1]))
         elif tag == "account":
@@ -148,6 +153,15 @@ def read_day(text):
         elif tag in HEADING_ROWS:
             HEADING_ROWS[tag](day, words)
     return day
+
+
+def account_of(rows):
+    """The account of these rows: its `account` row, and those of its lists."""
+    (_, *words), *lists = rows
+    account = read_account(words)
+    for tag, *more in lists:
+        LIST_ROWS[tag](account, more)
+    return account
 
 
 def date_of(word):
@@ -395,11 +409,14 @@ def name_of(check):
 # Settling.
 
 
+def named(i):
+    """The accounts that the act moves allowances between, or is about, in order."""
+    return [*dict.fromkeys([i.first, *(to for to, _ in i.shares)])]
+
+
 def touched(day, i):
     """The accounts that the instruction reads or changes, in order."""
-    if any(number not in day.accounts for number in asked_for(i)):
-        return []
-    return [*dict.fromkeys([i.first, *(to for to, _ in i.shares)])]
+    return [] if any(number not in day.accounts for number in asked_for(i)) else named(i)
 
 
 def carry_out(day, i, record):
@@ -434,26 +451,29 @@ def carry_out(day, i, record):
 
 @dataclass
 class Logged:
-    """A log row, the accounts that its instruction touched, and what they held then, if it was done."""
+    """A log row, the accounts that its instruction touched, what they held then, if it was done, and its due day, if there is
+    one."""
 
     line: str
     touched: list
     held: dict
+    due: datetime.date | None
 
 
 def settle(day):
     """Settles the instructions one after another, and gives their log rows."""
     for record, i in enumerate(day.instructions, day.next_record):
         asked = Asked(day, i)
+        due = None if unknown_account(asked) else asked.due()
         place = next((place for place, check in enumerate(CHECKS) if check(asked)), None)
         start = f"log,{record},{day.date},{','.join(i.fields)}"
         if place is not None:
-            yield Logged(f"{start},refused,{place + 1},{name_of(CHECKS[place])}", touched(day, i), {})
+            yield Logged(f"{start},refused,{place + 1},{name_of(CHECKS[place])}", touched(day, i), {}, due)
             continue
         figure = carry_out(day, i, record)
         held = {number: dict(day.accounts[number].held) for number in touched(day, i)}
         closing = "".join(f",{number},{own['general']},{own['aviation']}" for number, own in held.items())
-        yield Logged(f"{start},done,{'' if figure is None else figure}{closing}", touched(day, i), held)
+        yield Logged(f"{start},done,{'' if figure is None else figure}{closing}", touched(day, i), held, due)
 
 
 # Writing.
@@ -515,6 +535,16 @@ def statement(number, opening, own_log):
     yield f"closing,{number},{held['general']},{held['aviation']}"
 
 
+def report(day, log):
+    """The rows of the report, without its last one, of a day that was settled with this log."""
+    accounts = [it for _, it in sorted(day.accounts.items())]
+    yield from (it.line for it in log)
+    yield f"book,{day.next_record + len(log)}"
+    for it in accounts:
+        yield from account_rows(it)
+    yield from totals(accounts)
+
+
 def answers(text):
     """What the program has to write of a day text, which is given as bytes, by the words of each command; of `statement`,
     for each account."""
@@ -524,10 +554,9 @@ def answers(text):
     log = [*settle(day)]
     own_logs = log_by_account(day.accounts, log)
     accounts = [it for _, it in sorted(day.accounts.items())]
-    book = [f"book,{day.next_record + len(log)}", *(row for it in accounts for row in account_rows(it))]
     figures = [f"determined,{it.number},{year},{tonnes}" for it in accounts for year, tonnes in sorted(it.figures.items())]
     texts = {
-        "settle": [*(it.line for it in log), *book, *totals(accounts)],
+        "settle": [*report(day, log)],
         "plan": waits,
         "figures": figures,
         "totals": [*totals(accounts)],

@@ -1,0 +1,1 @@
+"""The commands of `./day`: a module for each, and what they share."""

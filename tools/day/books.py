@@ -1,0 +1,68 @@
+"""What the accounts of a book have together, and which of their surrenders and deletions can be reversed.
+
+The rows are taken apart here and not read into accounts: a book may have a million of them.
+"""
+from typing import NamedTuple
+
+import rules
+from faults import RETIRED_AS
+
+
+class Retired(NamedTuple):
+    """A surrender or deletion of a block: its place among the rows, and its fields as they are spelled."""
+
+    place: int
+    number: str
+    what: str
+    kind: str
+    amount: str
+    day: str
+    is_reversed: str
+
+
+def retired_of(block):
+    for place, row in enumerate(block.list_rows, 1):
+        if row.startswith("retired,"):
+            yield Retired(place, *row.split(",")[1:7])
+
+
+class Sums(NamedTuple):
+    """What accounts hold together, have surrendered and have deleted of a kind, without what was reversed."""
+
+    held: int
+    surrendered: int
+    deleted: int
+
+    @property
+    def allowances(self):
+        """How many there are: held and surrendered together."""
+        return self.held + self.surrendered
+
+
+def sums_of(rows):
+    """The sums over the accounts of these rows, by kind."""
+    held, retired = dict.fromkeys(rules.KINDS, 0), {(what, kind): 0 for what in RETIRED_AS for kind in rules.KINDS}
+    for row in rows:
+        # (only these two of the rows of a book begin with these letters)
+        if row[0] == "r":
+            _, _, what, kind, amount, _, is_reversed, *_ = row.split(",")
+            if is_reversed == "no":
+                retired[what, kind] += int(amount)
+        elif row[0] == "a":
+            fields = row.split(",")
+            held["general"] += int(fields[8])
+            held["aviation"] += int(fields[9])
+    return {kind: Sums(held[kind], *(retired[what, kind] for what in RETIRED_AS)) for kind in rules.KINDS}
+
+
+def open_by_late_begin(head, book):
+    """The surrenders and deletions from before the calendar of a day that could be reversed on it: the block of each, and its
+    place in the block. When their window ended is not known."""
+    first = head.working_days[0] if head.working_days else None
+    end = first and head.due(first, head.lags["reversal"])
+    if first is None or (end is not None and end < head.date):
+        return
+    for block in book.values():
+        for row in retired_of(block):
+            if row.is_reversed == "no" and row.day < str(first):
+                yield block, row.place

@@ -1,0 +1,42 @@
+"""What each check means and what to do about it, as docs/RULES.md says it: there it stands once."""
+import functools
+import re
+from dataclasses import dataclass
+from pathlib import Path
+
+from day.errors import FileFault
+
+RULES = Path(__file__).resolve().parents[2] / "docs" / "RULES.md"
+ROW = re.compile(r"\| ([0-9]+) \| (\w+) \| ([^|]+) \| ([^|]+) \|")
+LINK = re.compile(r"\[([^]]+)\]\(([^)]*)\)")
+
+
+@dataclass(frozen=True)
+class Check:
+    """A check: its code and its name, when it fails, and what to do then."""
+
+    code: int
+    name: str
+    meaning: str
+    advice: str
+
+
+def plain(text):
+    """A cell of a table without its marks. A link that only says `below` names the place."""
+    return LINK.sub(lambda link: f"docs/RULES.md{link[2]}" if link[1] == "below" else link[1], text).replace("`", "").strip()
+
+
+@functools.lru_cache(maxsize=None)
+def checks():
+    """All checks by their names, in the order in which they are asked."""
+    try:
+        lines = RULES.read_text(encoding="utf-8").splitlines()
+    except OSError as error:
+        raise FileFault(RULES, 0, "", f"it cannot be read: {error.strerror}", "") from None
+    found = [row.groups() for row in map(ROW.fullmatch, lines) if row]
+    return {name: Check(int(code), name, plain(meaning), plain(advice)) for code, name, meaning, advice in found}
+
+
+def advice_for(name):
+    """What to do after a refusal by the check of this name."""
+    return checks()[name].advice

@@ -1,0 +1,58 @@
+"""What goes wrong: each ends a command with a line on standard error and an exit status."""
+
+FOUND, WORDS, FILE = 1, 2, 3
+# No value of a message is longer.
+MOST_SHOWN = 160
+
+
+class WordsFault(Exception):
+    """The words of the command do not fit together, or do not fit the files."""
+
+    status = WORDS
+
+
+class FileFault(Exception):
+    """A file is not what it must be: where, the name of the field or row, what was found there, and what was expected. If the
+    whole file is meant, `found` says all."""
+
+    status = FILE
+
+    def __init__(self, path, line, field, found, expected):
+        super().__init__(path, line, field, found, expected)
+        self.path, self.line, self.field, self.found, self.expected = path, line, field, found, expected
+
+    def __str__(self):
+        place = f"{self.path}:{self.line}" if self.line else str(self.path)
+        if not self.expected:
+            return f"{place}: {self.found}"
+        field = f"{self.field}: " if self.field else ""
+        return f"{place}: {field}found {self.found}; expected {self.expected}"
+
+
+class RowFault(FileFault):
+    """A row has a fault: its number and the cause, as the program says it."""
+
+    def __init__(self, number, cause, *parts):
+        super().__init__(*parts)
+        self.number, self.cause = number, cause
+
+    def as_program(self):
+        return f"row {self.number}: {self.cause}"
+
+
+def shown(word):
+    """A field as a message shows it: between quotes, with what nobody sees made visible."""
+    if word == "":
+        return "nothing"
+    cut = word if len(word) <= MOST_SHOWN else word[:MOST_SHOWN] + ".."
+    return "'" + "".join(it if it.isprintable() and (it == " " or not it.isspace()) else escaped(it) for it in cut) + "'"
+
+
+def escaped(character):
+    """A character that nobody sees, by its name or its number."""
+    names = {"\t": "<tab>", "\n": "<line feed>", "\r": "<carriage return>", "\ufeff": "<byte order mark>", "\xa0": "<no-break space>"}
+    if character in names:
+        return names[character]
+    number = ord(character)
+    # (a byte that is no UTF-8 is read as one of these)
+    return f"<byte {number - 0xDC00:02X}>" if 0xDC80 <= number <= 0xDCFF else f"<U+{number:04X}>"

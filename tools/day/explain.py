@@ -1,0 +1,235 @@
+"""Says what is wrong with a day text, for whoever has it open. The first line is what the program says of it, such as
+`row 12: date`; or that it has no fault. Then, for each fault that can be told: where it stands, what was found there, with what
+nobody sees made visible, what is expected, and a guess what happened, where one is likely.
+
+With --mend it writes the text to standard output without what a spreadsheet did to it: UTF-16, semicolons or tabs, blanks round
+fields, empty fields at the ends of rows, empty rows. Standard error tells what was changed, and what is still wrong. It never
+guesses a value.
+
+exit status: 0 if the text has no fault (with --mend: if none is left), else 1.
+"""
+import re
+import sys
+from dataclasses import dataclass, field
+from typing import NamedTuple
+
+import faults
+from day.errors import FOUND, RowFault, shown
+from day.guesses import OTHER_TEXTS, TAGS, guess
+from day.mending import mended
+from day.progress import progress
+from day.reading import Reader, day_of, rows_of, starts_of_blocks
+
+EXAMPLE = "./day explain day.csv\n  ./day explain from-a-spreadsheet.csv --mend > day.csv"
+# More faults are only counted: one mistake may be in every row.
+MOST_TOLD = 20
+
+
+def add_words(parser):
+    parser.add_argument("day", metavar="DAY", help="a day text that has a fault, or may have one")
+    parser.add_argument("--mend", action="store_true", help="write the text without what a spreadsheet did to it")
+
+
+@dataclass
+class Told:
+    """A fault of a row: its place among the rows, its line, the row and the fault, and a guess."""
+
+    place: int
+    line: int
+    row: list
+    fault: faults.Fault
+    guess: str
+
+
+@dataclass
+class Explainer(faults.Reading):
+    """Reads all rows, and goes on behind a faulty one as if it were the one that is expected."""
+
+    # The last row with each tag.
+    rows_before: dict = field(default_factory=dict)
+
+    def explain(self, row):
+        """The faults of a row."""
+        try:
+            self.add(row)
+            return []
+        except faults.Fault as fault:
+            fault.earlier = self.earlier_row(fault, row)
+            found = [fault, *self.more_faults(fault, row)]
+            self.go_on(fault, row)
+            return found
+
+    def earlier_row(self, fault, row):
+        """The row before it in its list, if it does not rise above that one."""
+        return self.rows_before.get(row[0], "") if fault.cause == "order" else ""
+
+    def more_faults(self, first, row):
+        """The faults of the fields behind the first faulty one."""
+        if not first.place or first.cause in ("tag", "order") or not self.has_fields(row):
+            return
+        for place, (it, word) in enumerate(zip(self.fields(row[0], row[1:]), row[1:]), 2):
+            if place > first.place:
+                try:
+                    faults.read_field(it, word, place)
+                except faults.Fault as fault:
+                    fault.earlier = ""
+                    yield fault
+
+    def has_fields(self, row):
+        try:
+            return bool(self.fields(row[0], row[1:]))
+        except faults.Fault:
+            return False
+
+    def go_on(self, fault, row):
+        """Makes of the state what a good row would have made of it."""
+        tag = row[0]
+        if fault.cause == "end" or (fault.cause == "tag" and (tag not in TAGS or self.is_behind(tag))):
+            return
+        if tag == "account":
+            for other in faults.BLOCK[1:]:
+                self.before.pop(other, None)
+                self.counts.pop(other, None)
+        if fault.cause == "order" and tag != "period":
+            self.before[tag] = self.key(tag, [it.read(word) for it, word in zip(self.fields(tag, row[1:]), row[1:])])
+        if tag == "period":
+            self.last_years.append(max([*self.last_years, faults.FIRST_YEAR]))
+        self.last = tag
+        self.suppose()
+
+    def is_behind(self, tag):
+        """Whether rows with this tag stand before the last row."""
+        return self.last != "" and TAGS.index(tag) <= TAGS.index(self.last)
+
+    def suppose(self):
+        """Supposes what a missing or faulty row of the heading would have said, so that it is told once."""
+        self.version = self.version or 2
+        place = TAGS.index(self.last)
+        if place >= TAGS.index("day"):
+            self.next_record = self.next_record or faults.MOST_RECORD + 1
+        if place > TAGS.index("period") and not self.last_years:
+            self.last_years = [faults.LAST_YEAR] * faults.MOST_PERIODS
+
+
+def faults_of(source):
+    """All faults of a text that can be told."""
+    explainer = Explainer()
+    reader, index, blocks = Reader(source, explainer), 0, None
+    while index < len(source):
+        if index % 1_000 == 0:
+            progress.tell("looking at the rows", index, len(source))
+        row, version = source.fields(index), explainer.version
+        if row[0] == "account" and version:
+            blocks = blocks or blocks_of(source, index, reader)
+            if reader.skip_block(index, blocks.ends[index], blocks.pattern, {}):
+                explainer.rows_before["account"] = source.rows[index]
+                index = blocks.ends[index]
+                continue
+        for fault in explainer.explain(row):
+            yield Told(index + 1, source.line(index), row, fault, guess(fault, row, version))
+            if fault.cause == "end" or is_other_text(index, fault, row):
+                return
+        explainer.rows_before[row[0]] = source.rows[index]
+        index += 1
+    if explainer.last != "end":
+        fault = faults.Fault("end", f"a row {' or '.join(explainer.may_follow())}")
+        yield Told(len(source) + 1, source.line(len(source)), [], fault, "the text was cut, or the row end was left out")
+
+
+class Blocks(NamedTuple):
+    """Where the block of each `account` row ends, and what the rows of lists look like."""
+
+    ends: dict
+    pattern: re.Pattern
+
+
+def blocks_of(source, first, reader):
+    starts, end = starts_of_blocks(source, first)
+    ends = dict(zip(starts, [*starts[1:], end]))
+    # (an `account` row behind the first `do` row ends with itself)
+    later = (it for it in range(end, len(source)) if source.rows[it].startswith("account,"))
+    return Blocks(ends | {it: it + 1 for it in later}, reader.pattern())
+
+
+def is_other_text(index, fault, row):
+    return index == 0 and fault.cause == "tag" and row[0] in OTHER_TEXTS
+
+
+def first_line(path):
+    """What the program says of the text; nothing if it has no fault."""
+    try:
+        day_of(rows_of(path))
+    except RowFault as fault:
+        return fault.as_program()
+    return ""
+
+
+def where(told, text):
+    """Where a fault stands, in words."""
+    place = f"row {told.place}, line {told.line}"
+    if not told.row:
+        return f"{place}: behind the last row"
+    tag = told.row[0]
+    if not told.fault.place:
+        return f"{place}: the {shown(tag)[1:-1]} row" if tag else f"{place}: the row"
+    field = told.fault.place
+    if text.is_plain:
+        raw = text.raw_fields(told.place - 1)
+        place += f", character {1 + sum(len(it) + 1 for it in raw[: field - 1])}"
+    of_row = "" if field == 1 else f" of the {shown(tag)[1:-1]} row"
+    return f"{place}, field {field}: {told.fault.name}{of_row}"
+
+
+def found_words(told):
+    if not told.row:
+        return "the end of the file"
+    if told.fault.place:
+        return shown(told.row[told.fault.place - 1])
+    return f"{len(told.row)} fields: {shown(','.join(told.row))}" if told.fault.cause == "fields" else shown(",".join(told.row))
+
+
+def lines_of(told, text):
+    """The lines that explain a fault."""
+    yield where(told, text)
+    yield f"  found:    {found_words(told)}"
+    yield f"  expected: {told.fault.expected}"
+    if told.guess:
+        yield f"  perhaps:  {told.guess}"
+
+
+def explained(text):
+    """All lines behind the first one, and how many faults there are."""
+    lines = [f"line {line}: {change}" for line, change in text.changes]
+    if text.changes:
+        lines.append("  perhaps:  a spreadsheet or an editor did that. --mend writes the text without it")
+    all_told = [*faults_of(text.source)]
+    if text.changes and all_told:
+        lines.append("With that mended, this is still wrong:")
+    for told in all_told[:MOST_TOLD]:
+        lines += lines_of(told, text)
+    if len(all_told) > MOST_TOLD:
+        lines.append(f"and {len(all_told) - MOST_TOLD} more faults")
+    return lines, len(all_told)
+
+
+def mend(path, text):
+    lines, left = explained(text)
+    sys.stdout.write(text.text())
+    changed = [f"mended: line {line}: {change}" for line, change in text.changes] or ["nothing was to mend"]
+    rest = lines[lines.index("With that mended, this is still wrong:") :] if text.changes and left else lines[len(text.changes) :]
+    print("\n".join([*changed, *(rest if left else [])]), file=sys.stderr)
+    return FOUND if left else 0
+
+
+def run(words):
+    text = mended(words.day)
+    if words.mend:
+        return mend(words.day, text)
+    said = first_line(words.day)
+    if not said:
+        counts = [sum(row.startswith(tag) for row in text.source.rows) for tag in ("account,", "do,")]
+        print(f"{words.day} has no fault: rows {len(text.source)}, accounts {counts[0]}, instructions {counts[1]}")
+        return 0
+    lines, _ = explained(text)
+    print("\n".join([said, *lines]))
+    return FOUND
