@@ -16,3 +16,4 @@ pub mod Turns
 pub mod Values
 pub mod Conserved
 pub mod ClosedStay
+pub mod Appends
