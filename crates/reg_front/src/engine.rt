@@ -2,7 +2,7 @@
 
 ghost use Rattle.std.specs.Prelude.{◌≡◌, ◌+◌, IfOk, IfErr, IfSome, OnOk};
 ghost use Rattle.std.specs.Result.{result_err};
-ghost use Rattle.reg_text.specs.Rows.{rows_in_text};
+ghost use Rattle.reg_cuts.specs.Rows.{rows_in_text};
 ghost use Rattle.reg_text.specs.Reading.{IsReading};
 ghost use Rattle.reg_text.specs.Inputs.{day_of_input};
 ghost use Rattle.reg_front.specs.Streams.{CanFail};
