@@ -8,12 +8,17 @@
 //! ///
 //! /// # Errors
 //! /// As [`run_totals`].
-//! pub fn write_totals<W: Sink>(alloc: Global, text: &[u8], writer: &mut W) -> Result<(), FrontFault>
+//! pub fn write_totals<T: Threads + Sync, W: Sink>(
+//!     rt: &T,
+//!     alloc: Global,
+//!     text: &[u8],
+//!     writer: &mut W,
+//! ) -> Result<(), FrontFault>
 //!     requires { CanFail (W.stream writer.old) }
 //!     ensures { OnOk result (WritesText Totals (Some text.now) (W.stream writer.old).bytes (W.stream writer.new).bytes) }
 //! {
 //!     let mut reader = Counted::new(text);
-//!     run_totals(alloc, &mut reader, writer)
+//!     run_totals(rt, alloc, &mut reader, writer)
 //! }
 //! ```
 #![tactic(auto)]
@@ -26,6 +31,7 @@ mod engine;
 mod fault;
 mod faulty;
 mod line;
+mod pieces;
 mod stream;
 mod texts;
 

@@ -1,10 +1,11 @@
 //! The text of each command, for a day that was read.
 
-ghost use Rattle.std.specs.Prelude.{◌≡◌, ◌+◌, true, None, IfOk, MatchResult};
+ghost use Rattle.std.specs.Prelude.{◌≡◌, ◌≤◌, ◌+◌, ◌++◌, [], true, None, IfOk, MatchResult};
 ghost use Rattle.reg_book.specs.Day.{settled_day, log_of};
 ghost use Rattle.reg_book.specs.Settled.{IsOfBook};
 ghost use Rattle.reg_work.specs.Faults.{are_workers};
 ghost use Rattle.reg_text.specs.Inputs.{day_of_input};
+ghost use Rattle.reg_text.specs.Pieces.{text_of_pieces};
 ghost use Rattle.reg_text.specs.Report.{text_of};
 ghost use Rattle.reg_text.specs.Determined.{figures_rows};
 ghost use Rattle.reg_text.specs.Totals.{totals_rows};
@@ -21,6 +22,7 @@ use reg_book::{Closed, Replaced, SettleFault, Settled, settle_in_place, settle_p
 use reg_plan::Plan;
 use reg_text::{
     DayInput, StatementFault, figures_over, plan_text, statement, totals_text, write_report_over,
+    write_report_pieces,
 };
 use reg_work::{OpenGate, WorkFault, settle_with};
 use std::alloc::Global;
@@ -31,6 +33,8 @@ use std::thread::Threads;
 /// accounts as they were before the day, if they were replaced. Nothing is done with it but to free it, or not to.
 #[derive(Drop)]
 pub(crate) struct Used {
+    // What comes before `text`: none, unless several workers have spelled it.
+    pub(crate) pieces: Vec<Vec<u8>>,
     pub(crate) text: Vec<u8>,
     closed: Option<Closed>,
     replaced: Option<Replaced>,
@@ -59,7 +63,15 @@ pub(crate) fn make_answer(
     }
 }
 
-/// The report of the day, settled by workers, in the place of bytes that are no longer needed.
+/// The number of threads that read the input and spell the report for so many workers: within the limits of workers.
+pub(crate) fn threads_for(workers: u32) -> usize
+    ensures { 1 ≤ result }
+{
+    workers.clamp(1, 8) as usize
+}
+
+/// The report of the day, settled by workers. One worker settles it on its own book, and its report takes the place of
+/// bytes that are no longer needed. Several workers also spell the report, in pieces; the bytes are given back before.
 ///
 /// # Errors
 /// `Workers` if the number of workers is not 1 to 8. Otherwise `NoThread` if a thread could not be started, and
@@ -73,25 +85,43 @@ pub(crate) fn make_report<T: Threads + Wait + Sync>(
 ) -> Result<Used, FrontFault>
     requires { day.batch.base + 1 ≡ day.book.next }
     ensures { MatchResult result
-        (λ used. (are_workers workers ≡ true) × (used.text.items ≡ report_of (day_of_input day)))
+        (λ used. (are_workers workers ≡ true) × (text_of_pieces used.pieces.items ++ used.text.items ≡ report_of (day_of_input day)))
         (IsCommandFault (Settle workers) day.book) }
 {
+    if workers == 1 {
+        return make_report_in_place(alloc, day, bytes);
+    }
+    drop(bytes);
     let (closed, replaced) = close_by_workers(rt, alloc, day, workers)?;
-    let text = write_report_over(bytes, &closed.book, closed.rows.as_slice())?;
+    let rows = closed.rows.as_slice();
+    let pieces = write_report_pieces(rt, alloc, &closed.book, rows, threads_for(workers))?;
     Ok(Used {
-        text,
+        pieces,
+        text: Vec::new(alloc),
         closed: Some(closed),
         replaced: Some(replaced),
     })
 }
 
-// What a command has used that closed no day.
-fn used_for(text: Vec<u8>) -> Used
-    ensures { result.text ≡ text }
+// The report of the day, settled on its own book, in the place of bytes that are no longer needed.
+fn make_report_in_place(alloc: Global, day: DayInput, bytes: Vec<u8>) -> Result<Used, FrontFault>
+    requires { day.batch.base + 1 ≡ day.book.next }
+    ensures { MatchResult result (λ used. text_of_pieces used.pieces.items ++ used.text.items ≡ report_of (day_of_input day)) (λ fault. fault ≡ front.NoMemory) }
+{
+    let closed = close_day(alloc, day)?;
+    let text = write_report_over(bytes, &closed.book, closed.rows.as_slice())?;
+    Ok(used_for(alloc, text, Some(closed)))
+}
+
+// What a command has used whose text lies in one place.
+fn used_for(alloc: Global, text: Vec<u8>, closed: Option<Closed>) -> Used
+    ensures text { result.text ≡ text }
+    ensures pieces { result.pieces.items ≡ [] }
 {
     Used {
+        pieces: Vec::new(alloc),
         text,
-        closed: None,
+        closed,
         replaced: None,
     }
 }
@@ -102,7 +132,7 @@ fn make_plan(alloc: Global, day: &DayInput) -> Result<Used, FrontFault>
 {
     let plan = Plan::of(alloc, &day.batch, day.book.directory())?;
     let text = plan_text(alloc, &plan)?;
-    Ok(used_for(text))
+    Ok(used_for(alloc, text, None))
 }
 
 // The statement of an account.
@@ -117,7 +147,7 @@ fn make_statement(alloc: Global, day: &DayInput, account: AccountNo) -> Result<U
     }
     let settled = settle(alloc, day)?;
     match statement(alloc, &day.book, settled.rows(), account) {
-        Ok(text) => Ok(used_for(text)),
+        Ok(text) => Ok(used_for(alloc, text, None)),
         Err(StatementFault::NoMemory) => Err(FrontFault::NoMemory),
         Err(StatementFault::UnknownAccount) => unreachable!(),
     }
@@ -130,11 +160,7 @@ fn make_figures(alloc: Global, day: DayInput, bytes: Vec<u8>) -> Result<Used, Fr
 {
     let closed = close_day(alloc, day)?;
     let text = figures_over(bytes, &closed.book)?;
-    Ok(Used {
-        text,
-        closed: Some(closed),
-        replaced: None,
-    })
+    Ok(used_for(alloc, text, Some(closed)))
 }
 
 // The totals after the day.
@@ -144,11 +170,7 @@ fn make_totals(alloc: Global, day: DayInput) -> Result<Used, FrontFault>
 {
     let closed = close_day(alloc, day)?;
     let text = totals_text(alloc, &closed.book)?;
-    Ok(Used {
-        text,
-        closed: Some(closed),
-        replaced: None,
-    })
+    Ok(used_for(alloc, text, Some(closed)))
 }
 
 // Settles the day. Its book stays as it is.

@@ -1,10 +1,10 @@
 -- Rows that begin with an instruction add the same behind any rows with the same heading: what they say depends on the
 -- draft before them only through its heading and how many instructions it has.
-use Rattle.std.proofs.Common.{◌≡◌, ℕ, ◌+◌, ◌-◌, ◌<◌, ◌≤◌, Bool, true, false, List, [], ◌∷◌, ◌++◌, ◌⊎◌, inl, inr, length, Option, Some, None, Ok, refl, sym, ap, subst, ◌∙◌, arith, append_assoc, length-append}
-use Rattle.std.specs.Prelude.{nat_le, nat_lt, ◌&&◌}
+use Rattle.std.proofs.Common.{◌≡◌, ℕ, ◌+◌, ◌-◌, ◌<◌, ◌≤◌, Bool, true, false, List, [], ◌∷◌, ◌++◌, length, Option, Some, None, Ok, refl, sym, ap, subst, ◌∙◌, arith, append_assoc, length-append}
+use Rattle.std.specs.Prelude.{nat_lt, ◌&&◌}
 use Rattle.std.proofs.lemmas.Bool.{lt-ltb, le-leb, leb-true}
 use Rattle.reg_text.proofs.Names.{MOST_INSTRUCTIONS, MOST_RECORD, Tag, Version, One, Two, Scope, Record, field, named, all_tags, tag_word, rule, place, may_follow, Said, row}
-use Rattle.reg_text.proofs.Names.{DraftValue, scope_of, with, in_order, has_room, next_draft, drafted, next_in, is_number_left}
+use Rattle.reg_text.proofs.Names.{DraftValue, scope_of, with, has_room, next_draft, drafted, next_in, is_number_left}
 use Rattle.reg_text.specs.declared.cause.Cause.TheVariants as cause
 use Rattle.reg_text.specs.declared.reading.tag.Tag.TheVariants as tag
 use Rattle.reg_text.specs.Joining.{IsHeading, HasHeading, IsPart, InstructionsMayFollow, joined}

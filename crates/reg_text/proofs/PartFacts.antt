@@ -1,14 +1,13 @@
 -- Parts that were read on their own, joined one after another.
 use Rattle.std.proofs.Common.{◌≡◌, ℕ, zero, suc, ◌+◌, ◌<◌, List, [], ◌∷◌, ◌++◌, length, get_or, drop, Bool, true, false, Result, Err, IfOk, MatchBool, Option, Some, None, Ok, refl, sym, ap, subst, ◌∙◌, append_assoc, length-append, arith}
 use Rattle.std.proofs.lemmas.List.{append-nil}
-use Rattle.std.specs.Prelude.{IfSome}
 use Rattle.std.specs.Result.{result_ok}
 use Rattle.std.specs.Borrow.{Bor}
 use Rattle.reg_cuts.specs.Parts.{IsCut, HasNoMark, EachCutSplits, CutsGoOn, text_of_parts}
 use Rattle.reg_text.proofs.Names.{AccountValue, AccountHead, option_to_list, DraftValue, Record, IsDraft, FitsSoFar, nothing_read, draft_of, next_draft, drafted, after_rows, at_end, day_of_rows, day_said, is_text_over, rows_in_text}
 use Rattle.reg_text.specs.declared.reading.tag.Tag.TheVariants as tag
 use Rattle.reg_text.specs.declared.reading.parts.Part.{Part}
-use Rattle.reg_text.specs.Joining.{IsHeading, HasHeading, IsPart, MayJoin, IsReadSoFar, PartsJoin, joined}
+use Rattle.reg_text.specs.Joining.{IsHeading, HasHeading, IsPart, MayJoin, IsReadSoFar, joined}
 use Rattle.reg_text.specs.PartsRead.{IsReadPart, ReadsEach}
 use Rattle.reg_text.proofs.Binds.{bind_ok, ok_is}
 use Rattle.reg_text.proofs.DraftSteps.{grows, nothing-fits}

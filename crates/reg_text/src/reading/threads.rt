@@ -25,7 +25,7 @@ use std::thread::Threads;
 // account follows.
 const STARTS: [&[u8]; 2] = [b"\naccount,", b"\ndo,"];
 
-// The number of parts of so many bytes, at most the wanted one: each part has `least` bytes or more, about.
+// The number of parts of a text of so many bytes, at most the wanted one: each part has `least` bytes or more, about.
 fn count_parts(bytes: usize, wanted: usize, least: usize) -> usize
     ensures { 1 ≤ result }
 {
@@ -52,19 +52,18 @@ fn read_parts<R: Threads + Sync>(
     )
 }
 
-// What the rows of a text say, read by at most so many parts.
+// What the rows of a text say, read by at most so many parts behind the heading.
 fn read_by_parts<R: Threads + Sync>(
     rt: &R,
     alloc: Global,
     text: &[u8],
-    wanted: usize,
-    least: usize,
+    count: usize,
 ) -> Option<Draft>
+    requires { 1 ≤ count }
     ensures { IfSome result (λ draft. FitsSoFar (draft_of draft) × (draft.last ≡ Some tag.End) × (day_of_rows (rows_in_text text.now) ≡ at_end 0 (day_said (draft_of draft)))) }
 {
     let (head, body) = cut_near(text, &STARTS, 0);
     let heading = read_heading(alloc, head)?;
-    let count = count_parts(body.len(), wanted, least);
     let Ok(parts) = cut_parts(alloc, body, &STARTS, count) else {
         return None;
     };
@@ -92,8 +91,9 @@ pub(crate) fn read_rows_with<R: Threads + Sync>(
         (λ draft. FitsSoFar (draft_of draft) × (draft.last ≡ Some tag.End) × (day_of_rows (rows_in_text text.now) ≡ at_end 0 (day_said (draft_of draft))))
         (λ e. AnswersFault e (day_of_rows (rows_in_text text.now))) }
 {
-    if wanted > 1 {
-        if let Some(draft) = read_by_parts(rt, alloc, text, wanted, least) {
+    let count = count_parts(text.len(), wanted, least);
+    if count > 1 {
+        if let Some(draft) = read_by_parts(rt, alloc, text, count) {
             return Ok(draft);
         }
     }

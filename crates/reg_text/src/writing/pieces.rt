@@ -10,7 +10,7 @@ ghost use Rattle.reg_text.specs.Spelling.{book_rows, end_row};
 ghost use Rattle.reg_text.specs.Report.{text_of, log_rows, totals_row, report_rows};
 ghost use Rattle.reg_text.specs.Pieces.{text_of_pieces, SpellsAt};
 
-use crate::writing::report::{put_end, put_next, put_totals};
+use crate::writing::report::{put_end, put_next, put_totals, write_report};
 use crate::writing::row::RowText;
 use crate::writing::rows::{Rows, put_each};
 use crate::writing::text::Text;
@@ -20,6 +20,9 @@ use reg_rules::LogRow;
 use std::alloc::{AllocError, Global};
 use std::thread;
 use std::thread::Threads;
+
+// So many log rows and accounts are spelled by one thread: to start others would take longer.
+const FEW: usize = 1_024;
 
 // The text of the rows of values.
 fn spell_run<T: Rows>(alloc: Global, values: &[T]) -> Result<Vec<u8>, NoMemory>
@@ -42,13 +45,15 @@ fn spell_runs<R: Threads + Sync, T: Rows + Sync>(
     ensures len { IfOk result (λ runs. vec_len runs ≡ length values.now / size + min 1 (length values.now % size)) }
     ensures each { IfOk result (λ runs. SpellsAt T.rows values.now size runs.items) }
 {
-    thread::map_chunks(
-        rt,
-        alloc,
-        values,
-        size,
-        &|_, run| { spell_run(alloc, run) },
-    )
+    thread::map_chunks(rt, alloc, values, size, &|_, run| { spell_run(alloc, run) })
+}
+
+// How many values a run has, if so many values are to lie in at most so many runs.
+fn run_size(count: usize, workers: usize) -> usize
+    requires { 1 ≤ workers }
+    ensures { 0 < result }
+{
+    (count / workers).saturating_add(1)
 }
 
 // Adds the rows of values, in at most so many pieces.
@@ -62,7 +67,7 @@ fn add_runs<R: Threads + Sync, T: Rows + Sync>(
     requires { 1 ≤ workers }
     ensures { OnOk result (text_of_pieces pieces.new.items ≡ text_of_pieces pieces.old.items ++ text_of (flat_map T.rows values.now)) }
 {
-    let size = values.len() / workers + 1;
+    let size = run_size(values.len(), workers);
     for run in spell_runs(rt, alloc, values, size)? {
         pieces.push(run?)?;
     }
@@ -139,7 +144,8 @@ fn spell_front<R: Threads + Sync>(
 }
 
 /// The report of a settled day in pieces, spelled by so many threads. Their bytes one after another are the text that
-/// `write_report` makes; they are never put together. Another thread adds up the totals at the same time.
+/// `write_report` makes; they are never put together. Another thread adds up the totals at the same time. A short report
+/// is one piece.
 ///
 /// # Errors
 /// `NoMemory` if memory ran out. That a thread can't be started is no error.
@@ -153,12 +159,27 @@ pub fn write_report_pieces<R: Threads + Sync>(
     requires { 1 ≤ workers }
     ensures { IfOk result (λ pieces. text_of_pieces pieces.items ≡ text_of (report_rows book.now rows.now)) }
 {
+    if book.accounts().len() < FEW && rows.len() < FEW {
+        return spell_at_once(alloc, book, rows);
+    }
     let (tail, front) = thread::join(
         rt,
         || spell_tail(alloc, book),
-        || spell_front(rt, alloc, book, rows, workers),
+        ||
+            requires { 1 ≤ workers }
+        { spell_front(rt, alloc, book, rows, workers) },
     );
     let mut pieces = front?;
     pieces.push(tail?)?;
+    Ok(pieces)
+}
+
+// The report in one piece.
+fn spell_at_once(alloc: Global, book: &Book, rows: &[LogRow]) -> Result<Vec<Vec<u8>>, NoMemory>
+    ensures { IfOk result (λ pieces. text_of_pieces pieces.items ≡ text_of (report_rows book.now rows.now)) }
+{
+    let text = write_report(alloc, book, rows)?;
+    let mut pieces = Vec::new(alloc);
+    pieces.push(text)?;
     Ok(pieces)
 }

@@ -1,6 +1,6 @@
-use Rattle.std.proofs.Common.{◌≡◌, ◌++◌, ◌∙◌, ap, sym, subst, ℕ, List}
+use Rattle.std.proofs.Common.{◌≡◌, ap, sym, subst, ℕ}
 use Rattle.std.specs.Prelude.{IfSome}
-use Rattle.reg_text.proofs.Names.{AccountValue, BookValue, DraftValue}
+use Rattle.reg_text.proofs.Names.{BookValue, DraftValue}
 use Rattle.reg_text.proofs.PartFacts.{joined-count}
 use Rattle.reg_text.proofs.reading.joining.join_accounts.Goals as goal
 

@@ -18,7 +18,7 @@ loop-part-preserved c =
     let left = items ∙ ap (λ (o : Option Part). o ∷ c.next.new.self.rest.items) c.in_ok-part.was in
     let each = subst (ReadsEach h c.loop-part.rest.now) left i.each in
     let next = part-joined h (draft_of c.loop-part.draft) (draft_of c.in_ok-draft.draft) (c.args.head.now ++ text_of_parts c.args.parts.now) c.loop-part.rest.now p c.next.new.self.rest.items
-        c.each_cut_splits.ensures c.cuts_go_on.ensures c.requires.heading i.joined each c.in_ok-draft.ensures.may c.in_ok-draft.ensures.joins in
+    c.each_cut_splits.ensures c.cuts_go_on.ensures c.requires.heading i.joined each c.in_ok-draft.ensures.may c.in_ok-draft.ensures.joins in
     record { next = record {}; ends = record {}; each = rw c.behind_first-rest.ensures next.0; joined = rw c.behind_first-rest.ensures next.1 }
 
 pub returns : goal.returns
