@@ -18,3 +18,4 @@ pub mod Values
 pub mod Conserved
 pub mod ClosedStay
 pub mod Chains
+pub mod Appends

@@ -1,7 +1,7 @@
 -- How a command ends, over plain variables.
 use Rattle.std.proofs.Common.{◌≡◌, ℕ, List, true, is_err, OnErr, Option, None, Some, IfSome, Result, Ok, Err}
 use Rattle.reg_book.specs.Day.{Day}
-use Rattle.reg_text.specs.Rows.{rows_in_text}
+use Rattle.reg_cuts.specs.Rows.{rows_in_text}
 use Rattle.reg_text.specs.Reading.{IsReading}
 use Rattle.reg_front.specs.declared.command.Command.{Command}
 use Rattle.reg_front.specs.declared.fault.FrontFault.TheVariants.{WriteFailed}

@@ -6,7 +6,7 @@ use Rattle.reg_book.specs.Book.{BookValue, directory_of}
 use Rattle.reg_book.specs.Day.{Day, log_of}
 use Rattle.reg_book.specs.Chains.{book_after}
 use Rattle.reg_work.specs.Faults.{are_workers}
-use Rattle.reg_text.specs.Rows.{rows_in_text}
+use Rattle.reg_cuts.specs.Rows.{rows_in_text}
 use Rattle.reg_text.specs.Faults.{day_of_rows}
 use Rattle.reg_text.specs.Reading.{IsReading}
 use Rattle.reg_text.specs.Report.{text_of}

@@ -60,6 +60,23 @@ pub(crate) fn read_all<R: Source>(alloc: Global, reader: &mut R) -> Result<Vec<u
     unreachable!()
 }
 
+/// Writes the whole text, and does not flush the writer.
+///
+/// # Errors
+/// [`CallFailed`] if a call of `write` fails; there is no second try. The writer has then taken a prefix of the text.
+pub(crate) fn put_all<W: Sink>(writer: &mut W, text: &[u8]) -> Result<(), CallFailed>
+    requires { CanFail (W.stream writer.old) }
+    ensures ok { OnOk result (Writes text.now (W.stream writer.old) (W.stream writer.new)) }
+    ensures err { OnErr result (FailsToWrite text.now (W.stream writer.old) (W.stream writer.new)) }
+{
+    let mut rest = text;
+    while !rest.is_empty() {
+        let count = writer.write(rest)?;
+        rest = &rest[count..];
+    }
+    Ok(())
+}
+
 /// Writes the whole text and flushes the writer.
 ///
 /// # Errors
@@ -70,10 +87,8 @@ pub(crate) fn write_all<W: Sink>(writer: &mut W, text: &[u8]) -> Result<(), Call
     ensures ok { OnOk result (Writes text.now (W.stream writer.old) (W.stream writer.new)) }
     ensures err { OnErr result (FailsToWrite text.now (W.stream writer.old) (W.stream writer.new)) }
 {
-    let mut rest = text;
-    while !rest.is_empty() {
-        let count = writer.write(rest)?;
-        rest = &rest[count..];
-    }
+    let Ok(()) = put_all(writer, text) else {
+        return Err(CallFailed);
+    };
     writer.flush()
 }

@@ -1,27 +1,30 @@
 //! The text of each command, for a day that was read.
 
-ghost use Rattle.std.specs.Prelude.{◌≡◌, ◌+◌, true, None, IfOk, MatchResult};
+ghost use Rattle.std.specs.Prelude.{◌≡◌, ◌≤◌, ◌+◌, ◌++◌, [], true, None, IfOk, MatchResult};
 ghost use Rattle.reg_book.specs.Chains.{book_after};
 ghost use Rattle.reg_book.specs.Day.{settled_day, log_of};
 ghost use Rattle.reg_book.specs.Settled.{IsOfBook};
 ghost use Rattle.reg_work.specs.Faults.{are_workers};
 ghost use Rattle.reg_text.specs.Inputs.{day_of_input};
 ghost use Rattle.reg_text.specs.NextDays.{report_of};
+ghost use Rattle.reg_text.specs.Pieces.{text_of_pieces};
 ghost use Rattle.reg_text.specs.Report.{text_of};
 ghost use Rattle.reg_text.specs.Determined.{figures_rows};
 ghost use Rattle.reg_text.specs.Totals.{totals_rows};
 ghost use Rattle.reg_text.specs.Statement.{statement_of, has_account};
 ghost use Rattle.reg_front.specs.declared.command.Command.TheVariants.{Settle, Statement};
 ghost use Rattle.reg_front.specs.declared.fault.FrontFault.TheVariants as front;
+ghost use Rattle.reg_front.specs.Questions.{command_of};
 ghost use Rattle.reg_front.specs.Runs.{command_fault, IsPlanText, IsTextFor, IsCommandFault};
 
-use crate::command::Command;
+use crate::command::Question;
 use crate::fault::FrontFault;
 use reg_base::{AccountNo, NoMemory};
 use reg_book::{Closed, Replaced, SettleFault, Settled, settle_in_place, settle_plain};
 use reg_plan::Plan;
 use reg_text::{
     DayInput, StatementFault, figures_over, plan_text, statement, totals_text, write_report_over,
+    write_report_pieces,
 };
 use reg_work::{OpenGate, WorkFault, settle_with};
 use std::alloc::Global;
@@ -32,39 +35,50 @@ use std::thread::Threads;
 /// accounts as they were before the day, if they were replaced. Nothing is done with it but to free it, or not to.
 #[derive(Drop)]
 pub(crate) struct Used {
+    // What comes before `text`: none, unless several workers have spelled it.
+    pub(crate) pieces: Vec<Vec<u8>>,
     pub(crate) text: Vec<u8>,
     closed: Option<Closed>,
     replaced: Option<Replaced>,
 }
 
-/// The text of a command for a day. `bytes` are no longer needed: a report and a text of figures take their memory.
+/// The text that answers a question of a day. `bytes` are no longer needed: a text of figures takes their memory.
 ///
 /// # Errors
-/// `Workers` if the number of workers is not 1 to 8. `NoAccount` if the account of a statement is not in the book.
-/// Otherwise `NoThread` if a thread could not be started, and `NoMemory` if memory ran out.
-pub(crate) fn make_text<T: Threads + Wait + Sync>(
-    rt: &T,
+/// `NoAccount` if the account of a statement is not in the book. Otherwise `NoMemory` if memory ran out.
+pub(crate) fn make_answer(
     alloc: Global,
     day: DayInput,
     bytes: Vec<u8>,
-    command: &Command,
+    question: &Question,
 ) -> Result<Used, FrontFault>
     requires { day.batch.base + 1 ≡ day.book.next }
     ensures { MatchResult result
-        (λ used. (command_fault command.now day.book ≡ None) × IsTextFor command.now (day_of_input day) used.text.items)
-        (IsCommandFault command.now day.book) }
+        (λ used. (command_fault (command_of question.now) day.book ≡ None) × IsTextFor (command_of question.now) (day_of_input day) used.text.items)
+        (IsCommandFault (command_of question.now) day.book) }
 {
-    match *command {
-        Command::Settle { workers } => make_report(rt, alloc, day, bytes, workers),
-        Command::Plan => make_plan(alloc, &day),
-        Command::Statement { account } => make_statement(alloc, &day, account),
-        Command::Figures => make_figures(alloc, day, bytes),
-        Command::Totals => make_totals(alloc, day),
+    match *question {
+        Question::Plan => make_plan(alloc, &day),
+        Question::Statement { account } => make_statement(alloc, &day, account),
+        Question::Figures => make_figures(alloc, day, bytes),
+        Question::Totals => make_totals(alloc, day),
     }
 }
 
-// The report of the day, settled by workers, in the place of bytes that are no longer needed.
-fn make_report<T: Threads + Wait + Sync>(
+/// The number of threads that read the input and spell the report for so many workers: within the limits of workers.
+pub(crate) fn threads_for(workers: u32) -> usize
+    ensures { 1 ≤ result }
+{
+    workers.clamp(1, 8) as usize
+}
+
+/// The report of the day, settled by workers. One worker settles it on its own book, and its report takes the place of
+/// bytes that are no longer needed. Several workers also spell the report, in pieces; the bytes are given back before.
+///
+/// # Errors
+/// `Workers` if the number of workers is not 1 to 8. Otherwise `NoThread` if a thread could not be started, and
+/// `NoMemory` if memory ran out.
+pub(crate) fn make_report<T: Threads + Wait + Sync>(
     rt: &T,
     alloc: Global,
     day: DayInput,
@@ -73,25 +87,43 @@ fn make_report<T: Threads + Wait + Sync>(
 ) -> Result<Used, FrontFault>
     requires { day.batch.base + 1 ≡ day.book.next }
     ensures { MatchResult result
-        (λ used. (are_workers workers ≡ true) × (used.text.items ≡ report_of (day_of_input day)))
+        (λ used. (are_workers workers ≡ true) × (text_of_pieces used.pieces.items ++ used.text.items ≡ report_of (day_of_input day)))
         (IsCommandFault (Settle workers) day.book) }
 {
+    if workers == 1 {
+        return make_report_in_place(alloc, day, bytes);
+    }
+    drop(bytes);
     let (closed, replaced) = close_by_workers(rt, alloc, day, workers)?;
-    let text = write_report_over(bytes, &closed.book, closed.rows.as_slice())?;
+    let rows = closed.rows.as_slice();
+    let pieces = write_report_pieces(rt, alloc, &closed.book, rows, threads_for(workers))?;
     Ok(Used {
-        text,
+        pieces,
+        text: Vec::new(alloc),
         closed: Some(closed),
         replaced: Some(replaced),
     })
 }
 
-// What a command has used that closed no day.
-fn used_for(text: Vec<u8>) -> Used
-    ensures { result.text ≡ text }
+// The report of the day, settled on its own book, in the place of bytes that are no longer needed.
+fn make_report_in_place(alloc: Global, day: DayInput, bytes: Vec<u8>) -> Result<Used, FrontFault>
+    requires { day.batch.base + 1 ≡ day.book.next }
+    ensures { MatchResult result (λ used. text_of_pieces used.pieces.items ++ used.text.items ≡ report_of (day_of_input day)) (λ fault. fault ≡ front.NoMemory) }
+{
+    let closed = close_day(alloc, day)?;
+    let text = write_report_over(bytes, &closed.book, closed.rows.as_slice())?;
+    Ok(used_for(alloc, text, Some(closed)))
+}
+
+// What a command has used whose text lies in one place.
+fn used_for(alloc: Global, text: Vec<u8>, closed: Option<Closed>) -> Used
+    ensures text { result.text ≡ text }
+    ensures pieces { result.pieces.items ≡ [] }
 {
     Used {
+        pieces: Vec::new(alloc),
         text,
-        closed: None,
+        closed,
         replaced: None,
     }
 }
@@ -102,7 +134,7 @@ fn make_plan(alloc: Global, day: &DayInput) -> Result<Used, FrontFault>
 {
     let plan = Plan::of(alloc, &day.batch, day.book.directory())?;
     let text = plan_text(alloc, &plan)?;
-    Ok(used_for(text))
+    Ok(used_for(alloc, text, None))
 }
 
 // The statement of an account.
@@ -117,7 +149,7 @@ fn make_statement(alloc: Global, day: &DayInput, account: AccountNo) -> Result<U
     }
     let settled = settle(alloc, day)?;
     match statement(alloc, &day.book, settled.rows(), account) {
-        Ok(text) => Ok(used_for(text)),
+        Ok(text) => Ok(used_for(alloc, text, None)),
         Err(StatementFault::NoMemory) => Err(FrontFault::NoMemory),
         Err(StatementFault::UnknownAccount) => unreachable!(),
     }
@@ -130,11 +162,7 @@ fn make_figures(alloc: Global, day: DayInput, bytes: Vec<u8>) -> Result<Used, Fr
 {
     let closed = close_day(alloc, day)?;
     let text = figures_over(bytes, &closed.book)?;
-    Ok(Used {
-        text,
-        closed: Some(closed),
-        replaced: None,
-    })
+    Ok(used_for(alloc, text, Some(closed)))
 }
 
 // The totals after the day.
@@ -144,11 +172,7 @@ fn make_totals(alloc: Global, day: DayInput) -> Result<Used, FrontFault>
 {
     let closed = close_day(alloc, day)?;
     let text = totals_text(alloc, &closed.book)?;
-    Ok(Used {
-        text,
-        closed: Some(closed),
-        replaced: None,
-    })
+    Ok(used_for(alloc, text, Some(closed)))
 }
 
 // Settles the day. Its book stays as it is.

@@ -58,7 +58,7 @@ pub use Rattle.reg_base.specs.declared.instruction.Instruction.{Instruction}
 pub use Rattle.reg_text.specs.Causes.{test, ◌>>=◌}
 pub use Rattle.csv.specs.Reading.{ExplainsRead, ReadRecord, default_config, is_bom, is_flexible, records, records_next, with_flexible, with_names_headers}
 unfoldable pub use Rattle.csv.specs.Reading.{Reached, records_from, strip_bom}
-pub use Rattle.reg_text.specs.Rows.{IsOfMemory, IsOpen, known_rest, records_in, rest_of, rows_left, rows_in_text}
+pub use Rattle.reg_cuts.specs.Rows.{IsOfMemory, IsOpen, known_rest, records_in, rest_of, rows_left, rows_in_text}
 pub use Rattle.reg_text.specs.declared.reading.instruction_row.ActName.{ActName}
 pub use Rattle.reg_text.specs.declared.reading.instruction_row.ActName.TheVariants.{Transfer}
 pub use Rattle.reg_text.specs.Codecs.{AreFields, Codec, Fields, IsCodec, IsRow, Row, a_date, a_figure, a_no, a_period, a_word, an_approver, any_number, factor, later_factor, approver_tests, approver_text, forms, holds_of, last, made, named_row, none, provided, row_with, tests_then, within_limits, ◌▸◌}

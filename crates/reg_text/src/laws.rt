@@ -22,6 +22,7 @@ ghost use Rattle.reg_text.specs.Records.{Record};
 ghost use Rattle.reg_book.specs.Day.{Day};
 ghost use Rattle.reg_text.specs.Reading.{IsReading, IsFirstFaulty};
 ghost use Rattle.reg_text.specs.Drafts.{DraftValue};
+ghost use Rattle.reg_text.specs.Joining.{PartsJoin};
 ghost use Rattle.reg_text.specs.Faults.{day_of_rows, next_draft};
 ghost use Rattle.reg_text.specs.Table.{tests_of, IsCauseOf};
 ghost use Rattle.reg_text.specs.FieldFaults.{IsNumberText, IsSignedText, IsDateText, TellsFromLimit};
@@ -97,4 +98,9 @@ pub fn tells_other_texts_from_limits()
     ensures corrections { TellsFromLimit signed_correction_of cause.Number IsSignedText }
     ensures figures { TellsFromLimit signed_figure_of cause.Number IsSignedText }
     ensures dates { TellsFromLimit date_of cause.Date IsDateText }
+{}
+
+/// The rows of a part of a text that was read on its own, behind those before it.
+pub fn parts_join()
+    ensures { PartsJoin }
 {}

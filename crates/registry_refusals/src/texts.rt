@@ -1,14 +1,19 @@
 //! Texts: reading a day, and what is written of a book.
 
-use crate::call::{Call, try_rehearsed};
+use crate::call::{Call, try_rehearsed, try_threads};
+use crate::digest::digest_of;
 use crate::endings::{Ended, how_ended};
 use crate::stop::Stop;
 use reg_base::AccountNo;
 use reg_book::settle_plain;
 use reg_rules::LogRow;
-use reg_text::{DayInput, figures, read_day, statement, totals_text, write_book, write_report};
+use reg_text::{
+    DayFault, DayInput, figures, read_day, read_day_by_parts, statement, totals_text, write_book,
+    write_report,
+};
 use std::alloc::Global;
 use std::io::Write;
+use std::thread::Threads;
 
 // `read_day`.
 #[derive(Drop)]
@@ -25,6 +30,28 @@ impl Call for Reading<'_> {
 /// Tries `read_day`.
 pub(crate) fn try_read<W: Write>(alloc: Global, text: &[u8], writer: &mut W) -> Result<(), Stop> {
     try_rehearsed(alloc, &text, &mut Reading { text }, writer)
+}
+
+// How reading ended: with a day, or with the first fault of the text, which is looked at too.
+fn how_read(answer: Result<DayInput, DayFault>) -> Ended {
+    match answer {
+        Ok(day) => Ended::Done(digest_of(&day)),
+        Err(DayFault::NoMemory) => Ended::NoMemory,
+        Err(fault) => Ended::Done(digest_of(&fault)),
+    }
+}
+
+/// Tries `read_day_by_parts` by at most so many parts of any size: it is to end as `read_day` does.
+pub(crate) fn try_read_by_parts<R: Threads + Sync, W: Write>(
+    rt: &R,
+    alloc: Global,
+    text: &[u8],
+    parts: u32,
+    writer: &mut W,
+) -> Result<(), Stop> {
+    let wanted = how_read(read_day(alloc, text));
+    let call = || how_read(read_day_by_parts(rt, alloc, text, parts as usize, 1));
+    try_threads(&text, call, wanted, writer)
 }
 
 /// A text that is written of a book.

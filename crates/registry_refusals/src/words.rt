@@ -11,7 +11,7 @@ use crate::settling::{try_order, try_plain, try_waves, try_workers};
 use crate::steps::try_execute;
 use crate::stop::Stop;
 use crate::tasks::{try_context, try_gather, try_opening, try_run};
-use crate::texts::{Written, try_read, try_text};
+use crate::texts::{Written, try_read, try_read_by_parts, try_text};
 use crate::worlds::{try_event, try_start};
 use crate::yards::{try_put, try_yard};
 use reg_base::AccountNo;
@@ -45,6 +45,9 @@ pub(crate) fn try_word<R: Threads + Wait + Sync, W: Write>(
     tell(writer, &word)?;
     if name == "read_day" {
         return try_read(alloc, text, writer);
+    }
+    if name == "read_day_by_parts" {
+        return try_read_by_parts(rt, alloc, text, number, writer);
     }
     if let Some(command) = name.strip_prefix("command_") {
         return try_run_of(rt, alloc, command, number, text, writer);

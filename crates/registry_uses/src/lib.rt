@@ -6,6 +6,7 @@ pub mod base;
 pub mod book;
 pub mod claim;
 pub mod counting;
+pub mod cuts;
 pub mod deques;
 pub mod front;
 pub mod graph;

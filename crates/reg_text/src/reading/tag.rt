@@ -5,7 +5,7 @@ ghost use Rattle.reg_text.specs.declared.cause.Cause.TheVariants as cause;
 ghost use Rattle.reg_text.specs.Words.{named};
 ghost use Rattle.reg_text.specs.declared.reading.scope.Version.TheVariants.{One, Two};
 ghost use Rattle.reg_text.specs.Grammar.{tag_word};
-ghost use Rattle.reg_text.specs.Tags.{all_tags, tag_place, rule, place, tag_after};
+ghost use Rattle.reg_text.specs.Tags.{all_tags, tag_place, rule, place, may_follow, tag_after};
 
 use crate::cause::Cause;
 use crate::fields::words::{Word, is_word, read_named};
@@ -227,15 +227,23 @@ fn read_other_name(field: &[u8]) -> Result<Tag, Cause>
     read_named(field, Cause::Tag)
 }
 
+/// Whether a row with this tag may stand behind the last row.
+#[inline(always)]
+pub(crate) fn may_follow(version: Version, last: Option<Tag>, tag: Tag) -> bool
+    ensures { result ≡ may_follow version last tag }
+{
+    let rule = tag.rule(version);
+    let at = place_of(last);
+    rule.from <= at && at <= rule.to
+}
+
 /// The tag that a field names, if it is allowed after the last row.
 #[inline(always)]
 pub(crate) fn read_tag(version: Version, last: Option<Tag>, field: &[u8]) -> Result<Tag, Cause>
     ensures { result ≡ tag_after version last field.now }
 {
     let tag = read_name(field)?;
-    let rule = tag.rule(version);
-    let at = place_of(last);
-    if rule.from <= at && at <= rule.to {
+    if may_follow(version, last, tag) {
         Ok(tag)
     } else {
         Err(Cause::Tag)

@@ -369,8 +369,8 @@ fn is_number_left(day: Option<(Day, u64)>, count: usize) -> bool
     }
 }
 
-// Whether there is a place and a record number for one more instruction.
-fn has_number(day: Option<(Day, u64)>, count: usize) -> bool
+/// Whether there is a place and a record number for one more of so many instructions.
+pub(crate) fn has_number(day: Option<(Day, u64)>, count: usize) -> bool
     ensures { result ≡ (nat_lt count MOST_INSTRUCTIONS && is_number_left (next_in (option_to_list day)) count) }
 {
     count < MOST_INSTRUCTIONS && is_number_left(day, count)

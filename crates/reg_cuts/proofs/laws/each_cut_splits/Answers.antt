@@ -1,0 +1,5 @@
+use Rattle.reg_cuts.proofs.Splits.{rows-split}
+use Rattle.reg_cuts.proofs.laws.each_cut_splits.Goals as goal
+
+pub returns : goal.returns
+returns c = rows-split

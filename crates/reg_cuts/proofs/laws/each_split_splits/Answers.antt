@@ -1,0 +1,5 @@
+use Rattle.reg_cuts.proofs.Splits.{records-split}
+use Rattle.reg_cuts.proofs.laws.each_split_splits.Goals as goal
+
+pub returns : goal.returns
+returns c = records-split

@@ -1,0 +1,47 @@
+-- Where a text may be cut.
+use Rattle.std.specs.Prelude.{◌≡◌, ℕ, ◌-◌, Bool, false, ◌||◌, ◌==◌, List, [], ◌∷◌, ◌++◌, length, Some, slice_get}
+use Rattle.std.specs.Borrow.{Bor}
+use Rattle.std.specs.List.{flat_map}
+use Rattle.csv.specs.Machine.{ends_at_end, step}
+use Rattle.csv.specs.Reading.{default_config, records, strip_bom}
+use Rattle.csv.specs.declared.parser.State.{State}
+use Rattle.csv.specs.declared.parser.State.TheVariants as st
+use Rattle.reg_cuts.specs.Rows.{records_in, rows_in_text}
+
+-- the state of csv's machine after these bytes
+unfoldable pub state_after : State → List ℕ → State
+state_after s [] = s
+state_after s (c ∷ rest) = state_after (step default_config s c).0 rest
+
+-- after these bytes the machine stands between two records, so a text may be cut behind them
+abbrev pub IsCut : List ℕ → Type 0
+IsCut a = ends_at_end (state_after st.StartRecord (strip_bom a)) ≡ false
+
+-- a reader of these bytes alone skips no byte order mark
+abbrev pub HasNoMark : List ℕ → Type 0
+HasNoMark b = strip_bom b ≡ b
+
+-- some byte is a quote
+unfoldable pub has_quote : List ℕ → Bool
+has_quote [] = false
+has_quote (c ∷ rest) = (c == 34) || has_quote rest
+
+-- the bytes of parts one after another
+abbrev pub text_of_parts : List (Bor (List ℕ)) → List ℕ
+text_of_parts parts = flat_map (λ part. part.now) parts
+
+-- law: from a state between two records, whatever the bytes behind it
+abbrev pub EachSplitSplits : Type 0
+EachSplitSplits = (s : State) (a b : List ℕ) → ends_at_end s ≡ false → ends_at_end (state_after s a) ≡ false → records_in s (a ++ b) ≡ records_in s a ++ records default_config b
+
+-- law: of whole texts, with their byte order marks
+abbrev pub EachCutSplits : Type 0
+EachCutSplits = (a b : List ℕ) → IsCut a → HasNoMark b → rows_in_text (a ++ b) ≡ rows_in_text a ++ rows_in_text b
+
+-- law: cuts one after another
+abbrev pub CutsGoOn : Type 0
+CutsGoOn = (a b : List ℕ) → IsCut a → HasNoMark b → IsCut b → IsCut (a ++ b)
+
+-- law: whole lines without quotes
+abbrev pub LinesWithoutQuotesAreCuts : Type 0
+LinesWithoutQuotesAreCuts = (a : List ℕ) → has_quote a ≡ false → slice_get a (length a - 1) ≡ Some 10 → IsCut a

@@ -1,0 +1,26 @@
+//! The records of a csv text, and of parts of it: where a text may be cut so that the records of its parts, one after
+//! another, are those of the whole.
+//!
+//! A use of it, proved in `registry_uses/src/cuts.rt`:
+//!
+//! ```rust
+//! /// Whether what stands behind a part of a text can be read without it.
+//! pub fn stands_alone(before: &[u8], behind: &[u8]) -> bool
+//!     ensures { result ≡ true → rows_in_text (before.now ++ behind.now) ≡ rows_in_text before.now ++ rows_in_text behind.now }
+//! {
+//!     each_cut_splits();
+//!     is_cut(before) && has_no_mark(behind)
+//! }
+//! ```
+#![tactic(auto)]
+
+mod laws;
+mod parts;
+mod rows;
+
+pub use laws::{
+    cuts_go_on, each_cut_splits, each_split_splits, each_text_has_few_rows,
+    lines_without_quotes_are_cuts,
+};
+pub use parts::{cut_near, cut_parts, has_no_mark, is_cut};
+pub use rows::{next_row, open_rows};

@@ -1,0 +1,109 @@
+//! Parts of a day text, each read on its own behind the heading. Whatever is in the way, the answer is `None`, and the
+//! whole text is read row by row, which names the first fault.
+
+ghost use Rattle.std.specs.Prelude.{◌≡◌, Ok, IfSome, OnSome};
+ghost use Rattle.reg_cuts.specs.Rows.{IsOpen, rows_left};
+ghost use Rattle.reg_text.specs.Drafts.{draft_of};
+ghost use Rattle.reg_text.specs.DraftLimits.{IsDraft};
+ghost use Rattle.reg_text.specs.Faults.{drafted};
+ghost use Rattle.reg_text.specs.Joining.{Begins, IsHeading, IsReadSoFar};
+ghost use Rattle.reg_text.specs.PartsRead.{IsReadPart};
+
+use crate::reading::draft::Draft;
+use crate::reading::tag::Tag;
+use crate::reading::take::take_row;
+use csv::{ByteRecord, Reader};
+use reg_base::AccountNo;
+use reg_cuts::{has_no_mark, is_cut, next_row, open_rows};
+use std::alloc::Global;
+
+/// A part of a day text that was read on its own.
+#[derive(Drop)]
+pub(crate) struct Part {
+    /// The number of the account that it begins with. If there is none, it begins with an instruction.
+    pub first: Option<AccountNo>,
+    /// What its rows say, behind the heading.
+    pub draft: Draft,
+}
+
+// Takes all rows that a reader has left.
+fn take_rows(
+    alloc: Global,
+    reader: &mut Reader<&[u8]>,
+    row: &mut ByteRecord,
+    draft: &mut Draft,
+) -> Option<()>
+    requires ready { IsOpen reader.old }
+    requires fits { IsDraft (draft_of draft.old) }
+    ensures taken { OnSome result (drafted (draft_of draft.old) (rows_left reader.old) ≡ Ok (draft_of draft.new)) }
+    ensures fits { OnSome result (IsDraft (draft_of draft.new)) }
+{
+    'rows: while next_row(reader, row).ok()? {
+        let Ok(()) = take_row(alloc, draft, row) else {
+            return None;
+        };
+    }
+    Some(())
+}
+
+/// What the rows before the first account say.
+pub(crate) fn read_heading(alloc: Global, text: &[u8]) -> Option<Draft>
+    ensures heading { IfSome result (λ h. IsHeading (draft_of h)) }
+    ensures read { IfSome result (λ h. IsReadSoFar (draft_of h) text.now (draft_of h)) }
+    ensures fits { IfSome result (λ h. IsDraft (draft_of h)) }
+{
+    if !is_cut(text) {
+        return None;
+    }
+    let mut reader = open_rows(alloc, text);
+    let mut row = ByteRecord::new(alloc);
+    let mut draft = Draft::empty(alloc);
+    take_rows(alloc, &mut reader, &mut row, &mut draft)?;
+    if draft.is_heading() {
+        Some(draft)
+    } else {
+        None
+    }
+}
+
+/// What the rows of a part say, read on their own behind the heading.
+pub(crate) fn read_part(alloc: Global, heading: &Draft, text: &[u8]) -> Option<Part>
+    requires heading { IsHeading (draft_of heading.now) }
+    requires fits { IsDraft (draft_of heading.now) }
+    ensures { IsReadPart (draft_of heading.now) text.now result }
+{
+    if !is_cut(text) {
+        return None;
+    }
+    if !has_no_mark(text) {
+        return None;
+    }
+    let mut reader = open_rows(alloc, text);
+    let mut row = ByteRecord::new(alloc);
+    let Ok(again) = heading.again(alloc) else {
+        return None;
+    };
+    let mut draft = again;
+    let Ok(true) = next_row(&mut reader, &mut row) else {
+        return None;
+    };
+    let Ok(()) = take_row(alloc, &mut draft, &row) else {
+        return None;
+    };
+    let first = opening_of(&draft)?;
+    take_rows(alloc, &mut reader, &mut row, &mut draft)?;
+    Some(Part { first, draft })
+}
+
+// How a part begins of which one row was taken: with an account of this number, or with an instruction.
+fn opening_of(draft: &Draft) -> Option<Option<AccountNo>>
+    ensures { IfSome result (Begins (draft_of draft.now)) }
+{
+    if draft.last == Some(Tag::Do) {
+        return Some(None);
+    }
+    match draft.head {
+        Some(head) if draft.last == Some(Tag::Account) => Some(Some(head.number)),
+        _ => None,
+    }
+}

@@ -1,0 +1,101 @@
+//! Reading a day text by several threads.
+
+ghost use Rattle.std.specs.Prelude.{◌≡◌, ◌≤◌, MatchResult, Some, IfOk, IfSome, vec_len, length};
+ghost use Rattle.reg_cuts.specs.Rows.{rows_in_text};
+ghost use Rattle.reg_text.specs.declared.reading.tag.Tag.TheVariants as tag;
+ghost use Rattle.reg_text.specs.Drafts.{draft_of};
+ghost use Rattle.reg_text.specs.Day.{day_said};
+ghost use Rattle.reg_text.specs.DraftLimits.{FitsSoFar, IsDraft};
+ghost use Rattle.reg_text.specs.Faults.{AnswersFault, at_end, day_of_rows};
+ghost use Rattle.reg_text.specs.Joining.{IsHeading};
+ghost use Rattle.reg_text.specs.PartsRead.{ReadsAt};
+
+use crate::cause::DayFault;
+use crate::reading::draft::Draft;
+use crate::reading::joining::join_all;
+use crate::reading::parts::{Part, read_heading, read_part};
+use crate::reading::tag::Tag;
+use crate::reading::text::read_rows;
+use reg_cuts::{cut_near, cut_parts};
+use std::alloc::{AllocError, Global};
+use std::thread;
+use std::thread::Threads;
+
+// What a cut has in front and behind it: the end of a line, and the row of an account, or of an instruction where no
+// account follows.
+const STARTS: [&[u8]; 2] = [b"\naccount,", b"\ndo,"];
+
+// The number of parts of a text of so many bytes, at most the wanted one: each part has `least` bytes or more, about.
+fn count_parts(bytes: usize, wanted: usize, least: usize) -> usize
+    ensures { 1 ≤ result }
+{
+    (bytes / least.max(1)).min(wanted).max(1)
+}
+
+// Reads each part on its own, each in a thread of its own where one can be started.
+fn read_parts<R: Threads + Sync>(
+    rt: &R,
+    alloc: Global,
+    heading: &Draft,
+    parts: &[&[u8]],
+) -> Result<Vec<Option<Part>>, AllocError>
+    requires heading { IsHeading (draft_of heading.now) }
+    requires fits { IsDraft (draft_of heading.now) }
+    ensures len { IfOk result (λ read. vec_len read ≡ length parts.now) }
+    ensures each { IfOk result (λ read. ReadsAt (draft_of heading.now) parts.now read.items) }
+{
+    thread::map_indices(
+        rt,
+        alloc,
+        parts.len(),
+        &|i| { read_part(alloc, heading, parts[i]) },
+    )
+}
+
+// What the rows of a text say, read by at most so many parts behind the heading.
+fn read_by_parts<R: Threads + Sync>(
+    rt: &R,
+    alloc: Global,
+    text: &[u8],
+    count: usize,
+) -> Option<Draft>
+    requires { 1 ≤ count }
+    ensures { IfSome result (λ draft. FitsSoFar (draft_of draft) × (draft.last ≡ Some tag.End) × (day_of_rows (rows_in_text text.now) ≡ at_end 0 (day_said (draft_of draft)))) }
+{
+    let (head, body) = cut_near(text, &STARTS, 0);
+    let heading = read_heading(alloc, head)?;
+    let Ok(parts) = cut_parts(alloc, body, &STARTS, count) else {
+        return None;
+    };
+    let Ok(read) = read_parts(rt, alloc, &heading, &parts) else {
+        return None;
+    };
+    let draft = join_all(heading, head, &parts, read)?;
+    if draft.last == Some(Tag::End) {
+        Some(draft)
+    } else {
+        None
+    }
+}
+
+/// What the rows of a text say, up to its row `end`, read by at most so many parts, each of which has so many bytes or
+/// more, about: the same as `read_rows`.
+pub(crate) fn read_rows_with<R: Threads + Sync>(
+    rt: &R,
+    alloc: Global,
+    text: &[u8],
+    wanted: usize,
+    least: usize,
+) -> Result<Draft, DayFault>
+    ensures { MatchResult result
+        (λ draft. FitsSoFar (draft_of draft) × (draft.last ≡ Some tag.End) × (day_of_rows (rows_in_text text.now) ≡ at_end 0 (day_said (draft_of draft))))
+        (λ e. AnswersFault e (day_of_rows (rows_in_text text.now))) }
+{
+    let count = count_parts(text.len(), wanted, least);
+    if count > 1 {
+        if let Some(draft) = read_by_parts(rt, alloc, text, count) {
+            return Ok(draft);
+        }
+    }
+    read_rows(alloc, text)
+}
