@@ -36,7 +36,7 @@ use Rattle.reg_book.specs.Chains.{book_after, IsChain, ChainLeavesABook}
 use Rattle.reg_text.specs.Sections.{FateIsOf, IsOfPeriods}
 use Rattle.reg_text.specs.Reading.{CanBeSaid}
 use Rattle.reg_text.specs.Report.{text_of, log_rows, written_book}
-use Rattle.reg_text.specs.Rows.{rows_in_text}
+use Rattle.reg_cuts.specs.Rows.{rows_in_text}
 use Rattle.reg_text.specs.Faults.{day_of_rows}
 use Rattle.reg_text.specs.ReadAgain.{accounts_text, book_line, IsBlocks, BookIsReadAgain}
 use Rattle.reg_text.specs.NextDays.{rows_behind, StandInReport, IsTextOf, AreTexts, IsNextDay, GoOn, ReportsAreReadOn}

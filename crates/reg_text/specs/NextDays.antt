@@ -14,7 +14,7 @@ use Rattle.reg_text.specs.ReadAgain.{book_line, text_round, IsBlocks}
 use Rattle.reg_text.specs.Reading.{CanBeSaid, IsPair, IsVersionOf}
 use Rattle.reg_text.specs.Records.{Record}
 use Rattle.reg_text.specs.Report.{text_of, log_rows, totals_row, report_rows}
-use Rattle.reg_text.specs.Rows.{rows_in_text}
+use Rattle.reg_cuts.specs.Rows.{rows_in_text}
 use Rattle.reg_text.specs.Spelling.{end_row}
 use Rattle.reg_text.specs.declared.reading.scope.Version.{Version}
 

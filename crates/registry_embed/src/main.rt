@@ -9,7 +9,7 @@ ghost use Rattle.reg_book.specs.Day.{Day, log_of, settled_day};
 ghost use Rattle.reg_book.specs.Settled.{committed};
 ghost use Rattle.reg_text.specs.Reading.{IsReading};
 ghost use Rattle.reg_text.specs.Report.{report_rows, text_of};
-ghost use Rattle.reg_text.specs.Rows.{rows_in_text};
+ghost use Rattle.reg_cuts.specs.Rows.{rows_in_text};
 
 use reg_text::{read_day, write_report};
 use reg_work::{OpenGate, settle_with};
