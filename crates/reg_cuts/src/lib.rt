@@ -4,7 +4,7 @@
 //! A use of it, proved in `registry_uses/src/cuts.rt`:
 //!
 //! ```rust
-//! ghost use Rattle.std.specs.Prelude.{◌≡◌, true, ◌++◌};
+//! ghost use Rattle.std.specs.Prelude.{◌≡◌, ◌++◌, true};
 //! ghost use Rattle.reg_cuts.specs.Rows.{rows_in_text};
 //!
 //! use reg_cuts::{each_cut_splits, has_no_mark, is_cut};
