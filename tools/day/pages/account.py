@@ -1,0 +1,270 @@
+"""The pages of accounts: a statement for each holder, with nothing on it that belongs to others."""
+import rules
+from day import compliance
+from day.pages.compliance import amount
+from day.pages.html import Markup, Table, facts, paragraph, tag
+from day.pages.plan import figure
+from day.pages.rulebook import ACTS
+from day.pages.settled import long_date
+from texts import grouped
+
+ROOT = "../"
+KINDS = rules.KINDS
+ENTRIES = Table(["Day", "Record", "Entry", "In", "Out", "Balance"], ("In", "Out", "Balance"))
+OTHERS = Table(["Day", "Record", "Entry"])
+REFUSED = Table(["Day", "Record", "Instruction", "Refused as", "What to do"])
+WAITING = Table(["Record", "Instruction", "Proposed", "Due"])
+YEARS = Table(
+    ["Year", "Period", "Emissions of the year", "Emissions so far", "Surrendered", "Correction", "Determined", "Figure now", "Verdict"],
+    ("Emissions of the year", "Emissions so far", "Surrendered", "Correction", "Determined", "Figure now"),
+)
+TRUSTED = Table(["Account", "In effect from", "State"])
+USERS = Table(["User", "Right"])
+RETIRED = Table(["Record", "Day", "What", "Kind", "Amount", "Reversed"], ("Amount",))
+BALANCES = Table(["Day", *(it.capitalize() for it in KINDS)], [it.capitalize() for it in KINDS])
+CHART_WIDTH, CHART_HEIGHT, LEFT, TOP = 460, 130, 8, 22
+
+
+class DayOfAccounts:
+    """A day of the statement: its log rows by account, and what each account held before it."""
+
+    def __init__(self, day, report):
+        self.day, self.date = day, day.head.date
+        self.rows = {}
+        for logged in report.log:
+            for number in logged.touched():
+                self.rows.setdefault(number, []).append(logged)
+
+    def opening(self, number):
+        """What an account held before the day; None if there was no such account."""
+        block = self.day.book.get(number)
+        if block is None:
+            return None
+        *_, general, aviation = block.rows[0].split(",")
+        return {"general": int(general), "aviation": int(aviation)}
+
+
+def own_words(i, number):
+    """An instruction as the account sees it: of several receivers, only itself, if it is one of them."""
+    name = ACTS[i.act][0].capitalize()
+    if i.act == "distribute" and number == i.first:
+        return f"{name} to {', '.join(str(to) for to, _ in i.shares)}"
+    if i.shares:
+        return f"{name} from {i.first}" if number != i.first else f"{name} to {i.shares[0][0]}"
+    if i.act == "reverse":
+        return f"{name} of record {i.number}"
+    if i.act in ("trust", "untrust"):
+        return f"{name}: {i.other}"
+    if i.act == "status":
+        return f"{name}: {i.status}"
+    if i.act == "emissions":
+        return f"{name} of {i.year}: {grouped(i.tonnes)} tonnes"
+    return f"{name} of {i.year}" if i.act == "assess" else name
+
+
+def own_amount(i, number):
+    """How many allowances an instruction asks to move at the account, with their kind; nothing if it moves none."""
+    if not i.amounts:
+        return ""
+    own = sum(it for to, it in i.shares if to == number) if i.shares and number != i.first else sum(i.amounts)
+    return f", {grouped(own)} {i.kind}"
+
+
+class Statement:
+    """What happened at an account over one or several days: the entries of each kind of allowance, other entries, and refusals."""
+
+    def __init__(self, settled, number, days):
+        self.settled, self.number, self.days = settled, number, days
+        self.entries = {kind: [] for kind in KINDS}
+        self.others, self.refused, self.balances = [], [], []
+        # (an account that was opened on a later day than the first one held nothing before)
+        self.held = days[0].opening(number) or dict.fromkeys(KINDS, 0)
+        self.first_day, self.opening = days[0].date, dict(self.held)
+        for day in days:
+            self.follow(day)
+
+    def follow(self, day):
+        opening = day.opening(self.number)
+        if opening is None:
+            return
+        for kind in KINDS:
+            if opening[kind] != self.held[kind]:
+                self.enter(day.date, "", "Changed by hand before this day", kind, opening[kind])
+        for logged in day.rows.get(self.number, ()):
+            self.take(day.date, logged)
+        self.balances.append((day.date, dict(self.held)))
+
+    def enter(self, date, record, words, kind, after):
+        change = after - self.held[kind]
+        into, out = (grouped(change), "") if change > 0 else ("", grouped(-change))
+        self.entries[kind].append((date, record, words, into, out, grouped(after)))
+        self.held[kind] = after
+
+    def take(self, date, logged):
+        i = logged.instruction
+        words = own_words(i, self.number)
+        if not logged.is_done:
+            self.refused.append((date, logged.record, words + own_amount(i, self.number), *self.refusal(logged)))
+            return
+        after = logged.held[self.number]
+        moved = [kind for kind in KINDS if after[kind] != self.held[kind]]
+        for kind in moved:
+            self.enter(date, logged.record, words, kind, after[kind])
+        if not moved:
+            figure = "" if logged.figure is None else f": figure {grouped(logged.figure)}"
+            self.others.append((date, logged.record, words + figure))
+
+    def refusal(self, logged):
+        """The check that refused, and what to do. Who is named only as a receiver did not ask for the instruction."""
+        rulebook = self.settled.rulebook
+        check = rulebook.check_link(logged.code, ROOT)
+        if self.number != logged.instruction.first:
+            return check, "Nothing: the other account asked for it."
+        return check, rulebook.words(rulebook.checks[logged.code].remedy, ROOT)
+
+    # Parts of the page.
+
+    def kind_parts(self, kind):
+        entries = self.entries[kind]
+        before, after = self.opening[kind], self.held[kind]
+        yield tag("h2", f"{kind.capitalize()} allowances")
+        if not entries:
+            yield paragraph(f"No entry. The account holds {grouped(after)}, as before the day.")
+            return
+        first = (self.first_day, "", "Balance before the day", "", "", grouped(before))
+        last = (self.settled.head.date, "", "Balance after the day", "", "", grouped(after))
+        yield ENTRIES.of(f"{kind.capitalize()} allowances: in, out and balance", [first, *entries], [last])
+
+    def waiting(self):
+        due = self.settled.due_days
+        for logged in self.days[-1].rows.get(self.number, ()):
+            if logged.record in due and logged.instruction.first == self.number:
+                words = own_words(logged.instruction, self.number) + own_amount(logged.instruction, self.number)
+                yield logged.record, words, logged.instruction.proposed, due[logged.record]
+
+
+def chart(kind, balances):
+    """The balance of a kind over the days, as a line of steps."""
+    amounts = [held[kind] for _, held in balances]
+    most = max([*amounts, 1])
+    width = (CHART_WIDTH - 2 * LEFT) / len(amounts)
+    floor = TOP + CHART_HEIGHT
+
+    def y(number):
+        return f"{floor - CHART_HEIGHT * number / most:.1f}"
+
+    steps = "".join(f"V{y(number)}H{LEFT + width * place:.1f}" for place, number in enumerate(amounts, 1))
+    title = f"The balance of {kind} allowances from {balances[0][0]} to {balances[-1][0]}"
+    return Markup(
+        f'<svg role="img" viewBox="0 0 {CHART_WIDTH} {floor + 20}" width="{CHART_WIDTH}"><title>{title}</title>'
+        f'<path class="axis" d="M{LEFT},{TOP}H{CHART_WIDTH - LEFT}M{LEFT},{floor}H{CHART_WIDTH - LEFT}"/>'
+        f'<text x="{LEFT}" y="{TOP - 6}">{grouped(most)}</text><text x="{LEFT}" y="{floor + 14}">{balances[0][0]}</text>'
+        f'<text x="{CHART_WIDTH - LEFT}" y="{floor + 14}" text-anchor="end">{balances[-1][0]}</text>'
+        f'<path class="line" d="M{LEFT},{y(amounts[0])}{steps}"/></svg>'
+    )
+
+
+def history_parts(statement):
+    """The balance over several days, as a line for each kind and as a table."""
+    balances = statement.balances
+    yield tag("h2", "Balance over the days")
+    for kind in KINDS:
+        if any(held[kind] for _, held in balances):
+            yield figure(f"{kind.capitalize()} allowances after each day", chart(kind, balances))
+    yield BALANCES.of("The balance after each day", [(date, *(grouped(held[kind]) for kind in KINDS)) for date, held in balances])
+
+
+def years_of(head, account):
+    """The years that are told of an account: those of each period from its first one on, up to the last that is over or has an entry."""
+    told = {*account.emissions, *account.figures}
+    for first, last in head.periods:
+        over = [last] if last < head.date.year else []
+        over += [head.date.year - 1] if first < head.date.year <= last else []
+        latest = max([*over, *(year for year in told if first <= year <= last)], default=first - 1)
+        yield from range(first, min(latest, last) + 1)
+
+
+def years_parts(settled, account):
+    """Compliance by year."""
+    rows = []
+    for year in years_of(settled.head, account):
+        it = compliance.standing_of(settled.head, account, year)
+        period = settled.period_in_words(settled.head.period_of(year))
+        numbers = (account.emissions.get(year), it.emissions, it.surrendered, it.correction, it.determined, it.figure)
+        rows.append((year, period, *map(amount, numbers), it.verdict_in_words))
+    yield tag("h2", "Compliance by year")
+    if rows:
+        yield YEARS.of("Emissions, surrenders and figures, in tonnes and allowances", rows)
+    else:
+        yield paragraph("No year of the periods is over, and nothing was entered.")
+
+
+def trusted_parts(settled, account):
+    yield tag("h2", "Trusted list")
+    if not account.trusted:
+        yield paragraph("The list is empty.")
+        return
+    day = settled.head.date
+    rows = ((number, date, "in effect" if date <= day else "not in effect yet") for number, date in account.trusted.items())
+    yield TRUSTED.of("Accounts that this account trusts", rows)
+
+
+def retired_parts(account):
+    if account.rows:
+        yield tag("h2", "Surrenders and deletions")
+        rows = (
+            (number, row.day, row.what, row.kind, grouped(row.amount), "reversed" if row.is_reversed else "no")
+            for number, row in account.rows.items()
+        )
+        yield RETIRED.of("All surrenders and deletions of the account", rows)
+
+
+def users_parts(account):
+    yield tag("h2", "Representatives")
+    if account.users:
+        yield USERS.of("Who may propose and approve for this account", account.users.items())
+    else:
+        yield paragraph("The account has none.")
+
+
+def facts_of(settled, account):
+    return facts([
+        ("Holder", account.holder),
+        ("Kind", settled.rulebook.kinds[account.kind]),
+        ("Status", f"{account.status}: {settled.rulebook.statuses[account.status]}"),
+        ("Settlement day", long_date(settled.head.date)),
+        ("Transfers outside the list", rules.yes_or_no(account.outside)),
+        ("Waiver of approval", rules.yes_or_no(account.waiver)),
+    ])  # fmt: skip
+
+
+def own_parts(settled, account, statement):
+    """All that stands on the page of an account."""
+    yield facts_of(settled, account)
+    for kind in KINDS:
+        yield from statement.kind_parts(kind)
+    if statement.others:
+        yield tag("h2", "Other entries")
+        yield OTHERS.of("Entries that move no allowances", statement.others)
+    if statement.refused:
+        yield tag("h2", "Refused")
+        yield REFUSED.of("Instructions that were refused", statement.refused)
+    waiting = [*statement.waiting()]
+    if waiting:
+        yield tag("h2", "Waiting for their due day")
+        yield WAITING.of("Enter these again on their due day or later, with their old dates of proposal", waiting)
+    if len(statement.balances) > 1:
+        yield from history_parts(statement)
+    if account.kind in rules.OPERATORS:
+        yield from years_parts(settled, account)
+    yield from retired_parts(account)
+    yield from trusted_parts(settled, account)
+    yield from users_parts(account)
+
+
+def account_page(settled, number, days):
+    """The page of an account; `days` are those of the statement, of which the last one is the settled day."""
+    account = settled.report.book[number].account()
+    statement = Statement(settled, number, days)
+    parts = own_parts(settled, account, statement)
+    return settled.frame.page(f"Account {number}", *parts, root=ROOT)
