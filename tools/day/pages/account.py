@@ -15,8 +15,12 @@ OTHERS = Table(["Day", "Record", "Entry"])
 REFUSED = Table(["Day", "Record", "Instruction", "Refused as", "What to do"])
 WAITING = Table(["Record", "Instruction", "Proposed", "Due"])
 YEARS = Table(
-    ["Year", "Period", "Emissions of the year", "Emissions so far", "Surrendered", "Correction", "Determined", "Figure now", "Verdict"],
+    ["Year", "Emissions of the year", "Emissions so far", "Surrendered", "Correction", "Determined", "Figure now", "Verdict"],
     ("Emissions of the year", "Emissions so far", "Surrendered", "Correction", "Determined", "Figure now"),
+)
+YEARS_NOTE = paragraph(
+    "The figure of a year is surrendered - emissions so far + correction. Figure now is what it would be if the year was assessed now: "
+    "it counts all that was surrendered for the period up to this day."
 )
 TRUSTED = Table(["Account", "In effect from", "State"])
 USERS = Table(["User", "Right"])
@@ -80,6 +84,7 @@ class Statement:
         # (an account that was opened on a later day than the first one held nothing before)
         self.held = days[0].opening(number) or dict.fromkeys(KINDS, 0)
         self.first_day, self.opening = days[0].date, dict(self.held)
+        self.balances.append((f"before {self.first_day}", self.opening))
         for day in days:
             self.follow(day)
 
@@ -154,7 +159,7 @@ def chart(kind, balances):
         return f"{floor - CHART_HEIGHT * number / most:.1f}"
 
     steps = "".join(f"V{y(number)}H{LEFT + width * place:.1f}" for place, number in enumerate(amounts, 1))
-    title = f"The balance of {kind} allowances from {balances[0][0]} to {balances[-1][0]}"
+    title = f"The balance of {kind} allowances {balances[0][0]} to after {balances[-1][0]}"
     return Markup(
         f'<svg role="img" viewBox="0 0 {CHART_WIDTH} {floor + 20}" width="{CHART_WIDTH}"><title>{title}</title>'
         f'<path class="axis" d="M{LEFT},{TOP}H{CHART_WIDTH - LEFT}M{LEFT},{floor}H{CHART_WIDTH - LEFT}"/>'
@@ -174,28 +179,31 @@ def history_parts(statement):
     yield BALANCES.of("The balance after each day", [(date, *(grouped(held[kind]) for kind in KINDS)) for date, held in balances])
 
 
-def years_of(head, account):
-    """The years that are told of an account: those of each period from its first one on, up to the last that is over or has an entry."""
-    told = {*account.emissions, *account.figures}
-    for first, last in head.periods:
-        over = [last] if last < head.date.year else []
-        over += [head.date.year - 1] if first < head.date.year <= last else []
-        latest = max([*over, *(year for year in told if first <= year <= last)], default=first - 1)
-        yield from range(first, min(latest, last) + 1)
+def years_of(head, account, period):
+    """The years of a period that are told of an account: from the first one up to the last that is over or has an entry."""
+    first, last = period
+    told = (year for year in (*account.emissions, *account.figures) if first <= year <= last)
+    return range(first, max([min(last, head.date.year - 1), *told]) + 1)
+
+
+def year_row(head, account, year):
+    it = compliance.standing_of(head, account, year)
+    numbers = (account.emissions.get(year), it.emissions, it.surrendered, it.correction, it.determined, it.figure)
+    return (year, *map(amount, numbers), it.verdict_in_words)
 
 
 def years_parts(settled, account):
-    """Compliance by year."""
-    rows = []
-    for year in years_of(settled.head, account):
-        it = compliance.standing_of(settled.head, account, year)
-        period = settled.period_in_words(settled.head.period_of(year))
-        numbers = (account.emissions.get(year), it.emissions, it.surrendered, it.correction, it.determined, it.figure)
-        rows.append((year, period, *map(amount, numbers), it.verdict_in_words))
+    """Compliance by year, a table for each period."""
+    head, are_any = settled.head, False
     yield tag("h2", "Compliance by year")
-    if rows:
-        yield YEARS.of("Emissions, surrenders and figures, in tonnes and allowances", rows)
-    else:
+    for number, period in enumerate(head.periods, 1):
+        rows = [year_row(head, account, year) for year in years_of(head, account, period)]
+        if rows:
+            if not are_any:
+                yield YEARS_NOTE
+            are_any = True
+            yield YEARS.of(f"Period {settled.period_in_words(number)}, in tonnes and allowances", rows)
+    if not are_any:
         yield paragraph("No year of the periods is over, and nothing was entered.")
 
 
@@ -231,7 +239,8 @@ def facts_of(settled, account):
     return facts([
         ("Holder", account.holder),
         ("Kind", settled.rulebook.kinds[account.kind]),
-        ("Status", f"{account.status}: {settled.rulebook.statuses[account.status]}"),
+        ("Status", account.status),
+        ("What it allows", settled.rulebook.statuses[account.status]),
         ("Settlement day", long_date(settled.head.date)),
         ("Transfers outside the list", rules.yes_or_no(account.outside)),
         ("Waiver of approval", rules.yes_or_no(account.waiver)),
@@ -253,7 +262,7 @@ def own_parts(settled, account, statement):
     if waiting:
         yield tag("h2", "Waiting for their due day")
         yield WAITING.of("Enter these again on their due day or later, with their old dates of proposal", waiting)
-    if len(statement.balances) > 1:
+    if len(statement.days) > 1:
         yield from history_parts(statement)
     if account.kind in rules.OPERATORS:
         yield from years_parts(settled, account)

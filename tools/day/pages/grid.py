@@ -15,7 +15,7 @@ BOX_WIDTH, LINE, PADDING = 136, 14, 6
 LETTER = 6.0
 # The ports of a box: where arrows leave it, and where they reach it, so that none of the first has the height of one of the second.
 PORT, FIRST_OUT, FIRST_IN = 14, 7, 14
-TRACK, STREET, BAND, MARGIN, CAPTION = 7, 12, 18, 2, 16
+TRACK, STREET, BAND, MARGIN, CAPTION, UNDER = 7, 12, 18, 2, 16, 8
 
 
 @dataclass
@@ -40,6 +40,14 @@ class Arrow:
     note: str
 
 
+@dataclass
+class Names:
+    """The names of all rows, or of all columns, if they have names."""
+
+    rows: list = None
+    columns: list = None
+
+
 def tracks(spans):
     """A track for each span, by its key, such that no two on the same track meet; and how many tracks there are."""
     ends, track_of = [], {}
@@ -57,8 +65,8 @@ def shifted(place):
 class Band:
     """Some columns of a picture: where each of its boxes and arrows lies."""
 
-    def __init__(self, boxes, arrows, columns, row_names):
-        self.boxes = boxes
+    def __init__(self, boxes, arrows, columns, names):
+        self.boxes, row_names, self.column_names = boxes, names.rows, names.columns
         self.first, self.columns = columns.start, len(columns)
         self.row_names = row_names
         self.rows = len(row_names) if row_names else 1 + max(it.row for it in boxes.values())
@@ -101,7 +109,8 @@ class Band:
 
     def set_rows(self):
         """The heights of rows and streets, from the top of the band."""
-        self.tops, self.streets, self.heights, y = [], [], [], 0
+        self.tops, self.streets, self.heights = [], [], []
+        y = CAPTION if self.column_names else 0
         for row in range(self.rows + 1):
             self.streets.append(y)
             name = CAPTION if self.row_names and row < self.rows else 0
@@ -112,10 +121,16 @@ class Band:
                 ports = max((self.ports[key] for key in own), default=0)
                 self.tops.append(y)
                 self.heights.append(max(2 * PADDING + LINE * lines, FIRST_IN + PORT * ports + 2))
-                y += self.heights[-1]
+                y += self.heights[-1] + (UNDER if self.row_names else 0)
         self.height = y
 
+    def is_straight(self, it):
+        """Whether the arrow leads to the next box of its row."""
+        return self.column(it.head) == self.column(it.tail) + 1 and self.boxes[it.head].row == self.boxes[it.tail].row
+
     def y_out(self, place, it):
+        if self.is_straight(it):
+            return self.y_in(place, it)
         return self.tops[self.boxes[it.tail].row] + FIRST_OUT + PORT * self.port_out[place]
 
     def y_in(self, place, it):
@@ -132,9 +147,9 @@ class Band:
         for place, it in self.own.items():
             left, right = self.column(it.tail) + 1, self.column(it.head)
             start, end = self.y_out(place, it), self.y_in(place, it)
-            if left == right:
+            if left == right and start != end:
                 spans[left][place, "out"] = (min(start, end), max(start, end))
-            else:
+            elif left != right:
                 street = self.y_street(place)
                 spans[left][place, "out"] = (min(start, street), max(start, street))
                 spans[right][place, "in"] = (min(end, street), max(end, street))
@@ -157,6 +172,9 @@ class Band:
 
     def path(self, place, it):
         """The way of an arrow."""
+        if self.is_straight(it):
+            left, right = self.starts[self.column(it.tail)] + BOX_WIDTH, self.starts[self.column(it.head)]
+            return f"M{shifted(left)},{shifted(self.y_in(place, it))}H{shifted(right)}"
         start = f"M{shifted(self.starts[self.column(it.tail)] + BOX_WIDTH)},{shifted(self.y_out(place, it))}"
         way = f"{start}H{shifted(self.track_of[place, 'out'])}"
         if place in self.street:
@@ -187,12 +205,19 @@ class Band:
     def lanes(self):
         """The lane behind each row that has a name."""
         for row, name in enumerate(self.row_names or ()):
-            top, bottom = self.streets[row] + 2, self.tops[row] + self.heights[row] + STREET / 2 - 2
+            top, bottom = self.streets[row] + 2, self.tops[row] + self.heights[row] + UNDER - 2
             yield f'<rect class="lane" x="0" y="{shifted(top)}" width="{shifted(self.width)}" height="{shifted(bottom - top)}"/>'
             yield f'<text x="4" y="{shifted(top + 12)}">{markup(name)}</text>'
 
+    def heads(self):
+        """The name above each column."""
+        for place, x in enumerate(self.starts if self.column_names else ()):
+            name = markup(self.column_names[self.first + place])
+            yield f'<text class="small" x="{shifted(x + BOX_WIDTH / 2)}" y="12" text-anchor="middle">{name}</text>'
+
     def parts(self):
         yield from self.lanes()
+        yield from self.heads()
         yield from (self.arrow(place, it, self.path(place, it)) for place, it in self.own.items())
         yield from (self.arrow(place, it, self.short_way(place, it)) for place, it in self.short.items())
         yield from (self.box(it) for _, it in sorted(self.boxes.items(), key=lambda it: str(it[0])))
@@ -206,7 +231,7 @@ def line_of(text, x, y, kind):
     return f'<text{own} x="{shifted(x)}" y="{shifted(y)}" text-anchor="middle"{fitted}>{markup(text)}</text>'
 
 
-def bands_of(boxes, arrows, most_columns, row_names):
+def bands_of(boxes, arrows, most_columns, names):
     """The bands of a picture: so many columns stand in each."""
     last = max(it.column for it in boxes.values())
     said = [Arrow(it.tail, it.head, it.label, it.note) for it in arrows]
@@ -215,13 +240,13 @@ def bands_of(boxes, arrows, most_columns, row_names):
         own = {key: it for key, it in boxes.items() if it.column in columns}
         if own:
             crossing = [it if it.tail in own else Arrow(it.tail, it.head, f"from {boxes[it.tail].name}", it.note) for it in said]
-            yield Band(own, crossing, columns, row_names)
+            yield Band(own, crossing, columns, names)
 
 
-def picture(title, boxes, arrows, most_columns, kind, row_names=None):
+def picture(title, boxes, arrows, most_columns, kind, names=Names()):
     """The picture of boxes, by their keys, and arrows, as an element that `kind` is the class of."""
     parts, y, width = [], MARGIN, 0
-    for band in bands_of(boxes, arrows, most_columns, row_names):
+    for band in bands_of(boxes, arrows, most_columns, names):
         parts.append(f'<g transform="translate({MARGIN},{shifted(y)})">{"".join(band.parts())}</g>')
         y += band.height + BAND
         width = max(width, band.width)

@@ -3,6 +3,11 @@ from html import escape
 from pathlib import Path
 
 STYLE = Path(__file__).with_name("style.css")
+FEW, MANY = 2, 12
+# How many letters stand beside each other in a table before its letters are smaller, and at most; and how many each column takes.
+DENSE, MOST_LETTERS, WORD, BETWEEN = 90, 125, 10, 2
+# Cells of these columns are not broken.
+DATES = {"Day", "Proposed", "Due", "In effect from"}
 
 
 class Markup(str):
@@ -49,43 +54,69 @@ def facts(pairs):
     return tag("dl", *(tag("div", tag("dt", name), tag("dd", it)) for name, it in pairs if it not in (None, "")))
 
 
-def class_of(columns):
-    """The class of a table with so many columns: in a narrow window, the rows of most are stacked."""
-    return "stack many" if columns > 12 else "stack" if columns > 2 else None
+def class_of(columns, is_short=False, is_stacked=None, letters=0):
+    """The classes of a table with so many columns, whose cells need so many letters beside each other. The rows of a stacked one are
+    stacked in a narrow window, and everywhere if they have no room; if nothing else is said, those of more than two columns are. A
+    short table has only as much room as a paragraph."""
+    is_stacked = columns > FEW if is_stacked is None else is_stacked
+    named = {
+        "short": is_short,
+        "stack": is_stacked,
+        "many": columns > MANY,
+        "dense": DENSE < letters <= MOST_LETTERS,
+        "everywhere": letters > MOST_LETTERS,
+    }
+    return " ".join(name for name, has in named.items() if has) or None
+
+
+def letters_of(columns, right, rows):
+    """How many letters the widest cells need beside each other: all of a number, and about the longest word of other cells."""
+    needed = 0
+    for place, name in enumerate(columns):
+        if name in right:
+            own = max((len(str(row[place])) for row in rows if type(row[place]) is not Markup), default=0)
+        else:
+            own = max((len(str(row[place])) for row in rows if type(row[place]) is not Markup), default=WORD)
+            own = min(own, WORD)
+        needed += max(own, min(len(name), WORD)) + BETWEEN
+    return needed
 
 
 class Table:
     """The head of a table: its columns, of which those of `right` hold numbers. The first column names each row."""
 
-    def __init__(self, columns, right=(), **attributes):
-        self.columns = columns
+    def __init__(self, columns, right=(), is_short=False, is_stacked=None):
+        self.columns, self.right, self.is_short, self.is_stacked = columns, right, is_short, is_stacked
         heads = (tag("th", it, scope="col", class_="n" if it in right else None) for it in columns)
         self.head = tag("thead", tag("tr", *heads))
-        self.attributes = attributes_of({"class_": class_of(len(columns)), **attributes})
-        self.starts = [self.start(place, it, it in right) for place, it in enumerate(columns)]
+        self.starts = [self.start(place, it) for place, it in enumerate(columns)]
         self.ends = ["</th>", *["</td>"] * (len(columns) - 1)]
 
-    def start(self, place, column, is_number):
-        name = "th" if place == 0 else "td"
-        scope = "row" if place == 0 else None
-        return f"<{name}{attributes_of({'scope': scope, 'class': 'n' if is_number else None, 'data_label': column})}>"
+    def start(self, place, column):
+        """The start tag of the cells of a column."""
+        name, scope = ("th", "row") if place == 0 else ("td", None)
+        kind = "n" if column in self.right else "d" if column in DATES else None
+        return f"<{name}{attributes_of({'scope': scope, 'class': kind, 'data_label': column})}>"
 
-    def row(self, cells, id=None):
+    def row(self, cells):
         """A row of the table."""
         inner = "".join([f"{start}{markup(cell)}{end}" for start, cell, end in zip(self.starts, cells, self.ends)])
-        return f'<tr id="{id}">{inner}</tr>' if id else f"<tr>{inner}</tr>"
+        return f"<tr>{inner}</tr>"
 
     def of(self, caption, rows, foot=()):
         """The whole table. `rows` and `foot` hold the cells of each row."""
+        rows = [*rows]
+        letters = letters_of(self.columns, self.right, rows)
+        attributes = attributes_of({"class_": class_of(len(self.columns), self.is_short, self.is_stacked, letters)})
         body = "\n".join(self.row(cells) for cells in rows)
         last = f"\n<tfoot>{''.join(self.row(cells) for cells in foot)}</tfoot>" if foot else ""
         said = f"<caption>{markup(caption)}</caption>"
-        return Markup(f"<table{self.attributes}>{said}{self.head}\n<tbody>{body}</tbody>{last}</table>")
+        return Markup(f"<table{attributes}>{said}{self.head}\n<tbody>{body}</tbody>{last}</table>")
 
 
-def table(caption, columns, rows, right=(), foot=(), **attributes):
+def table(caption, columns, rows, right=(), foot=(), is_short=False, is_stacked=None):
     """A table that is drawn once."""
-    return Table(columns, right, **attributes).of(caption, rows, foot)
+    return Table(columns, right, is_short, is_stacked).of(caption, rows, foot)
 
 
 def read_style():

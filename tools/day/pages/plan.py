@@ -55,10 +55,10 @@ def arrows_of(tasks, records):
                 yield grid.Arrow(tail, head, own[0] + more, f"{head} waits for {tail}: account {', '.join(own)}")
 
 
-def both(title, boxes, arrows, row_names=None):
+def both(title, boxes, arrows, names=grid.Names()):
     """A picture twice: for wide windows and paper, and for narrow windows. They differ in how many columns stand side by side."""
     return joined(
-        grid.picture(title, boxes, arrows, WIDE, "wide", row_names), grid.picture(title, boxes, arrows, NARROW, "narrow", row_names)
+        grid.picture(title, boxes, arrows, WIDE, "wide", names), grid.picture(title, boxes, arrows, NARROW, "narrow", names)
     )
 
 
@@ -101,9 +101,10 @@ def plan_table(settled, tasks, caption):
 def whole_plan(settled, tasks):
     places = places_in_levels(tasks)
     boxes = {record: box_of(task.logged, *places[record]) for record, task in tasks.items()}
+    names = grid.Names(columns=[f"level {level}" for level in range(1, 1 + max(it.level for it in tasks.values()))])
     title = f"The plan of {settled.head.date}: {count_of(len(tasks), 'instruction', 'instructions')} in columns, a column for each level"
     return [
-        figure("The plan, a column for each level", both(title, boxes, [*arrows_of(tasks, tasks)])),
+        figure("The plan, a column for each level", both(title, boxes, [*arrows_of(tasks, tasks)], names)),
         plan_table(settled, tasks.values(), "The plan in words"),
     ]
 

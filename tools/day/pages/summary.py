@@ -10,7 +10,9 @@ from texts import grouped
 
 # Of a check with more refusals, the page of the day shows the first ones, and pages of their own show all.
 MOST_REFUSED = 100
-REFUSED_COLUMNS = ["Record", "Accounts", "Instruction", "Proposed", "By", "Approved by"]
+# A narrow window has no room for two columns of longer numbers.
+LONG = 13
+REFUSED_COLUMNS = ["Record", "Accounts", "Instruction", "Proposed", "Proposer", "Approver"]
 
 
 def lead(settled):
@@ -37,7 +39,7 @@ def acts_table(settled):
     ]
     foot = ("all acts", grouped(done.total()), grouped(refused.total()), grouped(len(settled.log)))
     columns = ["Act", "Done", "Refused", "In all"]
-    return table("Instructions by act", columns, rows, right=columns[1:], foot=[foot])
+    return table("Instructions by act", columns, rows, right=columns[1:], foot=[foot], is_short=True, is_stacked=False)
 
 
 class Movements:
@@ -76,21 +78,28 @@ def totals_parts(settled):
         ("Held before the day", lambda it: before.held[it]),
         ("Surrendered before the day", lambda it: before.surrendered[it]),
         ("Together before the day", before.together),
-        ("+ created", lambda it: moved.created[it]),
-        ("- deleted", lambda it: -moved.deleted[it]),
-        ("+ deletions reversed", lambda it: moved.undeleted[it]),
+        ("Created", lambda it: moved.created[it]),
+        ("Deleted", lambda it: -moved.deleted[it]),
+        ("Deletions reversed", lambda it: moved.undeleted[it]),
         ("Together after the day", lambda it: after[it][0] + after[it][1]),
         ("Held after the day", lambda it: after[it][0]),
         ("Surrendered after the day", lambda it: after[it][1]),
     ]
+    kept = [("Before the day", lambda it: before.deleted[it]), ("After the day", lambda it: after[it][2])]
+    return [
+        amounts_table("Allowances before and after the day", steps),
+        *(equation(kind, before.together(kind), moved, after[kind][0] + after[kind][1]) for kind in KINDS),
+        amounts_table("All allowances that were ever deleted", kept),
+    ]
+
+
+def amounts_table(caption, steps):
+    """A table with a row for each step, and a column for each kind of allowance. Sums are bold."""
     rows = [(name, *(grouped(amount(kind)) for kind in KINDS)) for name, amount in steps]
     columns = ["Allowances", *(it.capitalize() for it in KINDS)]
-    kept = [("Deleted before the day", *(grouped(before.deleted[it]) for it in KINDS)), ("Deleted after the day", *(grouped(after[it][2]) for it in KINDS))]
-    return [
-        table("Allowances before and after the day", columns, rows, right=columns[1:]),
-        *(equation(kind, before.together(kind), moved, after[kind][0] + after[kind][1]) for kind in KINDS),
-        table("Deleted allowances, in all", columns, kept, right=columns[1:]),
-    ]
+    is_stacked = any(len(cell) > LONG for row in rows for cell in row[1:])
+    shown = (row if not row[0].startswith("Together") else [tag("strong", cell) for cell in row] for row in rows)
+    return table(caption, columns, shown, right=columns[1:], is_short=True, is_stacked=is_stacked)
 
 
 def equation(kind, before, moved, after):
@@ -133,10 +142,9 @@ def refusals_parts(settled):
     refused = settled.refused()
     if not refused:
         return [paragraph("No instruction was refused.")]
-    rows = ((code, link(f"#refused-{code}", settled.rulebook.checks[code].name), grouped(len(own))) for code, own in refused.items())
-    columns = ["Code", "Check", "Instructions"]
+    rows = ((link(f"#refused-{code}", f"{code} {settled.rulebook.checks[code].name}"), grouped(len(own))) for code, own in refused.items())
     return [
-        table("Refusals by check", columns, rows, right=("Instructions",)),
+        table("Refusals by check", ["Check", "Refused"], rows, right=("Refused",), is_short=True),
         *(part for code, own in refused.items() for part in refusals_of(settled, code, own)),
     ]
 
@@ -168,7 +176,7 @@ def sections(settled):
 def summary_pages(settled, files, note):
     """The file and the text of each page of the day."""
     parts = [part for name, own in sections(settled) if own for part in (tag("h2", name), *own)]
-    title = f"Settlement day {long_date(settled.head.date)}"
+    title = f"Settlement day: {long_date(settled.head.date)}"
     yield files["day"], settled.frame.page(title, lead(settled), *parts, current=files["day"], note=note)
     for code, own in settled.refused().items():
         if len(own) > MOST_REFUSED:

@@ -4,6 +4,7 @@ from collections import Counter
 from pathlib import Path
 
 from day.errors import FileFault, shown
+from day.pages.grid import Names
 from day.pages.html import paragraph, table, tag
 from day.pages.plan import MOST_BOXES, arrows_of, bars, both, box_of, figure, plan_of
 from day.pages.rulebook import ACTS
@@ -42,7 +43,7 @@ def lanes_parts(settled, tasks, records, column):
     boxes = {
         record: box_of(tasks[record].logged, column[record], worker) for worker, lane in enumerate(records) for record in lane
     }
-    names = [name_of(worker) for worker in range(len(records))]
+    names = Names(rows=[name_of(worker) for worker in range(len(records))])
     said = f"A lane for each of {count_of(len(records), 'worker', 'workers')}, with the arrows of the plan"
     yield figure(said, both(said, boxes, [*arrows_of(tasks, tasks)], names))
     rows = (
