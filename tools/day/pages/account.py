@@ -2,7 +2,7 @@
 import rules
 from day import compliance
 from day.pages.compliance import amount
-from day.pages.html import Markup, Table, facts, paragraph, tag
+from day.pages.html import Markup, Table, facts, heading, paragraph
 from day.pages.plan import figure
 from day.pages.rulebook import ACTS
 from day.pages.settled import long_date
@@ -132,7 +132,7 @@ class Statement:
     def kind_parts(self, kind):
         entries = self.entries[kind]
         before, after = self.opening[kind], self.held[kind]
-        yield tag("h2", f"{kind.capitalize()} allowances")
+        yield heading(f"{kind.capitalize()} allowances")
         if not entries:
             yield paragraph(f"No entry. The account holds {grouped(after)}, as before the day.")
             return
@@ -172,7 +172,7 @@ def chart(kind, balances):
 def history_parts(statement):
     """The balance over several days, as a line for each kind and as a table."""
     balances = statement.balances
-    yield tag("h2", "Balance over the days")
+    yield heading("Balance over the days")
     for kind in KINDS:
         if any(held[kind] for _, held in balances):
             yield figure(f"{kind.capitalize()} allowances after each day", chart(kind, balances))
@@ -195,7 +195,7 @@ def year_row(head, account, year):
 def years_parts(settled, account):
     """Compliance by year, a table for each period."""
     head, are_any = settled.head, False
-    yield tag("h2", "Compliance by year")
+    yield heading("Compliance by year")
     for number, period in enumerate(head.periods, 1):
         rows = [year_row(head, account, year) for year in years_of(head, account, period)]
         if rows:
@@ -208,7 +208,7 @@ def years_parts(settled, account):
 
 
 def trusted_parts(settled, account):
-    yield tag("h2", "Trusted list")
+    yield heading("Trusted list")
     if not account.trusted:
         yield paragraph("The list is empty.")
         return
@@ -219,7 +219,7 @@ def trusted_parts(settled, account):
 
 def retired_parts(account):
     if account.rows:
-        yield tag("h2", "Surrenders and deletions")
+        yield heading("Surrenders and deletions")
         rows = (
             (number, row.day, row.what, row.kind, grouped(row.amount), "reversed" if row.is_reversed else "no")
             for number, row in account.rows.items()
@@ -228,7 +228,7 @@ def retired_parts(account):
 
 
 def users_parts(account):
-    yield tag("h2", "Representatives")
+    yield heading("Representatives")
     if account.users:
         yield USERS.of("Who may propose and approve for this account", account.users.items())
     else:
@@ -253,14 +253,14 @@ def own_parts(settled, account, statement):
     for kind in KINDS:
         yield from statement.kind_parts(kind)
     if statement.others:
-        yield tag("h2", "Other entries")
+        yield heading("Other entries")
         yield OTHERS.of("Entries that move no allowances", statement.others)
     if statement.refused:
-        yield tag("h2", "Refused")
+        yield heading("Refused")
         yield REFUSED.of("Instructions that were refused", statement.refused)
     waiting = [*statement.waiting()]
     if waiting:
-        yield tag("h2", "Waiting for their due day")
+        yield heading("Waiting for their due day")
         yield WAITING.of("Enter these again on their due day or later, with their old dates of proposal", waiting)
     if len(statement.days) > 1:
         yield from history_parts(statement)

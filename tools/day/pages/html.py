@@ -1,8 +1,12 @@
 """HTML in Python: elements whose texts are escaped, tables with heads, and the frame that all pages have."""
+import functools
+import re
 from html import escape
 from pathlib import Path
 
 STYLE = Path(__file__).with_name("style.css")
+PICTURE_STYLE = Path(__file__).with_name("picture.css")
+SPECIAL = re.compile("[&<>\"']")
 FEW, MANY = 2, 12
 # How many letters stand beside each other in a table before its letters are smaller, and at most; and how many each column takes.
 DENSE, MOST_LETTERS, WORD, BETWEEN = 90, 125, 10, 2
@@ -16,7 +20,11 @@ class Markup(str):
 
 def markup(it):
     """A text as HTML: escaped, if it is not HTML already."""
-    return it if type(it) is Markup else Markup(escape(str(it)))
+    if type(it) is Markup:
+        return it
+    text = str(it)
+    # (most texts have nothing to escape, and looking is quicker)
+    return escape(text) if SPECIAL.search(text) else text
 
 
 def attributes_of(attributes):
@@ -28,7 +36,13 @@ def attributes_of(attributes):
 def tag(name, *children, **attributes):
     """An element with these children: texts, or elements."""
     inner = "".join(map(markup, children))
-    return Markup(f"<{name}{attributes_of(attributes)}>{inner}</{name}>")
+    return Markup(f"<{name}{attributes_of(attributes) if attributes else ''}>{inner}</{name}>")
+
+
+@functools.lru_cache(maxsize=1_000)
+def heading(words):
+    """The heading of a section."""
+    return tag("h2", words)
 
 
 def joined(*parts):
@@ -90,18 +104,19 @@ class Table:
         heads = (tag("th", it, scope="col", class_="n" if it in right else None) for it in columns)
         self.head = tag("thead", tag("tr", *heads))
         self.starts = [self.start(place, it) for place, it in enumerate(columns)]
-        self.ends = ["</th>", *["</td>"] * (len(columns) - 1)]
+        self.end = "</td>" if len(columns) > 1 else "</th>"
 
     def start(self, place, column):
-        """The start tag of the cells of a column."""
+        """The end tag of the cells of the column before, and the start tag of those of a column."""
         name, scope = ("th", "row") if place == 0 else ("td", None)
         kind = "n" if column in self.right else "d" if column in DATES else None
-        return f"<{name}{attributes_of({'scope': scope, 'class': kind, 'data_label': column})}>"
+        end = "" if place == 0 else "</th>" if place == 1 else "</td>"
+        return f"{end}<{name}{attributes_of({'scope': scope, 'class': kind, 'data_label': column})}>"
 
     def row(self, cells):
         """A row of the table."""
-        inner = "".join([f"{start}{markup(cell)}{end}" for start, cell, end in zip(self.starts, cells, self.ends)])
-        return f"<tr>{inner}</tr>"
+        pairs = zip(self.starts, cells)
+        return f"<tr>{''.join([start + markup(cell) for start, cell in pairs])}{self.end}</tr>"
 
     def of(self, caption, rows, foot=()):
         """The whole table. `rows` and `foot` hold the cells of each row."""
@@ -119,8 +134,9 @@ def table(caption, columns, rows, right=(), foot=(), is_short=False, is_stacked=
     return Table(columns, right, is_short, is_stacked).of(caption, rows, foot)
 
 
-def read_style():
-    return " ".join(STYLE.read_text(encoding="utf-8").split())
+def read_style(path):
+    """A style sheet without blanks that say nothing."""
+    return re.sub(r"\s*([{};,])\s*", r"\1", " ".join(path.read_text(encoding="utf-8").split()))
 
 
 class Frame:
@@ -130,33 +146,37 @@ class Frame:
     def __init__(self, sections):
         """`sections` has the file and the name of each page that all pages link to."""
         self.sections = sections
-        self.style = read_style()
+        self.style, self.picture_style = read_style(STYLE), read_style(PICTURE_STYLE)
+        self.starts = {}
 
     def navigation(self, root, current):
         own = ((f"{root}{file}", name, "page" if file == current else None) for file, name in self.sections)
         return tag("nav", tag("ul", *(tag("li", link(*it[:2], aria_current=it[2])) for it in own)), aria_label="Pages")
 
+    def start(self, root, current, has_pictures):
+        """What stands before the title, and between the title and the content."""
+        key = (root, current, has_pictures)
+        if key not in self.starts:
+            style = self.style + self.picture_style * has_pictures
+            self.starts[key] = HEAD, f"<style>{style}</style>\n</head>\n<body>\n{SKIP}\n{self.navigation(root, current)}\n"
+        return self.starts[key]
+
     def page(self, title, *body, root="", current=None, note=""):
         """A page of the folder; `root` leads from it to the folder."""
-        foot = tag("footer", paragraph(note)) if note else ""
-        return f"""<!DOCTYPE html>
+        content = joined(*body)
+        before, behind = self.start(root, current, "<svg" in content)
+        name = markup(title)
+        foot = f"<footer>{paragraph(note)}</footer>\n" if note else ""
+        main = f'<main id="main">\n<h1>{name}</h1>\n{content}\n</main>\n'
+        return f"{before}<title>{name}</title>\n{behind}{main}{foot}</body>\n</html>\n"
+
+
+HEAD = """<!DOCTYPE html>
 <html lang="en">
 <head>
 <meta charset="utf-8">
 <meta name="viewport" content="width=device-width, initial-scale=1">
 <meta name="color-scheme" content="light dark">
 <meta http-equiv="Content-Security-Policy" content="default-src 'none'; style-src 'unsafe-inline'">
-<title>{markup(title)}</title>
-<style>{self.style}</style>
-</head>
-<body>
-<a class="skip" href="#main">To the content</a>
-{self.navigation(root, current)}
-<main id="main">
-<h1>{markup(title)}</h1>
-{joined(*body)}
-</main>
-{foot}
-</body>
-</html>
 """
+SKIP = '<a class="skip" href="#main">To the content</a>'

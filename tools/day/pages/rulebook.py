@@ -1,5 +1,6 @@
 """What docs/RULES.md says, for the pages: the checks, the acts, the kinds of account and the statuses, and the pages that are made
 of RULES.md and FORMATS.md themselves."""
+import functools
 import re
 from dataclasses import dataclass
 from pathlib import Path
@@ -88,10 +89,12 @@ class Rulebook:
         self.kinds = dict(rows_under(self.text, KIND_HEAD))
         self.statuses = dict(rows_under(self.text, STATUS_HEAD))
 
+    @functools.lru_cache(maxsize=None)
     def words(self, markdown, root=""):
         """A cell of RULES.md, on a page from which `root` leads to the folder."""
         return Markdown("", lambda target: target_from(target, "RULES.md", root, own="")).inline(markdown)
 
+    @functools.lru_cache(maxsize=None)
     def check_link(self, code, root=""):
         """The name of a check, which leads to its row in the rules."""
         check = self.checks[code]

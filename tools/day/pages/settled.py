@@ -1,4 +1,5 @@
 """A settled day as the pages show it: a day text with its report, and what is worked out from both."""
+import functools
 from collections import Counter
 from dataclasses import dataclass, field
 from datetime import date
@@ -25,6 +26,7 @@ def outcome_in_words(logged):
     return "done" if logged.figure is None else f"done, figure {grouped(logged.figure)}"
 
 
+@functools.lru_cache(maxsize=1_000)
 def long_date(day):
     """A date as people write it."""
     return f"{day:%A} {day.day} {day:%B} {day.year}"
