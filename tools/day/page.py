@@ -11,12 +11,14 @@ FOLDER is made, and must not be there before, except if it is empty. Begin with 
 
 A table of more than 1,000 rows goes on in further pages, such as compliance-2.html. REPORT must be that of DAY.
 """
-import shutil
+import functools
+import gc
+import multiprocessing
+import os
 import sys
-import tempfile
-from pathlib import Path
 
 from day.errors import FileFault, WordsFault
+from day.output import NewFolder
 from day.pages.account import DayOfAccounts, account_page
 from day.pages.compliance import account_list_pages, compliance_pages
 from day.pages.html import Frame
@@ -24,13 +26,16 @@ from day.pages.rulebook import FORMATS, PAGES, RULES, Rulebook, document_page
 from day.pages.settled import Settled, count_of
 from day.pages.summary import summary_pages
 from day.pages.workers import workers_page
-from day.pairs import must_belong
+from day.pairs import read_pair
 from day.progress import progress
-from day.reading import read_day, read_report
 
 EXAMPLE = "./day page day.csv report.csv pages --only 100210 100377"
 FILES = {"day": "index.html", "compliance": "compliance.html", "accounts": "accounts.html", "workers": "workers.html"}
 NAMES = {"day": "The day", "compliance": "Compliance", "accounts": "Accounts", "workers": "Workers"}
+MOST_PROCESSES, SHARE = 4, 500
+MAKING = "making the pages of accounts"
+# What several processes do with their shares: it is put here before they begin.
+SHARED = []
 
 
 def add_words(parser):
@@ -43,12 +48,6 @@ def add_words(parser):
         "--history", nargs="+", default=[], metavar="DAY REPORT", help="days before DAY, rising, each with its report: the statements begin with them"
     )
     parser.add_argument("--lanes", metavar="FILE", help="who executed what, as `registry_workers lanes WORKERS` writes it")
-
-
-def read_pair(day_path, report_path):
-    day, report = read_day(day_path), read_report(report_path)
-    must_belong(day, report)
-    return day, report
 
 
 def read_history(paths, day):
@@ -83,48 +82,47 @@ def pages(words, settled, days):
         yield FILES["workers"], workers_page(settled, FILES, words.lanes, note)
     for name, file in PAGES.items():
         yield file, document_page(settled.frame, name)
-    for number in progress.over(sorted(settled.shown), "making the pages of accounts", len(settled.shown)):
-        yield f"accounts/{number}.html", account_page(settled, number, days)
 
 
-def must_be_free(folder):
-    """Ends the command if something is in the folder: a page of another day would stay there."""
-    if folder.exists() and (not folder.is_dir() or any(folder.iterdir())):
-        raise FileFault(folder, 0, "", "something that is there already", "no such file, or an empty folder")
+def write_accounts(folder, settled, days):
+    """Writes the pages of accounts, and answers how many there are. Many are made by several processes, each a share of them."""
+    numbers = sorted(settled.shown)
+    processes = min(MOST_PROCESSES, len(os.sched_getaffinity(0)), 1 + len(numbers) // SHARE)
+    shares = [numbers[it : it + SHARE] for it in range(0, len(numbers), SHARE)]
+    write = functools.partial(write_share, folder, settled, days)
+    if processes == 1:
+        written = map(write, shares)
+        return sum(progress.over(written, MAKING, len(shares), step=1))
+    # (what was read stays where it is: the processes only look at it)
+    gc.freeze()
+    SHARED.append(write)
+    with multiprocessing.get_context("fork").Pool(processes) as pool:
+        return sum(progress.over(pool.imap(write_shared, shares), MAKING, len(shares), step=1))
 
 
-def write(folder, made):
-    """Writes the pages into a folder beside, which gets its name when all of them are there. Answers how many there are."""
-    folder.parent.mkdir(parents=True, exist_ok=True)
-    beside = Path(tempfile.mkdtemp(prefix=f".{folder.name}.", dir=folder.parent))
-    try:
-        (beside / "accounts").mkdir()
-        count = 0
-        for name, text in made:
-            with open(beside / name, "w", encoding="utf-8", errors="surrogateescape", newline="\n") as stream:
-                stream.write(text)
-            count += 1
-        beside.chmod(0o755)
-        if folder.exists():
-            folder.rmdir()
-        beside.rename(folder)
-    finally:
-        shutil.rmtree(beside, ignore_errors=True)
-    return count
+def write_share(folder, settled, days, numbers):
+    for number in numbers:
+        folder.write(f"accounts/{number}.html", account_page(settled, number, days))
+    return len(numbers)
+
+
+def write_shared(numbers):
+    return SHARED[0](numbers)
 
 
 def run(words):
-    folder = Path(words.folder)
-    must_be_free(folder)
-    day, report = read_pair(words.day, words.report)
-    days = [*read_history(words.history, day), DayOfAccounts(day, report)]
-    sections = [(FILES[it], NAMES[it]) for it in FILES if it != "workers" or words.lanes]
-    frame = Frame([*sections, (RULES, "Rules"), (FORMATS, "Texts")])
-    settled = Settled(day, report, Rulebook(), frame, shown_accounts(words, report))
-    try:
-        count = write(folder, pages(words, settled, days))
-    except OSError as error:
-        raise FileFault(error.filename or folder, 0, "", f"a folder that cannot be written ({error.strerror})", "one that can") from None
+    with NewFolder(words.folder) as folder:
+        day, report = read_pair(words.day, words.report)
+        days = [*read_history(words.history, day), DayOfAccounts(day, report)]
+        sections = [(FILES[it], NAMES[it]) for it in FILES if it != "workers" or words.lanes]
+        frame = Frame([*sections, (RULES, "Rules"), (FORMATS, "Texts")])
+        settled = Settled(day, report, Rulebook(), frame, shown_accounts(words, report))
+        count = 0
+        for name, text in pages(words, settled, days):
+            folder.write(name, text)
+            count += 1
+        folder.make("accounts")
+        count += write_accounts(folder, settled, days)
     progress.clear()
-    print(f"{count_of(count, 'page', 'pages')}: begin with {folder / FILES['day']}", file=sys.stderr)
+    print(f"{count_of(count, 'page', 'pages')}: begin with {folder.path / FILES['day']}", file=sys.stderr)
     return 0

@@ -6,6 +6,7 @@ from day.pages.html import Markup, Table, facts, heading, paragraph
 from day.pages.plan import figure
 from day.pages.rulebook import ACTS
 from day.pages.settled import long_date
+from day.statements import log_by_account
 from texts import grouped
 
 ROOT = "../"
@@ -34,18 +35,14 @@ class DayOfAccounts:
 
     def __init__(self, day, report):
         self.day, self.date = day, day.head.date
-        self.rows = {}
-        for logged in report.log:
-            for number in logged.touched():
-                self.rows.setdefault(number, []).append(logged)
+        self.rows = log_by_account(report)
 
     def opening(self, number):
         """What an account held before the day; None if there was no such account."""
         block = self.day.book.get(number)
         if block is None:
             return None
-        *_, general, aviation = block.rows[0].split(",")
-        return {"general": int(general), "aviation": int(aviation)}
+        return dict(zip(KINDS, map(int, block.held_fields)))
 
 
 def own_words(i, number):
@@ -125,7 +122,7 @@ class Statement:
         check = rulebook.check_link(logged.code, ROOT)
         if self.number != logged.instruction.first:
             return check, "Nothing: the other account asked for it."
-        return check, rulebook.words(rulebook.checks[logged.code].remedy, ROOT)
+        return check, rulebook.words(rulebook.checks[logged.code].advice, ROOT)
 
     # Parts of the page.
 

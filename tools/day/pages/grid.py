@@ -9,7 +9,7 @@ drawn as a short one, which names the box that it comes from.
 from collections import Counter, defaultdict
 from dataclasses import dataclass
 
-from day.pages.html import Markup, markup
+from day.pages.html import Markup, markup, style_of
 
 BOX_WIDTH, LINE, PADDING = 136, 14, 6
 LETTER = 6.0
@@ -243,12 +243,27 @@ def bands_of(boxes, arrows, most_columns, names):
             yield Band(own, crossing, columns, names)
 
 
-def picture(title, boxes, arrows, most_columns, kind, names=Names()):
-    """The picture of boxes, by their keys, and arrows, as an element that `kind` is the class of."""
+def drawn(boxes, arrows, most_columns, names):
+    """The bands of a picture, with its width and its height."""
     parts, y, width = [], MARGIN, 0
-    for band in bands_of(boxes, arrows, most_columns, names):
+    for band in bands_of(boxes, arrows, most_columns, names) if boxes else ():
         parts.append(f'<g transform="translate({MARGIN},{shifted(y)})">{"".join(band.parts())}</g>')
         y += band.height + BAND
         width = max(width, band.width)
-    size = f'viewBox="0 0 {shifted(width + 2 * MARGIN)} {shifted(y - BAND + MARGIN)}" width="{shifted(width + 2 * MARGIN)}"'
-    return Markup(f'<svg role="img" class="{kind}" {size}><title>{markup(title)}</title>{"".join(parts)}</svg>')
+    return "".join(parts), width + 2 * MARGIN, max(y - BAND, 0) + MARGIN
+
+
+def picture(title, boxes, arrows, most_columns, kind, names=Names()):
+    """The picture of boxes, by their keys, and arrows, as an element that `kind` is the class of."""
+    parts, width, height = drawn(boxes, arrows, most_columns, names)
+    size = f'viewBox="0 0 {shifted(width)} {shifted(height)}" width="{shifted(width)}"'
+    return Markup(f'<svg role="img" class="{kind}" {size}><title>{markup(title)}</title>{parts}</svg>')
+
+
+def picture_file(title, boxes, arrows, most_columns, names=Names()):
+    """The picture as a file of its own, with its style."""
+    parts, width, height = drawn(boxes, arrows, most_columns, names)
+    size = f'viewBox="0 0 {shifted(width)} {shifted(height)}" width="{shifted(width)}" height="{shifted(height)}"'
+    head = f'<svg xmlns="http://www.w3.org/2000/svg" role="img" {size}>\n<title>{markup(title)}</title>'
+    style = f"<style>{style_of('colours', 'picture')} svg {{ background: var(--paper); }}</style>"
+    return "\n".join([head, style, parts.replace("<g", "\n<g").lstrip(), "</svg>"])

@@ -4,8 +4,6 @@ import re
 from html import escape
 from pathlib import Path
 
-STYLE = Path(__file__).with_name("style.css")
-PICTURE_STYLE = Path(__file__).with_name("picture.css")
 SPECIAL = re.compile("[&<>\"']")
 FEW, MANY = 2, 12
 # How many letters stand beside each other in a table before its letters are smaller, and at most; and how many each column takes.
@@ -134,9 +132,10 @@ def table(caption, columns, rows, right=(), foot=(), is_short=False, is_stacked=
     return Table(columns, right, is_short, is_stacked).of(caption, rows, foot)
 
 
-def read_style(path):
-    """A style sheet without blanks that say nothing."""
-    return re.sub(r"\s*([{};,])\s*", r"\1", " ".join(path.read_text(encoding="utf-8").split()))
+def style_of(*names):
+    """Style sheets of this folder, without blanks that say nothing."""
+    text = " ".join(Path(__file__).with_name(f"{name}.css").read_text(encoding="utf-8") for name in names)
+    return re.sub(r"\s*([{};,])\s*", r"\1", " ".join(text.split()))
 
 
 class Frame:
@@ -146,7 +145,7 @@ class Frame:
     def __init__(self, sections):
         """`sections` has the file and the name of each page that all pages link to."""
         self.sections = sections
-        self.style, self.picture_style = read_style(STYLE), read_style(PICTURE_STYLE)
+        self.style, self.picture_style = style_of("colours", "style"), style_of("picture")
         self.starts = {}
 
     def navigation(self, root, current):

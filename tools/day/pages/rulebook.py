@@ -2,21 +2,19 @@
 of RULES.md and FORMATS.md themselves."""
 import functools
 import re
-from dataclasses import dataclass
-from pathlib import Path
 
+from day import checks
 from day.errors import FileFault
 from day.pages.html import link
 from day.pages.markdown import Markdown, cells_of
 
-DOCS = Path(__file__).resolve().parents[3] / "docs"
+DOCS = checks.RULES.parent
 RULES, FORMATS = "rules.html", "formats.html"
 # The documents that become pages.
 PAGES = {"RULES.md": RULES, "FORMATS.md": FORMATS}
 CHECK_HEAD = ["code", "name", "it fails if", "what to do"]
 KIND_HEAD = ["kind", "name"]
 STATUS_HEAD = ["status", "what an account of this status allows"]
-ACT_HEAD = ["act", "word"]
 
 # The headings of RULES.md that tell the acts, by the words of the acts.
 ACTS = {
@@ -36,28 +34,6 @@ ACTS = {
 }  # fmt: skip
 
 
-@dataclass
-class Check:
-    """A check: its code and name, when it fails, and what to do then, both in Markdown."""
-
-    code: int
-    name: str
-    fails_if: str
-    remedy: str
-
-    @property
-    def anchor(self):
-        return f"check-{self.code}"
-
-
-def read_document(name):
-    path = DOCS / name
-    try:
-        return path.read_text(encoding="utf-8")
-    except OSError as error:
-        raise FileFault(path, 0, "", f"no file that can be read ({error.strerror})", "the document, as it is in the repository") from None
-
-
 def tables_of(text):
     """The tables of a document: the cells of each head, and of each of its rows."""
     lines = text.split("\n")
@@ -75,30 +51,35 @@ def rows_under(text, head):
     """The rows of the one table that has this head."""
     found = [rows for own, rows in tables_of(text) if own == head]
     if len(found) != 1:
-        raise FileFault(DOCS / "RULES.md", 0, "", f"{len(found)} tables with the head {' | '.join(head)}", "one")
+        raise FileFault(checks.RULES, 0, "", f"{len(found)} tables with the head {' | '.join(head)}", "one")
     return found[0]
+
+
+def anchor_of(code):
+    """Where the row of a check is found in the rules."""
+    return f"check-{code}"
 
 
 class Rulebook:
     """The words of RULES.md."""
 
     def __init__(self):
-        self.text = read_document("RULES.md")
-        checks = (Check(int(code), *rest) for code, *rest in rows_under(self.text, CHECK_HEAD))
-        self.checks = {it.code: it for it in checks}
-        self.kinds = dict(rows_under(self.text, KIND_HEAD))
-        self.statuses = dict(rows_under(self.text, STATUS_HEAD))
+        text = checks.document(checks.RULES)
+        self.checks = {it.code: it for it in checks.written_checks(text)}
+        self.kinds = dict(rows_under(text, KIND_HEAD))
+        self.statuses = dict(rows_under(text, STATUS_HEAD))
 
     @functools.lru_cache(maxsize=None)
     def words(self, markdown, root=""):
         """A cell of RULES.md, on a page from which `root` leads to the folder."""
-        return Markdown("", lambda target: target_from(target, "RULES.md", root, own="")).inline(markdown)
+        # (on another page nothing stands below)
+        elsewhere = markdown.replace("[below]", "[the rules]")
+        return Markdown("", lambda target: target_from(target, "RULES.md", root, own="")).inline(elsewhere)
 
     @functools.lru_cache(maxsize=None)
     def check_link(self, code, root=""):
         """The name of a check, which leads to its row in the rules."""
-        check = self.checks[code]
-        return link(f"{root}{RULES}#{check.anchor}", check.name)
+        return link(f"{root}{RULES}#{anchor_of(code)}", self.checks[code].name)
 
     def act_link(self, act, root=""):
         name, anchor = ACTS[act]
@@ -119,12 +100,12 @@ def target_from(target, document, root="", own=None):
 
 def row_id(head, cells):
     """The checks of RULES.md have anchors of their own."""
-    return f"check-{cells[0]}" if head == CHECK_HEAD else None
+    return anchor_of(cells[0]) if head == CHECK_HEAD else None
 
 
 def document_page(frame, name):
     """A document as a page, whose first heading is the page's."""
-    text = read_document(name)
+    text = checks.document(DOCS / name)
     title, _, rest = text.partition("\n")
     body = Markdown(rest, lambda target: target_from(target, name)).html(row_id)
     return frame.page(title.lstrip("# "), body, current=PAGES[name])

@@ -1,8 +1,5 @@
 """A settled day as the pages show it: a day text with its report, and what is worked out from both."""
 import functools
-from collections import Counter
-from dataclasses import dataclass, field
-from datetime import date
 
 import rules
 from day.pages.html import Markup, joined, link, tag
@@ -11,7 +8,7 @@ from texts import grouped, words_of
 
 # In how many rows a table is cut into pages.
 ROWS_OF_PAGE = 1_000
-NOT_DUE = "NotDue"
+NOT_DUE = rules.name_of(rules.not_due)
 
 
 def in_words(logged):
@@ -37,61 +34,6 @@ def count_of(number, one, many):
     return f"{grouped(number)} {one if number == 1 else many}"
 
 
-@dataclass
-class Sums:
-    """What all accounts of a book hold, have surrendered and have deleted, by kind of allowance."""
-
-    held: Counter = field(default_factory=Counter)
-    surrendered: Counter = field(default_factory=Counter)
-    deleted: Counter = field(default_factory=Counter)
-
-    def together(self, kind):
-        """What is held or surrendered."""
-        return self.held[kind] + self.surrendered[kind]
-
-
-def sums_of_book(book):
-    """The sums over all accounts, from their rows."""
-    sums = Sums()
-    for block in progress.over(book.values(), "adding up the accounts", len(book)):
-        for row in block.rows:
-            if row.startswith("account,"):
-                *_, general, aviation = row.split(",")
-                sums.held["general"] += int(general)
-                sums.held["aviation"] += int(aviation)
-            elif row.startswith("retired,"):
-                _, _, what, kind, amount, _, is_reversed, *_ = row.split(",")
-                if is_reversed == "no":
-                    (sums.surrendered if what == "surrender" else sums.deleted)[kind] += int(amount)
-    return sums
-
-
-class Trust:
-    """Which accounts trust which others, as the additions and removals of the day leave it."""
-
-    def __init__(self, day):
-        self.day, self.lists, self.holders = day, {}, {}
-
-    def account(self, number):
-        if number not in self.lists:
-            account = self.day.book[number].account()
-            self.lists[number], self.holders[number] = account.trusted, account.holder
-        return self.lists[number]
-
-    def follow(self, logged):
-        """Makes the change of an instruction that was done."""
-        i, head = logged.instruction, self.day.head
-        if logged.is_done and i.act == "trust":
-            self.account(i.first)[i.other] = head.due(head.date, head.lags["list"])
-        elif logged.is_done and i.act == "untrust":
-            self.account(i.first).pop(i.other, None)
-
-    def trusts(self, number, other):
-        listed = self.account(number).get(other, date.max) <= self.day.head.date
-        self.account(other)
-        return listed or self.holders[number] == self.holders[other]
-
-
 class Settled:
     """A day with its report, the words of the rules, and the frame of the pages."""
 
@@ -104,15 +46,11 @@ class Settled:
 
     def find_due_days(self):
         """The due day of each instruction that was refused as NotDue, by its record number."""
-        trust, due = Trust(self.day), {}
-        for logged in self.log:
-            if logged.name == NOT_DUE:
-                i, lag = logged.instruction, 0
-                if i.act == "transfer":
-                    lag = self.head.lags["trusted" if trust.trusts(i.first, i.shares[0][0]) else "other"]
-                due[logged.record] = self.head.due(i.proposed, lag)
-            trust.follow(logged)
-        return due
+        waiting = {it.record for it in self.log if it.name == NOT_DUE}
+        if not waiting:
+            return {}
+        log = progress.over(rules.settle(self.day.day()), "working out due days", len(self.log))
+        return {record: it.due for record, it in enumerate(log, self.head.next_record) if record in waiting}
 
     def account_link(self, number, root=""):
         """The number of an account, which leads to its page if it has one."""

@@ -1,10 +1,11 @@
 """The page of the day, and the pages of its refusals, if there are many."""
 from collections import Counter
 
+from day.books import sums_of
 from day.pages.html import Table, joined, link, paragraph, table, tag
 from day.pages.plan import plan_parts
 from day.pages.rulebook import ACTS
-from day.pages.settled import count_of, cut, in_words, long_date, sums_of_book
+from day.pages.settled import count_of, cut, in_words, long_date
 from rules import KINDS
 from texts import grouped
 
@@ -72,12 +73,12 @@ class Movements:
 
 def totals_parts(settled):
     """The totals before and after the day, as a sum that adds up."""
-    before, moved = sums_of_book(settled.day.book), Movements(settled)
+    before, moved = sums_of(settled.day.book_rows), Movements(settled)
     after = {kind: settled.report.totals[kind] for kind in KINDS}
     steps = [
-        ("Held before the day", lambda it: before.held[it]),
-        ("Surrendered before the day", lambda it: before.surrendered[it]),
-        ("Together before the day", before.together),
+        ("Held before the day", lambda it: before[it].held),
+        ("Surrendered before the day", lambda it: before[it].surrendered),
+        ("Together before the day", lambda it: before[it].allowances),
         ("Created", lambda it: moved.created[it]),
         ("Deleted", lambda it: -moved.deleted[it]),
         ("Deletions reversed", lambda it: moved.undeleted[it]),
@@ -85,10 +86,10 @@ def totals_parts(settled):
         ("Held after the day", lambda it: after[it][0]),
         ("Surrendered after the day", lambda it: after[it][1]),
     ]
-    kept = [("Before the day", lambda it: before.deleted[it]), ("After the day", lambda it: after[it][2])]
+    kept = [("Before the day", lambda it: before[it].deleted), ("After the day", lambda it: after[it][2])]
     return [
         amounts_table("Allowances before and after the day", steps),
-        *(equation(kind, before.together(kind), moved, after[kind][0] + after[kind][1]) for kind in KINDS),
+        *(equation(kind, before[kind].allowances, moved, after[kind][0] + after[kind][1]) for kind in KINDS),
         amounts_table("All allowances that were ever deleted", kept),
     ]
 
@@ -133,8 +134,8 @@ def refusals_of(settled, code, own):
 
 
 def meaning(settled, check):
-    yield paragraph(tag("strong", "It refuses if: "), settled.rulebook.words(check.fails_if))
-    yield paragraph(tag("strong", "What to do: "), settled.rulebook.words(check.remedy))
+    yield paragraph(tag("strong", "It refuses if: "), settled.rulebook.words(check.meaning))
+    yield paragraph(tag("strong", "What to do: "), settled.rulebook.words(check.advice))
 
 
 def refusals_parts(settled):
