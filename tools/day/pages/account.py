@@ -6,14 +6,14 @@ from day.pages.html import Markup, Table, facts, heading, paragraph
 from day.pages.plan import figure
 from day.pages.rulebook import ACTS
 from day.pages.settled import long_date
-from day.statements import log_by_account
+from day.statements import log_by_account, own_instruction, users_of
 from texts import grouped
 
 ROOT = "../"
 KINDS = rules.KINDS
-ENTRIES = Table(["Day", "Record", "Entry", "In", "Out", "Balance"], ("In", "Out", "Balance"))
-OTHERS = Table(["Day", "Record", "Entry"])
-REFUSED = Table(["Day", "Record", "Instruction", "Refused as", "What to do"])
+ENTRIES = Table(["Day", "Record", "Entry", "By", "In", "Out", "Balance"], ("In", "Out", "Balance"))
+OTHERS = Table(["Day", "Record", "Entry", "By"])
+REFUSED = Table(["Day", "Record", "Instruction", "By", "Refused as", "What to do"])
 WAITING = Table(["Record", "Instruction", "Proposed", "Due"])
 YEARS = Table(
     ["Year", "Emissions of the year", "Emissions so far", "Surrendered", "Correction", "Determined", "Figure now", "Verdict"],
@@ -45,30 +45,42 @@ class DayOfAccounts:
         return dict(zip(KINDS, map(int, block.held_fields)))
 
 
-def own_words(i, number):
-    """An instruction as the account sees it: of several receivers, only itself, if it is one of them."""
-    name = ACTS[i.act][0].capitalize()
-    if i.act == "distribute" and number == i.first:
-        return f"{name} to {', '.join(str(to) for to, _ in i.shares)}"
-    if i.shares:
-        return f"{name} from {i.first}" if number != i.first else f"{name} to {i.shares[0][0]}"
-    if i.act == "reverse":
-        return f"{name} of record {i.number}"
-    if i.act in ("trust", "untrust"):
-        return f"{name}: {i.other}"
-    if i.act == "status":
-        return f"{name}: {i.status}"
-    if i.act == "emissions":
-        return f"{name} of {i.year}: {grouped(i.tonnes)} tonnes"
-    return f"{name} of {i.year}" if i.act == "assess" else name
+class Own:
+    """An instruction as an account may see it: of several receivers, only itself, and only its own representatives."""
 
+    def __init__(self, logged, number, users):
+        self.fields = own_instruction(logged, number, users)
+        self.number, self.act, self.rest = number, self.fields[3], self.fields[4:]
 
-def own_amount(i, number):
-    """How many allowances an instruction asks to move at the account, with their kind; nothing if it moves none."""
-    if not i.amounts:
-        return ""
-    own = sum(it for to, it in i.shares if to == number) if i.shares and number != i.first else sum(i.amounts)
-    return f", {grouped(own)} {i.kind}"
+    @property
+    def by(self):
+        return ", ".join(filter(None, self.fields[1:3]))
+
+    @property
+    def words(self):
+        """What it is, without the amount."""
+        name, rest = ACTS[self.act][0].capitalize(), self.rest
+        if self.act == "distribute":
+            return f"{name} to {', '.join(rest[2::2])}" if rest[0] == str(self.number) else f"{name} from {rest[0]}"
+        if self.act in ("transfer", "return", "central"):
+            return f"{name} to {rest[1]}" if rest[0] == str(self.number) else f"{name} from {rest[0]}"
+        more = {
+            "reverse": " of record {1}", "trust": ": {1}", "untrust": ": {1}", "status": ": {1}", "emissions": " of {1}: {2} tonnes",
+            "assess": " of {1}",
+        }.get(self.act, "")  # fmt: skip
+        tonnes = [grouped(rest[2])] if self.act == "emissions" else rest[2:]
+        return name + more.format(*rest[:2], *tonnes)
+
+    @property
+    def words_with_amount(self):
+        """What it is, with the allowances that it asks to move at the account."""
+        rest = self.rest
+        if self.act == "distribute":
+            own = sum(map(int, rest[3::2])) if rest[0] == str(self.number) else int(rest[3])
+            return f"{self.words}, {grouped(own)} {rest[1]}"
+        if self.act in ("transfer", "return", "central", "surrender", "delete", "create"):
+            return f"{self.words}, {grouped(rest[-1])} {rest[-2]}"
+        return self.words
 
 
 class Statement:
@@ -76,6 +88,7 @@ class Statement:
 
     def __init__(self, settled, number, days):
         self.settled, self.number, self.days = settled, number, days
+        self.users = users_of(settled.report.book[number])
         self.entries = {kind: [] for kind in KINDS}
         self.others, self.refused, self.balances = [], [], []
         # (an account that was opened on a later day than the first one held nothing before)
@@ -91,30 +104,30 @@ class Statement:
             return
         for kind in KINDS:
             if opening[kind] != self.held[kind]:
-                self.enter(day.date, "", "Changed by hand before this day", kind, opening[kind])
+                self.enter((day.date, "", "Changed by hand before this day", ""), kind, opening[kind])
         for logged in day.rows.get(self.number, ()):
             self.take(day.date, logged)
         self.balances.append((day.date, dict(self.held)))
 
-    def enter(self, date, record, words, kind, after):
+    def enter(self, start, kind, after):
+        """An entry, of whose row `start` holds the first cells."""
         change = after - self.held[kind]
         into, out = (grouped(change), "") if change > 0 else ("", grouped(-change))
-        self.entries[kind].append((date, record, words, into, out, grouped(after)))
+        self.entries[kind].append((*start, into, out, grouped(after)))
         self.held[kind] = after
 
     def take(self, date, logged):
-        i = logged.instruction
-        words = own_words(i, self.number)
+        own = Own(logged, self.number, self.users)
         if not logged.is_done:
-            self.refused.append((date, logged.record, words + own_amount(i, self.number), *self.refusal(logged)))
+            self.refused.append((date, logged.record, own.words_with_amount, own.by, *self.refusal(logged)))
             return
         after = logged.held[self.number]
         moved = [kind for kind in KINDS if after[kind] != self.held[kind]]
         for kind in moved:
-            self.enter(date, logged.record, words, kind, after[kind])
+            self.enter((date, logged.record, own.words, own.by), kind, after[kind])
         if not moved:
             figure = "" if logged.figure is None else f": figure {grouped(logged.figure)}"
-            self.others.append((date, logged.record, words + figure))
+            self.others.append((date, logged.record, own.words + figure, own.by))
 
     def refusal(self, logged):
         """The check that refused, and what to do. Who is named only as a receiver did not ask for the instruction."""
@@ -133,15 +146,15 @@ class Statement:
         if not entries:
             yield paragraph(f"No entry. The account holds {grouped(after)}, as before the day.")
             return
-        first = (self.first_day, "", "Balance before the day", "", "", grouped(before))
-        last = (self.settled.head.date, "", "Balance after the day", "", "", grouped(after))
+        first = (self.first_day, "", "Balance before the day", "", "", "", grouped(before))
+        last = (self.settled.head.date, "", "Balance after the day", "", "", "", grouped(after))
         yield ENTRIES.of(f"{kind.capitalize()} allowances: in, out and balance", [first, *entries], [last])
 
     def waiting(self):
         due = self.settled.due_days
         for logged in self.days[-1].rows.get(self.number, ()):
             if logged.record in due and logged.instruction.first == self.number:
-                words = own_words(logged.instruction, self.number) + own_amount(logged.instruction, self.number)
+                words = Own(logged, self.number, self.users).words_with_amount
                 yield logged.record, words, logged.instruction.proposed, due[logged.record]
 
 
