@@ -92,7 +92,7 @@ def compliance_pages(settled, files, year, note):
     ]
     shown = [row_of(settled, it) for it in rows]
     title = f"Compliance for {year}"
-    yield from cut(settled.frame, files["compliance"], title, Table(COLUMNS, NUMBERS), title, shown, lead, note)
+    yield from cut(settled.frame, files["compliance"], title, Table(COLUMNS, NUMBERS), title, shown, lead, note=note, is_across=True)
 
 
 ACCOUNT_COLUMNS = ["Account", "Kind", "Holder", "Status", "General", "Aviation", "Done", "Refused"]
@@ -116,4 +116,4 @@ def account_list_pages(settled, files, note):
         class_="lead",
     )
     table_of = Table(ACCOUNT_COLUMNS, ACCOUNT_COLUMNS[4:])
-    yield from cut(settled.frame, files["accounts"], "Accounts", table_of, "All accounts", rows, [lead], note)
+    yield from cut(settled.frame, files["accounts"], "Accounts", table_of, "All accounts", rows, [lead], note=note)

@@ -5,9 +5,13 @@ from html import escape
 from pathlib import Path
 
 SPECIAL = re.compile("[&<>\"']")
-FEW, MANY = 2, 12
-# How many letters stand beside each other in a table before its letters are smaller, and at most; and how many each column takes.
-DENSE, MOST_LETTERS, WORD, BETWEEN = 90, 125, 10, 2
+TAGS = re.compile("<[^>]*>")
+# A table with so few letters beside each other fits everywhere. The rows of another one are stacked, with the name of the column
+# before each cell, where the window is too narrow: by the class of the table, for how many letters it is, and in which windows. The
+# rows of a table with still more letters are stacked everywhere.
+FITS, BETWEEN = 37, 2
+ROOMS = {"small": (60, "44rem"), "middle": (92, "62rem"), "dense": (145, "78rem")}
+EVERYWHERE = "everywhere"
 # Cells of these columns are not broken.
 DATES = {"Day", "Proposed", "Due", "In effect from"}
 
@@ -66,39 +70,33 @@ def facts(pairs):
     return tag("dl", *(tag("div", tag("dt", name), tag("dd", it)) for name, it in pairs if it not in (None, "")))
 
 
-def class_of(columns, is_short=False, is_stacked=None, letters=0):
-    """The classes of a table with so many columns, whose cells need so many letters beside each other. The rows of a stacked one are
-    stacked in a narrow window, and everywhere if they have no room; if nothing else is said, those of more than two columns are. A
-    short table has only as much room as a paragraph."""
-    is_stacked = columns > FEW if is_stacked is None else is_stacked
-    named = {
-        "short": is_short,
-        "stack": is_stacked,
-        "many": columns > MANY,
-        "dense": DENSE < letters <= MOST_LETTERS,
-        "everywhere": letters > MOST_LETTERS,
-    }
-    return " ".join(name for name, has in named.items() if has) or None
+def visible(cell):
+    """The words of a cell."""
+    return TAGS.sub("", cell) if type(cell) is Markup else str(cell)
 
 
 def letters_of(columns, right, rows):
-    """How many letters the widest cells need beside each other: all of a number, and about the longest word of other cells."""
+    """How many letters stand beside each other in the row of a table: all of a number, and the longest word of another cell."""
     needed = 0
     for place, name in enumerate(columns):
-        if name in right:
-            own = max((len(str(row[place])) for row in rows if type(row[place]) is not Markup), default=0)
-        else:
-            own = max((len(str(row[place])) for row in rows if type(row[place]) is not Markup), default=WORD)
-            own = min(own, WORD)
-        needed += max(own, min(len(name), WORD)) + BETWEEN
+        cells = {visible(row[place]) for row in rows}
+        words = cells if name in right or name in DATES else {word for cell in cells for word in cell.split()}
+        needed += max(map(len, {*words, *name.split()})) + BETWEEN
     return needed
+
+
+def room_of(letters):
+    """The class of a table with so many letters beside each other; nothing if it fits everywhere."""
+    if letters <= FITS:
+        return None
+    return next((name for name, (most, _) in ROOMS.items() if letters <= most), EVERYWHERE)
 
 
 class Table:
     """The head of a table: its columns, of which those of `right` hold numbers. The first column names each row."""
 
-    def __init__(self, columns, right=(), is_short=False, is_stacked=None):
-        self.columns, self.right, self.is_short, self.is_stacked = columns, right, is_short, is_stacked
+    def __init__(self, columns, right=(), is_short=False):
+        self.columns, self.right, self.is_short = columns, right, is_short
         heads = (tag("th", it, scope="col", class_="n" if it in right else None) for it in columns)
         self.head = tag("thead", tag("tr", *heads))
         self.starts = [self.start(place, it) for place, it in enumerate(columns)]
@@ -119,23 +117,35 @@ class Table:
     def of(self, caption, rows, foot=()):
         """The whole table. `rows` and `foot` hold the cells of each row."""
         rows = [*rows]
-        letters = letters_of(self.columns, self.right, rows)
-        attributes = attributes_of({"class_": class_of(len(self.columns), self.is_short, self.is_stacked, letters)})
+        room = room_of(letters_of(self.columns, self.right, [*rows, *foot]))
+        classes = " ".join(filter(None, ["short" if self.is_short else "", room]))
+        attributes = f' class="{classes}"' if classes else ""
         body = "\n".join(self.row(cells) for cells in rows)
         last = f"\n<tfoot>{''.join(self.row(cells) for cells in foot)}</tfoot>" if foot else ""
         said = f"<caption>{markup(caption)}</caption>"
         return Markup(f"<table{attributes}>{said}{self.head}\n<tbody>{body}</tbody>{last}</table>")
 
 
-def table(caption, columns, rows, right=(), foot=(), is_short=False, is_stacked=None):
-    """A table that is drawn once."""
-    return Table(columns, right, is_short, is_stacked).of(caption, rows, foot)
+def table(caption, columns, rows, right=(), foot=(), is_short=False):
+    """A table that is drawn once. A short one has only as much room as a paragraph."""
+    return Table(columns, right, is_short).of(caption, rows, foot)
 
 
+@functools.lru_cache(maxsize=None)
 def style_of(*names):
     """Style sheets of this folder, without blanks that say nothing."""
     text = " ".join(Path(__file__).with_name(f"{name}.css").read_text(encoding="utf-8") for name in names)
     return re.sub(r"\s*([{};,])\s*", r"\1", " ".join(text.split()))
+
+
+def stacked(name):
+    """The style of tables of this class whose rows are stacked."""
+    rules = style_of("stack").replace(".stack", f".{name}")
+    return rules if name == EVERYWHERE else f"@media screen and (max-width:{ROOMS[name][1]}){{{rules}}}"
+
+
+# What only some pages need: by a word that stands on such a page, its style.
+PARTS = {"<svg": lambda: style_of("picture"), **{f'{it}"': functools.partial(stacked, it) for it in (*ROOMS, EVERYWHERE)}}
 
 
 class Frame:
@@ -145,29 +155,29 @@ class Frame:
     def __init__(self, sections):
         """`sections` has the file and the name of each page that all pages link to."""
         self.sections = sections
-        self.style, self.picture_style = style_of("colours", "style"), style_of("picture")
         self.starts = {}
 
     def navigation(self, root, current):
         own = ((f"{root}{file}", name, "page" if file == current else None) for file, name in self.sections)
         return tag("nav", tag("ul", *(tag("li", link(*it[:2], aria_current=it[2])) for it in own)), aria_label="Pages")
 
-    def start(self, root, current, has_pictures):
-        """What stands before the title, and between the title and the content."""
-        key = (root, current, has_pictures)
+    def start(self, root, current, parts, is_across):
+        """What stands between the title and the content."""
+        key = (root, current, is_across, *parts)
         if key not in self.starts:
-            style = self.style + self.picture_style * has_pictures
-            self.starts[key] = HEAD, f"<style>{style}</style>\n</head>\n<body>\n{SKIP}\n{self.navigation(root, current)}\n"
+            style = style_of("colours", "style") + "".join(PARTS[it]() for it in parts)
+            kind = ' class="across"' if is_across else ""
+            self.starts[key] = f"<style>{style}</style>\n</head>\n<body{kind}>\n{SKIP}\n{self.navigation(root, current)}\n"
         return self.starts[key]
 
-    def page(self, title, *body, root="", current=None, note=""):
-        """A page of the folder; `root` leads from it to the folder."""
+    def page(self, title, *body, root="", current=None, note="", is_across=False):
+        """A page of the folder; `root` leads from it to the folder. It prints on A4, and if it is so, across."""
         content = joined(*body)
-        before, behind = self.start(root, current, "<svg" in content)
+        behind = self.start(root, current, [it for it in PARTS if it in content], is_across)
         name = markup(title)
         foot = f"<footer>{paragraph(note)}</footer>\n" if note else ""
         main = f'<main id="main">\n<h1>{name}</h1>\n{content}\n</main>\n'
-        return f"{before}<title>{name}</title>\n{behind}{main}{foot}</body>\n</html>\n"
+        return f"{HEAD}<title>{name}</title>\n{behind}{main}{foot}</body>\n</html>\n"
 
 
 HEAD = """<!DOCTYPE html>

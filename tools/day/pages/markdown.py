@@ -1,13 +1,15 @@
 """Turns the Markdown of docs/ into HTML: headings, paragraphs, lists, tables, code, links and emphasis, and nothing else."""
 import re
 
-from day.pages.html import Markup, class_of, joined, markup, tag
+from day.pages.html import Markup, joined, markup, tag
 
 HEADING = re.compile(r"(#{1,4}) (.+)")
 POINT = re.compile(r"(-|[0-9]+\.) +(.*)")
 RULE_OF_TABLE = re.compile(r"\|[-|: ]+\|")
 CELLS = re.compile(r"(?<!\\)\|")
 CODE_INDENT = "    "
+# Tables of more columns are stacked in narrow windows, and those of many have small letters.
+FEW, MANY = 2, 12
 INLINE = re.compile(
     r"`(?P<code>[^`]+)`|!?\[(?P<words>[^\]]*)\]\((?P<target>[^)\s]*)\)|\*\*(?P<bold>[^*]+)\*\*|\*(?P<stressed>[^*\s][^*]*)\*"
 )
@@ -109,7 +111,8 @@ class Markdown:
         head, rule, *rows = map(cells_of, self.take_while(lambda it: it.startswith("|")))
         columns = tag("thead", tag("tr", *(tag("th", self.inline(it), scope="col") for it in head)))
         body = tag("tbody", *(self.row(head, row) for row in rows))
-        return tag("table", columns, body, class_=class_of(len(head)))
+        kind = "many small" if len(head) > MANY else "small" if len(head) > FEW else None
+        return tag("table", columns, body, class_=kind)
 
     def row(self, head, cells):
         labels = [re.sub(r"[*`]", "", it) for it in head]

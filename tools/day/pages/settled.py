@@ -87,12 +87,12 @@ def ways(file, number, count, first_words):
     return tag("nav", tag("p", f"Page {number} of {count}. Each page by its first row:"), tag("ol", *own), aria_label="Parts", class_="parts")
 
 
-def cut(frame, file, title, table, caption, rows, lead, note=""):
-    """The pages of a table of many rows: the file and the text of each. `lead` stands on the first one."""
+def cut(frame, file, title, table, caption, rows, lead, **more):
+    """The pages of a table of many rows: the file and the text of each. `lead` stands on the first one; `more` goes to the frame."""
     parts = [rows[it : it + ROWS_OF_PAGE] for it in range(0, len(rows), ROWS_OF_PAGE)] or [[]]
     first_words = [it[0][0] if it else "" for it in parts]
     for number, part in enumerate(parts, 1):
         own_caption = caption if len(parts) == 1 else f"{caption}, part {number} of {len(parts)}"
         links = [ways(file, number, len(parts), first_words)] if len(parts) > 1 else []
         body = joined(*(lead if number == 1 else []), *links, table.of(own_caption, part))
-        yield page_name(file, number), frame.page(title, body, current=file, note=note)
+        yield page_name(file, number), frame.page(title, body, current=file, **more)

@@ -11,8 +11,6 @@ from texts import grouped
 
 # Of a check with more refusals, the page of the day shows the first ones, and pages of their own show all.
 MOST_REFUSED = 100
-# A narrow window has no room for two columns of longer numbers.
-LONG = 13
 REFUSED_COLUMNS = ["Record", "Accounts", "Instruction", "Proposed", "Proposer", "Approver"]
 
 
@@ -39,8 +37,8 @@ def acts_table(settled):
         if done[act] + refused[act]
     ]
     foot = ("all acts", grouped(done.total()), grouped(refused.total()), grouped(len(settled.log)))
-    columns = ["Act", "Done", "Refused", "In all"]
-    return table("Instructions by act", columns, rows, right=columns[1:], foot=[foot], is_short=True, is_stacked=False)
+    columns = ["Act", "Done", "Refused", "All"]
+    return table("Instructions by act", columns, rows, right=columns[1:], foot=[foot], is_short=True)
 
 
 class Movements:
@@ -98,9 +96,8 @@ def amounts_table(caption, steps):
     """A table with a row for each step, and a column for each kind of allowance. Sums are bold."""
     rows = [(name, *(grouped(amount(kind)) for kind in KINDS)) for name, amount in steps]
     columns = ["Allowances", *(it.capitalize() for it in KINDS)]
-    is_stacked = any(len(cell) > LONG for row in rows for cell in row[1:])
     shown = (row if not row[0].startswith("Together") else [tag("strong", cell) for cell in row] for row in rows)
-    return table(caption, columns, shown, right=columns[1:], is_short=True, is_stacked=is_stacked)
+    return table(caption, columns, shown, right=columns[1:], is_short=True)
 
 
 def equation(kind, before, moved, after):
@@ -185,4 +182,4 @@ def summary_pages(settled, files, note):
             rows = [refused_row(settled, it) for it in own]
             first = [paragraph(link(f"{files['day']}#refused-{code}", "The page of the day")), *meaning(settled, check)]
             title = f"Refused as {check.name} on {settled.head.date}"
-            yield from cut(settled.frame, refused_page(code), title, Table(REFUSED_COLUMNS), f"Refused as {check.name}", rows, [joined(*first)], note)
+            yield from cut(settled.frame, refused_page(code), title, Table(REFUSED_COLUMNS), f"Refused as {check.name}", rows, [joined(*first)], note=note)

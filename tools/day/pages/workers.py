@@ -60,7 +60,7 @@ def shares_parts(tasks, records):
     said = "Instructions by worker"
     yield figure(said, bars(said, [(name_of(worker), len(lane)) for worker, lane in enumerate(records)]))
     acts = [act for act in ACTS if any(it[act] for it in counts)]
-    columns = ["Worker", *acts, "in all"]
+    columns = ["Worker", *acts, "all"]
     rows = (
         (name_of(worker), *(grouped(count[act]) for act in acts), grouped(count.total())) for worker, count in enumerate(counts)
     )
