@@ -1,6 +1,23 @@
-"""What the tools that draw a text share: reading the rows of a text of the program, and laying out a table."""
+"""What the tools that draw a text share: reading the rows of a text of the program, the words of an instruction,
+and laying out a table."""
 import csv
 import sys
+
+# How many fields each act has, and its words: {0} is its first field. Fields at the places of the third part are amounts.
+ACTS = {
+    "transfer": (4, "transfer of {3} {2}, {0} to {1}", (3,)),
+    "return": (4, "return of {3} {2}, {0} to {1}", (3,)),
+    "central": (4, "central move of {3} {2}, {0} to {1}", (3,)),
+    "surrender": (3, "surrender of {2} {1} from {0}", (2,)),
+    "delete": (3, "deletion of {2} {1} from {0}", (2,)),
+    "create": (3, "creation of {2} {1} on {0}", (2,)),
+    "reverse": (2, "reversal of record {1} on {0}", ()),
+    "trust": (2, "addition of {1} to the list of {0}", ()),
+    "untrust": (2, "removal of {1} from the list of {0}", ()),
+    "status": (2, "status of {0} to {1}", ()),
+    "emissions": (3, "emissions of {0} in {1}: {2} tonnes", (2,)),
+    "assess": (2, "assessment of {0} for {1}", ()),
+}
 
 
 class Wrong(Exception):
@@ -31,6 +48,36 @@ def refuse(number, row):
 def grouped(digits):
     """A number with a comma after each three digits."""
     return f"{int(digits):,}"
+
+
+def words_of(act, fields):
+    """An instruction in words, from its act and the act's fields."""
+    if act == "distribute":
+        giver, kind, *shares = fields
+        parts = [f"{grouped(amount)} to {account}" for account, amount in zip(shares[::2], shares[1::2])]
+        return f"distribution of {kind} from {giver}: {', '.join(parts)}"
+    _, words, amounts = ACTS[act]
+    return words.format(*(grouped(it) if place in amounts else it for place, it in enumerate(fields)))
+
+
+def box_lines(name, i):
+    """An instruction in the lines of a box: its place or record number with its act, its accounts, and what it is about."""
+    receivers = [to for to, _ in i.shares]
+    to = f" → {receivers[0]}" if len(receivers) == 1 else f" → {len(receivers)} accounts" if receivers else ""
+    return [f"{name} {i.act}", f"{i.first}{to}", subject_of(i)]
+
+
+def subject_of(i):
+    """What an instruction is about, beside its accounts."""
+    if i.amounts:
+        return f"{grouped(sum(i.amounts))} {i.kind}"
+    if i.act == "reverse":
+        return f"record {i.number}"
+    if i.act in ("trust", "untrust"):
+        return f"list: {i.other}"
+    if i.act == "status":
+        return f"to {i.status}"
+    return f"{i.year}: {grouped(i.tonnes)} tonnes" if i.act == "emissions" else f"year {i.year}"
 
 
 def table(head, rows, right):

@@ -26,15 +26,25 @@ def plain(text):
     return LINK.sub(lambda link: f"docs/RULES.md{link[2]}" if link[1] == "below" else link[1], text).replace("`", "").strip()
 
 
+def document(path):
+    """The text of a document."""
+    try:
+        return path.read_text(encoding="utf-8")
+    except OSError as error:
+        raise FileFault(path, 0, "", f"it cannot be read: {error.strerror}", "") from None
+
+
+def written_checks(text):
+    """The checks of RULES.md in their order, with the marks of its words."""
+    for row in filter(None, map(ROW.fullmatch, text.splitlines())):
+        code, name, meaning, advice = row.groups()
+        yield Check(int(code), name, meaning, advice)
+
+
 @functools.lru_cache(maxsize=None)
 def checks():
     """All checks by their names, in the order in which they are asked."""
-    try:
-        lines = RULES.read_text(encoding="utf-8").splitlines()
-    except OSError as error:
-        raise FileFault(RULES, 0, "", f"it cannot be read: {error.strerror}", "") from None
-    found = [row.groups() for row in map(ROW.fullmatch, lines) if row]
-    return {name: Check(int(code), name, plain(meaning), plain(advice)) for code, name, meaning, advice in found}
+    return {it.name: Check(it.code, it.name, plain(it.meaning), plain(it.advice)) for it in written_checks(document(RULES))}
 
 
 def advice_for(name):

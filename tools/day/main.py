@@ -18,6 +18,7 @@ COMMANDS = {
     "explain": "says what is wrong with a day text, and mends what a spreadsheet did to it",
     "log": "writes the logs of reports as one table with a header",
     "compliance": "shows which operators are compliant for a year, and why others are not",
+    "page": "makes HTML pages of a settled day: the day, compliance, accounts, and the rules",
 }
 
 HEAD = """./day COMMAND ..

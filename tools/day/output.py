@@ -28,6 +28,13 @@ class NewFolder:
             raise cannot(self.path, error) from None
         return self
 
+    def make(self, name):
+        """Makes a folder inside."""
+        try:
+            (self.beside / name).mkdir()
+        except OSError as error:
+            raise cannot(self.path / name, error) from None
+
     def write(self, name, text):
         """Writes a file of the folder."""
         try:

@@ -49,11 +49,20 @@ def own_fields(logged, number):
     return [i.act, str(i.first), i.kind, *own]
 
 
+def own_instruction(logged, number, users):
+    """The fields of an instruction as an account may see them. `users` are its representatives."""
+    fields = logged.instruction.fields
+    return [fields[0], *(user if user in users else "" for user in fields[1:3]), *own_fields(logged, number)]
+
+
+def users_of(block):
+    """The representatives of an account, as they are spelled."""
+    return {row.split(",")[1] for row in block.list_rows if row.startswith("user,")}
+
+
 def own_row(logged, number, users):
     """A log row as an account may see it."""
-    i = logged.instruction
-    proposed_by = [user if user in users else "" for user in i.fields[1:3]]
-    start = ["log", logged.record, logged.date, i.fields[0], *proposed_by, *own_fields(logged, number)]
+    start = ["log", logged.record, logged.date, *own_instruction(logged, number, users)]
     if logged.is_done:
         figure = "" if logged.figure is None else logged.figure
         end = ["done", figure, number, *logged.held[number].values()]
@@ -66,7 +75,7 @@ def statement_of(day, report, number, log, is_own):
     """The text of the statement of an account."""
     before, after = day.book[number], report.book[number]
     if is_own:
-        users = {row.split(",")[1] for row in before.list_rows if row.startswith("user,")}
+        users = users_of(before)
         _, _, kind, holder, status, *_ = after.rows[0].split(",")
         start = [f"statement,{day.head.date},{number},{kind},{holder},{status}"]
         rows = [own_row(it, number, users) for it in log]

@@ -1,0 +1,128 @@
+"""Makes HTML pages of a settled day, which open from the disk: the day, compliance, accounts, a page for each account, and the rules.
+
+FOLDER is made, and must not be there before, except if it is empty. Begin with FOLDER/index.html.
+
+  index.html       the day: counts, totals, refusals with what to do, what waits for its due day, the plan
+  compliance.html  how each operator and aircraft operator stands for a year, those first of whom most is missing
+  accounts.html    all accounts
+  accounts/N.html  a statement of account N to print or send, with nothing on it that belongs to others
+  workers.html     who executed what; only with --lanes
+  rules.html       docs/RULES.md, to whose checks the refusals lead; and formats.html
+
+A table of more than 1,000 rows goes on in further pages, such as compliance-2.html. REPORT must be that of DAY.
+"""
+import functools
+import gc
+import multiprocessing
+import os
+import sys
+
+from day.errors import FileFault, WordsFault
+from day.output import NewFolder
+from day.pages.account import DayOfAccounts, account_page
+from day.pages.compliance import account_list_pages, compliance_pages
+from day.pages.html import Frame
+from day.pages.rulebook import FORMATS, PAGES, RULES, Rulebook, document_page
+from day.pages.settled import Settled, count_of
+from day.pages.summary import summary_pages
+from day.pages.workers import workers_page
+from day.pairs import read_pair
+from day.progress import progress
+
+EXAMPLE = "./day page day.csv report.csv pages --only 100210 100377"
+FILES = {"day": "index.html", "compliance": "compliance.html", "accounts": "accounts.html", "workers": "workers.html"}
+NAMES = {"day": "The day", "compliance": "Compliance", "accounts": "Accounts", "workers": "Workers"}
+MOST_PROCESSES, SHARE = 4, 500
+MAKING = "making the pages of accounts"
+# What several processes do with their shares: it is put here before they begin.
+SHARED = []
+
+
+def add_words(parser):
+    parser.add_argument("day", metavar="DAY", help="a day text")
+    parser.add_argument("report", metavar="REPORT", help="its report")
+    parser.add_argument("folder", metavar="FOLDER", help="the folder that is made")
+    parser.add_argument("--only", type=int, nargs="+", metavar="ACCOUNT", help="make pages of these accounts only, in place of all")
+    parser.add_argument("--year", type=int, metavar="Y", help="the year of compliance.html; else the last one of the current period that is over")
+    parser.add_argument(
+        "--history", nargs="+", default=[], metavar="DAY REPORT", help="days before DAY, rising, each with its report: the statements begin with them"
+    )
+    parser.add_argument("--lanes", metavar="FILE", help="who executed what, as `registry_workers lanes WORKERS` writes it")
+
+
+def read_history(paths, day):
+    """The days before the settled one, each with its report."""
+    if len(paths) % 2:
+        raise WordsFault("--history takes pairs: a day and its report, and the next ones behind them")
+    pairs = [read_pair(*it) for it in zip(paths[::2], paths[1::2])]
+    dates = [*(it for it, _ in pairs), day]
+    for before, after in zip(dates, dates[1:]):
+        if before.head.date >= after.head.date:
+            raise FileFault(after.path, after.line_of_tag("day"), "DATE", after.head.date, f"a day behind {before.head.date}, that of {before.path}")
+    return [DayOfAccounts(*it) for it in pairs]
+
+
+def shown_accounts(words, report):
+    """The accounts that have a page."""
+    if words.only is None:
+        return report.book.keys()
+    for number in words.only:
+        if number not in report.book:
+            raise WordsFault(f"--only {number}: {words.report} has no such account")
+    return {*words.only}
+
+
+def pages(words, settled, days):
+    """The file and the text of each page."""
+    note = f"Made by ./day page of {words.day} and {words.report}."
+    yield from summary_pages(settled, FILES, note)
+    yield from compliance_pages(settled, FILES, words.year, note)
+    yield from account_list_pages(settled, FILES, note)
+    if words.lanes:
+        yield FILES["workers"], workers_page(settled, FILES, words.lanes, note)
+    for name, file in PAGES.items():
+        yield file, document_page(settled.frame, name)
+
+
+def write_accounts(folder, settled, days):
+    """Writes the pages of accounts, and answers how many there are. Many are made by several processes, each a share of them."""
+    numbers = sorted(settled.shown)
+    processes = min(MOST_PROCESSES, len(os.sched_getaffinity(0)), 1 + len(numbers) // SHARE)
+    shares = [numbers[it : it + SHARE] for it in range(0, len(numbers), SHARE)]
+    write = functools.partial(write_share, folder, settled, days)
+    if processes == 1:
+        written = map(write, shares)
+        return sum(progress.over(written, MAKING, len(shares), step=1))
+    # (what was read stays where it is: the processes only look at it)
+    gc.freeze()
+    SHARED.append(write)
+    with multiprocessing.get_context("fork").Pool(processes) as pool:
+        return sum(progress.over(pool.imap(write_shared, shares), MAKING, len(shares), step=1))
+
+
+def write_share(folder, settled, days, numbers):
+    for number in numbers:
+        folder.write(f"accounts/{number}.html", account_page(settled, number, days))
+    return len(numbers)
+
+
+def write_shared(numbers):
+    return SHARED[0](numbers)
+
+
+def run(words):
+    with NewFolder(words.folder) as folder:
+        day, report = read_pair(words.day, words.report)
+        days = [*read_history(words.history, day), DayOfAccounts(day, report)]
+        sections = [(FILES[it], NAMES[it]) for it in FILES if it != "workers" or words.lanes]
+        frame = Frame([*sections, (RULES, "Rules"), (FORMATS, "Texts")])
+        settled = Settled(day, report, Rulebook(), frame, shown_accounts(words, report))
+        count = 0
+        for name, text in pages(words, settled, days):
+            folder.write(name, text)
+            count += 1
+        folder.make("accounts")
+        count += write_accounts(folder, settled, days)
+    progress.clear()
+    print(f"{count_of(count, 'page', 'pages')}: begin with {folder.path / FILES['day']}", file=sys.stderr)
+    return 0

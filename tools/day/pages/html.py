@@ -1,0 +1,191 @@
+"""HTML in Python: elements whose texts are escaped, tables with heads, and the frame that all pages have."""
+import functools
+import re
+from html import escape
+from pathlib import Path
+
+SPECIAL = re.compile("[&<>\"']")
+TAGS = re.compile("<[^>]*>")
+# A table with so few letters beside each other fits everywhere. The rows of another one are stacked, with the name of the column
+# before each cell, where the window is too narrow: by the class of the table, for how many letters it is, and in which windows. The
+# rows of a table with still more letters are stacked everywhere.
+FITS, BETWEEN = 37, 2
+ROOMS = {"small": (60, "44rem"), "middle": (92, "62rem"), "dense": (145, "78rem")}
+EVERYWHERE = "everywhere"
+# Cells of these columns are not broken.
+DATES = {"Day", "Proposed", "Due", "In effect from"}
+
+
+class Markup(str):
+    """A text that is HTML already."""
+
+
+def markup(it):
+    """A text as HTML: escaped, if it is not HTML already."""
+    if type(it) is Markup:
+        return it
+    text = str(it)
+    # (most texts have nothing to escape, and looking is quicker)
+    return escape(text) if SPECIAL.search(text) else text
+
+
+def attributes_of(attributes):
+    """The attributes of a start tag. `class_` is class, `_` is a hyphen; those without a value are left out."""
+    said = ((name.rstrip("_").replace("_", "-"), value) for name, value in attributes.items())
+    return "".join(f' {name}="{escape(str(value))}"' for name, value in said if value is not None)
+
+
+def tag(name, *children, **attributes):
+    """An element with these children: texts, or elements."""
+    inner = "".join(map(markup, children))
+    return Markup(f"<{name}{attributes_of(attributes) if attributes else ''}>{inner}</{name}>")
+
+
+@functools.lru_cache(maxsize=1_000)
+def heading(words):
+    """The heading of a section."""
+    return tag("h2", words)
+
+
+def joined(*parts):
+    """Elements one after another, a line each."""
+    return Markup("\n".join(map(markup, parts)))
+
+
+def link(target, words, **attributes):
+    return tag("a", words, href=target, **attributes)
+
+
+def paragraph(*children, **attributes):
+    return tag("p", *children, **attributes)
+
+
+def items(rows):
+    """A list of points."""
+    return tag("ul", *(tag("li", row) for row in rows))
+
+
+def facts(pairs):
+    """Names and what they are, a line each. Pairs without a value are left out."""
+    return tag("dl", *(tag("div", tag("dt", name), tag("dd", it)) for name, it in pairs if it not in (None, "")))
+
+
+def visible(cell):
+    """The words of a cell."""
+    return TAGS.sub("", cell) if type(cell) is Markup else str(cell)
+
+
+def letters_of(columns, right, rows):
+    """How many letters stand beside each other in the row of a table: all of a number, and the longest word of another cell."""
+    needed = 0
+    for place, name in enumerate(columns):
+        cells = {visible(row[place]) for row in rows}
+        words = cells if name in right or name in DATES else {word for cell in cells for word in cell.split()}
+        needed += max(map(len, {*words, *name.split()})) + BETWEEN
+    return needed
+
+
+def room_of(letters):
+    """The class of a table with so many letters beside each other; nothing if it fits everywhere."""
+    if letters <= FITS:
+        return None
+    return next((name for name, (most, _) in ROOMS.items() if letters <= most), EVERYWHERE)
+
+
+class Table:
+    """The head of a table: its columns, of which those of `right` hold numbers. The first column names each row."""
+
+    def __init__(self, columns, right=(), is_short=False):
+        self.columns, self.right, self.is_short = columns, right, is_short
+        heads = (tag("th", it, scope="col", class_="n" if it in right else None) for it in columns)
+        self.head = tag("thead", tag("tr", *heads))
+        self.starts = [self.start(place, it) for place, it in enumerate(columns)]
+        self.end = "</td>" if len(columns) > 1 else "</th>"
+
+    def start(self, place, column):
+        """The end tag of the cells of the column before, and the start tag of those of a column."""
+        name, scope = ("th", "row") if place == 0 else ("td", None)
+        kind = "n" if column in self.right else "d" if column in DATES else None
+        end = "" if place == 0 else "</th>" if place == 1 else "</td>"
+        return f"{end}<{name}{attributes_of({'scope': scope, 'class': kind, 'data_label': column})}>"
+
+    def row(self, cells):
+        """A row of the table."""
+        pairs = zip(self.starts, cells)
+        return f"<tr>{''.join([start + markup(cell) for start, cell in pairs])}{self.end}</tr>"
+
+    def of(self, caption, rows, foot=()):
+        """The whole table. `rows` and `foot` hold the cells of each row."""
+        rows = [*rows]
+        room = room_of(letters_of(self.columns, self.right, [*rows, *foot]))
+        classes = " ".join(filter(None, ["short" if self.is_short else "", room]))
+        attributes = f' class="{classes}"' if classes else ""
+        body = "\n".join(self.row(cells) for cells in rows)
+        last = f"\n<tfoot>{''.join(self.row(cells) for cells in foot)}</tfoot>" if foot else ""
+        said = f"<caption>{markup(caption)}</caption>"
+        return Markup(f"<table{attributes}>{said}{self.head}\n<tbody>{body}</tbody>{last}</table>")
+
+
+def table(caption, columns, rows, right=(), foot=(), is_short=False):
+    """A table that is drawn once. A short one has only as much room as a paragraph."""
+    return Table(columns, right, is_short).of(caption, rows, foot)
+
+
+@functools.lru_cache(maxsize=None)
+def style_of(*names):
+    """Style sheets of this folder, without blanks that say nothing."""
+    text = " ".join(Path(__file__).with_name(f"{name}.css").read_text(encoding="utf-8") for name in names)
+    return re.sub(r"\s*([{};,])\s*", r"\1", " ".join(text.split()))
+
+
+def stacked(name):
+    """The style of tables of this class whose rows are stacked."""
+    rules = style_of("stack").replace(".stack", f".{name}")
+    return rules if name == EVERYWHERE else f"@media screen and (max-width:{ROOMS[name][1]}){{{rules}}}"
+
+
+# What only some pages need: by a word that stands on such a page, its style.
+PARTS = {"<svg": lambda: style_of("picture"), **{f'{it}"': functools.partial(stacked, it) for it in (*ROOMS, EVERYWHERE)}}
+
+
+class Frame:
+    """What all pages of a folder have around them: the links to each other, and the style. Nothing is fetched, and no script runs:
+    the policy in the head forbids it."""
+
+    def __init__(self, sections):
+        """`sections` has the file and the name of each page that all pages link to."""
+        self.sections = sections
+        self.starts = {}
+
+    def navigation(self, root, current):
+        own = ((f"{root}{file}", name, "page" if file == current else None) for file, name in self.sections)
+        return tag("nav", tag("ul", *(tag("li", link(*it[:2], aria_current=it[2])) for it in own)), aria_label="Pages")
+
+    def start(self, root, current, parts, is_across):
+        """What stands between the title and the content."""
+        key = (root, current, is_across, *parts)
+        if key not in self.starts:
+            style = style_of("colours", "style") + "".join(PARTS[it]() for it in parts)
+            kind = ' class="across"' if is_across else ""
+            self.starts[key] = f"<style>{style}</style>\n</head>\n<body{kind}>\n{SKIP}\n{self.navigation(root, current)}\n"
+        return self.starts[key]
+
+    def page(self, title, *body, root="", current=None, note="", is_across=False):
+        """A page of the folder; `root` leads from it to the folder. It prints on A4, and if it is so, across."""
+        content = joined(*body)
+        behind = self.start(root, current, [it for it in PARTS if it in content], is_across)
+        name = markup(title)
+        foot = f"<footer>{paragraph(note)}</footer>\n" if note else ""
+        main = f'<main id="main">\n<h1>{name}</h1>\n{content}\n</main>\n'
+        return f"{HEAD}<title>{name}</title>\n{behind}{main}{foot}</body>\n</html>\n"
+
+
+HEAD = """<!DOCTYPE html>
+<html lang="en">
+<head>
+<meta charset="utf-8">
+<meta name="viewport" content="width=device-width, initial-scale=1">
+<meta name="color-scheme" content="light dark">
+<meta http-equiv="Content-Security-Policy" content="default-src 'none'; style-src 'unsafe-inline'">
+"""
+SKIP = '<a class="skip" href="#main">To the content</a>'

@@ -1,0 +1,182 @@
+"""Reads HTML pages back, for the tests: whether they are well formed, and what their tables, links and pictures say."""
+import re
+from dataclasses import dataclass, field
+from html.parser import HTMLParser
+
+VOID = {"meta", "link", "br", "hr", "img", "input"}
+# What a page that opens from the disk by itself never has: scripts, and what would be fetched.
+FORBIDDEN = {"script", "iframe", "object", "embed", "link", "img", "form"}
+PATH_STEP = re.compile(r"([MHV])(-?[0-9.]+)(?:,(-?[0-9.]+))?")
+
+
+@dataclass
+class Table:
+    """A table: its caption, the words of its head, and the words of the cells of its rows."""
+
+    caption: str = ""
+    head: list = field(default_factory=list)
+    rows: list = field(default_factory=list)
+
+    def columns(self, *names):
+        """The cells of these columns, a tuple for each row."""
+        places = [self.head.index(name) for name in names]
+        return [tuple(row[place] for place in places) for row in self.rows]
+
+
+@dataclass
+class Group:
+    """A band of a picture: the rectangles of its boxes, and the steps of its arrows as pairs of points."""
+
+    boxes: list = field(default_factory=list)
+    steps: list = field(default_factory=list)
+
+
+class Page(HTMLParser):
+    """A page that was read. `faults` says what is wrong with its form."""
+
+    def __init__(self, text):
+        super().__init__(convert_charrefs=True)
+        self.faults, self.open, self.ids, self.hrefs, self.words = [], [], [], [], []
+        self.tables, self.pictures, self.groups, self.headings = [], 0, [], []
+        self.cell = None
+        if not text.startswith("<!DOCTYPE html>\n"):
+            self.faults.append("no <!DOCTYPE html>")
+        self.feed(text)
+        self.close()
+        self.faults += [f"<{name}> is not closed" for name in self.open]
+        self.faults += [f"the id {it} stands twice" for it in {*self.ids} if self.ids.count(it) > 1]
+        for it in self.tables:
+            self.look_at_table(it)
+
+    def look_at_table(self, table):
+        if not table.head:
+            self.faults.append(f"the table {table.caption!r} has no head")
+        if any(len(row) != len(table.head) for row in table.rows):
+            self.faults.append(f"a row of {table.caption!r} has not as many cells as its head")
+
+    @property
+    def text(self):
+        return " ".join(" ".join(self.words).split())
+
+    def table(self, start):
+        """The one table whose caption begins so."""
+        found = [it for it in self.tables if it.caption.startswith(start)]
+        if len(found) != 1:
+            raise AssertionError(f"{len(found)} tables are called {start!r}: {[it.caption for it in self.tables]}")
+        return found[0]
+
+    # Elements.
+
+    def handle_starttag(self, name, attributes):
+        of = dict(attributes)
+        if name in FORBIDDEN or any(it.startswith("on") or it == "src" for it in of):
+            self.faults.append(f"<{name}> with {[*of]}")
+        if "id" in of:
+            self.ids.append(of["id"])
+        if "href" in of:
+            self.hrefs.append(of["href"])
+        if name not in VOID:
+            self.open.append(name)
+        own = getattr(self, f"begin_{name}", None)
+        if own:
+            own(of)
+
+    def handle_startendtag(self, name, attributes):
+        # (only elements of pictures are written so)
+        if "svg" not in self.open:
+            self.faults.append(f"<{name}/> outside of a picture")
+        self.draw(name, dict(attributes))
+
+    def handle_endtag(self, name):
+        if not self.open or self.open[-1] != name:
+            self.faults.append(f"</{name}> closes <{self.open[-1] if self.open else 'nothing'}>")
+        else:
+            self.open.pop()
+        if name in ("td", "th", "caption", "h1", "h2", "h3"):
+            self.end_cell(name)
+
+    def handle_data(self, data):
+        if self.open and self.open[-1] == "style":
+            return
+        if "style" not in self.open:
+            self.words.append(data)
+        if self.cell is not None:
+            self.cell.append(data)
+
+    def begin_table(self, _):
+        self.tables.append(Table())
+
+    def begin_tr(self, _):
+        self.row = []
+
+    def begin_cell(self, of):
+        self.cell, self.scope = [], of.get("scope")
+
+    begin_td = begin_th = begin_caption = begin_h1 = begin_h2 = begin_h3 = begin_cell
+
+    def end_cell(self, name):
+        words = " ".join("".join(self.cell or []).split())
+        self.cell = None
+        if name.startswith("h"):
+            self.headings.append(words)
+        elif name == "caption":
+            self.tables[-1].caption = words
+        elif "thead" in self.open:
+            self.tables[-1].head.append(words)
+            if name != "th" or self.scope != "col":
+                self.faults.append(f"a head {words!r} without its scope")
+        else:
+            if name == "th" and self.scope != "row":
+                self.faults.append(f"a head {words!r} without its scope")
+            if not self.row:
+                self.tables[-1].rows.append(self.row)
+                if name != "th":
+                    self.faults.append(f"a row begins with {words!r}, which is no head")
+            self.row.append(words)
+
+    # Pictures.
+
+    def begin_svg(self, of):
+        self.pictures += 1
+        self.is_titled = False
+        if of.get("role") != "img":
+            self.faults.append("a picture without its role")
+
+    def begin_title(self, _):
+        self.is_titled = True
+
+    def begin_g(self, of):
+        if "transform" in of:
+            self.groups.append(Group())
+
+    def draw(self, name, of):
+        if not self.is_titled:
+            self.faults.append("a picture without a title")
+        if name == "rect" and of.get("class") == "box" and self.groups:
+            x, y, width, height = (float(of[it]) for it in ("x", "y", "width", "height"))
+            self.groups[-1].boxes.append((x, y, x + width, y + height))
+        elif name == "path" and of.get("class") == "arrow" and self.groups:
+            self.groups[-1].steps += steps_of(of["d"])
+
+    def arrows_behind_boxes(self):
+        """The steps of arrows that run through a box."""
+        return [(step, box) for group in self.groups for step in group.steps for box in group.boxes if runs_through(step, box)]
+
+
+def steps_of(path):
+    """The straight steps of a path, each as its two ends."""
+    x = y = None
+    for letter, first, second in PATH_STEP.findall(path):
+        before = (x, y)
+        if letter == "M":
+            x, y = float(first), float(second)
+            continue
+        x, y = (float(first), y) if letter == "H" else (x, float(first))
+        yield *before, x, y
+
+
+def runs_through(step, box):
+    """Whether a step passes through the inside of a box."""
+    x, y, to_x, to_y = step
+    left, top, right, bottom = box
+    return max(x, to_x) > left + 0.5 and min(x, to_x) < right - 0.5 and max(y, to_y) > top + 0.5 and min(y, to_y) < bottom - 0.5
