@@ -7,13 +7,16 @@ ghost use Rattle.reg_text.specs.Reading.{IsReading};
 ghost use Rattle.reg_text.specs.Inputs.{day_of_input};
 ghost use Rattle.reg_front.specs.Streams.{CanFail};
 ghost use Rattle.reg_front.specs.Devices.{IsReadWhole};
+ghost use Rattle.reg_front.specs.declared.command.Command.TheVariants.{Figures, Plan, Settle, Statement, Totals};
 ghost use Rattle.reg_front.specs.Runs.{CarriesOut, IsReadingFault, Reads};
+ghost use Rattle.reg_front.specs.Questions.{command_of};
 
-use crate::command::Command;
+use crate::command::{Command, Question};
 use crate::device::{read_all, write_all};
 use crate::fault::FrontFault;
 use crate::stream::{Sink, Source};
-use crate::texts::{Used, make_text};
+use crate::texts::{Used, make_answer, make_report};
+use reg_base::AccountNo;
 use reg_text::{DayInput, read_day};
 use std::alloc::Global;
 use std::mem;
@@ -45,7 +48,82 @@ pub fn run<T: Threads + Wait + Sync, R: Source, W: Sink>(
     requires writer { CanFail (W.stream writer.old) }
     ensures { CarriesOut command (result_err result) (R.stream reader.old) (R.stream reader.new) (W.stream writer.old) (W.stream writer.new) }
 {
-    run_and_keep(rt, alloc, reader, writer, command)?;
+    match command {
+        Command::Settle { workers } => run_settle(rt, alloc, reader, writer, workers),
+        Command::Plan => run_plan(alloc, reader, writer),
+        Command::Statement { account } => run_statement(alloc, reader, writer, account),
+        Command::Figures => run_figures(alloc, reader, writer),
+        Command::Totals => run_totals(alloc, reader, writer),
+    }
+}
+
+/// Does what [`run`] does for [`Command::Plan`]. No thread is started and nobody is waited for, so this call returns, if
+/// those of the reader and the writer do. [`run`] may wait for workers.
+///
+/// # Errors
+/// As [`run`], but never `Workers`, `NoAccount` or `NoThread`.
+pub fn run_plan<R: Source, W: Sink>(
+    alloc: Global,
+    reader: &mut R,
+    writer: &mut W,
+) -> Result<(), FrontFault>
+    requires reader { CanFail (R.stream reader.old) }
+    requires writer { CanFail (W.stream writer.old) }
+    ensures { CarriesOut Plan (result_err result) (R.stream reader.old) (R.stream reader.new) (W.stream writer.old) (W.stream writer.new) }
+{
+    answer(alloc, reader, writer, &Question::Plan)?;
+    Ok(())
+}
+
+/// Does what [`run`] does for [`Command::Statement`]. It waits for nobody, as [`run_plan`].
+///
+/// # Errors
+/// As [`run`], but never `Workers` or `NoThread`.
+pub fn run_statement<R: Source, W: Sink>(
+    alloc: Global,
+    reader: &mut R,
+    writer: &mut W,
+    account: AccountNo,
+) -> Result<(), FrontFault>
+    requires reader { CanFail (R.stream reader.old) }
+    requires writer { CanFail (W.stream writer.old) }
+    ensures { CarriesOut (Statement account) (result_err result) (R.stream reader.old) (R.stream reader.new) (W.stream writer.old) (W.stream writer.new) }
+{
+    answer(alloc, reader, writer, &Question::Statement { account })?;
+    Ok(())
+}
+
+/// Does what [`run`] does for [`Command::Figures`]. It waits for nobody, as [`run_plan`].
+///
+/// # Errors
+/// As [`run_plan`].
+pub fn run_figures<R: Source, W: Sink>(
+    alloc: Global,
+    reader: &mut R,
+    writer: &mut W,
+) -> Result<(), FrontFault>
+    requires reader { CanFail (R.stream reader.old) }
+    requires writer { CanFail (W.stream writer.old) }
+    ensures { CarriesOut Figures (result_err result) (R.stream reader.old) (R.stream reader.new) (W.stream writer.old) (W.stream writer.new) }
+{
+    answer(alloc, reader, writer, &Question::Figures)?;
+    Ok(())
+}
+
+/// Does what [`run`] does for [`Command::Totals`]. It waits for nobody, as [`run_plan`].
+///
+/// # Errors
+/// As [`run_plan`].
+pub fn run_totals<R: Source, W: Sink>(
+    alloc: Global,
+    reader: &mut R,
+    writer: &mut W,
+) -> Result<(), FrontFault>
+    requires reader { CanFail (R.stream reader.old) }
+    requires writer { CanFail (W.stream writer.old) }
+    ensures { CarriesOut Totals (result_err result) (R.stream reader.old) (R.stream reader.new) (W.stream writer.old) (W.stream writer.new) }
+{
+    answer(alloc, reader, writer, &Question::Totals)?;
     Ok(())
 }
 
@@ -69,6 +147,22 @@ pub fn run_without_freeing<T: Threads + Wait + Sync, R: Source, W: Sink>(
     Ok(())
 }
 
+// Settles the day of the input by workers, and frees what was used.
+fn run_settle<T: Threads + Wait + Sync, R: Source, W: Sink>(
+    rt: &T,
+    alloc: Global,
+    reader: &mut R,
+    writer: &mut W,
+    workers: u32,
+) -> Result<(), FrontFault>
+    requires reader { CanFail (R.stream reader.old) }
+    requires writer { CanFail (W.stream writer.old) }
+    ensures { CarriesOut (Settle workers) (result_err result) (R.stream reader.old) (R.stream reader.new) (W.stream writer.old) (W.stream writer.new) }
+{
+    settle(rt, alloc, reader, writer, workers)?;
+    Ok(())
+}
+
 // Runs the command, and answers what it has used.
 fn run_and_keep<T: Threads + Wait + Sync, R: Source, W: Sink>(
     rt: &T,
@@ -81,8 +175,50 @@ fn run_and_keep<T: Threads + Wait + Sync, R: Source, W: Sink>(
     requires writer { CanFail (W.stream writer.old) }
     ensures { CarriesOut command (result_err result) (R.stream reader.old) (R.stream reader.new) (W.stream writer.old) (W.stream writer.new) }
 {
+    match command {
+        Command::Settle { workers } => settle(rt, alloc, reader, writer, workers),
+        Command::Plan => answer(alloc, reader, writer, &Question::Plan),
+        Command::Statement { account } => {
+            answer(alloc, reader, writer, &Question::Statement { account })
+        }
+        Command::Figures => answer(alloc, reader, writer, &Question::Figures),
+        Command::Totals => answer(alloc, reader, writer, &Question::Totals),
+    }
+}
+
+// Reads the day, settles it by workers, and writes the report.
+fn settle<T: Threads + Wait + Sync, R: Source, W: Sink>(
+    rt: &T,
+    alloc: Global,
+    reader: &mut R,
+    writer: &mut W,
+    workers: u32,
+) -> Result<Used, FrontFault>
+    requires reader { CanFail (R.stream reader.old) }
+    requires writer { CanFail (W.stream writer.old) }
+    ensures { CarriesOut (Settle workers) (result_err result) (R.stream reader.old) (R.stream reader.new) (W.stream writer.old) (W.stream writer.new) }
+{
     let (day, input) = read_input(alloc, reader)?;
-    let used = make_text(rt, alloc, day, input, &command)?;
+    let used = make_report(rt, alloc, day, input, workers)?;
+    if write_all(writer, used.text.as_slice()).is_err() {
+        return Err(FrontFault::WriteFailed);
+    }
+    Ok(used)
+}
+
+// Reads the day, and writes the text that answers the question.
+fn answer<R: Source, W: Sink>(
+    alloc: Global,
+    reader: &mut R,
+    writer: &mut W,
+    question: &Question,
+) -> Result<Used, FrontFault>
+    requires reader { CanFail (R.stream reader.old) }
+    requires writer { CanFail (W.stream writer.old) }
+    ensures { CarriesOut (command_of question.now) (result_err result) (R.stream reader.old) (R.stream reader.new) (W.stream writer.old) (W.stream writer.new) }
+{
+    let (day, input) = read_input(alloc, reader)?;
+    let used = make_answer(alloc, day, input, question)?;
     if write_all(writer, used.text.as_slice()).is_err() {
         return Err(FrontFault::WriteFailed);
     }

@@ -17,18 +17,13 @@
 //! /// Settles the day of a text, and writes the totals after it.
 //! ///
 //! /// # Errors
-//! /// As [`run`].
-//! pub fn write_totals<T: Threads + Wait + Sync, W: Sink>(
-//!     rt: &T,
-//!     alloc: Global,
-//!     text: &[u8],
-//!     writer: &mut W,
-//! ) -> Result<(), FrontFault>
+//! /// As [`run_totals`].
+//! pub fn write_totals<W: Sink>(alloc: Global, text: &[u8], writer: &mut W) -> Result<(), FrontFault>
 //!     requires { CanFail (W.stream writer.old) }
 //!     ensures { OnOk result (WritesText Totals (Some text.now) (W.stream writer.old).bytes (W.stream writer.new).bytes) }
 //! {
 //!     let mut reader = Counted::new(text);
-//!     run(rt, alloc, &mut reader, writer, Command::Totals)
+//!     run_totals(alloc, &mut reader, writer)
 //! }
 //! ```
 #![tactic(auto)]
@@ -46,7 +41,7 @@ mod texts;
 
 pub use command::Command;
 pub use counted::Counted;
-pub use engine::{run, run_without_freeing};
+pub use engine::{run, run_figures, run_plan, run_statement, run_totals, run_without_freeing};
 pub use fault::FrontFault;
 pub use faulty::Faulty;
 pub use line::tell_fault;

@@ -13,9 +13,10 @@ ghost use Rattle.reg_text.specs.Totals.{totals_rows};
 ghost use Rattle.reg_text.specs.Statement.{statement_of, has_account};
 ghost use Rattle.reg_front.specs.declared.command.Command.TheVariants.{Settle, Statement};
 ghost use Rattle.reg_front.specs.declared.fault.FrontFault.TheVariants as front;
+ghost use Rattle.reg_front.specs.Questions.{command_of};
 ghost use Rattle.reg_front.specs.Runs.{command_fault, IsPlanText, IsTextFor, IsCommandFault};
 
-use crate::command::Command;
+use crate::command::Question;
 use crate::fault::FrontFault;
 use reg_base::{AccountNo, NoMemory};
 use reg_book::{Closed, Replaced, SettleFault, Settled, settle_in_place, settle_plain};
@@ -37,34 +38,35 @@ pub(crate) struct Used {
     replaced: Option<Replaced>,
 }
 
-/// The text of a command for a day. `bytes` are no longer needed: a report and a text of figures take their memory.
+/// The text that answers a question of a day. `bytes` are no longer needed: a text of figures takes their memory.
 ///
 /// # Errors
-/// `Workers` if the number of workers is not 1 to 8. `NoAccount` if the account of a statement is not in the book.
-/// Otherwise `NoThread` if a thread could not be started, and `NoMemory` if memory ran out.
-pub(crate) fn make_text<T: Threads + Wait + Sync>(
-    rt: &T,
+/// `NoAccount` if the account of a statement is not in the book. Otherwise `NoMemory` if memory ran out.
+pub(crate) fn make_answer(
     alloc: Global,
     day: DayInput,
     bytes: Vec<u8>,
-    command: &Command,
+    question: &Question,
 ) -> Result<Used, FrontFault>
     requires { day.batch.base + 1 ≡ day.book.next }
     ensures { MatchResult result
-        (λ used. (command_fault command.now day.book ≡ None) × IsTextFor command.now (day_of_input day) used.text.items)
-        (IsCommandFault command.now day.book) }
+        (λ used. (command_fault (command_of question.now) day.book ≡ None) × IsTextFor (command_of question.now) (day_of_input day) used.text.items)
+        (IsCommandFault (command_of question.now) day.book) }
 {
-    match *command {
-        Command::Settle { workers } => make_report(rt, alloc, day, bytes, workers),
-        Command::Plan => make_plan(alloc, &day),
-        Command::Statement { account } => make_statement(alloc, &day, account),
-        Command::Figures => make_figures(alloc, day, bytes),
-        Command::Totals => make_totals(alloc, day),
+    match *question {
+        Question::Plan => make_plan(alloc, &day),
+        Question::Statement { account } => make_statement(alloc, &day, account),
+        Question::Figures => make_figures(alloc, day, bytes),
+        Question::Totals => make_totals(alloc, day),
     }
 }
 
-// The report of the day, settled by workers, in the place of bytes that are no longer needed.
-fn make_report<T: Threads + Wait + Sync>(
+/// The report of the day, settled by workers, in the place of bytes that are no longer needed.
+///
+/// # Errors
+/// `Workers` if the number of workers is not 1 to 8. Otherwise `NoThread` if a thread could not be started, and
+/// `NoMemory` if memory ran out.
+pub(crate) fn make_report<T: Threads + Wait + Sync>(
     rt: &T,
     alloc: Global,
     day: DayInput,

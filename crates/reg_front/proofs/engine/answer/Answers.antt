@@ -1,7 +1,7 @@
 -- A failed writer has taken a prefix of the day's text.
 use Rattle.std.proofs.Common.{sym, ◌∙◌}
 use Rattle.reg_front.proofs.Ends.{of_failed, failed_write}
-use Rattle.reg_front.proofs.engine.run_and_keep.Goals as goal
+use Rattle.reg_front.proofs.engine.answer.Goals as goal
 
 pub returns-then-is_err : goal.returns-then-is_err
 returns-then-is_err g c =
