@@ -9,10 +9,8 @@
 //! ghost use Rattle.reg_front.specs.Runs.{WritesText};
 //! ghost use Rattle.reg_front.specs.declared.command.Command.TheVariants.{Totals};
 //!
-//! use reg_front::{Command, Counted, FrontFault, Sink, run};
+//! use reg_front::{Counted, FrontFault, Sink, run_totals};
 //! use std::alloc::Global;
-//! use std::sync::Wait;
-//! use std::thread::Threads;
 //!
 //! /// Settles the day of a text, and writes the totals after it.
 //! ///
