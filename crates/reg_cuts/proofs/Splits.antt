@@ -132,16 +132,21 @@ no-and : (t u : Bool) (whole rest : List ℕ) → cond ((t && false) && u) rest 
 no-and true u whole rest = refl
 no-and false u whole rest = refl
 
--- a byte order mark at the start of a text that is cut is one of its first part
-pub text-split : (a b : List ℕ) → IsCut a → HasNoMark b → strip_bom (a ++ b) ≡ strip_bom a ++ b
+-- a byte order mark at the start of a text is one of its first part, if this is not empty and the text is cut behind it
+pub mark-split : (a b : List ℕ) → IsCut a → 0 < length a → strip_bom (a ++ b) ≡ strip_bom a ++ b
 unfolding strip_bom state_after
+mark-split [] b cut some = absurd (omega arith)
+mark-split (x ∷ []) [] cut some = refl
+mark-split (x ∷ []) (y ∷ []) cut some = refl
+mark-split (x ∷ []) (y ∷ z ∷ r) cut some = rw (not-mark st.StartRecord x 0xEF (inl refl) cut) refl
+mark-split (x ∷ y ∷ []) [] cut some = refl
+mark-split (x ∷ y ∷ []) (z ∷ r) cut some = rw (not-mark (step default_config st.StartRecord x).0 y 0xBB (inr refl) cut) (no-and (x == 0xEF) (z == 0xBF) (x ∷ y ∷ z ∷ r) r)
+mark-split (x ∷ y ∷ z ∷ r) b cut some = moved (is_bom x y z) r b x y z
+
+pub text-split : (a b : List ℕ) → IsCut a → HasNoMark b → strip_bom (a ++ b) ≡ strip_bom a ++ b
+unfolding strip_bom
 text-split [] b cut none = none
-text-split (x ∷ []) [] cut none = refl
-text-split (x ∷ []) (y ∷ []) cut none = refl
-text-split (x ∷ []) (y ∷ z ∷ r) cut none = rw (not-mark st.StartRecord x 0xEF (inl refl) cut) refl
-text-split (x ∷ y ∷ []) [] cut none = refl
-text-split (x ∷ y ∷ []) (z ∷ r) cut none = rw (not-mark (step default_config st.StartRecord x).0 y 0xBB (inr refl) cut) (no-and (x == 0xEF) (z == 0xBF) (x ∷ y ∷ z ∷ r) r)
-text-split (x ∷ y ∷ z ∷ r) b cut none = moved (is_bom x y z) r b x y z
+text-split (x ∷ a) b cut none = mark-split (x ∷ a) b cut (omega arith)
 
 pub rows-split : (a b : List ℕ) → IsCut a → HasNoMark b → rows_in_text (a ++ b) ≡ rows_in_text a ++ rows_in_text b
 rows-split a b cut none =
@@ -149,7 +154,7 @@ rows-split a b cut none =
 
 -- ---- cuts one after another
 
-state-append : (s : State) (a b : List ℕ) → state_after s (a ++ b) ≡ state_after (state_after s a) b
+pub state-append : (s : State) (a b : List ℕ) → state_after s (a ++ b) ≡ state_after (state_after s a) b
 unfolding state_after
 state-append s [] b = refl
 state-append s (c ∷ a) b = state-append (step default_config s c).0 a b

@@ -1,5 +1,5 @@
 -- The laws of the codecs of fields, and of the rows made of them.
-use Rattle.std.proofs.Common.{◌≡◌, ℕ, ℤ, pos, unsigned_abs, Bool, ◌^◌, ◌<◌, ◌≤◌, true, not, ◌&&◌, nat_lt, nat_le, List, [], ◌∷◌, length, Option, Some, None, Ok, refl, ap, ◌∙◌, subst, arith}
+use Rattle.std.proofs.Common.{◌≡◌, ◌≢◌, ℕ, ℤ, pos, unsigned_abs, Bool, ◌^◌, ◌<◌, ◌≤◌, true, false, not, ◌&&◌, nat_lt, nat_le, List, [], ◌∷◌, length, Option, Some, None, Ok, refl, ap, ◌∙◌, subst, arith}
 use Rattle.std.specs.Prelude.{IfSome, is_ok, ◌↔◌}
 use Rattle.std.proofs.lemmas.Bool.{and_parts, ltb-true, leb-true, le-leb}
 use Rattle.reg_text.proofs.Names.{Act, ActName, Transfer, Tag, IsCodec, AreFields}
@@ -21,6 +21,7 @@ use Rattle.reg_text.proofs.MaybeLaws.{are_maybe}
 use Rattle.reg_text.proofs.FateLaws.{row-again, row-back}
 use Rattle.reg_text.specs.Grammar.{retired_fields, retired_said, retired_made, retired_parts}
 use Rattle.std.specs.Ordering.{int_eq}
+use Rattle.std.proofs.lemmas.Bool.Decides.{Decides-int_eq}
 use Rattle.reg_text.proofs.CodecLaws.{then-tested, are_none, are_last, are_then, are_made, are_provided, are_forms, is_row, is_named_row, Form}
 
 -- ---- the fields
@@ -121,6 +122,21 @@ is-approver = record { spelled = approver-spelled; again = approver-again; fault
 -- a field is read as a value exactly if it is its spelling and the value fits
 pub one-spelling : {A : Type 0} {c : Codec A} → IsCodec c → (f : List ℕ) (x : A) → (c.read f ≡ Ok x) ↔ ((f ≡ c.spell x) × c.Fits x)
 one-spelling {c = c} h f x = (h.spelled f x, λ is. ap c.read is.0 ∙ h.again x is.1)
+
+-- a test for 0
+not-zero : (z : ℤ) → not (int_eq z (pos 0)) ≡ true → z ≢ pos 0
+not-zero z other zero = let same = (Decides-int_eq z (pos 0)).1 zero in let no : false ≡ true = rw same at other in absurd cc
+
+other-than-zero : (z : ℤ) → z ≢ pos 0 → not (int_eq z (pos 0)) ≡ true
+other-than-zero z other = ap not (not-yes (int_eq z (pos 0)) (λ same. other ((Decides-int_eq z (pos 0)).0 same)))
+  where
+    not-yes : (b : Bool) → (b ≡ true → ⊥) → b ≡ false
+    not-yes true none = absurd (none refl)
+    not-yes false none = refl
+
+-- the factor of a later period has one spelling, and is not 0
+pub later-spelling : (f : List ℕ) (z : ℤ) → (later_factor.read f ≡ Ok z) ↔ ((f ≡ signed z) × CorrectionFits z × (z ≢ pos 0))
+later-spelling f z = let one = one-spelling is-later_factor f z in (λ e. let s = one.0 e in (s.0, s.1.0, not-zero z s.1.1), λ is. one.1 (is.0, (is.1, other-than-zero z is.2)))
 
 -- ---- the acts: a line each
 

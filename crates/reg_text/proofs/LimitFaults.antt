@@ -1,11 +1,13 @@
 -- A field that is refused spells no value, or one outside the limits, and the cause says which.
-use Rattle.std.proofs.Common.{◌≡◌, ◌⊎◌, inl, inr, ℕ, ℤ, pos, negsuc, Bool, ◌&&◌, nat_le, unsigned_abs, List, Result, Ok, Err, refl, sym, ap, ◌∙◌}
+use Rattle.std.proofs.Common.{◌≡◌, ◌⊎◌, inl, inr, ℕ, ℤ, pos, negsuc, Bool, not, ◌&&◌, nat_le, unsigned_abs, List, Result, Ok, Err, refl, sym, ap, ◌∙◌, arith}
 use Rattle.jiff_core.specs.Calendar.{days_from_civil}
-use Rattle.reg_text.proofs.Names.{Cause, Codec, IsCodec, any_number, ◌>>=◌, test, signed_correction_of, signed_figure_of, year_in, month_in, day_in, is_date_text, is_civil, in_days, day_named, date_of, bounded_of}
+use Rattle.reg_text.proofs.Names.{Cause, Codec, IsCodec, any_number, ◌>>=◌, test, signed_correction_of, signed_figure_of, year_in, month_in, day_in, is_date_text, is_civil, in_days, day_named, date_of, bounded_of, later_factor}
 use Rattle.reg_text.specs.declared.cause.Cause.TheVariants as cause
 use Rattle.reg_text.specs.FieldFaults.{IsNumberText, IsSignedText, IsDateText, TellsFromLimit}
 use Rattle.reg_text.proofs.Binds.{test_err, bind_err, if_err}
-use Rattle.reg_text.proofs.GrammarLaws.{any_signed, is-number, is-signed}
+use Rattle.reg_text.proofs.GrammarLaws.{any_signed, is-number, is-signed, is-factor}
+use Rattle.reg_text.proofs.NumberLaws.{digits-range}
+use Rattle.std.specs.Ordering.{int_eq}
 use Rattle.reg_text.proofs.DateLaws.{text-of, civil-parts, text-read}
 use Rattle.reg_text.proofs.CauseLaws.{Only, only-number, only-signed}
 
@@ -30,6 +32,13 @@ numbers-told low high = told any_number cause.Number (λ n. nat_le low n && nat_
 pub corrections-told : TellsFromLimit signed_correction_of cause.Number IsSignedText
 unfolding signed_correction_of
 corrections-told = told any_signed cause.Number (λ z. nat_le (unsigned_abs z) 1_000_000_000_000_000) is-signed only-signed
+
+-- the factor of a later period is one, and within one limit more
+pub later-told : TellsFromLimit later_factor.read cause.Number IsSignedText
+later-told f c e = elim (bind_err (signed_correction_of f) (λ z. test (not (int_eq z (pos 0))) cause.Limit z) c e) [
+  | inl none ↦ corrections-told f c none
+  | inr some ↦ let s = is-factor.spelled f some.0 some.1 in inr (test_err _ cause.Limit c some.0 some.2, (some.0, s.0, omega (arith, digits-range 1_000_000_000_000_000 some.0 s.1.low s.1.high)))
+]
 
 pub figures-told : TellsFromLimit signed_figure_of cause.Number IsSignedText
 unfolding signed_figure_of

@@ -18,7 +18,7 @@ pub use Rattle.reg_rules.specs.declared.reply.LogRow.{LogRow}
 pub use Rattle.reg_book.specs.Book.{BookValue, first_fault, has_row_ahead, total_held, total_retired}
 pub use Rattle.reg_text.specs.Records.{Record, field}
 pub use Rattle.reg_text.specs.Sections.{AreAtMost, FateIsOf, Fits, IsOfPeriods, IsOrdered, IsSection, Item, Section, account_block, account_with, all_rows, each_row, follows, account_head, is_room, item_rows, key, list_items, lists_of, most, section_rows}
-pub use Rattle.reg_text.specs.Spelling.{account_row, book_rows, closing_sections, day_sections, current_rows, day_text, end_row, heading, instruction_fields, lags_in}
+pub use Rattle.reg_text.specs.Spelling.{book_rows, closing_sections, day_sections, current_rows, day_text, end_row, heading, instruction_fields, lags_in}
 pub use Rattle.reg_text.specs.Log.{answer_fields, closing_fields, figure_field, holding_fields, log_row}
 pub use Rattle.reg_text.specs.Report.{log_rows, report_rows, text_of, totals_row, written_book}
 pub use Rattle.csv.specs.Writing.{default_writer}
@@ -53,7 +53,7 @@ pub use Rattle.reg_text.specs.Reading.{Begins, CanBeSaid, IsFirstFaulty, IsPair,
 pub use Rattle.reg_text.specs.Faults.{AnswersFault, after_rows, at_end, at_row, day_of_rows, drafted, has_room, in_order, is_number_left, is_recorded, is_sum_left, next_draft, next_in, placed, ready_for, saying, with}
 unfoldable pub use Rattle.reg_text.specs.Faults.{with_row}
 pub use Rattle.reg_text.specs.declared.cause.Cause.{Cause}
-pub use Rattle.reg_text.specs.DraftLimits.{LagsSaidFit, AreRecorded, FitsSoFar, IsDraft, SectionStandsAt, comes_once, has_to_come, may_come, stands_at}
+pub use Rattle.reg_text.specs.DraftLimits.{AreRecorded, FitsSoFar, IsDraft, SectionStandsAt, comes_once, has_to_come, may_come, stands_at}
 pub use Rattle.reg_base.specs.declared.instruction.Instruction.{Instruction}
 pub use Rattle.reg_text.specs.Causes.{test, ◌>>=◌}
 pub use Rattle.csv.specs.Reading.{ExplainsRead, ReadRecord, default_config, is_bom, is_flexible, records, records_next, with_flexible, with_names_headers}

@@ -187,7 +187,7 @@ are-blocks day book blocks is stand =
 module _ (again : BookIsReadAgain) where
   read-text : (day : Day) (blocks text : List ℕ) → CanBeSaid day → IsBlocks day.book blocks → IsTextOf day blocks text → day_of_rows (rows_in_text text) ≡ Ok day
   read-text day blocks text said are of =
-      ap (λ (t : List ℕ). day_of_rows (rows_in_text t)) of.made ∙ again.again of.version day blocks of.is_known said are
+      ap (λ (t : List ℕ). day_of_rows (rows_in_text t)) of.made ∙ again.again of.version day of.front blocks of.back of.is_known said of.heading are of.closing
 
   module _ (closing : CommittedIsClosing) (leaves : ChainLeavesABook) where
     read-days : (day : Day) (days : List Day) (blocks : List ℕ) (texts : List (List ℕ)) → CanBeSaid day → GoOn day days → IsBlocks day.book blocks → AreTexts blocks (day ∷ days) texts

@@ -3,23 +3,17 @@ use Rattle.std.specs.Prelude.{◌≡◌, ℕ, ◌+◌, ◌<◌, ◌≤◌, Bool,
 use Rattle.std.specs.List.{AllByRecursion}
 use Rattle.reg_base.specs.declared.limits.TheConstants.{MOST_ACCOUNTS, MOST_RECORD}
 use Rattle.reg_base.specs.Rising.{IsRising}
-use Rattle.reg_base.specs.Rules.{AreLags}
 use Rattle.reg_account.specs.declared.rows.RetirementRow.{RetirementRow}
 use Rattle.reg_account.specs.Rows.{AreBelow, RetiredFits, row_numbers}
 use Rattle.reg_account.specs.Account.{AccountValue}
 use Rattle.reg_account.specs.Lists.{no_lists}
 use Rattle.reg_rules.specs.Effect.{IsBehind}
 use Rattle.reg_text.specs.declared.reading.tag.Tag.{Tag}
-use Rattle.reg_text.specs.declared.reading.heading_rows.Lags.{Lags}
 use Rattle.reg_text.specs.declared.reading.scope.Version.{Version}
 use Rattle.reg_text.specs.Tags.{place, tag_place, is_in_version, is_needed, is_once}
 use Rattle.reg_text.specs.Sections.{Section, IsSection}
 use Rattle.reg_text.specs.Drafts.{DraftValue, accounts_in, account_count, sections, scope_of}
 use Rattle.reg_text.specs.Faults.{next_in}
-
--- the lags and the window of a row, each within its limit
-abbrev pub LagsSaidFit : Lags → Type 0
-LagsSaidFit lags = AreLags lags.trusted lags.other lags.list lags.reversal
 
 -- where a section stands: the blocks that are over stand before the open one
 abbrev pub stands_at : Option Tag → ℕ

@@ -10,7 +10,7 @@ use Rattle.reg_book.specs.Chains.{book_after, IsChain}
 use Rattle.reg_text.specs.Acts.{IsShared}
 use Rattle.reg_text.specs.Faults.{day_of_rows}
 use Rattle.reg_text.specs.Grammar.{pair_place}
-use Rattle.reg_text.specs.ReadAgain.{book_line, text_round, IsBlocks}
+use Rattle.reg_text.specs.ReadAgain.{book_line, IsBlocks, IsHeadingText, IsClosingText}
 use Rattle.reg_text.specs.Reading.{CanBeSaid, IsPair, IsVersionOf}
 use Rattle.reg_text.specs.Records.{Record}
 use Rattle.reg_text.specs.Report.{text_of, log_rows, totals_row, report_rows}
@@ -30,11 +30,16 @@ rows_behind book = totals_row book General ∷ totals_row book Aviation ∷ end_
 abbrev pub StandInReport : Day → List ℕ → Type 0
 StandInReport day blocks = report_of day ≡ text_of (log_rows (log_of day)) ++ book_line (book_after day) ++ blocks ++ text_of (rows_behind (book_after day))
 
--- a text of the day, in a version of the format, with these account rows
+-- a text of the day, in a version of the format, with these account rows between its heading and its instructions, however these
+-- are spelled
 pub record IsTextOf (day : Day) (blocks text : List ℕ) : Type 0 where
   pub version : Version
   pub is_known : IsVersionOf day version
-  pub made : text ≡ text_round version day blocks
+  pub front : List ℕ
+  pub back : List ℕ
+  pub heading : IsHeadingText version day front
+  pub closing : IsClosingText day back
+  pub made : text ≡ front ++ blocks ++ back
 
 -- texts of these days: that of the first has these account rows, and each later one those of the report of the day before
 abbrev pub AreTexts : List ℕ → List Day → List (List ℕ) → Type 0

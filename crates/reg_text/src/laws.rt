@@ -1,7 +1,7 @@
 //! Laws of day texts. They hold for the definitions that the readers implement. Each law is the contract of a
 //! function that does nothing.
 
-ghost use Rattle.std.specs.Prelude.{◌≡◌, ◌↔◌, ◌+◌, ◌<◌, ◌≤◌, ◌^◌, ℕ, ℤ, List, Ok, Err, length, Bool};
+ghost use Rattle.std.specs.Prelude.{◌≡◌, ◌≢◌, ◌↔◌, ◌+◌, ◌<◌, ◌≤◌, ◌^◌, ℕ, ℤ, pos, List, Ok, Err, length, Bool};
 ghost use Rattle.reg_base.specs.declared.limits.TheConstants.{FIRST_DAY, LAST_DAY};
 ghost use Rattle.reg_base.specs.declared.kinds.AccountKind.{AccountKind};
 ghost use Rattle.reg_base.specs.declared.kinds.AllowanceKind.{AllowanceKind};
@@ -17,7 +17,15 @@ ghost use Rattle.reg_text.specs.Numbers.{number, plain_number_of};
 ghost use Rattle.reg_text.specs.Signed.{signed, signed_correction_of, signed_figure_of};
 ghost use Rattle.reg_text.specs.Dates.{date, date_of};
 ghost use Rattle.reg_text.specs.Limits.{bounded_of};
-ghost use Rattle.reg_text.specs.Words.{kind_word, kind_of, account_kind_word, account_kind_of, status_word, status_of, right_word, right_of, retirement_word, retirement_named, yes_no_word, yes_no_of};
+ghost use Rattle.reg_text.specs.declared.reading.tag.Tag.{Tag};
+ghost use Rattle.reg_text.specs.declared.reading.scope.Version.{Version};
+ghost use Rattle.reg_text.specs.declared.reading.instruction_row.ActName.{ActName};
+ghost use Rattle.reg_text.specs.Scopes.{version_word, version_of};
+ghost use Rattle.reg_text.specs.Grammar.{tag_word};
+ghost use Rattle.reg_text.specs.Tags.{all_tags};
+ghost use Rattle.reg_text.specs.Acts.{act_word, act_name_of};
+ghost use Rattle.reg_text.specs.Codecs.{later_factor};
+ghost use Rattle.reg_text.specs.Words.{named, kind_word, kind_of, account_kind_word, account_kind_of, status_word, status_of, right_word, right_of, retirement_word, retirement_named, yes_no_word, yes_no_of};
 ghost use Rattle.reg_text.specs.Records.{Record};
 ghost use Rattle.reg_book.specs.Day.{Day};
 ghost use Rattle.reg_text.specs.Reading.{IsReading, IsFirstFaulty};
@@ -34,9 +42,10 @@ pub fn one_spelling_of_a_number()
 {}
 
 /// A field is read as a correction factor exactly if it is the one spelling of that number and the number is within
-/// the limits of a correction factor.
+/// the limits of a correction factor. The factor of a period after the first is not 0 either.
 pub fn one_spelling_of_a_correction()
-    ensures { (f : List ℕ) (z : ℤ) → (signed_correction_of f ≡ Ok z) ↔ ((f ≡ signed z) × CorrectionFits z) }
+    ensures first { (f : List ℕ) (z : ℤ) → (signed_correction_of f ≡ Ok z) ↔ ((f ≡ signed z) × CorrectionFits z) }
+    ensures later { (f : List ℕ) (z : ℤ) → (later_factor.read f ≡ Ok z) ↔ ((f ≡ signed z) × CorrectionFits z × (z ≢ pos 0)) }
 {}
 
 /// A field is read as a determined figure exactly if it is the one spelling of that number and the number is within
@@ -56,8 +65,8 @@ pub fn one_spelling_within_limits()
     ensures { (low high : ℕ) (f : List ℕ) (n : ℕ) → high < 2 ^ 64 → (bounded_of low high f ≡ Ok n) ↔ ((f ≡ number n) × (low ≤ n) × (n ≤ high)) }
 {}
 
-/// A field is read as a kind, an account kind, a status, a right, what became of allowances, or yes or no exactly if it
-/// is the word of that value.
+/// A field is read as a kind, an account kind, a status, a right, what became of allowances, yes or no, a tag, an act or a
+/// version exactly if it is the word of that value.
 pub fn one_word_of_each_value()
     ensures kinds { (f : List ℕ) (k : AllowanceKind) → (kind_of f ≡ Ok k) ↔ (f ≡ kind_word k) }
     ensures account_kinds { (f : List ℕ) (k : AccountKind) → (account_kind_of f ≡ Ok k) ↔ (f ≡ account_kind_word k) }
@@ -65,6 +74,9 @@ pub fn one_word_of_each_value()
     ensures rights { (f : List ℕ) (r : Right) → (right_of f ≡ Ok r) ↔ (f ≡ right_word r) }
     ensures retirements { (f : List ℕ) (w : Retirement) → (retirement_named f ≡ Ok w) ↔ (f ≡ retirement_word w) }
     ensures yes_or_no { (f : List ℕ) (b : Bool) → (yes_no_of f ≡ Ok b) ↔ (f ≡ yes_no_word b) }
+    ensures tags { (f : List ℕ) (t : Tag) → (named cause.Tag tag_word all_tags f ≡ Ok t) ↔ (f ≡ tag_word t) }
+    ensures acts { (f : List ℕ) (n : ActName) → (act_name_of f ≡ Ok n) ↔ (f ≡ act_word n) }
+    ensures versions { (f : List ℕ) (v : Version) → (version_of f ≡ Ok v) ↔ (f ≡ version_word v) }
 {}
 
 /// Rows are read as a day exactly if they are the spelling of that day and the day is within the limits.
@@ -92,10 +104,11 @@ pub fn names_the_first_cause()
 {}
 
 /// A field that is refused is no number, no signed number or no date at all, or it is one and outside the limits, and
-/// the cause says which.
+/// the cause says which. For the factor of a period after the first, 0 is outside the limits.
 pub fn tells_other_texts_from_limits()
     ensures numbers { (low high : ℕ) → TellsFromLimit (bounded_of low high) cause.Number IsNumberText }
     ensures corrections { TellsFromLimit signed_correction_of cause.Number IsSignedText }
+    ensures later_corrections { TellsFromLimit later_factor.read cause.Number IsSignedText }
     ensures figures { TellsFromLimit signed_figure_of cause.Number IsSignedText }
     ensures dates { TellsFromLimit date_of cause.Date IsDateText }
 {}

@@ -1,10 +1,13 @@
-//! The engine on devices that move one byte a call and fail at a call, which no run of the program can show for each call.
+//! The engine on devices that move one byte a call and fail at a call, which no run of the program can show for each call,
+//! and on a writer of the standard library whose flush fails.
 
 ghost use Rattle.reg_front.specs.Faulting.{sink_of, source_of};
 ghost use Rattle.reg_front.specs.Streams.{CanFail};
 
-use reg_front::{Command, Faulty, FrontFault, run};
+use reg_front::{Command, Counted, Faulty, FrontFault, run, run_plan};
 use std::alloc::Global;
+use std::io;
+use std::io::Write;
 use std::process::Abort;
 use std::sync::Wait;
 use std::thread::Threads;
@@ -118,4 +121,31 @@ fn reports_each_failed_write(rt: HostRuntime) {
         assert_eq!(rt; answer, Err(FrontFault::WriteFailed), "at call {call}");
         assert_eq!(rt; writer.written(), &REPORT.as_bytes()[..call - 1]);
     }
+}
+
+// Takes every byte, and fails to hand them on.
+#[derive(Drop)]
+struct Clogged {
+    taken: usize,
+}
+
+impl Write for Clogged {
+    fn write(&mut self, buf: &[u8]) -> io::Result<usize> {
+        self.taken = self.taken.saturating_add(buf.len());
+        Ok(buf.len())
+    }
+
+    fn flush(&mut self) -> io::Result<()> {
+        Err(io::Error::from(io::ErrorKind::Other))
+    }
+}
+
+// The plan of the day is `task,1,1` and `end`.
+#[test]
+fn reports_a_writer_of_which_the_flush_alone_fails(rt: HostRuntime) {
+    let mut clogged = Clogged { taken: 0 };
+    let mut reader = Counted::new(DAY.as_bytes());
+    let answer = run_plan(rt.alloc(), &mut reader, &mut Counted::new(&mut clogged));
+    assert_eq!(rt; answer, Err(FrontFault::WriteFailed));
+    assert_eq!(rt; clogged.taken, "task,1,1\nend\n".len());
 }
