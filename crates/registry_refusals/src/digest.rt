@@ -18,8 +18,8 @@ impl Digest {
         }
     }
 
-    // Adds bytes.
-    fn add_bytes(&mut self, bytes: &[u8]) {
+    /// Adds bytes.
+    pub(crate) fn add_bytes(&mut self, bytes: &[u8]) {
         for byte in bytes {
             self.hash = (self.hash ^ u64::from(*byte)).wrapping_mul(0x0000_0100_0000_01b3);
         }

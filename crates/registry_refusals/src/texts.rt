@@ -1,15 +1,15 @@
 //! Texts: reading a day, and what is written of a book.
 
 use crate::call::{Call, try_rehearsed, try_threads};
-use crate::digest::digest_of;
+use crate::digest::{Digest, digest_of};
 use crate::endings::{Ended, how_ended};
 use crate::stop::Stop;
-use reg_base::AccountNo;
+use reg_base::{AccountNo, NoMemory};
 use reg_book::settle_plain;
 use reg_rules::LogRow;
 use reg_text::{
     DayFault, DayInput, figures, read_day, read_day_by_parts, statement, totals_text, write_book,
-    write_report,
+    write_report, write_report_pieces,
 };
 use std::alloc::Global;
 use std::io::Write;
@@ -52,6 +52,43 @@ pub(crate) fn try_read_by_parts<R: Threads + Sync, W: Write>(
     let wanted = how_read(read_day(alloc, text));
     let call = || how_read(read_day_by_parts(rt, alloc, text, parts as usize, 1));
     try_threads(&text, call, wanted, writer)
+}
+
+// How the writing of pieces ended: with their bytes, one after another.
+fn how_spelled(answer: Result<Vec<Vec<u8>>, NoMemory>) -> Ended {
+    match answer {
+        Ok(pieces) => Ended::Done(digest_of_pieces(&pieces)),
+        Err(NoMemory) => Ended::NoMemory,
+    }
+}
+
+fn digest_of_pieces(pieces: &[Vec<u8>]) -> Digest {
+    let mut digest = Digest::new();
+    for piece in pieces {
+        digest.add_bytes(piece);
+    }
+    digest
+}
+
+/// Tries `write_report_pieces` by so many threads: its pieces are to be the report that `write_report` writes.
+pub(crate) fn try_pieces<R: Threads + Sync, W: Write>(
+    rt: &R,
+    alloc: Global,
+    day: &DayInput,
+    threads: u32,
+    writer: &mut W,
+) -> Result<(), Stop> {
+    let Ok(settled) = settle_plain(alloc, &day.book, &day.rules, &day.batch) else {
+        return Err(Stop::Short);
+    };
+    let rows = settled.rows();
+    let threads = threads.max(1) as usize;
+    let Ok(whole) = write_report(alloc, &day.book, rows) else {
+        return Err(Stop::Short);
+    };
+    let wanted = Ended::Done(digest_of_pieces(&[whole]));
+    let call = || how_spelled(write_report_pieces(rt, alloc, &day.book, rows, threads));
+    try_threads(day, call, wanted, writer)
 }
 
 /// A text that is written of a book.

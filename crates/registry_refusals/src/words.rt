@@ -11,7 +11,7 @@ use crate::settling::{try_order, try_plain, try_waves, try_workers};
 use crate::steps::try_execute;
 use crate::stop::Stop;
 use crate::tasks::{try_context, try_gather, try_opening, try_run};
-use crate::texts::{Written, try_read, try_read_by_parts, try_text};
+use crate::texts::{Written, try_pieces, try_read, try_read_by_parts, try_text};
 use crate::worlds::{try_event, try_start};
 use crate::yards::{try_put, try_yard};
 use reg_base::AccountNo;
@@ -104,6 +104,7 @@ fn try_on_day<R: Threads + Wait + Sync, W: Write>(
         "run_order" => try_order(alloc, day, writer),
         "settle_waves" => try_waves(rt, alloc, day, number, writer),
         "settle_with" => try_workers(rt, alloc, day, number, writer),
+        "write_report_pieces" => try_pieces(rt, alloc, day, number, writer),
         _ => try_on_accounts(alloc, name, number, day, writer),
     }
 }
