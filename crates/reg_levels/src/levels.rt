@@ -41,6 +41,7 @@ impl<'c, 'a, N: Naming> Levels<'c, 'a, N> {
     ghost use Rattle.reg_book.specs.Day.{settled_day};
     ghost use Rattle.reg_book.specs.Settled.{IsOfBook};
     ghost use Rattle.reg_tasks.specs.Slots.{IsLack};
+    ghost use Rattle.reg_tasks.specs.declared.lack.Lack.TheVariants.{Foreign};
     ghost use Rattle.reg_levels.specs.Levels.{AreRestOrMost, places_of, places_run};
 
     /// The levels of a day, before the first.
@@ -130,7 +131,7 @@ impl<'c, 'a, N: Naming> Levels<'c, 'a, N> {
         ensures order { self.new.order ≡ self.old.order }
         ensures taken { self.new.taken ≡ self.old.taken }
         ensures laid { OnOk result (self.new.laid ≡ self.old.laid + 1) }
-        ensures lack { IfErr result (IsLack N.day) }
+        ensures foreign { IfErr result (λ lack. (lack ≡ Foreign) × (N.day ≡ None)) }
     {
         levels_rise_along_arrows();
         last_toucher_is_last();
@@ -143,17 +144,17 @@ impl<'c, 'a, N: Naming> Levels<'c, 'a, N> {
         Ok(())
     }
 
-    /// Lays what the tasks of a level left, in the order in which the tasks were taken.
+    /// Lays what the tasks of a level left, in the order in which the tasks were taken. Takes no memory.
     ///
     /// # Errors
-    /// If no day is named, `Foreign` if a value of another context comes.
+    /// `Foreign` if a value of another context comes. If a day is named, this does not occur.
     pub fn lay(&mut self, outcomes: Vec<Outcome<N>>) -> Result<(), Lack>
         requires outcomes { places_run outcomes.items ≡ places_between self.old.order.items self.old.laid self.old.taken }
         ensures context { self.new.slots.context.now ≡ self.old.slots.context.now }
         ensures order { self.new.order ≡ self.old.order }
         ensures taken { self.new.taken ≡ self.old.taken }
         ensures laid { OnOk result (self.new.laid ≡ self.new.taken) }
-        ensures lack { IfErr result (IsLack N.day) }
+        ensures foreign { IfErr result (λ lack. (lack ≡ Foreign) × (N.day ≡ None)) }
     {
         for outcome in outcomes {
             self.lay_one(outcome)?;

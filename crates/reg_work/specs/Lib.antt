@@ -1,5 +1,6 @@
 pub mod Ends
 pub mod Faults
+pub mod Handing
 pub mod Parts
 pub mod Shifts
 pub mod Shortages

@@ -41,16 +41,19 @@ pub(crate) struct Post<N: Naming, B: Room> {
 }
 
 impl<N: Naming, B: Room> Post<N, B> {
-    ghost use Rattle.std.specs.Prelude.{◌≢◌, ℕ, true, Some, None, ◌++◌, ◌∷◌, IfOk, IfSome, IfNone, OnOk};
+    ghost use Rattle.std.specs.Prelude.{◌≢◌, ◌⊎◌, ℕ, true, Some, None, ◌++◌, ◌∷◌, IfOk, IfSome, IfNone, OnOk};
+    ghost use Rattle.std.specs.Option.{option_map};
     ghost use Rattle.reg_plan.specs.Plans.{inward};
     ghost use Rattle.reg_tasks.specs.Contexts.{the_day};
     ghost use Rattle.reg_tasks.specs.Parcels.{values_of};
+    ghost use Rattle.reg_tasks.specs.Tasks.{task_of};
     ghost use Rattle.reg_deques.specs.Views.{with_put};
     ghost use Rattle.reg_deques.specs.Steps.{TakesOwn};
     ghost use Rattle.reg_deques.specs.Passes.{owned};
     ghost use Rattle.reg_deques.specs.Yards.{views, StealsAt};
     ghost use Rattle.reg_yard.specs.Parcels.{parcel_of, goes_to};
     ghost use Rattle.reg_work.specs.Ends.{sees_end, IsToFinish};
+    ghost use Rattle.reg_work.specs.Handing.{IsDelivered, with_task};
     ghost use Rattle.reg_work.specs.Turns.{reply_at};
 
     pub(crate) fn new(alloc: Global, owner: Owner<N>, pass: Pass<N>, seat: Seat) -> Post<N, B>
@@ -170,9 +173,10 @@ impl<N: Naming, B: Room> Post<N, B> {
         ensures seat { self.new.seat ≡ self.old.seat }
         ensures work { (self.new.ran ≡ self.old.ran) × (self.new.done ≡ self.old.done) × (self.new.closing ≡ self.old.closing) }
         ensures pass { self.new.pass ≡ self.old.pass }
+        ensures delivered { OnOk result (IsDelivered N.day (goes_to board.now.docks.context.now.plan (parcel_of parcel)) (parcel_of parcel) (owned self.old.owner) (owned self.new.owner)) }
     {
         match board.docks.deliver(rt, parcel) {
-            Ok(complete) => self.put_complete(complete),
+            Ok(task) => self.put_complete(task),
             Err(_) => Err(NoMemory),
         }
     }
@@ -182,7 +186,7 @@ impl<N: Naming, B: Room> Post<N, B> {
         ensures seat { self.new.seat ≡ self.old.seat }
         ensures work { (self.new.ran ≡ self.old.ran) × (self.new.done ≡ self.old.done) × (self.new.closing ≡ self.old.closing) }
         ensures pass { self.new.pass ≡ self.old.pass }
-        ensures task { OnOk result (IfSome complete (λ t. owned self.new.owner ≡ with_put (t.place ∷ []) (owned self.old.owner))) }
+        ensures task { OnOk result (owned self.new.owner ≡ with_task (option_map task_of complete) (owned self.old.owner)) }
     {
         match complete {
             Some(task) => self.put(task),
@@ -293,6 +297,7 @@ impl<N: Naming, B: Room> Post<N, B> {
         ensures seat { self.new.seat ≡ self.old.seat }
         ensures work { (self.new.ran ≡ self.old.ran) × (self.new.done ≡ self.old.done) }
         ensures pass { self.new.pass ≡ self.old.pass }
+        ensures handed { OnOk result (IsDelivered N.day (goes_to board.now.docks.context.now.plan (parcel_of parcel)) (parcel_of parcel) (owned self.old.owner) (owned self.new.owner) ⊎ (self.new.closing.items ≡ self.old.closing.items ++ parcel ∷ [])) }
         ensures last { OnOk result (goes_to board.now.docks.context.now.plan (parcel_of parcel) ≡ None → self.new.closing.items ≡ self.old.closing.items ++ parcel ∷ []) }
     {
         match board.docks.deliver(rt, parcel) {

@@ -45,7 +45,7 @@ fn take_turn<N: Naming, B: Room, R: Wait, G: Gate>(
 }
 
 // The task that a worker runs next, if it finds one: of its own deque, else of the places that it opens, else of another
-// worker's deque.
+// worker's deque. It opens and steals nothing once it sees that the workers are to leave.
 fn find<N: Naming, B: Room, R: Wait>(
     rt: &R,
     alloc: Global,
@@ -57,6 +57,9 @@ fn find<N: Naming, B: Room, R: Wait>(
         return Ok(own);
     }
     for _ in 0..board.context.batch().len() {
+        if post.is_over(board) {
+            return Ok(None);
+        }
         if !post.open_next(rt, alloc, board)? {
             break;
         }

@@ -2,3 +2,4 @@ pub mod Awaiting
 pub mod Starting
 pub mod Heads
 pub mod Wanted
+pub mod Taken

@@ -1,6 +1,6 @@
 -- What a dock holds, and what becomes of a parcel that is delivered to it. While parcels wait in a dock, it is seen as their
 -- list; once its task has gone out, nothing is in it any more, since all that the place awaits has come.
-use Rattle.std.specs.Prelude.{◌≡◌, ℕ, ◌+◌, ◌≤◌, Bool, true, false, List, length, Option, Some, None, is_some, vec_capacity, if◌then◌else◌}
+use Rattle.std.specs.Prelude.{◌≡◌, ℕ, ◌+◌, ◌≤◌, Bool, true, false, List, [], ◌∷◌, ◌++◌, length, Option, Some, None, is_some, vec_capacity, if◌then◌else◌}
 use Rattle.std.specs.Option.{option_map}
 use Rattle.std.specs.declared.vec.Vec.{Vec}
 use Rattle.std.proofs.Common.{Global}
@@ -31,26 +31,24 @@ abbrev pub delivered : Day → PlanValue → ℕ → Option (List ParcelValue) �
 delivered day plan place None p = (None, None)
 delivered day plan place (Some came) p = left_of (received day plan place came p)
 
--- the parcel was awaited after these came, and it is among those that are there now, unless the task went out with it
-abbrev pub Takes : Day → PlanValue → ℕ → Option (List ParcelValue) → ParcelValue → Option (List ParcelValue) → Option TaskValue → Type 0
-Takes day plan place before p after task = (is_refused day plan place before p ≡ false) × ◌≡◌ {A = Option (List ParcelValue) × Option TaskValue} (after, task) (delivered day plan place before p)
+-- those that came and those that are still awaited are no more than the accounts that the place's instruction touches
+abbrev pub FitInDock : Day → PlanValue → ℕ → List ParcelValue → Type 0
+FitInDock day plan place came = length came + length (still_awaited day plan place came) ≤ length (footprint_at day place)
 
--- so it was at the dock of the place where the parcel goes, in a day and by a plan of it. If a day is named, it is that
--- one. What was there before, and is now, stands behind a lock
+-- a dock took the parcel: that of the place where the parcel goes, in a day and by a plan of it. If a day is named, it is that one.
+-- The task went out exactly if the parcel was the last. Which parcels had come before stands behind a lock; but they fitted in
+-- the dock, so none had come to a place that needs this parcel alone
 pub record IsTaken (name : Option Day) (goes : Option ℕ) (p : ParcelValue) (task : Option TaskValue) : Type 0 where
   pub day : Day
   pub plan : PlanValue
   pub place : ℕ
-  pub before : Option (List ParcelValue)
-  pub after : Option (List ParcelValue)
+  pub before : List ParcelValue
   pub named : (d : Day) → name ≡ Some d → day ≡ d
   pub planned : ∥ IsPlanOf day plan ∥₁
   pub there : goes ≡ Some place
-  pub takes : Takes day plan place before p after task
-
--- those that came and those that are still awaited are no more than the accounts that the place's instruction touches
-abbrev pub FitInDock : Day → PlanValue → ℕ → List ParcelValue → Type 0
-FitInDock day plan place came = length came + length (still_awaited day plan place came) ≤ length (footprint_at day place)
+  pub fits : FitInDock day plan place before
+  pub was_awaited : is_not_awaited day plan place before p ≡ false
+  pub gives : task ≡ complete day plan place (before ++ p ∷ [])
 
 module _ {N : Type 0} {b : Ghosts N} where
   -- the parcels that wait, if any do

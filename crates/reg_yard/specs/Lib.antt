@@ -2,3 +2,5 @@ pub mod Parcels
 pub mod Held
 pub mod AtOnce
 pub mod Dock
+pub mod Docks
+pub mod Laws

@@ -24,12 +24,12 @@ pub struct Dock<'c, 'a, N: Naming> {
 }
 
 impl<'c, 'a, N: Naming> Dock<'c, 'a, N> {
-    ghost use Rattle.std.specs.Prelude.{[], true, not, is_some, is_err, IfOk, IfErr, IfSome, OnErr, Contains};
+    ghost use Rattle.std.specs.Prelude.{[], true, not, Some, None, is_some, is_err, IfOk, IfErr, IfSome, OnErr, Contains};
     ghost use Rattle.std.specs.Option.{option_map};
     ghost use Rattle.reg_tasks.specs.Tasks.{task_of};
     ghost use Rattle.reg_yard.specs.AtOnce.{task_at_once};
     ghost use Rattle.reg_yard.specs.Parcels.{parcel_of};
-    ghost use Rattle.reg_yard.specs.Held.{left_at, Takes};
+    ghost use Rattle.reg_yard.specs.Held.{left_at, IsTaken};
     ghost use Rattle.reg_yard.specs.Dock.{came_to, refuses, after_parcel};
 
     /// The dock of a place, to which nothing has come yet, and its task, exactly if the instruction touches no account.
@@ -70,6 +70,8 @@ impl<'c, 'a, N: Naming> Dock<'c, 'a, N> {
     ) -> Result<Dock<'c, 'a, N>, NoMemory>
         requires from_one { 1 ≤ place }
         requires within { place ≤ length context.now.batch.now.instructions }
+        ensures place { IfOk result (λ dock. dock.place ≡ place) }
+        ensures came { IfOk result (λ dock. came_to dock ≡ Some []) }
     {
         let none = Vec::with_capacity(alloc, awaited_accounts(context, place).len())?;
         Ok(Dock {
@@ -83,6 +85,8 @@ impl<'c, 'a, N: Naming> Dock<'c, 'a, N> {
     pub(crate) fn emptied(context: &'c Context<'a, N>, place: u32) -> Dock<'c, 'a, N>
         requires from_one { 1 ≤ place }
         requires within { place ≤ length context.now.batch.now.instructions }
+        ensures place { result.place ≡ place }
+        ensures out { came_to result ≡ None }
     {
         Dock {
             context,
@@ -141,7 +145,7 @@ impl<'c, 'a, N: Naming> Dock<'c, 'a, N> {
     ) -> Result<Option<Task<N>>, Parcel<N>>
         ensures at { IfOk result (λ task. IfSome task (λ t. t.place ≡ place)) }
         ensures has { IfOk result (λ task. IfSome task (λ t. Contains t.parcels.items parcel)) }
-        ensures taken { IfOk result (λ task. Takes (the_day self.old.context.now) self.old.context.now.plan place (came_to self.old) (parcel_of parcel) (came_to self.new) (option_map task_of task)) }
+        ensures taken { IfOk result (λ task. IsTaken N.day (Some place) (parcel_of parcel) (option_map task_of task)) }
         ensures back { IfErr result (λ p. p ≡ parcel) }
         ensures unchanged { OnErr result (self.new ≡ self.old) }
     {

@@ -1,21 +1,23 @@
 //! The docks of a day.
 
 ghost use Rattle.std.specs.Prelude.{◌≡◌, length};
+ghost use Rattle.reg_base.specs.Rising.{count_up};
+ghost use Rattle.reg_yard.specs.Docks.{dock_places};
 
-use crate::dock::Dock;
+use crate::locked::LockedDock;
 use crate::places::place_for;
 use crate::start::{open_docks, waiting_docks};
 use reg_base::NoMemory;
 use reg_tasks::{Context, Naming, Parcel, Task};
 use std::alloc::Global;
-use std::sync::{Mutex, Wait};
+use std::sync::Wait;
 
-/// A dock for each instruction of the day, each behind a lock of its own.
+/// A dock for each instruction of the day, in the order of the instructions, each behind a lock of its own.
 #[derive(Drop)]
 pub struct Docks<'c, 'a, N: Naming> {
     context: &'c Context<'a, N>,
-    docks: Vec<Mutex<Dock<'c, 'a, N>>>,
-    pub ghost size: { length docks.items ≡ length context.now.batch.now.instructions },
+    docks: Vec<LockedDock<'c, 'a, N>>,
+    pub ghost in_order: { dock_places docks.items ≡ count_up 1 (length context.now.batch.now.instructions) },
 }
 
 impl<'c, 'a, N: Naming> Docks<'c, 'a, N> {
@@ -63,7 +65,9 @@ impl<'c, 'a, N: Naming> Docks<'c, 'a, N> {
     }
 
     // The dock of a place, counted from 1.
-    fn dock_of(&self, place: u32) -> Option<&Mutex<Dock<'c, 'a, N>>> {
+    fn dock_of(&self, place: u32) -> Option<&LockedDock<'c, 'a, N>>
+        ensures { IfSome result (λ dock. dock.now.place ≡ place) }
+    {
         if place == 0 {
             return None;
         }
@@ -93,6 +97,6 @@ impl<'c, 'a, N: Naming> Docks<'c, 'a, N> {
         let Some(dock) = self.dock_of(place) else {
             return Err(parcel);
         };
-        dock.lock(wait).deliver_at(place, parcel)
+        dock.deliver(wait, parcel)
     }
 }

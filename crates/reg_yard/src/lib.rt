@@ -33,6 +33,8 @@ mod assemble;
 mod awaited;
 mod dock;
 mod docks;
+pub mod laws;
+mod locked;
 mod places;
 mod start;
 

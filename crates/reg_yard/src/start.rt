@@ -1,17 +1,19 @@
 //! The docks at the start.
 
-ghost use Rattle.std.specs.Prelude.{◌≡◌, ◌++◌, ◌≤◌, length, map, IfOk};
+ghost use Rattle.std.specs.Prelude.{◌≡◌, ◌==◌, ◌++◌, ◌≤◌, [], Some, None, length, map, IfOk, if◌then◌else◌};
+ghost use Rattle.reg_base.specs.Rising.{count_up};
+ghost use Rattle.reg_plan.specs.Plans.{inward};
 ghost use Rattle.reg_tasks.specs.Contexts.{the_day};
 ghost use Rattle.reg_tasks.specs.Tasks.{task_of};
 ghost use Rattle.reg_yard.specs.AtOnce.{tasks_from, tasks_at_once};
+ghost use Rattle.reg_yard.specs.Dock.{came_to};
+ghost use Rattle.reg_yard.specs.Docks.{dock_places};
 
 use crate::dock::Dock;
+use crate::locked::LockedDock;
 use reg_base::NoMemory;
 use reg_tasks::{Context, Naming, Task};
 use std::alloc::Global;
-use std::sync::Mutex;
-
-type Locked<'c, 'a, N> = Mutex<Dock<'c, 'a, N>>;
 
 // The dock of a place behind a lock. If its task awaits nothing, it comes behind the others.
 fn open_dock<'c, 'a, N: Naming>(
@@ -19,24 +21,25 @@ fn open_dock<'c, 'a, N: Naming>(
     context: &'c Context<'a, N>,
     place: u32,
     tasks: &mut Vec<Task<N>>,
-) -> Result<Locked<'c, 'a, N>, NoMemory>
+) -> Result<LockedDock<'c, 'a, N>, NoMemory>
     requires from_one { 1 ≤ place }
     requires within { place ≤ length context.now.batch.now.instructions }
-    ensures { IfOk result (λ dock. map task_of tasks.new.items ≡ map task_of tasks.old.items ++ tasks_from (the_day context.now) place 1) }
+    ensures place { IfOk result (λ dock. dock.place ≡ place) }
+    ensures tasks { IfOk result (λ dock. map task_of tasks.new.items ≡ map task_of tasks.old.items ++ tasks_from (the_day context.now) place 1) }
 {
     let (dock, task) = Dock::new(alloc, context, place)?;
     if let Some(task) = task {
         tasks.push(task)?;
     }
-    Ok(Mutex::new(dock))
+    Ok(LockedDock::new(dock))
 }
 
 /// A dock for each place, to which nothing has come yet, and the tasks that await nothing, by rising place.
 pub(crate) fn open_docks<'c, 'a, N: Naming>(
     alloc: Global,
     context: &'c Context<'a, N>,
-) -> Result<(Vec<Locked<'c, 'a, N>>, Vec<Task<N>>), NoMemory>
-    ensures size { IfOk result (λ r. length r.0.items ≡ length context.now.batch.now.instructions) }
+) -> Result<(Vec<LockedDock<'c, 'a, N>>, Vec<Task<N>>), NoMemory>
+    ensures places { IfOk result (λ r. dock_places r.0.items ≡ count_up 1 (length context.now.batch.now.instructions)) }
     ensures tasks { IfOk result (λ r. map task_of r.1.items ≡ tasks_at_once (the_day context.now)) }
 {
     let places = context.batch().len();
@@ -48,20 +51,22 @@ pub(crate) fn open_docks<'c, 'a, N: Naming>(
     Ok((docks, tasks))
 }
 
-// The dock of a place behind a lock: one that awaits parcels only if the instruction waits for another.
+// The dock of a place at the start, if the tasks that wait for no other are made elsewhere: one that awaits parcels if the
+// instruction waits for another, and otherwise one whose task has gone out.
 fn waiting_dock<'c, 'a, N: Naming>(
     alloc: Global,
     context: &'c Context<'a, N>,
     place: u32,
-) -> Result<Locked<'c, 'a, N>, NoMemory>
+) -> Result<Dock<'c, 'a, N>, NoMemory>
     requires from_one { 1 ≤ place }
     requires within { place ≤ length context.now.batch.now.instructions }
+    ensures place { IfOk result (λ dock. dock.place ≡ place) }
+    ensures came { IfOk result (λ dock. came_to dock ≡ (if length (inward context.now.plan.arrows place) == 0 then None else Some [])) }
 {
     if context.waits(place) {
-        let dock = Dock::waiting(alloc, context, place)?;
-        return Ok(Mutex::new(dock));
+        return Dock::waiting(alloc, context, place);
     }
-    Ok(Mutex::new(Dock::emptied(context, place)))
+    Ok(Dock::emptied(context, place))
 }
 
 /// A dock for each place. Nothing has come yet to those of instructions that wait for others; the tasks of all others have
@@ -69,13 +74,13 @@ fn waiting_dock<'c, 'a, N: Naming>(
 pub(crate) fn waiting_docks<'c, 'a, N: Naming>(
     alloc: Global,
     context: &'c Context<'a, N>,
-) -> Result<Vec<Locked<'c, 'a, N>>, NoMemory>
-    ensures { IfOk result (λ docks. length docks.items ≡ length context.now.batch.now.instructions) }
+) -> Result<Vec<LockedDock<'c, 'a, N>>, NoMemory>
+    ensures { IfOk result (λ docks. dock_places docks.items ≡ count_up 1 (length context.now.batch.now.instructions)) }
 {
     let places = context.batch().len();
     let mut docks = Vec::with_capacity(alloc, places as usize)?;
     for before in 0..places {
-        docks.push(waiting_dock(alloc, context, before + 1)?)?;
+        docks.push(LockedDock::new(waiting_dock(alloc, context, before + 1)?))?;
     }
     Ok(docks)
 }

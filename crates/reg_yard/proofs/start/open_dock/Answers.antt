@@ -6,8 +6,8 @@ use Rattle.reg_yard.proofs.Starting.{one-pushed, none-more}
 use Rattle.reg_yard.proofs.start.open_dock.Goals as goal
 use Rattle.reg_yard.proofs.start.open_dock.Goals.{in-Some+in_ok-push, in_default}
 
-pub returns : goal.returns
-returns g c =
+pub returns-clause-tasks : goal.returns-clause-tasks
+returns-clause-tasks g c =
     let day = the_day c.args.context.now in
     let before = c.args.tasks.now.items in
     elim c.match-task.branch [
