@@ -1,17 +1,11 @@
 -- What a seat shows of the end of the work, after two seats were made one.
-use Rattle.std.proofs.Common.{arith, refl, ◌≡◌, ℕ, ◌≤◌, ◌<◌, ◌/◌, ◌||◌, max, Bool, true, false, nat_le, sym, ◌∙◌, ◌⊎◌, inl, inr, ⊎_elim, Result, Ok, Err}
-use Rattle.std.specs.Prelude.{OnOk}
+use Rattle.std.proofs.Common.{arith, refl, ◌≡◌, ℕ, ◌≤◌, ◌<◌, ◌/◌, ◌||◌, max, Bool, true, false, nat_le, sym, ◌∙◌, ◌⊎◌, inl, inr, ⊎_elim}
 use Rattle.std.proofs.lemmas.Bool.Decides.{nat_tests}
 use mathlib.Core.Logic.{dite}
 use native.Mathlib.Decide.{dec_le}
 use Rattle.reg_claim.specs.declared.views.View.{View}
 use Rattle.reg_claim.specs.Views.{joined_views, is_odd}
 use Rattle.reg_work.specs.Ends.{sees_end, shows_end}
-
--- what holds in any case holds of a good answer
-pub on-ok : {X E P : Type 0} (r : Result X E) → P → OnOk r P
-on-ok (Ok x) p = p
-on-ok (Err e) p = tt
 
 either-most : (a b : ℕ) → (a ≤ b) ⊎ (b ≤ a)
 either-most a b = dite (dec_le a b) (λ h. inl h) (λ h. inr (omega arith))

@@ -41,7 +41,7 @@ pub(crate) struct Post<N: Naming, B: Room> {
 }
 
 impl<N: Naming, B: Room> Post<N, B> {
-    ghost use Rattle.std.specs.Prelude.{◌≢◌, ◌⊎◌, ℕ, true, Some, None, ◌++◌, ◌∷◌, IfOk, IfSome, IfNone, OnOk};
+    ghost use Rattle.std.specs.Prelude.{◌≢◌, ◌⊎◌, ℕ, true, Some, ◌++◌, ◌∷◌, IfOk, IfSome, IfNone, OnOk};
     ghost use Rattle.std.specs.Option.{option_map};
     ghost use Rattle.reg_plan.specs.Plans.{inward};
     ghost use Rattle.reg_tasks.specs.Contexts.{the_day};
@@ -298,7 +298,6 @@ impl<N: Naming, B: Room> Post<N, B> {
         ensures work { (self.new.ran ≡ self.old.ran) × (self.new.done ≡ self.old.done) }
         ensures pass { self.new.pass ≡ self.old.pass }
         ensures handed { OnOk result (IsDelivered N.day (goes_to board.now.docks.context.now.plan (parcel_of parcel)) (parcel_of parcel) (owned self.old.owner) (owned self.new.owner) ⊎ (self.new.closing.items ≡ self.old.closing.items ++ parcel ∷ [])) }
-        ensures last { OnOk result (goes_to board.now.docks.context.now.plan (parcel_of parcel) ≡ None → self.new.closing.items ≡ self.old.closing.items ++ parcel ∷ []) }
     {
         match board.docks.deliver(rt, parcel) {
             Ok(complete) => self.put_complete(complete),
