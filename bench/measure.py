@@ -191,7 +191,7 @@ def main():
     if given.commands and given.program:
         sys.exit("measure.py: --commands measures the program of this repository alone")
     if not os.access(program[0], os.X_OK):
-        sys.exit(f"measure.py: there is no program {program[0]}; ./run builds it")
+        sys.exit(f"measure.py: there is no program {program[0]}; ./run --prove builds it")
     if given.repeat < 1:
         sys.exit("measure.py: repeat at least once")
 
