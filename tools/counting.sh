@@ -45,6 +45,7 @@ try_cases() {
   count_part "cases/run-streams" cases/run-streams "$1"
   count_part "cases/run-documents" cases/run-documents "$1"
   count_part "cases/run-tools" cases/run-tools
+  count_part "cases/run-pages" cases/run-pages
   count_part "cases/run-day" cases/run-day "$1"
   count_part "cases/run-explain" cases/run-explain "$1"
   count_part "cases/run-words" cases/run-words

@@ -10,6 +10,10 @@ from day.statements import log_by_account, own_instruction, users_of
 from texts import grouped
 
 ROOT = "../"
+NOTE = (
+    "This page shows only what belongs to the account. What other accounts hold is left out, and so are users who do not represent it; "
+    "By names only its representatives."
+)
 KINDS = rules.KINDS
 ENTRIES = Table(["Day", "Record", "Entry", "By", "In", "Out", "Balance"], ("In", "Out", "Balance"))
 OTHERS = Table(["Day", "Record", "Entry", "By"])
@@ -286,4 +290,4 @@ def account_page(settled, number, days):
     account = settled.report.book[number].account()
     statement = Statement(settled, number, days)
     parts = own_parts(settled, account, statement)
-    return settled.frame.page(f"Account {number}", *parts, root=ROOT)
+    return settled.frame.page(f"Account {number}", *parts, root=ROOT, note=NOTE)

@@ -139,9 +139,13 @@ def style_of(*names):
 
 
 def stacked(name):
-    """The style of tables of this class whose rows are stacked."""
+    """The style of tables of this class, whose rows are stacked. A page with the widest tables is as wide as they are."""
     rules = style_of("stack").replace(".stack", f".{name}")
-    return rules if name == EVERYWHERE else f"@media screen and (max-width:{ROOMS[name][1]}){{{rules}}}"
+    if name == EVERYWHERE:
+        return rules
+    width = ROOMS[name][1]
+    wider = f"@media screen{{body{{max-width:{width}}}}}" if name == "dense" else ""
+    return f"{wider}@media screen and (max-width:{width}){{{rules}}}"
 
 
 # What only some pages need: by a word that stands on such a page, its style.
