@@ -13,7 +13,7 @@ use Rattle.csv.specs.declared.parser.State.{State}
 use Rattle.csv.specs.declared.parser.State.TheVariants as st
 use Rattle.csv.specs.declared.parser.Action.TheVariants as act
 use Rattle.reg_cuts.specs.Rows.{Record, records_in, rows_in_text}
-use Rattle.reg_cuts.specs.Parts.{state_after, IsCut, HasNoMark, has_quote}
+use Rattle.reg_cuts.specs.Parts.{machine_after, IsCut, HasNoMark, has_quote}
 use Rattle.reg_cuts.proofs.RowsFacts.{record-advances, records_in-some, records_in-none}
 
 -- ---- the machine
@@ -59,19 +59,19 @@ pub record EndsBefore (s : State) (fields : List (List ℕ)) (field a b : List �
   pub read : Read
   pub alone : next_record default_config s fields field a ≡ Some read
   pub whole : next_record default_config s fields field (a ++ b) ≡ Some (read.0, read.1, read.2 ++ b)
-  pub leaves : state_after read.1 read.2 ≡ state_after s a
+  pub leaves : machine_after read.1 read.2 ≡ machine_after s a
 
 pub record NoneBefore (s : State) (fields : List (List ℕ)) (field a b : List ℕ) : Type 0 where
   pub quiet : is_quiet s ≡ true
   pub alone : next_record default_config s fields field a ≡ None
-  pub whole : next_record default_config s fields field (a ++ b) ≡ next_record default_config (state_after s a) fields field b
+  pub whole : next_record default_config s fields field (a ++ b) ≡ next_record default_config (machine_after s a) fields field b
 
 chosen : (b : Bool) → (b ≡ true) ⊎ (b ≡ false)
 chosen true = inl refl
 chosen false = inr refl
 
-pub next-split : (s : State) (fields : List (List ℕ)) (field a b : List ℕ) → ends_at_end (state_after s a) ≡ false → EndsBefore s fields field a b ⊎ NoneBefore s fields field a b
-unfolding next_record state_after
+pub next-split : (s : State) (fields : List (List ℕ)) (field a b : List ℕ) → ends_at_end (machine_after s a) ≡ false → EndsBefore s fields field a b ⊎ NoneBefore s fields field a b
+unfolding next_record machine_after
 next-split s fields field [] b h = inr (record { quiet = between-quiet s h; alone = rw h refl; whole = refl })
 next-split s fields field (c ∷ rest) b h =
     let t = step default_config s c in
@@ -92,7 +92,7 @@ in-rest : (s : State) (b : List ℕ) (o : Option Read) → ends_at_end s ≡ fal
 in-rest s b None between e t a between2 e2 = records_in-none s b e ∙ sym (records_in-none t a e2)
 in-rest s b (Some p) between e t a between2 e2 = records_in-some s b p between e ∙ sym (records_in-some t a p between2 e2)
 
-split-records : (n : ℕ) (s : State) (a b : List ℕ) → length a < n → ends_at_end s ≡ false → ends_at_end (state_after s a) ≡ false → records_in s (a ++ b) ≡ records_in s a ++ records default_config b
+split-records : (n : ℕ) (s : State) (a b : List ℕ) → length a < n → ends_at_end s ≡ false → ends_at_end (machine_after s a) ≡ false → records_in s (a ++ b) ≡ records_in s a ++ records default_config b
 split-records zero s a b lt between cut = absurd (omega arith)
 split-records (suc n) s a b lt between cut =
     elim (next-split s [] [] a b cut) [
@@ -103,11 +103,11 @@ split-records (suc n) s a b lt between cut =
           let more = split-records n p.1 p.2 b (omega (arith, shorter)) less.between (rw e.leaves cut) in
           records_in-some s (a ++ b) (p.0, p.1, p.2 ++ b) between e.whole ∙ ap (λ (rows : List Record). p.0 ∷ rows) more ∙ ap (λ (rows : List Record). rows ++ records default_config b) (sym (records_in-some s a p between e.alone))
       | inr e ↦
-          let same = e.whole ∙ same-next (state_after s a) [] [] b cut in
+          let same = e.whole ∙ same-next (machine_after s a) [] [] b cut in
           in-rest s (a ++ b) (next_record default_config st.StartRecord [] [] b) between same st.StartRecord b refl refl ∙ ap (λ (rows : List Record). rows ++ records default_config b) (sym (records_in-none s a e.alone))
     ]
 
-pub records-split : (s : State) (a b : List ℕ) → ends_at_end s ≡ false → ends_at_end (state_after s a) ≡ false → records_in s (a ++ b) ≡ records_in s a ++ records default_config b
+pub records-split : (s : State) (a b : List ℕ) → ends_at_end s ≡ false → ends_at_end (machine_after s a) ≡ false → records_in s (a ++ b) ≡ records_in s a ++ records default_config b
 records-split s a b between cut = split-records (length a + 1) s a b (omega arith) between cut
 
 -- ---- whole texts
@@ -134,7 +134,7 @@ no-and false u whole rest = refl
 
 -- a byte order mark at the start of a text is one of its first part, if this is not empty and the text is cut behind it
 pub mark-split : (a b : List ℕ) → IsCut a → 0 < length a → strip_bom (a ++ b) ≡ strip_bom a ++ b
-unfolding strip_bom state_after
+unfolding strip_bom machine_after
 mark-split [] b cut some = absurd (omega arith)
 mark-split (x ∷ []) [] cut some = refl
 mark-split (x ∷ []) (y ∷ []) cut some = refl
@@ -154,14 +154,14 @@ rows-split a b cut none =
 
 -- ---- cuts one after another
 
-pub state-append : (s : State) (a b : List ℕ) → state_after s (a ++ b) ≡ state_after (state_after s a) b
-unfolding state_after
+pub state-append : (s : State) (a b : List ℕ) → machine_after s (a ++ b) ≡ machine_after (machine_after s a) b
+unfolding machine_after
 state-append s [] b = refl
 state-append s (c ∷ a) b = state-append (step default_config s c).0 a b
 
 -- what comes behind a cut
-goes-on : (s : State) (b : List ℕ) → ends_at_end s ≡ false → ends_at_end (state_after st.StartRecord b) ≡ false → ends_at_end (state_after s b) ≡ false
-unfolding state_after
+goes-on : (s : State) (b : List ℕ) → ends_at_end s ≡ false → ends_at_end (machine_after st.StartRecord b) ≡ false → ends_at_end (machine_after s b) ≡ false
+unfolding machine_after
 goes-on st.StartRecord b between cut = cut
 goes-on st.AfterCr [] between cut = refl
 goes-on st.AfterCr (c ∷ rest) between cut = rw (same-step c) cut
@@ -169,8 +169,8 @@ goes-on s b between cut = absurd cc
 
 pub cuts-go-on : (a b : List ℕ) → IsCut a → HasNoMark b → IsCut b → IsCut (a ++ b)
 cuts-go-on a b cut none behind =
-    let b_cut : ends_at_end (state_after st.StartRecord b) ≡ false = rw none at behind in
-    rw (text-split a b cut none, state-append st.StartRecord (strip_bom a) b) (goes-on (state_after st.StartRecord (strip_bom a)) b cut b_cut)
+    let b_cut : ends_at_end (machine_after st.StartRecord b) ≡ false = rw none at behind in
+    rw (text-split a b cut none, state-append st.StartRecord (strip_bom a) b) (goes-on (machine_after st.StartRecord (strip_bom a)) b cut b_cut)
 
 -- ---- lines without quotes
 
@@ -200,8 +200,8 @@ none-of : (b t : Bool) → (b || t) ≡ false → (b ≡ false) × (t ≡ false)
 none-of true t e = absurd cc
 none-of false t e = (refl, e)
 
-after-line : (s : State) (a : List ℕ) → is_plain s ≡ true → has_quote a ≡ false → get_or a (length a - 1) 0 ≡ 10 → 0 < length a → state_after s a ≡ st.StartRecord
-unfolding state_after has_quote
+after-line : (s : State) (a : List ℕ) → is_plain s ≡ true → has_quote a ≡ false → get_or a (length a - 1) 0 ≡ 10 → 0 < length a → machine_after s a ≡ st.StartRecord
+unfolding machine_after has_quote
 after-line s [] p q last some = absurd (omega arith)
 after-line s (c ∷ []) p q last some = let line : c ≡ 10 = last in rw line (ends-plain s p)
 after-line s (c ∷ d ∷ rest) p q last some =
@@ -229,7 +229,7 @@ behind-mark a b c (d ∷ rest) mark q last =
     let at : length (a ∷ b ∷ c ∷ d ∷ rest) - 1 ≡ suc (suc (suc (length (d ∷ rest) - 1))) = omega arith in
     (three.1, omega arith, rw at at last)
 
-between-start : (a : List ℕ) → has_quote a ≡ false → (0 < length a) × (get_or a (length a - 1) 0 ≡ 10) → ends_at_end (state_after st.StartRecord a) ≡ false
+between-start : (a : List ℕ) → has_quote a ≡ false → (0 < length a) × (get_or a (length a - 1) 0 ≡ 10) → ends_at_end (machine_after st.StartRecord a) ≡ false
 between-start a q last = ap ends_at_end (after-line st.StartRecord a refl q last.1 last.0)
 
 pub whole : (a : List ℕ) → has_quote a ≡ false → slice_get a (length a - 1) ≡ Some 10 → IsCut a

@@ -9,13 +9,13 @@ use Rattle.csv.specs.declared.parser.State.TheVariants as st
 use Rattle.reg_cuts.specs.Rows.{records_in, rows_in_text}
 
 -- the state of csv's machine after these bytes
-unfoldable pub state_after : State → List ℕ → State
-state_after s [] = s
-state_after s (c ∷ rest) = state_after (step default_config s c).0 rest
+unfoldable pub machine_after : State → List ℕ → State
+machine_after s [] = s
+machine_after s (c ∷ rest) = machine_after (step default_config s c).0 rest
 
 -- after these bytes the machine stands between two records, so a text may be cut behind them
 abbrev pub IsCut : List ℕ → Type 0
-IsCut a = ends_at_end (state_after st.StartRecord (strip_bom a)) ≡ false
+IsCut a = ends_at_end (machine_after st.StartRecord (strip_bom a)) ≡ false
 
 -- a reader of these bytes alone skips no byte order mark
 abbrev pub HasNoMark : List ℕ → Type 0
@@ -32,7 +32,7 @@ text_of_parts parts = flat_map (λ part. part.now) parts
 
 -- law: from a state between two records, whatever the bytes behind it
 abbrev pub EachSplitSplits : Type 0
-EachSplitSplits = (s : State) (a b : List ℕ) → ends_at_end s ≡ false → ends_at_end (state_after s a) ≡ false → records_in s (a ++ b) ≡ records_in s a ++ records default_config b
+EachSplitSplits = (s : State) (a b : List ℕ) → ends_at_end s ≡ false → ends_at_end (machine_after s a) ≡ false → records_in s (a ++ b) ≡ records_in s a ++ records default_config b
 
 -- law: of whole texts, with their byte order marks
 abbrev pub EachCutSplits : Type 0

@@ -7,7 +7,7 @@ use Rattle.csv.specs.declared.parser.State.{State}
 use Rattle.csv.specs.declared.parser.State.TheVariants as st
 use Rattle.csv.proofs.RoundTrip.{read-write}
 use Rattle.reg_cuts.specs.Rows.{Record}
-use Rattle.reg_cuts.specs.Parts.{state_after}
+use Rattle.reg_cuts.specs.Parts.{machine_after}
 use Rattle.reg_cuts.proofs.RowsFacts.{record-advances}
 use Rattle.reg_cuts.proofs.Splits.{state-append}
 use Rattle.reg_text.specs.Report.{text_of}
@@ -22,8 +22,8 @@ read-chosen true x more p e = inl (refl, cc)
 read-chosen false x more p e = inr (refl, e)
 
 -- if a record ends exactly before a byte, the machine has made its steps up to there
-record-leaves : (s : State) (fields : List (List ℕ)) (field a : List ℕ) (c : ℕ) (p : Read) → next_record default_config s fields field (a ++ c ∷ []) ≡ Some p → p.2 ≡ c ∷ [] → state_after s a ≡ p.1
-unfolding next_record state_after
+record-leaves : (s : State) (fields : List (List ℕ)) (field a : List ℕ) (c : ℕ) (p : Read) → next_record default_config s fields field (a ++ c ∷ []) ≡ Some p → p.2 ≡ c ∷ [] → machine_after s a ≡ p.1
+unfolding next_record machine_after
 record-leaves s fields field [] c p e left =
     let t = step default_config s c in
     elim (read-chosen (is_end t.1) (fields_after t.1 fields field, t.0, []) (next_record default_config t.0 (fields_after t.1 fields field) (field_after t.1 c field) []) p e) [
@@ -37,11 +37,11 @@ record-leaves s fields field (d ∷ a) c p e left =
       | inr h ↦ record-leaves t.0 (fields_after t.1 fields field) (field_after t.1 d field) a c p h.1 left
     ]
 
-row-state : (r : Record) → state_after st.StartRecord (row_text default_writer r) ≡ st.StartRecord
+row-state : (r : Record) → machine_after st.StartRecord (row_text default_writer r) ≡ st.StartRecord
 row-state r = record-leaves st.StartRecord [] [] (row_text default_writer r) 0 _ (read-write r (0 ∷ [])) refl
 
 -- behind written rows csv stands between two records
-pub rows-state : (rows : List Record) → state_after st.StartRecord (text_of rows) ≡ st.StartRecord
-unfolding state_after
+pub rows-state : (rows : List Record) → machine_after st.StartRecord (text_of rows) ≡ st.StartRecord
+unfolding machine_after
 rows-state [] = refl
-rows-state (r ∷ rows) = state-append st.StartRecord (row_text default_writer r) (text_of rows) ∙ ap (λ (s : State). state_after s (text_of rows)) (row-state r) ∙ rows-state rows
+rows-state (r ∷ rows) = state-append st.StartRecord (row_text default_writer r) (text_of rows) ∙ ap (λ (s : State). machine_after s (text_of rows)) (row-state r) ∙ rows-state rows

@@ -7,14 +7,14 @@ use Rattle.reg_text.proofs.Names.{MOST_INSTRUCTIONS, MOST_RECORD, Tag, Version, 
 use Rattle.reg_text.proofs.Names.{DraftValue, scope_of, with, has_room, next_draft, drafted, next_in, is_number_left}
 use Rattle.reg_text.specs.declared.cause.Cause.TheVariants as cause
 use Rattle.reg_text.specs.declared.reading.tag.Tag.TheVariants as tag
-use Rattle.reg_text.specs.Joining.{IsHeading, HasHeading, IsPart, InstructionsMayFollow, joined}
+use Rattle.reg_text.specs.Joining.{IsHeading, HasHeading, IsPart, InstructionsMayFollow, joined_drafts}
 use Rattle.reg_text.proofs.Binds.{bind_ok, ok_is}
 use Rattle.reg_text.proofs.TagLaws.{place-of, goes_on}
 use Rattle.reg_text.proofs.Joins.{IsTaken, taken, takes, last-with, same-scope, heading-with}
 
 -- a draft, and behind it the instructions of another one
 abbrev pub after : DraftValue → DraftValue → DraftValue
-after d e = joined None d e
+after d e = joined_drafts None d e
 
 -- behind an instruction stands an instruction or the end
 abbrev pub is_late : Tag → Bool

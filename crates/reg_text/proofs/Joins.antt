@@ -8,7 +8,7 @@ use Rattle.reg_text.proofs.Names.{MOST_ACCOUNTS, AccountValue, AccountHead, Tag,
 use Rattle.reg_text.proofs.Names.{DraftValue, accounts_in, account_count, scope_of, is_text_over, with, in_order, has_room, placed, with_row, next_draft, drafted}
 use Rattle.reg_text.specs.declared.cause.Cause.TheVariants as cause
 use Rattle.reg_text.specs.declared.reading.tag.Tag.TheVariants as tag
-use Rattle.reg_text.specs.Joining.{number_in, IsHeading, HasHeading, IsPart, AccountsMayFollow, joined}
+use Rattle.reg_text.specs.Joining.{number_in, IsHeading, HasHeading, IsPart, AccountsMayFollow, joined_drafts}
 use Rattle.reg_text.proofs.Binds.{bind_ok, test_ok, unless_ok, ok_is}
 use Rattle.reg_text.proofs.TagLaws.{place-of, goes_on}
 use Rattle.reg_text.proofs.DraftSteps.{count-accounts}
@@ -212,11 +212,11 @@ one-head None first e = absurd cc
 one-head (Some h) first e = refl
 
 -- a draft with the same heading, and accounts before its own, is both drafts joined
-behind-joined : (h d e : DraftValue) (first : ℕ) → HasHeading h d → HasHeading h e → behind (accounts_in d) e ≡ joined (Some first) d e
+behind-joined : (h d e : DraftValue) (first : ℕ) → HasHeading h d → HasHeading h e → behind (accounts_in d) e ≡ joined_drafts (Some first) d e
 behind-joined h d e first k l = rw (k.versions, k.days, k.periods, k.current, k.lags, k.surrender, k.admins, k.work, l.versions, l.days, l.periods, l.current, l.lags, l.surrender, l.admins, l.work) refl
 
 -- the rows of a part that begins with an account, read behind the draft before it, give both drafts joined
-pub accounts-join : (h d e : DraftValue) (rows : List Record) (first : ℕ) → IsHeading h → HasHeading h d → AccountsMayFollow first d e → IsPart h rows (Some first) e → drafted d rows ≡ Ok (joined (Some first) d e)
+pub accounts-join : (h d e : DraftValue) (rows : List Record) (first : ℕ) → IsHeading h → HasHeading h d → AccountsMayFollow first d e → IsPart h rows (Some first) e → drafted d rows ≡ Ok (joined_drafts (Some first) d e)
 accounts-join h d e rows first is same m p =
     let k = taken h p.opened p.row p.opens in
     let one = one-head p.opened.head first p.begins.1 in

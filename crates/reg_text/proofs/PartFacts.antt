@@ -7,7 +7,7 @@ use Rattle.reg_cuts.specs.Parts.{IsCut, HasNoMark, EachCutSplits, CutsGoOn, text
 use Rattle.reg_text.proofs.Names.{AccountValue, AccountHead, option_to_list, DraftValue, Record, IsDraft, FitsSoFar, nothing_read, draft_of, next_draft, drafted, after_rows, at_end, day_of_rows, day_said, is_text_over, rows_in_text}
 use Rattle.reg_text.specs.declared.reading.tag.Tag.TheVariants as tag
 use Rattle.reg_text.specs.declared.reading.parts.Part.{Part}
-use Rattle.reg_text.specs.Joining.{IsHeading, HasHeading, IsPart, MayJoin, IsReadSoFar, joined}
+use Rattle.reg_text.specs.Joining.{IsHeading, HasHeading, IsPart, MayJoin, IsReadSoFar, joined_drafts}
 use Rattle.reg_text.specs.PartsRead.{IsReadPart, ReadsEach}
 use Rattle.reg_text.proofs.Binds.{bind_ok, ok_is}
 use Rattle.reg_text.proofs.DraftSteps.{grows, nothing-fits}
@@ -56,23 +56,23 @@ finished h d text s over =
 
 -- ---- a part behind a text
 
-heading-joined : (h d e : DraftValue) (first : Option ℕ) → HasHeading h d → HasHeading h (joined first d e)
+heading-joined : (h d e : DraftValue) (first : Option ℕ) → HasHeading h d → HasHeading h (joined_drafts first d e)
 heading-joined h d e (Some number) k = record { versions = k.versions; days = k.days; periods = k.periods; current = k.current; lags = k.lags; surrender = k.surrender; admins = k.admins; work = k.work }
 heading-joined h d e None k = record { versions = k.versions; days = k.days; periods = k.periods; current = k.current; lags = k.lags; surrender = k.surrender; admins = k.admins; work = k.work }
 
 -- the rows of a part, read behind the draft before it, give both drafts joined
-pub joins : (h d e : DraftValue) (rows : List Record) (first : Option ℕ) → IsHeading h → HasHeading h d → MayJoin first d e → IsPart h rows first e → (drafted d rows ≡ Ok (joined first d e)) × HasHeading h (joined first d e)
+pub joins : (h d e : DraftValue) (rows : List Record) (first : Option ℕ) → IsHeading h → HasHeading h d → MayJoin first d e → IsPart h rows first e → (drafted d rows ≡ Ok (joined_drafts first d e)) × HasHeading h (joined_drafts first d e)
 joins h d e rows (Some number) is same m p = (accounts-join h d e rows number is same m p, heading-joined h d e (Some number) same)
 joins h d e rows None is same m p = (instructions-join h d e rows is same m p, heading-joined h d e None same)
 
 pub heading-itself : (h : DraftValue) → HasHeading h h
 heading-itself h = record { versions = refl; days = refl; periods = refl; current = refl; lags = refl; surrender = refl; admins = refl; work = refl }
 
-one-more : (h d e : DraftValue) (text part : List ℕ) (first : Option ℕ) → EachCutSplits → CutsGoOn → IsHeading h → IsReadSoFar h text d → MayJoin first d e → IsCut part → HasNoMark part → IsPart h (rows_in_text part) first e → IsReadSoFar h (text ++ part) (joined first d e)
+one-more : (h d e : DraftValue) (text part : List ℕ) (first : Option ℕ) → EachCutSplits → CutsGoOn → IsHeading h → IsReadSoFar h text d → MayJoin first d e → IsCut part → HasNoMark part → IsPart h (rows_in_text part) first e → IsReadSoFar h (text ++ part) (joined_drafts first d e)
 one-more h d e text part first splits go_on is so_far m cut mark p =
     let both = joins h d e (rows_in_text part) first is so_far.heading m p in
     record {
-      read = rw (splits text part so_far.cut mark) (drafted-then (rows_in_text text) (rows_in_text part) nothing_read d (joined first d e) so_far.read both.0);
+      read = rw (splits text part so_far.cut mark) (drafted-then (rows_in_text text) (rows_in_text part) nothing_read d (joined_drafts first d e) so_far.read both.0);
       cut = go_on text part so_far.cut mark cut;
       heading = both.1;
     }
@@ -113,7 +113,7 @@ pub record IsJoined (h : DraftValue) (whole : List ℕ) (rest : List (Bor (List 
   pub so_far : IsReadSoFar h text d
   pub is_whole : text ++ text_of_parts rest ≡ whole
 
-pub part-joined : (h d e : DraftValue) (whole : List ℕ) (rest : List (Bor (List ℕ))) (p : Part) (others : List (Option Part)) → EachCutSplits → CutsGoOn → IsHeading h → IsJoined h whole rest d → ReadsEach h rest (Some p ∷ others) → MayJoin p.first d (draft_of p.draft) → e ≡ joined p.first d (draft_of p.draft)
+pub part-joined : (h d e : DraftValue) (whole : List ℕ) (rest : List (Bor (List ℕ))) (p : Part) (others : List (Option Part)) → EachCutSplits → CutsGoOn → IsHeading h → IsJoined h whole rest d → ReadsEach h rest (Some p ∷ others) → MayJoin p.first d (draft_of p.draft) → e ≡ joined_drafts p.first d (draft_of p.draft)
     → ReadsEach h (drop 1 rest) others × IsJoined h whole (drop 1 rest) e
 part-joined h d e whole rest p others splits go_on heading j each may joins =
     let f = first-of h rest (Some p) others each in

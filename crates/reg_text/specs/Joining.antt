@@ -35,9 +35,9 @@ pub record HasHeading (h d : DraftValue) : Type 0 where
   pub work : d.work ≡ h.work
 
 -- the last row is that of an account with this number, or if there is none, an instruction
-abbrev pub Begins : DraftValue → Option ℕ → Type 0
-Begins d (Some number) = (d.last ≡ Some tag.Account) × (number_in d.head ≡ Some number)
-Begins d None = d.last ≡ Some tag.Do
+abbrev pub OpensWith : DraftValue → Option ℕ → Type 0
+OpensWith d (Some number) = (d.last ≡ Some tag.Account) × (number_in d.head ≡ Some number)
+OpensWith d None = d.last ≡ Some tag.Do
 
 -- the rows of a part, read behind a heading, give this draft. The first row is this one
 pub record IsPart (h : DraftValue) (rows : List Record) (first : Option ℕ) (d : DraftValue) : Type 0 where
@@ -46,13 +46,13 @@ pub record IsPart (h : DraftValue) (rows : List Record) (first : Option ℕ) (d 
   pub opened : DraftValue
   pub rows_are : rows ≡ row ∷ others
   pub opens : next_draft h row ≡ Ok opened
-  pub begins : Begins opened first
+  pub begins : OpensWith opened first
   pub goes_on : drafted opened others ≡ Ok d
 
 -- a draft, and behind it what a part adds that begins with an account of this number, or with an instruction
-abbrev pub joined : Option ℕ → DraftValue → DraftValue → DraftValue
-joined (Some number) d e = record d { last = e.last; accounts = accounts_in d ++ e.accounts; head = e.head; lists = e.lists; instructions = e.instructions }
-joined None d e = record d { last = e.last; instructions = d.instructions ++ e.instructions }
+abbrev pub joined_drafts : Option ℕ → DraftValue → DraftValue → DraftValue
+joined_drafts (Some number) d e = record d { last = e.last; accounts = accounts_in d ++ e.accounts; head = e.head; lists = e.lists; instructions = e.instructions }
+joined_drafts None d e = record d { last = e.last; instructions = d.instructions ++ e.instructions }
 
 -- accounts of a part, whose first one has this number, may stand behind a draft
 pub record AccountsMayFollow (number : ℕ) (d e : DraftValue) : Type 0 where
@@ -75,7 +75,7 @@ MayJoin None d e = InstructionsMayFollow d e
 -- law: the rows of a part, read behind the draft before it, give both drafts joined, with the same heading
 abbrev pub PartsJoin : Type 0
 PartsJoin = (h d e : DraftValue) (rows : List Record) (first : Option ℕ) → IsHeading h → HasHeading h d → MayJoin first d e → IsPart h rows first e
-    → (drafted d rows ≡ Ok (joined first d e)) × HasHeading h (joined first d e)
+    → (drafted d rows ≡ Ok (joined_drafts first d e)) × HasHeading h (joined_drafts first d e)
 
 -- the rows of a text, which may be cut at its end, give this draft, which has this heading
 pub record IsReadSoFar (h : DraftValue) (text : List ℕ) (d : DraftValue) : Type 0 where

@@ -6,7 +6,7 @@ ghost use Rattle.reg_cuts.specs.Parts.{text_of_parts};
 ghost use Rattle.reg_text.specs.Lasts.{is_above};
 ghost use Rattle.reg_text.specs.Drafts.{draft_of};
 ghost use Rattle.reg_text.specs.DraftLimits.{FitsSoFar};
-ghost use Rattle.reg_text.specs.Joining.{number_in, AccountsMayFollow, InstructionsMayFollow, IsHeading, IsReadSoFar, MayJoin, joined};
+ghost use Rattle.reg_text.specs.Joining.{number_in, AccountsMayFollow, InstructionsMayFollow, IsHeading, IsReadSoFar, MayJoin, joined_drafts};
 ghost use Rattle.reg_text.specs.PartsRead.{ReadsEach};
 
 use crate::reading::account_row::AccountHead;
@@ -55,7 +55,7 @@ fn instructions_may_follow(draft: &Draft, part: &Draft) -> bool
 fn join_accounts(draft: Draft, first: AccountNo, part: Draft) -> Option<Draft>
     requires fits { FitsSoFar (draft_of draft) }
     ensures may { OnSome result (AccountsMayFollow first (draft_of draft) (draft_of part)) }
-    ensures joins { IfSome result (λ both. draft_of both ≡ joined (Some first) (draft_of draft) (draft_of part)) }
+    ensures joins { IfSome result (λ both. draft_of both ≡ joined_drafts (Some first) (draft_of draft) (draft_of part)) }
 {
     if !accounts_may_follow(&draft, first, &part) {
         return None;
@@ -89,7 +89,7 @@ fn join_accounts(draft: Draft, first: AccountNo, part: Draft) -> Option<Draft>
 // A draft, and behind it the instructions of a part.
 fn join_instructions(draft: Draft, part: Draft) -> Option<Draft>
     ensures may { OnSome result (InstructionsMayFollow (draft_of draft) (draft_of part)) }
-    ensures joins { IfSome result (λ both. draft_of both ≡ joined None (draft_of draft) (draft_of part)) }
+    ensures joins { IfSome result (λ both. draft_of both ≡ joined_drafts None (draft_of draft) (draft_of part)) }
 {
     if !instructions_may_follow(&draft, &part) {
         return None;
@@ -107,7 +107,7 @@ fn join_instructions(draft: Draft, part: Draft) -> Option<Draft>
 fn join_part(draft: Draft, part: Part) -> Option<Draft>
     requires { FitsSoFar (draft_of draft) }
     ensures may { OnSome result (MayJoin part.first (draft_of draft) (draft_of part.draft)) }
-    ensures joins { IfSome result (λ both. draft_of both ≡ joined part.first (draft_of draft) (draft_of part.draft)) }
+    ensures joins { IfSome result (λ both. draft_of both ≡ joined_drafts part.first (draft_of draft) (draft_of part.draft)) }
 {
     match part.first {
         Some(first) => join_accounts(draft, first, part.draft),

@@ -6,7 +6,7 @@ ghost use Rattle.reg_cuts.specs.Rows.{IsOpen, rows_left};
 ghost use Rattle.reg_text.specs.Drafts.{draft_of};
 ghost use Rattle.reg_text.specs.DraftLimits.{IsDraft};
 ghost use Rattle.reg_text.specs.Faults.{drafted};
-ghost use Rattle.reg_text.specs.Joining.{Begins, IsHeading, IsReadSoFar};
+ghost use Rattle.reg_text.specs.Joining.{OpensWith, IsHeading, IsReadSoFar};
 ghost use Rattle.reg_text.specs.PartsRead.{IsReadPart};
 
 use crate::reading::draft::Draft;
@@ -97,7 +97,7 @@ pub(crate) fn read_part(alloc: Global, heading: &Draft, text: &[u8]) -> Option<P
 
 // How a part begins of which one row was taken: with an account of this number, or with an instruction.
 fn opening_of(draft: &Draft) -> Option<Option<AccountNo>>
-    ensures { IfSome result (Begins (draft_of draft.now)) }
+    ensures { IfSome result (OpensWith (draft_of draft.now)) }
 {
     if draft.last == Some(Tag::Do) {
         return Some(None);
