@@ -56,9 +56,11 @@ try_cases() {
 # The program that makes each call that takes memory.
 refusals=crates/registry_refusals/out/registry_refusals
 
-# Refuses each allocation and each start of a thread, of every call and of this program.
+# Refuses each allocation and each start of a thread, of every call and of this program. Then reads texts by parts that are cut
+# where something is in the way.
 try_refusals() {
   count_part "cases/run-refusals" cases/run-refusals "$refusals" "$1"
+  count_part "cases/run-seams" cases/run-seams "$refusals"
 }
 
 # The program that settles a day by workers that steal, and looks at who executed what.
