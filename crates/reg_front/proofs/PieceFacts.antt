@@ -24,18 +24,8 @@ piece-failed old mid new pieces i p text lt is same good done fails =
     let whole : text_of_pieces pieces ≡ (before ++ front) ++ (rest ++ behind) = parts pieces i p lt is ∙ ap (λ (l : List ℕ). before ++ (l ++ behind)) item ∙ ap (λ (l : List ℕ). before ++ l) (append_assoc front rest behind) ∙ sym (append_assoc before front (rest ++ behind)) in
     record { failed = fails.failed ∙ ap (λ (n : ℕ). n + 1) good; bytes = (before ++ front, rest ++ behind, whole, Appends-trans old.bytes mid.bytes new.bytes before front done appended) }
 
--- a text that was not written to its end is not written to the end of a longer one
-pub front-failed : (old new : Stream) (text end : List ℕ) → FailsToWrite text old new → FailsToWrite (text ++ end) old new
-front-failed old new text end fails =
-    let (front, rest, split, appended) = fails.bytes in
-    record { failed = fails.failed; bytes = (front, rest ++ end, ap (λ (l : List ℕ). l ++ end) split ∙ append_assoc front rest end, appended) }
-
 -- the end of a text could not be written
 pub end-failed : (old mid new : Stream) (text end : List ℕ) → Writes text old mid → FailsToWrite end mid new → FailsToWrite (text ++ end) old new
 end-failed old mid new text end wrote fails =
     let (front, rest, split, appended) = fails.bytes in
     record { failed = fails.failed ∙ ap (λ (n : ℕ). n + 1) wrote.good; bytes = (text ++ front, rest, ap (λ (l : List ℕ). text ++ l) split ∙ sym (append_assoc text front rest), Appends-trans old.bytes mid.bytes new.bytes text front wrote.bytes appended) }
-
--- both parts of a text were written
-pub both-written : (old mid new : Stream) (text end : List ℕ) → Writes text old mid → Writes end mid new → Writes (text ++ end) old new
-both-written old mid new text end first second = record { good = second.good ∙ first.good; bytes = Appends-trans old.bytes mid.bytes new.bytes text end first.bytes second.bytes }
