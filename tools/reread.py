@@ -58,6 +58,11 @@ class Page(HTMLParser):
     def text(self):
         return " ".join(" ".join(self.words).split())
 
+    @property
+    def text_by_lines(self):
+        """The text of the page, with the lines that its source has."""
+        return "\n".join(" ".join(line.split()) for line in "".join(self.words).splitlines())
+
     def table(self, start):
         """The one table whose caption begins so."""
         found = [it for it in self.tables if it.caption.startswith(start)]
