@@ -178,6 +178,9 @@ class Reading:
         name, equals, value = word.partition("=")
         is_known = name in ("-h", "--help") or (name == "--workers" and self.command == "settle")
         is_bundle = not word.startswith("--") and len(word) > 2
+        if is_known:
+            # (a value is tested when the next argument begins)
+            self.refuse_values()
         has_refused = any(it.refusal() for it in [*self.workers, *self.accounts])
         if word == "--" or is_bundle and not word[1].isdigit() or is_known and self.lacks_value or has_refused:
             raise AskTheProgram
