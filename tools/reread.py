@@ -59,6 +59,11 @@ class Page(HTMLParser):
         return " ".join(" ".join(self.words).split())
 
     @property
+    def text_by_tags(self):
+        """The words of the page that stand between two tags each."""
+        return [" ".join(it.split()) for it in self.words if it.strip()]
+
+    @property
     def text_by_lines(self):
         """The text of the page, with the lines that its source has."""
         return "\n".join(" ".join(line.split()) for line in "".join(self.words).splitlines())
