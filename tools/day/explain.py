@@ -8,6 +8,7 @@ guesses a value.
 
 exit status: 0 if the text has no fault (with --mend: if none is left), else 1.
 """
+import itertools
 import re
 import sys
 from dataclasses import dataclass, field
@@ -21,8 +22,8 @@ from day.progress import progress
 from day.reading import Reader, day_of, rows_of, starts_of_blocks
 
 EXAMPLE = "./day explain day.csv\n  ./day explain from-a-spreadsheet.csv --mend > day.csv"
-# More faults are only counted: one mistake may be in every row.
-MOST_TOLD = 20
+# More faults are only counted, and more than these are not looked for: one mistake may be in every row.
+MOST_TOLD, MOST_COUNTED = 20, 1_000
 
 
 def add_words(parser):
@@ -32,13 +33,18 @@ def add_words(parser):
 
 @dataclass
 class Told:
-    """A fault of a row: its place among the rows, its line, the row and the fault, and a guess."""
+    """A fault of a row: its place among the rows, its line, the row and the fault, and the version of the text before it."""
 
     place: int
     line: int
     row: list
     fault: faults.Fault
-    guess: str
+    version: int = 0
+
+    def guess(self):
+        if not self.row:
+            return "the text was cut, or the row end was left out"
+        return guess(self.fault, self.row, self.version)
 
 
 @dataclass
@@ -126,14 +132,14 @@ def faults_of(source):
                 index = blocks.ends[index]
                 continue
         for fault in explainer.explain(row):
-            yield Told(index + 1, source.line(index), row, fault, guess(fault, row, version))
+            yield Told(index + 1, source.line(index), row, fault, version)
             if fault.cause == "end" or is_other_text(index, fault, row):
                 return
         explainer.rows_before[row[0]] = source.rows[index]
         index += 1
     if explainer.last != "end":
         fault = faults.Fault("end", f"a row {' or '.join(explainer.may_follow())}")
-        yield Told(len(source) + 1, source.line(len(source)), [], fault, "the text was cut, or the row end was left out")
+        yield Told(len(source) + 1, source.line(len(source)), [], fault)
 
 
 class Blocks(NamedTuple):
@@ -193,8 +199,9 @@ def lines_of(told, text):
     yield where(told, text)
     yield f"  found:    {found_words(told)}"
     yield f"  expected: {told.fault.expected}"
-    if told.guess:
-        yield f"  perhaps:  {told.guess}"
+    perhaps = told.guess()
+    if perhaps:
+        yield f"  perhaps:  {perhaps}"
 
 
 def explained(text):
@@ -202,13 +209,14 @@ def explained(text):
     lines = [f"line {line}: {change}" for line, change in text.changes]
     if text.changes:
         lines.append("  perhaps:  a spreadsheet or an editor did that. --mend writes the text without it")
-    all_told = [*faults_of(text.source)]
+    all_told = [*itertools.islice(faults_of(text.source), MOST_COUNTED)]
     if text.changes and all_told:
         lines.append("With that mended, this is still wrong:")
     for told in all_told[:MOST_TOLD]:
         lines += lines_of(told, text)
     if len(all_told) > MOST_TOLD:
-        lines.append(f"and {len(all_told) - MOST_TOLD} more faults")
+        end = ", and perhaps others behind them" if len(all_told) == MOST_COUNTED else ""
+        lines.append(f"and {len(all_told) - MOST_TOLD} more faults{end}")
     return lines, len(all_told)
 
 

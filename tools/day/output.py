@@ -10,6 +10,11 @@ def cannot(path, error):
     return FileFault(path, 0, "", f"it cannot be written: {error.strerror}", "")
 
 
+def write_all(file, content):
+    while content:
+        content = content[os.write(file, content) :]
+
+
 class NewFolder:
     """A folder that is not there yet, or empty. Its files are written beside it, and it gets its name at the end of the block."""
 
@@ -38,8 +43,12 @@ class NewFolder:
     def write(self, name, text):
         """Writes a file of the folder."""
         try:
-            with open(f"{self.beside}/{name}", "wb") as stream:
-                stream.write(text.encode("utf-8", "surrogateescape"))
+            # (there may be 100,000 of them: no stream is made for each)
+            file = os.open(f"{self.beside}/{name}", os.O_WRONLY | os.O_CREAT | os.O_EXCL, 0o666)
+            try:
+                write_all(file, text.encode("utf-8", "surrogateescape"))
+            finally:
+                os.close(file)
         except OSError as error:
             raise cannot(self.path / name, error) from None
 
