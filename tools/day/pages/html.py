@@ -12,6 +12,7 @@ TAGS = re.compile("<[^>]*>")
 FITS, BETWEEN = 37, 2
 ROOMS = {"small": (60, "44rem"), "middle": (92, "62rem"), "dense": (145, "78rem")}
 EVERYWHERE = "everywhere"
+MANY_ROWS = 100
 # Cells of these columns are not broken.
 DATES = {"Day", "Proposed", "Due", "In effect from"}
 
@@ -77,9 +78,10 @@ def visible(cell):
 
 def letters_of(columns, right, rows):
     """How many letters stand beside each other in the row of a table: all of a number, and the longest word of another cell."""
-    needed = 0
+    # Numbers differ from row to row. Of other cells the first and the last ones show how long they are.
+    looked_at, needed = [*rows[:MANY_ROWS], *rows[-MANY_ROWS:]], 0
     for place, name in enumerate(columns):
-        cells = {visible(row[place]) for row in rows}
+        cells = {visible(row[place]) for row in (rows if name in right else looked_at)}
         words = cells if name in right or name in DATES else {word for cell in cells for word in cell.split()}
         needed += max(map(len, {*words, *name.split()})) + BETWEEN
     return needed

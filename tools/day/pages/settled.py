@@ -54,7 +54,7 @@ class Settled:
 
     def account_link(self, number, root=""):
         """The number of an account, which leads to its page if it has one."""
-        return link(f"{root}accounts/{number}.html", number) if number in self.shown else str(number)
+        return Markup(f'<a href="{root}accounts/{number}.html">{number}</a>') if number in self.shown else str(number)
 
     def accounts_of(self, logged):
         """The accounts that an instruction names as its own: those that receive stand behind the first one."""
