@@ -1,9 +1,9 @@
 """Looks whether days follow from each other: each report from its day, and each day from the report before it.
 
   each pair      the instructions one by one, their record numbers, the accounts; the totals are the sums over the accounts
-  the next day   its date is later, its NEXT is that of the report, its accounts are those of the report; each difference is shown.
-                 One that somebody may make by hand, since no act can make it, is called `by hand`. One that stands so in a file of
-                 --changes, as it was given to ./day next, does not count
+  the next day   its date is later, its NEXT is that of the report, its accounts are those of the report; each difference
+                 is shown. One that somebody may make by hand, since no act can make it, is called `by hand`. One that
+                 stands so in a file of --changes, as it was given to ./day next, does not count
   the rules      periods are kept, and only added to; calendars agree where they overlap, and none of them opens a window for a
                  reversal that was closed
   allowances     of each kind, what there is at the end is what there was at the beginning, and what was created, deleted,
@@ -15,6 +15,7 @@ exit status: 0 if nothing was found, else 1.
 """
 import bisect
 import datetime
+import itertools
 import subprocess
 from dataclasses import dataclass, field
 
@@ -90,7 +91,8 @@ def settle_again(program, day, report, found):
         written, there = run.stdout.split(b"\n"), bytes_of(report.path).split(b"\n")
         pairs = enumerate(zip(written + [b""] * len(there), there + [b""] * len(written)), 1)
         line, (expected, other) = next((it for it in pairs if it[1][0] != it[1][1]))
-        found.add(FileFault(report.path, line, "row", shown(text_of(other)), f"{shown(text_of(expected))}, as {program} settles it"))
+        expected = f"{shown(text_of(expected))}, as {program} settles it"
+        found.add(FileFault(report.path, line, "row", shown(text_of(other)), expected))
 
 
 def text_of(row):
@@ -106,7 +108,8 @@ def look_at_next_day(before, report, day, changes, found):
     if day.head.date <= before.head.date:
         found.add(FileFault(day.path, line, "DATE", day.head.date, f"a day after {before.head.date}, that of {before.path}"))
     if day.head.next_record != report.next_record:
-        found.add(FileFault(day.path, line, "NEXT", day.head.next_record, f"{report.next_record}, as {report.path}:{report.book_line}"))
+        expected = f"{report.next_record}, as {report.path}:{report.book_line}"
+        found.add(FileFault(day.path, line, "NEXT", day.head.next_record, expected))
     look_at_periods(before, day, found)
     if is_copied_from(before, report, day):
         first = next(it for it in day.book.values() if it.rows != report.book[it.number].rows)
@@ -160,7 +163,8 @@ def account_differences(report, day, old, new):
     fields = zip(ACCOUNT_FIELDS, old.rows[0].split(","), new.rows[0].split(","))
     for name, before, after in fields:
         if before != after:
-            fault = FileFault(day.path, new.line, f"{name} of account {new.number}", shown(after), f"{shown(before)}, as {report.path}:{old.line}")
+            expected = f"{shown(before)}, as {report.path}:{old.line}"
+            fault = FileFault(day.path, new.line, f"{name} of account {new.number}", shown(after), expected)
             yield fault, name in BY_HAND_FIELDS
     for tag in faults.BLOCK[1:]:
         if list_of(old, tag) != list_of(new, tag):
@@ -170,15 +174,17 @@ def account_differences(report, day, old, new):
 def list_differences(report, day, old, new, tag):
     """The differences of a list, by the field by which it rises."""
     before, after = places_by_key(old, tag), places_by_key(new, tag)
+    name = f"{tag} row of account {new.number}"
     for key, (place, row) in after.items():
-        there, written = before.get(key, (0, None))
+        there, written = before.get(key, (0, ""))
         if written != row:
-            expected = f"{shown(written)}, as {report.path}:{old.line_of(there)}" if written else f"no such row, as {report.path}:{old.line}"
-            yield FileFault(day.path, new.line_of(place), f"{tag} row of account {new.number}", shown(row), expected), tag in BY_HAND_LISTS
+            what = shown(written) if written else "no such row"
+            expected = f"{what}, as {report.path}:{old.line_of(there)}"
+            yield FileFault(day.path, new.line_of(place), name, shown(row), expected), tag in BY_HAND_LISTS
     for key, (place, row) in before.items():
         if key not in after:
             expected = f"{shown(row)}, as {report.path}:{old.line_of(place)}"
-            fault = FileFault(day.path, new.line, f"{tag} row of account {new.number}", "no such row", expected)
+            fault = FileFault(day.path, new.line, name, "no such row", expected)
             yield fault, tag in BY_HAND_LISTS | MAY_BE_LEFT_OUT
 
 
@@ -203,12 +209,9 @@ class Calendars:
         if self.days and new:
             self.compare(day, new, found)
         if self.days:
-            self.look_at_windows(day, found)
+            self.look_at_begin(day, found)
         else:
-            for block, place in [*open_by_late_begin(day.head, day.book)][:1]:
-                old = f"from {block.rows[place].split(',')[5]} on, the day of {day.path}:{block.line_of(place)}: it can be reversed on "
-                line = day.line_of_tag("work")
-                found.add(FileFault(day.path, line, "work", f"a calendar that begins on {new[0]}", f"{old}{day.head.date}, whenever its window ended"))
+            look_at_first_calendar(day, found)
         self.days = sorted({*self.days, *new})
 
     def compare(self, day, new, found):
@@ -216,39 +219,55 @@ class Calendars:
         first, last = max(self.days[0], new[0]), min(self.days[-1], new[-1])
         old_days, new_days = ({it for it in days if first <= it <= last} for days in (self.days, new))
         for it in sorted(old_days ^ new_days):
+            line = day.line_of(f"work,{new[bisect.bisect_left(new, it)]}")
             if it in new_days:
-                fault = FileFault(day.path, day.line_of(f"work,{it}"), "work", it, "no working day: the days before have none")
+                fault = FileFault(day.path, line, "work", it, "no working day: the days before have none")
             else:
-                later = new[bisect.bisect_left(new, it)]
-                fault = FileFault(day.path, day.line_of(f"work,{later}"), "work", f"no row work,{it}", "it, as the days before have it")
+                fault = FileFault(day.path, line, "work", f"no row work,{it}", "it, as the days before have it")
             found.add(fault)
 
-    def look_at_windows(self, day, found):
-        """Whether the calendar opens windows, or delays due days, since it begins later than those before it."""
+    def look_at_begin(self, day, found):
+        """Whether a calendar that begins later than those before it opens a window, or delays a due day."""
         head = day.head
         first = head.working_days[0] if head.working_days else datetime.date.max
         if first <= self.days[0]:
             return
-        union = rules.Day(head.date, 0, working_days=sorted({*self.days, *head.working_days}))
-        line = day.line_of_tag("work")
-        for place, i in enumerate(day.instructions):
-            if i.proposed < first and union.due(i.proposed, 0) not in (None, head.due(i.proposed, 0)):
-                where = f"from {i.proposed} on, as the days before have it: {day.path}:{day.line_of_instruction(place)} was proposed then"
-                found.add(FileFault(day.path, line, "work", f"a calendar that begins on {first}", where))
-                break
+        longer = rules.Day(head.date, 0, working_days=sorted({*self.days, *head.working_days}))
+        place = next((place for place, i in enumerate(day.instructions) if delays(longer, head, i.proposed)), None)
+        if place is not None:
+            why = f"{day.path}:{day.line_of_instruction(place)} was proposed then"
+            found.add(begins_late(day, day.instructions[place].proposed, why))
         for block in day.book.values():
             for row in retired_of(block):
-                if row.is_reversed == "no" and row.day < str(first) and self.opens(union, head, row):
-                    where = f"{day.path}:{block.line_of(row.place)} can be reversed again, and its window was closed"
-                    expected = f"from {row.day} on, as the days before have it: {where}"
-                    found.add(FileFault(day.path, line, "work", f"a calendar that begins on {first}", expected))
+                if row.is_reversed == "no" and row.day < str(first) and opens(longer, head, row):
+                    why = f"{day.path}:{block.line_of(row.place)} can be reversed again, and its window was closed"
+                    found.add(begins_late(day, row.day, why))
 
-    @staticmethod
-    def opens(union, head, row):
-        """Whether the window of a row is closed by the longer calendar, and open by that of the day."""
-        date, window = datetime.date.fromisoformat(row.day), head.lags["reversal"]
-        end, longer_end = head.due(date, window), union.due(date, window)
-        return longer_end is not None and longer_end < head.date and (end is None or end >= head.date)
+
+def look_at_first_calendar(day, found):
+    """Whether the calendar of the first day begins so late that something older can be reversed; tells the first of them."""
+    for block, place in itertools.islice(open_by_late_begin(day.head, day.book), 1):
+        why = f"{day.path}:{block.line_of(place)} can be reversed on {day.head.date}, whenever its window ended"
+        found.add(begins_late(day, block.rows[place].split(",")[5], why))
+
+
+def begins_late(day, date, why):
+    """That a calendar has to begin on a date, or before it."""
+    days = day.head.working_days
+    there = f"a calendar that begins on {days[0]}" if days else "no calendar"
+    return FileFault(day.path, day.line_of_tag("work"), "work", there, f"the working days from {date} on: {why}")
+
+
+def delays(longer, head, proposed):
+    """Whether a longer calendar has another first working day for an instruction."""
+    return longer.due(proposed, 0) not in (None, head.due(proposed, 0))
+
+
+def opens(longer, head, row):
+    """Whether the window of a row is closed by the longer calendar, and open by that of the day."""
+    date, window = datetime.date.fromisoformat(row.day), head.lags["reversal"]
+    end, longer_end = head.due(date, window), longer.due(date, window)
+    return longer_end is not None and longer_end < head.date and (end is None or end >= head.date)
 
 
 # Allowances.
@@ -269,9 +288,10 @@ class Balance:
         return self.begin + self.created - self.deleted + self.undeleted + self.by_hand
 
     def in_words(self, kind, end):
-        by_hand = f" {'+' if self.by_hand >= 0 else '-'} {abs(self.by_hand):,} by hand"
-        parts = f"{self.begin:,} before + {self.created:,} created - {self.deleted:,} deleted + {self.undeleted:,} undeleted{by_hand}"
-        return f"{kind}: {parts} = {self.expected:,}" + ("" if self.expected == end else f", but there are {end:,}")
+        changes = f"+ {self.created:,} created - {self.deleted:,} deleted + {self.undeleted:,} undeleted"
+        by_hand = f"{'+' if self.by_hand >= 0 else '-'} {abs(self.by_hand):,} by hand"
+        said = f"{kind}: {self.begin:,} before {changes} {by_hand} = {self.expected:,}"
+        return said if self.expected == end else f"{said}, but there are {end:,}"
 
 
 def deleted_row(report, i):
@@ -311,9 +331,9 @@ def look_at_allowances(balances, report, end, found):
 
 def changes_of(paths):
     """The blocks of the files of changes, by number."""
-    changes = {}
+    changes, years = {}, [*range(faults.MOST_PERIODS)]
     for path in paths:
-        reading = faults.Reading(last="work", version=2, next_record=faults.MOST_RECORD + 1, last_years=[*range(faults.MOST_PERIODS)])
+        reading = faults.Reading(last="work", version=2, next_record=faults.MOST_RECORD + 1, last_years=years)
         for number, block in read_blocks(path, reading).items():
             changes.setdefault(number, []).append(block)
     return changes

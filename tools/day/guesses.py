@@ -1,4 +1,4 @@
-"""What may have happened where a day text has a fault: a guess in words for whoever wrote the row. No guess is a value to take."""
+"""What may have happened where a day text has a fault: a guess in words for whoever wrote the row. None is a value to take."""
 import calendar
 import difflib
 import re
@@ -15,8 +15,8 @@ OTHER_TEXTS = {
     "statement": "a statement", "task": "a plan", "arrow": "a plan", "determined": "the figures", "record": "the table of ./day log",
     "waits": "a pending file", "entered": "a pending file",
 }  # fmt: skip
-YES = {"true": "yes", "false": "no", "y": "yes", "n": "no", "1": "yes", "0": "no", "ja": "yes", "nein": "no", "oui": "yes", "non": "no"}
-OTHER_WORDS = {"delete": "deletion", "deletion": "delete", "surrendered": "surrender", "deleted": "deletion", "approved": "approve"}
+YES = dict.fromkeys(("true", "y", "1", "ja", "oui"), "yes") | dict.fromkeys(("false", "n", "0", "nein", "non"), "no")
+OTHER_WORDS = {"delete": "deletion", "deletion": "delete", "surrendered": "surrender", "deleted": "deletion"}
 SEPARATED = re.compile(r"-?[0-9]{1,3}([.,'_\u00a0\u202f\u2009 ][0-9]{3})+")
 
 
@@ -102,7 +102,7 @@ NUMBERS = [
     (SEPARATED.pattern, "digits in groups: write them without separators"),
     (r"-?[0-9]+[.,]0+", "decimals: write whole numbers without a point or comma"),
     (r"-?[0-9]+[.,][0-9]+", "decimals: only whole numbers can be written"),
-    (r"-?[0-9.,]+[eE][+-]?[0-9]+", "a spreadsheet shortened this number, and its last digits are lost: take them from where it came"),
+    (r"-?[0-9.,]+[eE][+-]?[0-9]+", "a spreadsheet shortened this number, and its last digits are lost"),
     (r"\+[0-9]+", "write no plus sign"),
     (r"-0", "zero is 0"),
     (r"-?0[0-9]+", "write no zeros in front"),
@@ -141,7 +141,8 @@ def of_date(fault, row, _version):
 def of_missing_day(year, month, day):
     if not 1 <= month <= 12:
         return "months are 01 to 12: are month and day exchanged?"
-    return f"{calendar.month_name[month]} {year} has {calendar.monthrange(year or 2000, month)[1]} days" if day else "days are 01 to 31"
+    days = calendar.monthrange(year or 2000, month)[1]
+    return f"{calendar.month_name[month]} {year} has {days} days" if day else "days are 01 to 31"
 
 
 def of_word(fault, row, _version):

@@ -81,7 +81,8 @@ def look_at_calendar(head, book, notes):
         notes.warn(f"{end}, before the due day of {head.date} with the lag {name} of {lag}: add working days by --work")
     window = head.lags["reversal"]
     if head.due(head.date, window) is None:
-        notes.warn(f"{end}, before the window REVERSAL of {window} working days from {head.date} is over: add working days by --work")
+        window_ends = f"the window REVERSAL of {window} working days from {head.date} is over"
+        notes.warn(f"{end}, before {window_ends}: add working days by --work")
     begins_late(head, book, notes)
 
 
@@ -90,8 +91,9 @@ def begins_late(head, book, notes):
     early = [*open_by_late_begin(head, book)]
     if early:
         block, place = early[0]
-        notes.warn(f"the calendar begins on {head.working_days[0]}: {len(early)} surrenders and deletions are older, and can be "
-                   f"reversed on {head.date}, whenever their window ended, such as {block.source.path}:{block.line_of(place)}")  # fmt: skip
+        first = f"the calendar begins on {head.working_days[0]}: {len(early)} surrenders and deletions are older"
+        such = f"{block.source.path}:{block.line_of(place)}"
+        notes.warn(f"{first}, and can be reversed on {head.date}, whenever their window ended, such as {such}")
 
 
 # The accounts.
@@ -223,7 +225,8 @@ def run(words):
     check_count(report, len(entered) + len(new))
     tell_refused(report, notes)
     notes.add(f"accounts: {len(book)}")
-    notes.add(f"instructions: {len(entered) + len(new)}, of which {len(entered)} waited and {len(new)} are new; {left} go on waiting")
+    counts = f"{len(entered)} waited and {len(new)} are new; {left} go on waiting"
+    notes.add(f"instructions: {len(entered) + len(new)}, of which {counts}")
     notes.add(f"next day: {date}, records from {report.next_record}")
     rows = [*heading_of(day, date, report.next_record, calendar)]
     for block in book.values():
@@ -236,7 +239,8 @@ def run(words):
 def check_count(report, count):
     """Ends the command if the day would have more instructions than it may."""
     if count > faults.MOST["do"]:
-        raise WordsFault(f"the day would have {count} instructions, and at most {faults.MOST['do']} may be: move some to another day")
+        most = faults.MOST["do"]
+        raise WordsFault(f"the day would have {count} instructions, and at most {most} may be: move some to another day")
     if count and report.next_record + count - 1 > faults.MOST_RECORD:
         raise WordsFault(f"the day would need records above {faults.MOST_RECORD}")
 

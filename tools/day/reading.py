@@ -109,7 +109,8 @@ def digits_to(power):
 
 YEAR = "20(?:2[1-9]|[3-9][0-9])|2100"
 DAY = (
-    f"(?:{YEAR})-(?:(?:0[13578]|1[02])-(?:0[1-9]|[12][0-9]|3[01])|(?:0[469]|11)-(?:0[1-9]|[12][0-9]|30)|02-(?:0[1-9]|1[0-9]|2[0-8]))"
+    f"(?:{YEAR})-(?:(?:0[13578]|1[02])-(?:0[1-9]|[12][0-9]|3[01])|(?:0[469]|11)-(?:0[1-9]|[12][0-9]|30)"
+    "|02-(?:0[1-9]|1[0-9]|2[0-8]))"
     "|20(?:[2468][48]|[3579][26]|[468]0)-02-29"
 )
 NUMBER = "[1-9][0-9]{0,8}"
@@ -486,7 +487,7 @@ UNKNOWN = CHECK_NAMES[0]
 RECORD = faults.number("RECORD", 1, faults.MOST_RECORD)
 DATE = faults.date("DATE")
 OUTCOME = faults.one_of("OUTCOME", ("done", "refused"))
-NO_FIGURE = faults.Field("FIGURE", lambda word: word and faults.one_of("FIGURE", [""]).read(word), "nothing: only an assessment has a figure")
+NO_FIGURE = faults.one_of("FIGURE", [""])._replace(expected="nothing: only an assessment has a figure")
 FIGURE = faults.signed("FIGURE", faults.MOST_FIGURE)
 HELD = (faults.number("GENERAL", 0, rules.MOST_HELD), faults.number("AVIATION", 0, rules.MOST_HELD))
 CODE = faults.number("CODE", 1, len(CHECK_NAMES))
@@ -544,7 +545,8 @@ class LogFields:
 
     def end(self):
         if self.place < len(self.fields):
-            raise self.reader.source.fault(self.index, "log row", f"one more field, {shown(self.fields[self.place])}", "the end of the row")
+            more = f"one more field, {shown(self.fields[self.place])}"
+            raise self.reader.source.fault(self.index, "log row", more, "the end of the row")
 
 
 def log_row(reader, index):
@@ -575,7 +577,8 @@ def written_row(source, index, tag, fields):
     if words[0] != tag:
         raise source.fault(index, "tag", shown(words[0]), f"a row {faults.form_of(tag, fields)}")
     if len(words) != len(fields) + 1:
-        raise source.fault(index, f"{tag} row", f"{len(words)} fields", f"{len(fields) + 1} fields: {faults.form_of(tag, fields)}")
+        expected = f"{len(fields) + 1} fields: {faults.form_of(tag, fields)}"
+        raise source.fault(index, f"{tag} row", f"{len(words)} fields", expected)
     return [LogFields(Reader(source, None), index).checked(it, place) for place, it in enumerate(fields, 1)]
 
 
