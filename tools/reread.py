@@ -81,6 +81,8 @@ class Page(HTMLParser):
         of = dict(attributes)
         if name in FORBIDDEN or any(it.startswith("on") or it == "src" for it in of):
             self.faults.append(f"<{name}> with {[*of]}")
+        if name == "a" and "a" in self.open:
+            self.faults.append(f"a link to {of.get('href')} in a link")
         if "id" in of:
             self.ids.append(of["id"])
         if "href" in of:

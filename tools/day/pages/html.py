@@ -9,7 +9,7 @@ TAGS = re.compile("<[^>]*>")
 # A table with so few letters beside each other fits everywhere. The rows of another one are stacked, with the name of the column
 # before each cell, where the window is too narrow: by the class of the table, for how many letters it is, and in which windows. The
 # rows of a table with still more letters are stacked everywhere.
-FITS, BETWEEN = 37, 2
+FITS, BETWEEN = 38, 2
 ROOMS = {"small": (60, "44rem"), "middle": (92, "62rem"), "dense": (145, "78rem")}
 EVERYWHERE = "everywhere"
 MANY_ROWS = 100

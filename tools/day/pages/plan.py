@@ -122,6 +122,8 @@ def longest_chain(tasks):
 def chain_parts(settled, tasks):
     """The longest chain as a picture and a table; of a long one, its first and its last instructions."""
     chain = longest_chain(tasks)
+    if len(chain) == 1:
+        return [paragraph("No instruction waits for another one.")]
     length = count_of(len(chain), "instruction", "instructions")
     is_cut = len(chain) > 2 * CHAIN_ENDS
     drawn = [*chain[:CHAIN_ENDS], *chain[-CHAIN_ENDS:]] if is_cut else chain

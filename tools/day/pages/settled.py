@@ -2,7 +2,7 @@
 import functools
 
 import rules
-from day.pages.html import Markup, joined, link, tag
+from day.pages.html import Markup, joined, link, tag, visible
 from day.progress import progress
 from texts import grouped, words_of
 
@@ -90,7 +90,7 @@ def ways(file, number, count, first_words):
 def cut(frame, file, title, table, caption, rows, lead, **more):
     """The pages of a table of many rows: the file and the text of each. `lead` stands on the first one; `more` goes to the frame."""
     parts = [rows[it : it + ROWS_OF_PAGE] for it in range(0, len(rows), ROWS_OF_PAGE)] or [[]]
-    first_words = [it[0][0] if it else "" for it in parts]
+    first_words = [visible(it[0][0]) if it else "" for it in parts]
     for number, part in enumerate(parts, 1):
         own_caption = caption if len(parts) == 1 else f"{caption}, part {number} of {len(parts)}"
         links = [ways(file, number, len(parts), first_words)] if len(parts) > 1 else []
