@@ -145,7 +145,12 @@ impl Write for Clogged {
 fn reports_a_writer_of_which_the_flush_alone_fails(rt: HostRuntime) {
     let mut clogged = Clogged { taken: 0 };
     let mut reader = Counted::new(DAY.as_bytes());
-    let answer = run_plan(rt.alloc(), &mut reader, &mut Counted::new(&mut clogged));
+    let answer = run_plan(
+        &rt,
+        rt.alloc(),
+        &mut reader,
+        &mut Counted::new(&mut clogged),
+    );
     assert_eq!(rt; answer, Err(FrontFault::WriteFailed));
     assert_eq!(rt; clogged.taken, "task,1,1\nend\n".len());
 }
