@@ -70,6 +70,20 @@ fn digest_of_pieces(pieces: &[Vec<u8>]) -> Digest {
     digest
 }
 
+// Spells the report of a day by so many threads, or by one if it is to be none.
+fn spell_pieces<R: Threads + Sync>(
+    rt: &R,
+    alloc: Global,
+    day: &DayInput,
+    rows: &[LogRow],
+    threads: u32,
+) -> Result<Vec<Vec<u8>>, NoMemory> {
+    if threads == 0 {
+        return write_report_pieces(rt, alloc, &day.book, rows, 1);
+    }
+    write_report_pieces(rt, alloc, &day.book, rows, threads as usize)
+}
+
 /// Tries `write_report_pieces` by so many threads: its pieces are to be the report that `write_report` writes.
 pub(crate) fn try_pieces<R: Threads + Sync, W: Write>(
     rt: &R,
@@ -82,12 +96,11 @@ pub(crate) fn try_pieces<R: Threads + Sync, W: Write>(
         return Err(Stop::Short);
     };
     let rows = settled.rows();
-    let threads = threads.max(1) as usize;
     let Ok(whole) = write_report(alloc, &day.book, rows) else {
         return Err(Stop::Short);
     };
     let wanted = Ended::Done(digest_of_pieces(&[whole]));
-    let call = || how_spelled(write_report_pieces(rt, alloc, &day.book, rows, threads));
+    let call = || how_spelled(spell_pieces(rt, alloc, day, rows, threads));
     try_threads(day, call, wanted, writer)
 }
 
