@@ -7,9 +7,10 @@ It starts crates/registry_workers/out/registry_workers, which `cd crates/registr
 
 Tries
   - batches of one to sixty drawn transfers by one to eight workers, each batch ten times with one worker held up before
-    each run, and ten times with delays of all workers that are drawn: each run must give the day that settling one
-    instruction after another gives, have each instruction in one shift, once, and let the workers enter the gate in a
-    legal order, each with the places of its shift. With --processors N the program has that many processors.
+    each run, and ten times with delays of all workers that are drawn; each run on copies, and then on the book's own
+    accounts. It must give the day that settling one instruction after another gives, have each instruction in one
+    shift, once, and let the workers enter the gate in a legal order, each with the places of its shift. With
+    --processors N the program has that many processors.
 Measures, for 16,384 transfers that are wide (no two share an account), chained (each touches an account of the one
 before it) and mixed (random pairs of 2,000 accounts), the milliseconds of processor time and of the clock, least of
 all repeats, without those of reading the text: of settling plainly, in batch order on values of their own, level by
@@ -57,7 +58,7 @@ def try_samples(samples, chance):
             if lines != ["same"] * 10:
                 raise SystemExit(f"workers.py: {workers} workers, delays {delays}, {transfers}: {lines}")
             tried += 10
-    print(f"{tried} runs of {samples} drawn batches gave the plain day, each place in one shift, in a legal order")
+    print(f"{tried} runs of {samples} drawn batches, in both ways, gave the plain day, each place in one shift, in a legal order")
 
 
 def shapes(chance):
@@ -71,8 +72,8 @@ def shapes(chance):
 
 def ways():
     """All ways of settling, as the program's words."""
-    alone = [("plain",), ("order",)]
-    return alone + [(way, n) for way in ("levels", "crew") for n in WORKERS]
+    alone = [("plain",), ("place",), ("order",)]
+    return alone + [(way, n) for way in ("levels", "stealing", "close") for n in WORKERS]
 
 
 def measure(repeat, chance):

@@ -46,7 +46,7 @@ impl Account {
     ghost use Rattle.reg_account.specs.Trusted.{effective_in, TrustedFit};
     ghost use Rattle.reg_account.specs.Rows.{row_in, surrendered_in, FateFits, RowsFit};
     ghost use Rattle.reg_account.specs.Years.{emissions_in, figure_in, EmissionsFit, FiguresFit, FigureFits};
-    ghost use Rattle.reg_account.specs.Account.{correction_of, held_by, retired_by, credited, debited, retired, unretired, trusts, with_trusted, without_trusted, with_status, with_emissions, with_determined, CanTrust, CanRetire, CanUnretire, IsAccount};
+    ghost use Rattle.reg_account.specs.Account.{correction_of, held_by, retired_by, credited, debited, retired, unretired, trusts, with_trusted, without_trusted, with_status, with_emissions, with_determined, vacated, CanTrust, CanRetire, CanUnretire, IsAccount};
     ghost use Rattle.reg_account.specs.Figure.{figure_of};
 
     /// The account with these parts, exactly if they have no fault. Takes no memory.
@@ -417,6 +417,26 @@ impl Account {
             lists: self.parts.lists.copy(alloc)?,
         };
         Ok(Account { parts })
+    }
+
+    /// Moves the account out, with all its lists. What stays has the same number, kind, holder, status, switches, correction
+    /// factor of period 1 and holdings, and nothing in its lists. Takes no memory.
+    pub fn vacate(&mut self) -> Account
+        ensures value { result ≡ self.old }
+        ensures left { self.new ≡ vacated self.old }
+    {
+        let moved = AccountParts {
+            number: self.parts.number,
+            kind: self.parts.kind,
+            holder: self.parts.holder,
+            status: self.parts.status,
+            outside: self.parts.outside,
+            waiver: self.parts.waiver,
+            correction: self.parts.correction,
+            held: self.parts.held,
+            lists: self.parts.lists.take(),
+        };
+        Account { parts: moved }
     }
 }
 

@@ -10,5 +10,6 @@ pub mod Periods
 pub mod Acts
 pub mod Instructions
 pub mod Footprint
+pub mod Footprints
 pub mod Touches
 pub mod Batch

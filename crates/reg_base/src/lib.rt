@@ -48,7 +48,7 @@ mod shares;
 pub use act::Act;
 pub use batch::{Batch, BatchFault};
 pub use calendar::{Calendar, CalendarFault};
-pub use directory::{Directory, NoMemory};
+pub use directory::{Directory, NoMemory, likely_index};
 pub use footprint::Footprint;
 pub use instruction::Instruction;
 pub use kinds::{AccountKind, AllowanceKind, Retirement, Right, Status};

@@ -10,7 +10,7 @@ use Rattle.std.proofs.lemmas.List.Kept.{IsStrictlyIncreasing-filter}
 use Rattle.reg_base.specs.declared.instruction.Instruction.{Instruction}
 use Rattle.reg_base.specs.Directory.{DirectoryValue}
 use Rattle.reg_base.specs.Rising.{IsRising}
-use Rattle.reg_base.specs.Batch.{IsBatch}
+use Rattle.reg_base.specs.Batch.{BatchValue, IsBatch}
 use Rattle.reg_base.specs.Instructions.{IsInstruction}
 use Rattle.reg_account.specs.Account.{AccountValue, IsAccount}
 use Rattle.reg_rules.specs.State.{State, Setting, account, numbers}
@@ -18,17 +18,31 @@ use Rattle.reg_rules.specs.Step.{step}
 use Rattle.reg_rules.specs.Effect.{IsBehind}
 use Rattle.reg_rules.specs.Laws.{Constants, constants_of, StepLaws, IsReady}
 use Rattle.reg_rules.specs.declared.reply.LogRow.{LogRow}
+use Rattle.reg_rules.specs.declared.reply.Reply.{Reply}
 use Rattle.reg_book.specs.Book.{IsBook, directory_of}
 use Rattle.reg_base.specs.Touches.{is_touched}
-use Rattle.reg_book.specs.Fold.{state_after, rows_of, touched_of}
+use Rattle.reg_book.specs.Fold.{state_after, rows_of, replies_in, rows_from, touched_of}
 use Rattle.reg_book.specs.Settled.{SettledValue, IsSettled, IsOfBook}
-use Rattle.reg_book.specs.Day.{Day, IsDay, setting, log_of, closing_state, settled_day}
+use Rattle.reg_book.specs.Laws.{LogIsMadeAgain}
+use Rattle.reg_book.specs.Day.{Day, IsDay, setting, log_of, rows_replied, closing_state, settled_day}
 use Rattle.reg_book.proofs.Directories.{listing, length-numbers, get-directory_of}
 use Rattle.reg_book.proofs.Lookups.{account-filter, numbers-filter, rising-distinct, written_whole}
-use Rattle.reg_book.proofs.Folds.{size-rows_of, count-rows_of, numbers-fold, others-fold, fold-local, rows-local}
+use Rattle.reg_book.proofs.Folds.{size-rows_of, count-rows_of, rows-again, numbers-fold, others-fold, fold-local, rows-local}
 use Rattle.reg_book.proofs.Turns.{same-state}
 use Rattle.reg_book.proofs.Values.{numbered-day, ready-fold, ready-book}
 use Rattle.std.proofs.lemmas.List.Elements.{All-filter, recursion_from_All}
+
+-- the log of a day is made again of its batch and its replies
+pub log-again : LogIsMadeAgain
+log-again day = rows-again (setting day) day.book.accounts (day.batch.base + 1) day.batch.instructions
+
+-- log rows that were made of the replies are those of the instructions
+pub log-made : (c : Setting) (s : State) (batch : BatchValue) (replies : List Reply) (rows : List LogRow) → c.day ≡ batch.day
+    → replies ≡ replies_in (rows_of c s (batch.base + 1) batch.instructions) → rows ≡ rows_replied batch replies → rows ≡ rows_of c s (batch.base + 1) batch.instructions
+log-made c s batch replies rows same_day replied made =
+    made ∙ ap (rows_replied batch) replied
+    ∙ ap (λ (d : ℕ). rows_from d (batch.base + 1) batch.instructions (replies_in (rows_of c s (batch.base + 1) batch.instructions))) (sym same_day)
+    ∙ rows-again c s (batch.base + 1) batch.instructions
 
 -- the touched accounts keep the order of their numbers
 pub touched-rising : (directory : DirectoryValue) (is : List Instruction) (s : State) → IsRising (numbers s) → IsRising (numbers (touched_of directory is s))

@@ -10,7 +10,7 @@ use Rattle.reg_rules.specs.State.{State, Setting, account, numbers}
 use Rattle.reg_rules.specs.Step.{step, row_of}
 use Rattle.reg_rules.specs.Laws.{StepLaws}
 use Rattle.reg_base.specs.Touches.{is_touched}
-use Rattle.reg_book.specs.Fold.{state_after, rows_of}
+use Rattle.reg_book.specs.Fold.{state_after, rows_of, replies_in, rows_from}
 use Rattle.reg_book.proofs.Lookups.{all_among, not_contained, or_true_left, or_true_right, or_cases}
 use Rattle.reg_base.specs.Rising.{count_up}
 use Rattle.reg_book.specs.Settled.{record_numbers}
@@ -84,22 +84,30 @@ module _ (laws : StepLaws) where
   pub numbers_more : (c : Setting) (s t : State) (number : ℕ) (i : Instruction) (reply : Reply) → ◌≡◌ {A = State × Reply} (t, reply) (step c s number i) → numbers t ≡ numbers s
   numbers_more c s t number i reply stepped = ap (λ (r : State × Reply). numbers r.0) stepped ∙ laws.numbers_stay c s number i
 
--- one instruction more, in a loop
-pub rows_more : (c : Setting) (s t : State) (is : List Instruction) (j last number : ℕ) (i : Instruction) (reply : Reply) (rows more all : List LogRow) (row : LogRow)
+-- there is a reply to each instruction
+pub size-replies_of : (c : Setting) (s : State) (n : ℕ) (is : List Instruction) → length (replies_in (rows_of c s n is)) ≡ length is
+size-replies_of c s n [] = refl
+size-replies_of c s n (i ∷ is) = ap suc (size-replies_of c (step c s n i).0 (n + 1) is)
+
+-- log rows are made again of the instructions and the replies
+pub rows-again : (c : Setting) (s : State) (n : ℕ) (is : List Instruction) → rows_from c.day n is (replies_in (rows_of c s n is)) ≡ rows_of c s n is
+rows-again c s n [] = refl
+rows-again c s n (i ∷ is) = ap (λ (rs : List LogRow). row_of c n i (step c s n i).1 ∷ rs) (rows-again c (step c s n i).0 (n + 1) is)
+
+-- one reply more, in a loop
+pub replies_more : (c : Setting) (s t : State) (is : List Instruction) (j last number : ℕ) (i : Instruction) (reply : Reply) (replies more all : List Reply)
     → j < length is → i ≡ get_or is j i → number ≡ last + 1
     → ◌≡◌ {A = State × Reply} (t, reply) (step c s number i)
-    → row ≡ row_of c number i reply
-    → more ≡ rows ++ row ∷ []
-    → rows ++ rows_of c s (last + 1) (drop j is) ≡ all
-    → more ++ rows_of c t (last + 1 + 1) (drop (j + 1) is) ≡ all
-rows_more c s t is j last number i reply rows more all row lt at counted stepped noted grown so_far =
+    → more ≡ replies ++ reply ∷ []
+    → replies ++ replies_in (rows_of c s (last + 1) (drop j is)) ≡ all
+    → more ++ replies_in (rows_of c t (last + 1 + 1) (drop (j + 1) is)) ≡ all
+replies_more c s t is j last number i reply replies more all lt at counted stepped grown so_far =
     let rest : drop j is ≡ i ∷ drop (j + 1) is = drop_more is j i lt ∙ ap (λ x. x ∷ drop (j + 1) is) (sym at) in
     let stepped_last : ◌≡◌ {A = State × Reply} (t, reply) (step c s (last + 1) i) = stepped ∙ ap (λ m. step c s m i) counted in
-    ap (λ rs. rs ++ rows_of c t (last + 1 + 1) (drop (j + 1) is)) grown
-    ∙ append_assoc rows (row ∷ []) (rows_of c t (last + 1 + 1) (drop (j + 1) is))
-    ∙ ap (λ (r : LogRow). rows ++ r ∷ rows_of c t (last + 1 + 1) (drop (j + 1) is)) (noted ∙ ap (λ m. row_of c m i reply) counted)
-    ∙ ap (λ (r : State × Reply). rows ++ row_of c (last + 1) i r.1 ∷ rows_of c r.0 (last + 1 + 1) (drop (j + 1) is)) stepped_last
-    ∙ ap (λ l. rows ++ rows_of c s (last + 1) l) (sym rest)
+    ap (λ rs. rs ++ replies_in (rows_of c t (last + 1 + 1) (drop (j + 1) is))) grown
+    ∙ append_assoc replies (reply ∷ []) (replies_in (rows_of c t (last + 1 + 1) (drop (j + 1) is)))
+    ∙ ap (λ (r : State × Reply). replies ++ r.1 ∷ replies_in (rows_of c r.0 (last + 1 + 1) (drop (j + 1) is))) stepped_last
+    ∙ ap (λ l. replies ++ replies_in (rows_of c s (last + 1) l)) (sym rest)
     ∙ so_far
 
 pub state_more : (c : Setting) (s t : State) (is : List Instruction) (j last number : ℕ) (i : Instruction) (reply : Reply) (all : State)
@@ -112,4 +120,22 @@ state_more c s t is j last number i reply all lt at counted stepped so_far =
     let stepped_last : ◌≡◌ {A = State × Reply} (t, reply) (step c s (last + 1) i) = stepped ∙ ap (λ m. step c s m i) counted in
     ap (λ (r : State × Reply). state_after c r.0 (last + 1 + 1) (drop (j + 1) is)) stepped_last
     ∙ ap (λ l. state_after c s (last + 1) l) (sym rest)
+    ∙ so_far
+
+-- one log row more, made of an instruction and a reply
+pub made_more : (day last : ℕ) (is : List Instruction) (j number : ℕ) (i : Instruction) (reply : Reply) (left : List Reply) (rows more all : List LogRow) (row : LogRow)
+    → j < length is → i ≡ get_or is j i → number ≡ last + 1
+    → row ≡ record { number = number; day = day; instruction = i; reply = reply }
+    → more ≡ rows ++ row ∷ []
+    → rows ++ rows_from day (last + 1) (drop j is) (reply ∷ left) ≡ all
+    → more ++ rows_from day (last + 1 + 1) (drop (j + 1) is) left ≡ all
+made_more day last is j number i reply left rows more all row lt at counted made grown so_far =
+    let rest : drop j is ≡ i ∷ drop (j + 1) is = drop_more is j i lt ∙ ap (λ x. x ∷ drop (j + 1) is) (sym at) in
+    let behind = rows_from day (last + 1 + 1) (drop (j + 1) is) left in
+    let one : LogRow = record { number = last + 1; day = day; instruction = i; reply = reply } in
+    let same : row ≡ one = made ∙ ap (λ (n : ℕ). let r : LogRow = record { number = n; day = day; instruction = i; reply = reply } in r) counted in
+    ap (λ rs. rs ++ behind) grown
+    ∙ append_assoc rows (row ∷ []) behind
+    ∙ ap (λ (r : LogRow). rows ++ r ∷ behind) same
+    ∙ ap (λ l. rows ++ rows_from day (last + 1) l (reply ∷ left)) (sym rest)
     ∙ so_far

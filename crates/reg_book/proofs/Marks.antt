@@ -14,7 +14,8 @@ use Rattle.reg_account.specs.Account.{AccountValue}
 use Rattle.reg_rules.specs.State.{State, numbers}
 use Rattle.reg_base.specs.Touches.{is_touched}
 use Rattle.reg_book.specs.Fold.{touched_of}
-use Rattle.reg_book.specs.Places.{AllStandAt, each_at, footprints, places_lists}
+use Rattle.reg_base.specs.Footprints.{footprints}
+use Rattle.reg_book.specs.Places.{AllStandAt, each_at, places_lists}
 use Rattle.reg_book.specs.Marks.{marked_at, all_marked_at, picked}
 use Rattle.reg_book.proofs.Directories.{length-numbers}
 use Rattle.reg_book.proofs.Lookups.{written_whole}

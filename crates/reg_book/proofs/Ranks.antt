@@ -11,7 +11,8 @@ use Rattle.reg_base.specs.Footprint.{footprint, is_among}
 use Rattle.reg_rules.specs.State.{State, numbers}
 use Rattle.reg_base.specs.Touches.{is_touched}
 use Rattle.reg_book.specs.Marks.{picked, ranks_from}
-use Rattle.reg_book.specs.Places.{StandAt, AllStandAt, each_at, footprints, places_lists}
+use Rattle.reg_base.specs.Footprints.{footprints}
+use Rattle.reg_book.specs.Places.{StandAt, AllStandAt, each_at, places_lists}
 use Rattle.reg_book.proofs.Directories.{length-numbers}
 use Rattle.reg_book.proofs.Lookups.{all_among, or_true_left, or_true_right}
 use Rattle.reg_book.proofs.Marks.{touched_marks, size-touched_marks}

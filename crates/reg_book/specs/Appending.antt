@@ -1,5 +1,5 @@
 -- A draft of a book with the accounts of another one behind its own.
-use Rattle.std.specs.Prelude.{◌≡◌, ◌≢◌, ◌+◌, ◌<◌, List, ◌++◌, length, nat_eq}
+use Rattle.std.specs.Prelude.{◌≢◌, ◌+◌, ◌<◌, List, ◌++◌, length, nat_eq}
 use Rattle.std.specs.List.{IsDistinct}
 use Rattle.reg_base.specs.declared.limits.TheConstants.{MOST_ACCOUNTS}
 use Rattle.reg_account.specs.Account.{AccountValue}

@@ -4,9 +4,10 @@ use Rattle.reg_base.specs.Rules.{RulesValue, AreRules}
 use Rattle.reg_base.specs.Batch.{BatchValue, IsBatch}
 use Rattle.reg_account.specs.Account.{AccountValue}
 use Rattle.reg_rules.specs.declared.reply.LogRow.{LogRow}
+use Rattle.reg_rules.specs.declared.reply.Reply.{Reply}
 use Rattle.reg_rules.specs.State.{State, Setting, account}
 use Rattle.reg_book.specs.Book.{BookValue, IsBook, directory_of}
-use Rattle.reg_book.specs.Fold.{state_after, rows_of, touched_of}
+use Rattle.reg_book.specs.Fold.{state_after, rows_of, replies_in, rows_from, touched_of}
 use Rattle.reg_book.specs.Settled.{SettledValue}
 
 -- the book before the day, its rules and its instructions
@@ -40,6 +41,14 @@ value_at day a j = account (state_at day j) a
 -- the log of all instructions
 abbrev pub log_of : Day → List LogRow
 log_of day = rows_of (setting day) day.book.accounts (day.batch.base + 1) day.batch.instructions
+
+-- the replies to all instructions, in order
+abbrev pub replies_of : Day → List Reply
+replies_of day = replies_in (log_of day)
+
+-- the log of a batch that was replied to so
+abbrev pub rows_replied : BatchValue → List Reply → List LogRow
+rows_replied batch replies = rows_from batch.day (batch.base + 1) batch.instructions replies
 
 -- the record of the instruction at place j, counted from 1
 abbrev pub row_at : Day → ℕ → Option LogRow

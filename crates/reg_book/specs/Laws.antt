@@ -6,9 +6,9 @@ use Rattle.reg_base.specs.Touches.{is_touched, last_toucher}
 use Rattle.reg_rules.specs.State.{numbers, account, status}
 use Rattle.reg_rules.specs.Step.{step, row_of}
 use Rattle.reg_rules.specs.Laws.{IsReady}
-use Rattle.reg_book.specs.Book.{IsBook, directory_of}
+use Rattle.reg_book.specs.Book.{IsBook, IsBookKept, directory_of}
 use Rattle.reg_book.specs.Settled.{committed, IsSettled, IsOfBook}
-use Rattle.reg_book.specs.Day.{Day, IsDay, setting, state_at, value_at, row_at, closing_state, settled_day}
+use Rattle.reg_book.specs.Day.{Day, IsDay, setting, state_at, value_at, log_of, replies_of, rows_replied, row_at, closing_state, settled_day}
 
 -- each instruction is carried out on what the ones before it left, and its record is that of this step
 pub record IsStepOf (day : Day) (k : ℕ) (i : Instruction) : Type 0 where
@@ -17,6 +17,10 @@ pub record IsStepOf (day : Day) (k : ℕ) (i : Instruction) : Type 0 where
 
 abbrev pub EachIsAStep : Type 0
 EachIsAStep = (day : Day) (k : ℕ) (i : Instruction) → slice_get day.batch.instructions k ≡ Some i → IsStepOf day k i
+
+-- the log is made again of the batch and the replies
+abbrev pub LogIsMadeAgain : Type 0
+LogIsMadeAgain = (day : Day) → rows_replied day.batch (replies_of day) ≡ log_of day
 
 -- no account is added, removed or moved
 abbrev pub NumbersStay : Type 0
@@ -57,6 +61,12 @@ SettledAreTouched = (day : Day) (a : ℕ)
 abbrev pub CommittedIsClosing : Type 0
 CommittedIsClosing = (day : Day) → IsBook day.book → day.batch.base + 1 ≡ day.book.next
     → committed day.book (settled_day day) ≡ record { accounts = closing_state day; next = day.book.next + length day.batch.instructions }
+
+-- the state after all instructions is that of a book again, with the directory that the book had, and its next record number
+-- has risen by the number of instructions
+abbrev pub ClosingIsABook : Type 0
+ClosingIsABook = (day : Day) → IsDay day
+    → IsBookKept (closing_state day) (directory_of day.book.accounts) (day.book.next + length day.batch.instructions)
 
 -- the settled day is in order
 abbrev pub SettledIsInOrder : Type 0

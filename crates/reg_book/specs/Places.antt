@@ -4,7 +4,7 @@ use Rattle.std.specs.List.{AllByRecursion}
 use Rattle.arrayvec.specs.ArrayVec.{ArrayVec}
 use Rattle.reg_base.specs.declared.instruction.Instruction.{Instruction}
 use Rattle.reg_base.specs.Directory.{DirectoryValue}
-use Rattle.reg_base.specs.Footprint.{footprint}
+use Rattle.reg_base.specs.Footprints.{footprints}
 
 -- what stands at each of these places of a list of numbers
 abbrev pub each_at : List ℕ → List ℕ → List ℕ
@@ -18,10 +18,6 @@ pub record StandAt (ns places wanted : List ℕ) : Type 0 where
 -- the places of each instruction
 abbrev pub places_lists : List (ArrayVec ℕ) → List (List ℕ)
 places_lists places = map (λ p. p.items) places
-
--- the footprint of each instruction
-abbrev pub footprints : DirectoryValue → List Instruction → List (List ℕ)
-footprints directory is = map (λ i. footprint directory i.act) is
 
 -- for each instruction the places at which the accounts that it touches stand
 pub record AllStandAt (directory : DirectoryValue) (ns : List ℕ) (places : List (List ℕ)) (is : List Instruction) : Type 0 where

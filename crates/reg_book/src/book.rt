@@ -1,31 +1,21 @@
 //! The book of all accounts.
 
-ghost use Rattle.std.specs.Prelude.{◌≡◌, ◌≢◌, ◌+◌, ◌-◌, ◌<◌, ◌≤◌, [], ◌∷◌, All, length, slice_index, sum_by, MatchResult, IfOk};
+ghost use Rattle.std.specs.Prelude.{◌≡◌, ◌≢◌, ◌+◌, ◌-◌, ◌<◌, ◌≤◌, [], ◌∷◌, All, length, slice_index, MatchResult, IfOk};
 ghost use Rattle.std.specs.Option.{option_copied};
-ghost use Rattle.reg_base.specs.declared.limits.TheConstants.{MOST_ACCOUNTS};
 ghost use Rattle.reg_base.specs.Rising.{IsRising};
 ghost use Rattle.reg_base.specs.declared.kinds.Retirement.TheVariants.{Surrendered, Deleted};
-ghost use Rattle.reg_account.specs.Account.{IsAccount, held_by, retired_by};
+ghost use Rattle.reg_account.specs.Account.{IsAccount};
 ghost use Rattle.reg_rules.specs.State.{account, numbers};
 ghost use Rattle.reg_book.specs.Book.{overlay, AreHigher};
+ghost use Rattle.reg_book.specs.Totals.{totals_of};
 
 use crate::settled::{Settled, Stale};
+use crate::totals::{BothTotals, Totals, add_up};
 use reg_account::Account;
 use reg_base::{AccountNo, AllowanceKind, Directory};
 use reg_rules::LogRow;
 use std::marker::Model;
 use std::mem;
-
-/// How many allowances of one kind all accounts together hold, have surrendered and have deleted.
-#[derive(Clone, Copy, Debug, PartialEq, Eq)]
-pub struct Totals {
-    /// Allowances held.
-    pub held: u128,
-    /// Allowances surrendered and not reversed.
-    pub surrendered: u128,
-    /// Allowances deleted and not reversed.
-    pub deleted: u128,
-}
 
 /// The accounts that a commit has replaced, as they were before. Nothing is done with them but to free them, or not to.
 /// A contract sees them as a list.
@@ -65,8 +55,9 @@ impl Book {
     ghost use Rattle.reg_book.specs.Book.{directory_of, IsBook, IsBookKept, total_held, total_retired};
     ghost use Rattle.reg_book.specs.Settled.{IsOfBook, committed, replaced};
 
-    /// The book of these accounts, which must be in the order of their numbers and in the directory.
-    pub(crate) fn from_sorted(accounts: Vec<Account>, directory: Directory, next: u64) -> Self
+    /// The book of these accounts, with their directory and the next record number: what [`Book::into_parts`] took apart, or
+    /// what a day made of it. The accounts stand by rising number. Takes no memory.
+    pub fn from_sorted(accounts: Vec<Account>, directory: Directory, next: u64) -> Self
         requires { IsBookKept accounts.items directory next }
         ensures { result ≡ record { accounts = accounts.items; next = next } }
     {
@@ -77,8 +68,8 @@ impl Book {
         }
     }
 
-    /// Its accounts, their directory and the next record number.
-    pub(crate) fn into_parts(self) -> (Vec<Account>, Directory, u64)
+    /// Its accounts by rising number, their directory and the next record number. Takes no memory.
+    pub fn into_parts(self) -> (Vec<Account>, Directory, u64)
         ensures accounts { result.0.items ≡ self.accounts }
         ensures directory { result.1 ≡ directory_of self.accounts }
         ensures next { result.2 ≡ self.next }
@@ -126,7 +117,14 @@ impl Book {
     pub fn totals(&self, kind: AllowanceKind) -> Totals
         ensures { result ≡ record { held = total_held self.now kind; surrendered = total_retired self.now Surrendered kind; deleted = total_retired self.now Deleted kind } }
     {
-        add_up(&self.accounts, kind)
+        self.both_totals().of_kind(kind)
+    }
+
+    /// The sums over all accounts for both kinds, in one walk. Takes no memory.
+    pub fn both_totals(&self) -> BothTotals
+        ensures { result ≡ totals_of self.now.accounts }
+    {
+        add_up(&self.accounts)
     }
 
     /// Replaces the settled accounts in the book, raises the next record number by the number of log rows, and
@@ -238,29 +236,5 @@ pub(crate) fn get_account(accounts: &[Account], number: AccountNo) -> Option<&Ac
     match accounts.binary_search_by_key(&number, |account| account.number()) {
         Ok(place) => Some(&accounts[place]),
         Err(_) => None,
-    }
-}
-
-// What all these accounts hold, have surrendered and have deleted of this kind, in one walk.
-fn add_up(accounts: &[Account], kind: AllowanceKind) -> Totals
-    requires { length accounts.now ≤ MOST_ACCOUNTS }
-    ensures { result ≡ record {
-      held = sum_by (λ v. held_by v kind) accounts.now;
-      surrendered = sum_by (λ v. retired_by v Surrendered kind) accounts.now;
-      deleted = sum_by (λ v. retired_by v Deleted kind) accounts.now;
-    } }
-{
-    let mut held = 0;
-    let mut surrendered = 0;
-    let mut deleted = 0;
-    for account in accounts {
-        held += u128::from(account.held(kind));
-        surrendered += u128::from(account.surrendered(kind));
-        deleted += u128::from(account.deleted(kind));
-    }
-    Totals {
-        held,
-        surrendered,
-        deleted,
     }
 }

@@ -1,26 +1,26 @@
 //! The settlement of a day in the place of its book.
 
 ghost use Rattle.std.specs.Prelude.{◌≡◌, ◌+◌, IfOk};
-ghost use Rattle.reg_book.specs.Day.{day_of, settled_day, log_of};
+ghost use Rattle.reg_book.specs.Day.{day_of, settled_day, replies_of};
 ghost use Rattle.reg_book.specs.Settled.{committed};
 
 use crate::book::Book;
 use crate::places::all_places;
 use crate::settle::settle_all;
 use reg_base::{Batch, NoMemory, Rules};
-use reg_rules::{LogRow, Setting, step_laws};
+use reg_rules::{Reply, Setting, step_laws};
 use std::alloc::Global;
 
-/// A day that is over: the book after it, and its log.
+/// A day that is over: the book after it, and what was answered. The rest of its log is in the batch.
 #[derive(Debug, Drop)]
-pub struct Closed {
+pub struct ClosedDay {
     /// The book after the day.
     pub book: Book,
-    /// The log of the day, by rising record number.
-    pub rows: Vec<LogRow>,
+    /// The replies to the instructions, in order.
+    pub replies: Vec<Reply>,
 }
 
-/// Settles a batch on the book's own accounts. The book and the log are those that `settle_plain` and then
+/// Settles a batch on the book's own accounts. The book and the replies are those that `settle_plain` and then
 /// [`Book::commit`] give, but no account is copied. `settle_plain` is for callers that keep their book as it was.
 ///
 /// The time is linear in the batch, except for the look-ups: an account is looked up once for each instruction that
@@ -33,10 +33,10 @@ pub fn settle_in_place(
     book: Book,
     rules: &Rules,
     batch: &Batch,
-) -> Result<Closed, NoMemory>
+) -> Result<ClosedDay, NoMemory>
     requires { batch.now.base + 1 ≡ book.next }
     ensures book { IfOk result (λ closed. closed.book ≡ committed book (settled_day (day_of book rules.now batch.now))) }
-    ensures rows { IfOk result (λ closed. closed.rows.items ≡ log_of (day_of book rules.now batch.now)) }
+    ensures replies { IfOk result (λ closed. closed.replies.items ≡ replies_of (day_of book rules.now batch.now)) }
 {
     rules.are_within_limits();
     step_laws();
@@ -48,10 +48,10 @@ pub fn settle_in_place(
         day: batch.day(),
         directory: &directory,
     };
-    let rows = settle_all(alloc, &setting, batch, &mut accounts, &places)?;
-    let count = rows.len() as u64;
-    Ok(Closed {
+    let replies = settle_all(alloc, &setting, batch, &mut accounts, &places)?;
+    let count = replies.len() as u64;
+    Ok(ClosedDay {
         book: Book::from_sorted(accounts, directory, next + count),
-        rows,
+        replies,
     })
 }

@@ -3,13 +3,18 @@
 
 ghost use Rattle.reg_book.specs.Conservation.{FoldConserves};
 ghost use Rattle.reg_book.specs.Chains.{IsChain, IsChainByHand, ChainLeavesABook, ChainKeepsAccounts, ChainLaws};
-ghost use Rattle.reg_book.specs.Laws.{EachIsAStep, NumbersStay, UntouchedStay, ValueIsLastTouchers, ClosedStays, ClosedIsNeverLeft, StaysReady, SettledAreTouched, CommittedIsClosing, SettledIsInOrder, SettledIsOfBook};
+ghost use Rattle.reg_book.specs.Laws.{EachIsAStep, LogIsMadeAgain, NumbersStay, UntouchedStay, ValueIsLastTouchers, ClosedStays, ClosedIsNeverLeft, StaysReady, SettledAreTouched, CommittedIsClosing, ClosingIsABook, SettledIsInOrder, SettledIsOfBook};
 
 use reg_rules::{step_conserves, step_keeps_closed, step_laws};
 
 /// Each instruction is carried out on what the ones before it left.
 pub fn each_is_a_step()
     ensures { EachIsAStep }
+{}
+
+/// The batch of a day has all of its log but the replies.
+pub fn log_is_made_again()
+    ensures { LogIsMadeAgain }
 {}
 
 /// No account is added, removed or moved. One that no instruction touches stays as it is.
@@ -49,6 +54,14 @@ pub fn stays_ready()
 pub fn settled_is_closing()
     ensures settled { SettledAreTouched }
     ensures committed { CommittedIsClosing }
+{
+    step_laws();
+}
+
+/// The state after all instructions of a day, with the directory that the book had before it, is a book again. Its next
+/// record number has risen by the number of instructions.
+pub fn closing_is_a_book()
+    ensures { ClosingIsABook }
 {
     step_laws();
 }

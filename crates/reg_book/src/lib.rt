@@ -44,15 +44,19 @@ mod laws;
 mod places;
 mod settle;
 mod settled;
+mod totals;
 mod touched;
 mod turn;
 
-pub use book::{Book, Replaced, Totals};
-pub use closing::{Closed, settle_in_place};
+pub use book::{Book, Replaced};
+pub use closing::{ClosedDay, settle_in_place};
 pub use draft::{BookDraft, BookFault, has_row_ahead};
 pub use laws::{
-    each_is_a_step, every_chain, fold_conserves, fold_keeps_closed, settled_is_closing,
-    settled_is_of_book, stays_ready, untouched_stay, value_is_last_touchers,
+    closing_is_a_book, each_is_a_step, every_chain, fold_conserves, fold_keeps_closed,
+    log_is_made_again, settled_is_closing, settled_is_of_book, stays_ready, untouched_stay,
+    value_is_last_touchers,
 };
+pub use places::place_of;
 pub use settle::{SettleFault, settle_plain};
 pub use settled::{Settled, Stale};
+pub use totals::{BothTotals, Totals, add_up};

@@ -14,7 +14,7 @@ ghost use Rattle.reg_book.specs.Marks.{ranks_from};
 
 use arrayvec::ArrayVec;
 use reg_account::Account;
-use reg_base::{AccountNo, Instruction, MOST_TOUCHED, NoMemory};
+use reg_base::{AccountNo, Instruction, MOST_TOUCHED, NoMemory, likely_index};
 use std::alloc::Global;
 
 /// Places of the accounts that one instruction touches, in its order, each counted from 0. They are kept for each
@@ -91,8 +91,10 @@ fn find_places(accounts: &[Account], wanted: &[AccountNo]) -> Option<Places>
     Some(places)
 }
 
-// The place of the account with this number, counted from 0.
-fn place_of(accounts: &[Account], number: AccountNo) -> Option<usize>
+/// The place of the account with this number in a list by rising number, counted from 0. Takes no memory.
+///
+/// The time is logarithmic in the accounts, and constant where their numbers rise evenly.
+pub fn place_of(accounts: &[Account], number: AccountNo) -> Option<usize>
     requires { IsRising (numbers accounts.now) }
     ensures { MatchOption result (account accounts.now number ≡ None) (HoldsAt (λ v. v.number ≡ number) accounts.now) }
 {
@@ -107,11 +109,9 @@ fn place_of(accounts: &[Account], number: AccountNo) -> Option<usize>
 fn guess_place(accounts: &[Account], number: AccountNo) -> Option<usize>
     ensures { IfSome result (HoldsAt (λ v. v.number ≡ number) accounts.now) }
 {
-    let first = accounts.first()?.number().get();
-    let last = accounts.last()?.number().get();
-    let ahead = u64::from(number.get().saturating_sub(first));
-    let span = u64::from(last.saturating_sub(first)).max(1);
-    let place = (ahead.saturating_mul(accounts.len() as u64 - 1) / span) as usize;
+    let first = accounts.first()?.number();
+    let last = accounts.last()?.number();
+    let place = likely_index(first, last, accounts.len(), number);
     let account = accounts.get(place)?;
     (account.number() == number).then_some(place)
 }

@@ -1,12 +1,12 @@
 //! The plain settlement of a day.
 
-ghost use Rattle.std.specs.Prelude.{◌≡◌, ◌+◌, IfOk, OnOk, MatchResult};
+ghost use Rattle.std.specs.Prelude.{◌≡◌, ◌+◌, length, IfOk, OnOk, MatchResult};
 ghost use Rattle.reg_base.specs.Rules.{AreRules};
 ghost use Rattle.reg_rules.specs.State.{numbers};
 ghost use Rattle.reg_rules.specs.Laws.{IsReady};
-ghost use Rattle.reg_book.specs.Fold.{state_after, rows_of};
+ghost use Rattle.reg_book.specs.Fold.{state_after, rows_of, replies_in};
 ghost use Rattle.reg_book.specs.Settled.{IsOfBook};
-ghost use Rattle.reg_book.specs.Day.{day_of, settled_day};
+ghost use Rattle.reg_book.specs.Day.{day_of, settled_day, rows_replied};
 ghost use Rattle.reg_book.specs.Settling.{IsSettleFault};
 ghost use Rattle.reg_book.specs.Places.{AllStandAt, places_lists};
 
@@ -17,7 +17,7 @@ use crate::touched::{Touched, find_touched};
 use crate::turn::take_turn;
 use reg_account::Account;
 use reg_base::{Batch, NoMemory, RecordNo, Rules};
-use reg_rules::{LogRow, Setting, log_row, step_laws};
+use reg_rules::{LogRow, Reply, Setting, log_row, step_laws};
 use std::alloc::Global;
 use thiserror::Error;
 
@@ -90,11 +90,31 @@ fn settle_batch(
         day: batch.day(),
         directory,
     };
-    let rows = settle_all(alloc, &setting, batch, &mut accounts, &places)?;
+    let replies = settle_all(alloc, &setting, batch, &mut accounts, &places)?;
+    let rows = make_log(alloc, batch, replies)?;
     Ok(Settled::new(base, rows, accounts))
 }
 
-/// Carries all instructions of the batch out on accounts, and answers the log. There is a list of places for each
+// The log of a batch with these replies: all else of it is in the batch.
+fn make_log(alloc: Global, batch: &Batch, replies: Vec<Reply>) -> Result<Vec<LogRow>, NoMemory>
+    requires { length replies.items ≡ length batch.now.instructions }
+    ensures { IfOk result (λ rows. rows.items ≡ rows_replied batch.now replies.items) }
+{
+    let day = batch.day();
+    let instructions = batch.instructions();
+    let mut rows = Vec::with_capacity(alloc, replies.len())?;
+    let mut last = batch.base();
+    let mut place = 0;
+    for reply in replies {
+        last += 1;
+        let number = RecordNo::new(last).unwrap();
+        rows.push(log_row(number, day, instructions[place], reply))?;
+        place += 1;
+    }
+    Ok(rows)
+}
+
+/// Carries all instructions of the batch out on accounts, and answers the replies. There is a list of places for each
 /// instruction: those of the accounts that it touches.
 ///
 /// # Errors
@@ -105,17 +125,17 @@ pub(crate) fn settle_all(
     batch: &Batch,
     accounts: &mut [Account],
     places: &[Places],
-) -> Result<Vec<LogRow>, NoMemory>
+) -> Result<Vec<Reply>, NoMemory>
     requires rules { AreRules setting.now.rules }
     requires ready { IsReady (batch.now.base + 1) accounts.old }
     requires places { AllStandAt setting.now.directory (numbers accounts.old) (places_lists places.now) batch.now.instructions }
-    ensures rows { IfOk result (λ rows. rows.items ≡ rows_of setting.now accounts.old (batch.now.base + 1) batch.now.instructions) }
+    ensures replies { IfOk result (λ replies. replies.items ≡ replies_in (rows_of setting.now accounts.old (batch.now.base + 1) batch.now.instructions)) }
     ensures accounts { OnOk result (accounts.new ≡ state_after setting.now accounts.old (batch.now.base + 1) batch.now.instructions) }
 {
     step_laws();
     setting.day.get();
     let instructions = batch.instructions();
-    let mut rows = Vec::with_capacity(alloc, instructions.len())?;
+    let mut replies = Vec::with_capacity(alloc, instructions.len())?;
     let mut last = batch.base();
     for (place, instruction) in instructions.iter().enumerate() {
         last += 1;
@@ -129,7 +149,7 @@ pub(crate) fn settle_all(
             accounts,
             own.as_mut_slice(),
         )?;
-        rows.push(log_row(number, setting.day, *instruction, reply))?;
+        replies.push(reply)?;
     }
-    Ok(rows)
+    Ok(replies)
 }

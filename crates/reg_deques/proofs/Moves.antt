@@ -114,9 +114,9 @@ tells_rule tasks views port table h at =
     rw (none, here.0, here.1) now
 
 -- the owner makes a pass
-pub parts_rule : (tasks : List Queued) (views : List View) (port : ℕ) (v : View) (table : TableId) → IsDeque tasks views → get_elem? views port ≡ some v → table_of v ≡ table ∷ []
+pub splits_rule : (tasks : List Queued) (views : List View) (port : ℕ) (v : View) (table : TableId) → IsDeque tasks views → get_elem? views port ≡ some v → table_of v ≡ table ∷ []
     → IsDeque tasks (set views port v ++ blank (table_of v) ∷ [])
-parts_rule tasks views port v table h at told =
+splits_rule tasks views port v table h at told =
     let mine = h.order.known port v at in
     let told_is = h.same port v at in
     let new : View = blank (table_of v) in
@@ -257,8 +257,8 @@ module _ {N : Type 0} {b : Ghosts N} where
   pub tells_table : (port : ℕ) (v : View) (table : TableId) → v ≡ fresh_view → Forks Held port v (with_table table v) (blank (table ∷ []))
   tells_table port v table is items views h at = rw is (tells_rule (queue_of items) views port table h (at ∙ ap some is))
 
-  pub parts_deque : (port : ℕ) (v : View) (table : TableId) → table_of v ≡ table ∷ [] → Forks Held port v v (blank (table_of v))
-  parts_deque port v table told items views h at = parts_rule (queue_of items) views port v table h at told
+  pub splits_deque : (port : ℕ) (v : View) (table : TableId) → table_of v ≡ table ∷ [] → Forks Held port v v (blank (table_of v))
+  splits_deque port v table told items views h at = splits_rule (queue_of items) views port v table h at told
 
   pub puts_task : (port : ℕ) (v : View) (t : Ticketed N b) → v.owns ≡ true → length t.ticket.me.0.seen ≡ suc (length v.put) → t.ticket.table_id ∷ [] ≡ table_of v
       → Pushes Held port v (t ∷ []) (λ w. PutStep v (queue_of (t ∷ [])) w)

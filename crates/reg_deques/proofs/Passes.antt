@@ -1,4 +1,4 @@
--- Lists of desks, owners and parts: what they say of one of them, and of all after one has changed.
+-- Lists of stealers, owners and passes: what they say of one of them, and of all after one has changed.
 use Rattle.std.proofs.Common.{◌≡◌, ℕ, zero, suc, ◌+◌, ◌<◌, ◌≤◌, List, [], ◌∷◌, ◌++◌, take, drop, length, map, set, slice_get, Option, Some, None, IfSome, IfNone, refl, ap, sym, ◌∙◌, arith, append_assoc, subst, true, All}
 use Rattle.std.proofs.lemmas.List.{get_or-map, length-map, map-append, map-set, length-append, take-append-drop, take-set}
 use Rattle.std.proofs.lemmas.List.Elements.{All-push}
@@ -8,7 +8,7 @@ use Rattle.std.specs.Option.{option_map}
 use lib.ListN.{get_or}
 use Rattle.std.specs.List.{range_with_len}
 use Rattle.atomic_table.specs.Seated.{TableId}
-use Rattle.reg_deques.specs.declared.views.Holding.{Holding}
+use Rattle.reg_deques.specs.declared.views.TicketView.{TicketView}
 use Rattle.reg_deques.specs.declared.views.View.{View}
 use Rattle.reg_deques.specs.Views.{view, fresh_view, with_table, table_of}
 use Rattle.reg_deques.specs.Steps.{Joins}
@@ -82,11 +82,11 @@ nothing (x ∷ xs) zero h = absurd (omega arith)
 nothing (x ∷ xs) (suc n) h = nothing xs n (omega arith)
 
 -- nothing is left to join
-pub nothing_left : (vs us ws : List Holding) (n : ℕ) → length vs ≤ n → length us ≤ n → length ws ≤ n → AllJoin (drop n vs) (drop n us) (drop n ws)
+pub nothing_left : (vs us ws : List TicketView) (n : ℕ) → length vs ≤ n → length us ≤ n → length ws ≤ n → AllJoin (drop n vs) (drop n us) (drop n ws)
 nothing_left vs us ws n a b c = rw (nothing vs n a, nothing us n b, nothing ws n c) tt
 
 -- one more is joined
-pub one_joined : (olds us now : List Holding) (m : ℕ) (v u w : Holding) → slice_get olds m ≡ Some v → slice_get us m ≡ Some u → m < length now → Joins v u w
+pub one_joined : (olds us now : List TicketView) (m : ℕ) (v u w : TicketView) → slice_get olds m ≡ Some v → slice_get us m ≡ Some u → m < length now → Joins v u w
     → AllJoin (drop (suc m) olds) (drop (suc m) us) (drop (suc m) now) → AllJoin (drop m olds) (drop m us) (drop m (set now m w))
 one_joined [] us now m v u w a b within joined rest = absurd cc
 one_joined (x ∷ olds) [] now m v u w a b within joined rest = absurd cc
@@ -97,7 +97,7 @@ one_joined (x ∷ olds) (y ∷ us) (z ∷ now) zero v u w a b within joined rest
 one_joined (x ∷ olds) (y ∷ us) (z ∷ now) (suc m) v u w a b within joined rest = one_joined olds us now m v u w a b (omega arith) joined rest
 
 -- a part is joined with the last of the others
-module _ {X : Type 0} (f : X → Holding) (olds others cur new parts : List X) (w : X) (k : ℕ) (rest : cur ≡ take (length cur) others) (cut : cur ≡ new ++ w ∷ []) (at : k ≡ length new) where
+module _ {X : Type 0} (f : X → TicketView) (olds others cur new parts : List X) (w : X) (k : ℕ) (rest : cur ≡ take (length cur) others) (cut : cur ≡ new ++ w ∷ []) (at : k ≡ length new) where
   longer : length cur ≡ suc (length new)
   longer = (let e = ap length cut in omega (arith, length-append new (w ∷ [])))
 
@@ -111,7 +111,7 @@ module _ {X : Type 0} (f : X → Holding) (olds others cur new parts : List X) (
       → (take (length new) (map f (set parts k p')) ≡ take (length new) (map f olds)) × AllJoin (drop (length new) (map f olds)) (drop (length new) (map f others)) (drop (length new) (map f (set parts k p')))
   one_more_joined p p' front done within is joined =
       let m : ℕ = length new in
-      let now : List Holding = map f parts in
+      let now : List TicketView = map f parts in
       let front' : take (suc m) now ≡ take (suc m) (map f olds) = subst (λ n. take n now ≡ take n (map f olds)) longer front in
       let done' : AllJoin (drop (suc m) (map f olds)) (drop (suc m) (map f others)) (drop (suc m) now) = subst (λ n. AllJoin (drop n (map f olds)) (drop n (map f others)) (drop n now)) longer done in
       let both = front_same now (map f olds) m front' in

@@ -1,13 +1,13 @@
--- What a contract says of an owner, a desk and a part of a pass.
+-- What a contract says of an owner, a stealer, and a pass at one deque.
 use Rattle.atomic_blocks.specs.Lent.{RowsId}
 use Rattle.std.specs.declared.alloc.Global.{Global}
 use Rattle.atomic_table.specs.Seated.{TableId}
 use Rattle.crossbeam_deque.specs.Handles.{worker_deque, worker_view, stealer_deque}
-use Rattle.reg_deques.specs.declared.views.Holding.{Holding}
+use Rattle.reg_deques.specs.declared.views.TicketView.{TicketView}
 use Rattle.reg_deques.specs.declared.views.View.{View}
 use Rattle.reg_deques.specs.declared.owner.Owner.{Owner}
-use Rattle.reg_deques.specs.declared.desk.Desk.{Desk}
-use Rattle.reg_deques.specs.declared.pass.Part.{Part}
+use Rattle.reg_deques.specs.declared.stealer.Stealer.{Stealer}
+use Rattle.reg_deques.specs.declared.pass.DequePass.{DequePass}
 
 -- which deque it is, and which table has its tickets
 abbrev pub DequeId : Type 0
@@ -17,16 +17,16 @@ module _ {N : Type 0} {b : _} where
   abbrev pub owner_id : Owner N b → DequeId
   owner_id o = (worker_deque o.deque, o.table.value.shared.table_id)
 
-  abbrev pub desk_id : Desk N b → DequeId
-  desk_id d = (stealer_deque d.stealer, d.table.value.shared.table_id)
+  abbrev pub stealer_id : Stealer N b → DequeId
+  stealer_id d = (stealer_deque d.stealer, d.table.value.shared.table_id)
 
-  abbrev pub part_id : Part N b → DequeId
-  part_id p = ((p.pass.rows, p.pass.heap), p.seat.table_id)
+  abbrev pub deque_pass_id : DequePass N b → DequeId
+  deque_pass_id p = ((p.pass.rows, p.pass.heap), p.seat.table_id)
 
   -- what the owner put and took
   abbrev pub owned : Owner N b → View
   owned o = worker_view o.deque
 
-  -- what a part of a pass says
-  abbrev pub holding_of : Part N b → Holding
-  holding_of p = p.seat.me.0
+  -- what a pass at one deque says
+  abbrev pub ticket_view_of : DequePass N b → TicketView
+  ticket_view_of p = p.seat.me.0

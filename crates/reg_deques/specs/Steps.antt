@@ -3,7 +3,7 @@ use Rattle.std.specs.Prelude.{◌≡◌, ℕ, suc, ◌-◌, ◌≤◌, ◌<◌, 
 use Rattle.atomic_table.specs.Table.{Me}
 use Rattle.reg_counting.specs.Counting.{times}
 use Rattle.reg_deques.specs.declared.views.View.{View}
-use Rattle.reg_deques.specs.declared.views.Holding.{Holding}
+use Rattle.reg_deques.specs.declared.views.TicketView.{TicketView}
 use Rattle.reg_deques.specs.Views.{with_put, with_taken, table_of}
 use Rattle.reg_deques.specs.Deques.{StartsWith}
 use Rattle.reg_deques.specs.Queues.{Queued, places_of}
@@ -27,36 +27,36 @@ StealStep v [] w = Unit {0}
 StealStep v (t ∷ ts) w = (q : ℕ) × (times (suc q) v.took ≡ 0) × (w ≡ with_taken (suc q) w.seen v) × (slice_get w.seen q ≡ Some t.place) × (t.position ≡ suc q) × (t.table ∷ [] ≡ table_of v)
 
 -- no position is there twice, and the list that was seen reaches each
-pub record IsSoundHolding (w : Holding) : Type 0 where
+pub record IsSoundTicketView (w : TicketView) : Type 0 where
   pub single : (p : ℕ) → times p w.took ≤ 1
   pub reached : (p : ℕ) → 0 < times p w.took → (1 ≤ p) × (p ≤ length w.seen)
 
 -- a look at the table of tickets after two seats became one: no ticket is there twice, and both have seen beginnings of one list, which reaches each
 -- position whose ticket the seat has
-pub record Settles (v w : Holding) : Type 0 where
+pub record Settles (v w : TicketView) : Type 0 where
   pub owns : w.owns ≡ v.owns
   pub took : w.took ≡ v.took
   pub also : w.also ≡ []
   pub seen : StartsWith w.seen v.seen
   pub saw : StartsWith w.seen v.also
-  pub sound : IsSoundHolding w
+  pub sound : IsSoundTicketView w
 
-abbrev pub SettleStep : Me (Unit {0}) Holding → Me (Unit {0}) Holding → Type 0
+abbrev pub SettleStep : Me (Unit {0}) TicketView → Me (Unit {0}) TicketView → Type 0
 SettleStep m m' = (m'.1 ≡ m.1) × Settles m.0 m'.0
 
 -- what a thief knows after it stole a task: it has one position more, which it did not have, and has seen more, where the task's place stands there
-pub record Steals (v : Holding) (place : ℕ) (w : Holding) : Type 0 where
+pub record Steals (v : TicketView) (place : ℕ) (w : TicketView) : Type 0 where
   pub position : ℕ
   pub from_one : 1 ≤ position
   pub new : times position v.took ≡ 0
   pub took : w.took ≡ v.took ++ position ∷ []
   pub seen : StartsWith w.seen v.seen
   pub stands : slice_get w.seen (position - 1) ≡ Some place
-  pub sound : IsSoundHolding w
+  pub sound : IsSoundTicketView w
 
 -- what one knows who has two parts: the positions of both, none twice, and a list that begins with what either has seen
-pub record Joins (v u w : Holding) : Type 0 where
+pub record Joins (v u w : TicketView) : Type 0 where
   pub took : w.took ≡ v.took ++ u.took
   pub seen : StartsWith w.seen v.seen
   pub saw : StartsWith w.seen u.seen
-  pub sound : IsSoundHolding w
+  pub sound : IsSoundTicketView w

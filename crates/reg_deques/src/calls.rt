@@ -2,26 +2,26 @@
 
 ghost use Rattle.std.specs.Prelude.{◌≡◌, ◌≢◌, ◌<◌, ◌≤◌, ◌∷◌, [], All, Some, slice_get, vec_len, map, set, IfOk, IfSome, IfNone};
 ghost use Rattle.std.specs.List.{range_with_len};
-ghost use Rattle.reg_deques.specs.Passes.{desk_id, part_id, holding_of};
-ghost use Rattle.reg_deques.specs.Tickets.{empty_holding};
+ghost use Rattle.reg_deques.specs.Passes.{stealer_id, deque_pass_id, ticket_view_of};
+ghost use Rattle.reg_deques.specs.Tickets.{empty_ticket_view};
 ghost use Rattle.reg_deques.specs.Yards.{worker_count, worker_of, deques, deques_of_pass, deques_of_owners, each_owned, views, IsNew, IsPassOf, IsBlank, StealsAt, AllJoin};
 
-use crate::desk::Desk;
 use crate::owner::Owner;
-use crate::pass::{Part, Pass};
+use crate::pass::{DequePass, Pass};
+use crate::stealer::Stealer;
 use crate::yard::Yard;
 use reg_base::NoMemory;
 use reg_tasks::{Naming, Task};
 use std::alloc::Global;
 
-// A part of a pass at the deque of one owner.
-fn part_at<N: Naming>(owners: &mut Vec<Owner<N>>, k: usize) -> Part<N>
+// A thief's pass at the deque of one owner.
+fn deque_pass_at<N: Naming>(owners: &mut Vec<Owner<N>>, k: usize) -> DequePass<N>
     requires within { k < vec_len owners.old }
-    ensures of { slice_get (deques_of_owners owners.old.items) k ≡ Some (part_id result) }
-    ensures blank { holding_of result ≡ empty_holding }
+    ensures of { slice_get (deques_of_owners owners.old.items) k ≡ Some (deque_pass_id result) }
+    ensures blank { ticket_view_of result ≡ empty_ticket_view }
     ensures same { (deques_of_owners owners.new.items ≡ deques_of_owners owners.old.items) × (each_owned owners.new.items ≡ each_owned owners.old.items) }
 {
-    owners[k].part()
+    owners[k].deque_pass()
 }
 
 // A pass at the deques of all owners.
@@ -35,23 +35,30 @@ fn pass_at<N: Naming>(
     ensures blank { IfOk result IsBlank }
     ensures same { (deques_of_owners owners.new.items ≡ deques_of_owners owners.old.items) × (each_owned owners.new.items ≡ each_owned owners.old.items) }
 {
-    let mut parts = Vec::new(alloc);
+    let mut deque_passes = Vec::new(alloc);
     for k in 0..owners.len() {
-        parts.push(part_at(owners, k))?;
+        deque_passes.push(deque_pass_at(owners, k))?;
     }
-    Ok(Pass { worker, parts })
+    Ok(Pass {
+        worker,
+        deque_passes,
+    })
 }
 
-// Joins the parts of one pass with those of another, deque by deque.
-fn join_parts<N: Naming>(desks: &Vec<Desk<N>>, parts: &mut Vec<Part<N>>, mut others: Vec<Part<N>>)
-    requires of { map part_id parts.old.items ≡ map desk_id desks.now.items }
-    requires others { map part_id others.items ≡ map desk_id desks.now.items }
-    ensures of { map part_id parts.new.items ≡ map part_id parts.old.items }
-    ensures joined { AllJoin (map holding_of parts.old.items) (map holding_of others.items) (map holding_of parts.new.items) }
+// Joins one pass with another, deque by deque.
+fn join_deque_passes<N: Naming>(
+    stealers: &Vec<Stealer<N>>,
+    deque_passes: &mut Vec<DequePass<N>>,
+    mut others: Vec<DequePass<N>>,
+)
+    requires of { map deque_pass_id deque_passes.old.items ≡ map stealer_id stealers.now.items }
+    requires others { map deque_pass_id others.items ≡ map stealer_id stealers.now.items }
+    ensures of { map deque_pass_id deque_passes.new.items ≡ map deque_pass_id deque_passes.old.items }
+    ensures joined { AllJoin (map ticket_view_of deque_passes.old.items) (map ticket_view_of others.items) (map ticket_view_of deque_passes.new.items) }
 {
     while let Some(other) = others.pop() {
         let k = others.len();
-        desks[k].join(&mut parts[k], other);
+        stealers[k].join(&mut deque_passes[k], other);
     }
 }
 
@@ -74,24 +81,24 @@ impl<N: Naming> Yard<N> {
         ensures numbers { IfOk result (λ made. map worker_of made.2.items ≡ range_with_len 0 workers) }
     {
         let mut owners = Vec::new(alloc);
-        let mut desks = Vec::new(alloc);
+        let mut stealers = Vec::new(alloc);
         for _ in 0..workers {
             let owner = Owner::new(alloc)?;
-            desks.push(Desk::of(&owner)?)?;
+            stealers.push(Stealer::of(&owner)?)?;
             owners.push(owner)?;
         }
         let mut passes = Vec::new(alloc);
         for worker in 0..workers {
             passes.push(pass_at(alloc, &mut owners, worker)?)?;
         }
-        Ok((Yard { desks }, owners, passes))
+        Ok((Yard { stealers }, owners, passes))
     }
 
     /// How many deques there are.
     pub fn workers(&self) -> usize
         ensures { result ≡ worker_count self.now }
     {
-        self.desks.len()
+        self.stealers.len()
     }
 
     /// Takes the first task of another worker, if there is one and nobody is quicker. The pass must be of this yard.
@@ -105,7 +112,7 @@ impl<N: Naming> Yard<N> {
         ensures none { IfNone result (views pass.new ≡ views pass.old) }
     {
         let at = from as usize;
-        self.desks[at].steal(&mut pass.parts[at])
+        self.stealers[at].steal(&mut pass.deque_passes[at])
     }
 
     /// Makes one pass of two of this yard, which knows what both know. It is the first's worker's.
@@ -116,12 +123,18 @@ impl<N: Naming> Yard<N> {
         ensures worker { worker_of result ≡ worker_of pass }
         ensures joined { AllJoin (views pass) (views other) (views result) }
     {
-        let Pass { worker, mut parts } = pass;
+        let Pass {
+            worker,
+            mut deque_passes,
+        } = pass;
         let Pass {
             worker: _,
-            parts: others,
+            deque_passes: others,
         } = other;
-        join_parts(&self.desks, &mut parts, others);
-        Pass { worker, parts }
+        join_deque_passes(&self.stealers, &mut deque_passes, others);
+        Pass {
+            worker,
+            deque_passes,
+        }
     }
 }

@@ -34,17 +34,17 @@
 #![tactic(auto)]
 
 mod calls;
-mod desk;
 mod owner;
 mod owning;
 mod pass;
 mod rule;
+mod stealer;
 mod stealing;
 mod ticket;
 mod views;
 mod yard;
 
 pub use owner::Owner;
-pub use pass::{Part, Pass};
-pub use views::{Holding, View};
+pub use pass::{DequePass, Pass};
+pub use views::{TicketView, View};
 pub use yard::Yard;

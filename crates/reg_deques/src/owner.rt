@@ -7,7 +7,7 @@ ghost use Rattle.reg_deques.specs.Tickets.{owner_of};
 
 use crate::rule::{InOrder, Tickets};
 use crate::ticket::Ticketed;
-use crate::views::{Holding, View};
+use crate::views::{TicketView, View};
 use atomic_table::{Seat, Table};
 use crossbeam_deque::Worker;
 use reg_tasks::Naming;
@@ -16,14 +16,14 @@ use std::sync::Arc;
 
 pub(crate) type Deque<N> = Worker<Ticketed<N>, Global, View, InOrder<N>>;
 
-pub(crate) type TicketTable = Table<(), Holding, (), Tickets, Global>;
+pub(crate) type TicketTable = Table<(), TicketView, (), Tickets, Global>;
 
 /// The owner of a deque: what it put, and what it took itself.
 #[derive(Drop)]
 pub struct Owner<N: Naming> {
     pub(crate) deque: Deque<N>,
     pub(crate) table: Arc<TicketTable, Global>,
-    pub(crate) seat: Seat<(), Holding>,
+    pub(crate) seat: Seat<(), TicketView>,
     pub(crate) ghost fifo: { worker_flavor deque ≡ 0 },
     pub(crate) ghost owns: { (worker_view deque).owns ≡ true },
     pub(crate) ghost told: { table_of (worker_view deque) ≡ table.value.shared.table_id ∷ [] },

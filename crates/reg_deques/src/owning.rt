@@ -3,12 +3,12 @@
 ghost use Rattle.std.specs.Prelude.{◌≡◌, ◌≤◌, ◌∷◌, [], length, IfOk, IfErr, IfSome, IfNone, OnOk};
 ghost use Rattle.crossbeam_deque.specs.Handles.{worker_deque, worker_view, worker_flavor, worker_capacity, worker_index};
 ghost use Rattle.reg_deques.specs.Views.{fresh_view, with_table, with_put};
-ghost use Rattle.reg_deques.specs.Tickets.{empty_holding};
+ghost use Rattle.reg_deques.specs.Tickets.{empty_ticket_view};
 ghost use Rattle.reg_deques.specs.Steps.{TakesOwn};
-ghost use Rattle.reg_deques.specs.Passes.{owner_id, part_id, owned, holding_of};
+ghost use Rattle.reg_deques.specs.Passes.{owner_id, deque_pass_id, owned, ticket_view_of};
 
 use crate::owner::{Deque, Owner, TicketTable};
-use crate::pass::Part;
+use crate::pass::DequePass;
 use crate::rule::{
     Issuing, Parting, Placing, Putting, Returning, Seating, Taking, Telling, Ticketing,
 };
@@ -104,13 +104,13 @@ impl<N: Naming> Owner<N> {
     }
 
     // What a thief knows of the deque at first: nothing.
-    pub(crate) fn part(&mut self) -> Part<N>
-        ensures of { part_id result ≡ owner_id self.old }
-        ensures blank { holding_of result ≡ empty_holding }
+    pub(crate) fn deque_pass(&mut self) -> DequePass<N>
+        ensures of { deque_pass_id result ≡ owner_id self.old }
+        ensures blank { ticket_view_of result ≡ empty_ticket_view }
         ensures same { (owner_id self.new ≡ owner_id self.old) × (owned self.new ≡ owned self.old) }
     {
         let pass = self.deque.another::<Parting>();
         let seat = self.table.shared.split_seat::<Seating>(&mut self.seat);
-        Part { pass, seat }
+        DequePass { pass, seat }
     }
 }

@@ -6,15 +6,15 @@ ghost use Rattle.reg_deques.specs.Views.{table_of};
 ghost use Rattle.reg_deques.specs.Tickets.{Covers};
 
 use crate::ticket::Ticketed;
-use crate::views::{Holding, View};
+use crate::views::{TicketView, View};
 use atomic_table::Seat;
 use reg_tasks::Naming;
 
 /// What a thief knows of one deque: its pass there, and its seat at the table of tickets.
 #[derive(Drop)]
-pub struct Part<N: Naming> {
+pub struct DequePass<N: Naming> {
     pub(crate) pass: crossbeam_deque::Pass<Ticketed<N>, View>,
-    pub(crate) seat: Seat<(), Holding>,
+    pub(crate) seat: Seat<(), TicketView>,
     pub(crate) ghost light: { (pass.me.hand ≡ None) × (pass.me.spare ≡ None) },
     pub(crate) ghost guest: { (view_of pass).owns ≡ false },
     pub(crate) ghost told: { table_of (view_of pass) ≡ seat.table_id ∷ [] },
@@ -28,7 +28,7 @@ pub struct Part<N: Naming> {
 #[derive(Drop)]
 pub struct Pass<N: Naming> {
     pub(crate) worker: u32,
-    pub(crate) parts: Vec<Part<N>>,
+    pub(crate) deque_passes: Vec<DequePass<N>>,
 }
 
 impl<N: Naming> Pass<N> {

@@ -4,7 +4,7 @@ ghost use Rattle.std.specs.Prelude.{ℕ, []};
 ghost use Rattle.atomic_table.specs.Seated.{TableId};
 
 use crate::ticket::Ticketed;
-use crate::views::{Holding, View};
+use crate::views::{TicketView, View};
 use atomic_table::{Join, Play, Split, TableRule};
 use crossbeam_deque::protocol::{Outcome, Protocol};
 use reg_tasks::Naming;
@@ -94,7 +94,7 @@ impl<T: Ticketing> Split<View> for Telling<T> {
 /// The rule of a table of tickets.
 pub(crate) struct Tickets;
 
-impl TableRule<(), Holding, ()> for Tickets {
+impl TableRule<(), TicketView, ()> for Tickets {
     ghost use Rattle.std.specs.Prelude.{[]};
     ghost use Rattle.reg_deques.specs.Tickets.{AreTickets, owner_of};
 
@@ -117,7 +117,7 @@ pub(crate) struct Issuing<P: Placing> {
     of: PhantomData<P>,
 }
 
-impl<P: Placing> Split<Holding> for Issuing<P> {
+impl<P: Placing> Split<TicketView> for Issuing<P> {
     ghost use Rattle.std.specs.Prelude.{[], ◌∷◌, ◌++◌};
     ghost use Rattle.reg_deques.specs.Tickets.{owner_of, ticket_of};
 
@@ -129,40 +129,40 @@ impl<P: Placing> Split<Holding> for Issuing<P> {
 // It takes the ticket back, since the deque did not take the task.
 pub(crate) struct Returning;
 
-impl Join<Holding> for Returning {
-    ghost use Rattle.reg_deques.specs.Tickets.{owner_of, without_last, empty_holding};
+impl Join<TicketView> for Returning {
+    ghost use Rattle.reg_deques.specs.Tickets.{owner_of, without_last, empty_ticket_view};
 
     ghost both = { λ v w. owner_of (without_last v.seen) };
 
-    ghost spent = { empty_holding };
+    ghost spent = { empty_ticket_view };
 }
 
 // A seat for another worker, which holds nothing.
 pub(crate) struct Seating;
 
-impl Split<Holding> for Seating {
-    ghost use Rattle.reg_deques.specs.Tickets.{empty_holding};
+impl Split<TicketView> for Seating {
+    ghost use Rattle.reg_deques.specs.Tickets.{empty_ticket_view};
 
     ghost left = { λ v. v };
 
-    ghost right = { λ v. empty_holding };
+    ghost right = { λ v. empty_ticket_view };
 }
 
 // What a seat holds goes to another: a ticket to who stole its task, or all that one of two passes has.
 pub(crate) struct Joining;
 
-impl Join<Holding> for Joining {
-    ghost use Rattle.reg_deques.specs.Tickets.{joined_holdings, empty_holding};
+impl Join<TicketView> for Joining {
+    ghost use Rattle.reg_deques.specs.Tickets.{joined_ticket_views, empty_ticket_view};
 
-    ghost both = { λ v w. joined_holdings v w };
+    ghost both = { λ v w. joined_ticket_views v w };
 
-    ghost spent = { empty_holding };
+    ghost spent = { empty_ticket_view };
 }
 
 // The lists that both saw become one.
 pub(crate) struct Settling;
 
-impl Play<(), Holding> for Settling {
+impl Play<(), TicketView> for Settling {
     ghost use Rattle.reg_deques.specs.Steps.{SettleStep};
 
     ghost then = { λ step m found m'. SettleStep m m' };

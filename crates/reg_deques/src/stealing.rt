@@ -1,15 +1,15 @@
-//! Desks: stealing, and joining what two thieves know of a deque.
+//! Stealing, and joining what two thieves know of a deque.
 
 ghost use Rattle.std.specs.Prelude.{◌≡◌, [], false, IfOk, IfSome, IfNone};
-ghost use Rattle.reg_deques.specs.Passes.{desk_id, part_id, owner_id, holding_of};
+ghost use Rattle.reg_deques.specs.Passes.{stealer_id, deque_pass_id, owner_id, ticket_view_of};
 ghost use Rattle.reg_deques.specs.Steps.{Steals, Joins};
 
-use crate::desk::Desk;
 use crate::owner::{Owner, TicketTable};
-use crate::pass::Part;
+use crate::pass::DequePass;
 use crate::rule::{Joining, Settling, Stealing};
+use crate::stealer::Stealer;
 use crate::ticket::Ticketed;
-use crate::views::Holding;
+use crate::views::TicketView;
 use atomic_table::Seat;
 use crossbeam_deque::Steal;
 use reg_base::NoMemory;
@@ -17,7 +17,7 @@ use reg_tasks::{Naming, Task};
 use std::sync::Arc;
 
 // All that a seat holds goes to another one, which knows then that no ticket is there twice.
-fn gather(table: &TicketTable, seat: &mut Seat<(), Holding>, other: Seat<(), Holding>)
+fn gather(table: &TicketTable, seat: &mut Seat<(), TicketView>, other: Seat<(), TicketView>)
     requires same { (seat.old.table_id ≡ table.now.shared.table_id) × (other.table_id ≡ table.now.shared.table_id) }
     requires wide { table.now.shared.table_id.words ≡ 1 }
     requires bare { (seat.old.me.1 ≡ []) × (other.me.1 ≡ []) }
@@ -33,27 +33,27 @@ fn gather(table: &TicketTable, seat: &mut Seat<(), Holding>, other: Seat<(), Hol
     table.shared.load::<Settling>(seat, 0);
 }
 
-impl<N: Naming> Desk<N> {
+impl<N: Naming> Stealer<N> {
     // Where others take from an owner's deque.
-    pub(crate) fn of(owner: &Owner<N>) -> Result<Desk<N>, NoMemory>
-        ensures { IfOk result (λ d. desk_id d ≡ owner_id owner.now) }
+    pub(crate) fn of(owner: &Owner<N>) -> Result<Stealer<N>, NoMemory>
+        ensures { IfOk result (λ d. stealer_id d ≡ owner_id owner.now) }
     {
         let stealer = owner.deque.stealer()?;
         let table = Arc::try_clone(&owner.table)?;
-        Ok(Desk { stealer, table })
+        Ok(Stealer { stealer, table })
     }
 
     // Takes the first task of the deque, if there is one and nobody is quicker.
-    pub(crate) fn steal(&self, part: &mut Part<N>) -> Option<Task<N>>
-        requires of { part_id part.old ≡ desk_id self.now }
-        ensures of { part_id part.new ≡ part_id part.old }
-        ensures some { IfSome result (λ t. Steals (holding_of part.old) t.place (holding_of part.new)) }
-        ensures none { IfNone result (holding_of part.new ≡ holding_of part.old) }
+    pub(crate) fn steal(&self, deque_pass: &mut DequePass<N>) -> Option<Task<N>>
+        requires of { deque_pass_id deque_pass.old ≡ stealer_id self.now }
+        ensures of { deque_pass_id deque_pass.new ≡ deque_pass_id deque_pass.old }
+        ensures some { IfSome result (λ t. Steals (ticket_view_of deque_pass.old) t.place (ticket_view_of deque_pass.new)) }
+        ensures none { IfNone result (ticket_view_of deque_pass.new ≡ ticket_view_of deque_pass.old) }
     {
-        match self.stealer.steal_as::<Stealing>(&mut part.pass) {
+        match self.stealer.steal_as::<Stealing>(&mut deque_pass.pass) {
             Steal::Success(ticketed) => {
                 let Ticketed { task, ticket } = ticketed;
-                gather(&self.table, &mut part.seat, ticket);
+                gather(&self.table, &mut deque_pass.seat, ticket);
                 Some(task)
             }
             Steal::Empty => None,
@@ -61,14 +61,14 @@ impl<N: Naming> Desk<N> {
         }
     }
 
-    // Makes one part of two of this deque. It goes on stealing by the pass of the first.
-    pub(crate) fn join(&self, part: &mut Part<N>, other: Part<N>)
-        requires of { part_id part.old ≡ desk_id self.now }
-        requires other { part_id other ≡ desk_id self.now }
-        ensures of { part_id part.new ≡ part_id part.old }
-        ensures joined { Joins (holding_of part.old) (holding_of other) (holding_of part.new) }
+    // Makes one pass of two at this deque. It goes on stealing by the pass of the first.
+    pub(crate) fn join(&self, deque_pass: &mut DequePass<N>, other: DequePass<N>)
+        requires of { deque_pass_id deque_pass.old ≡ stealer_id self.now }
+        requires other { deque_pass_id other ≡ stealer_id self.now }
+        ensures of { deque_pass_id deque_pass.new ≡ deque_pass_id deque_pass.old }
+        ensures joined { Joins (ticket_view_of deque_pass.old) (ticket_view_of other) (ticket_view_of deque_pass.new) }
     {
-        let Part { pass: _, seat } = other;
-        gather(&self.table, &mut part.seat, seat);
+        let DequePass { pass: _, seat } = other;
+        gather(&self.table, &mut deque_pass.seat, seat);
     }
 }

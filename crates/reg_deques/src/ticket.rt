@@ -3,7 +3,7 @@
 ghost use Rattle.std.specs.Prelude.{◌≡◌, []};
 ghost use Rattle.reg_deques.specs.Tickets.{IsTicket};
 
-use crate::views::Holding;
+use crate::views::TicketView;
 use reg_tasks::{Naming, Task};
 
 /// A task that lies in a deque, with the ticket of its position. The ticket takes no bytes. Who takes the task has the ticket,
@@ -11,7 +11,7 @@ use reg_tasks::{Naming, Task};
 #[derive(Drop)]
 pub(crate) struct Ticketed<N: Naming> {
     pub(crate) task: Task<N>,
-    pub(crate) ticket: atomic_table::Seat<(), Holding>,
+    pub(crate) ticket: atomic_table::Seat<(), TicketView>,
     pub(crate) ghost empty: { ticket.me.1 ≡ [] },
     pub(crate) ghost of_it: { IsTicket task.place ticket.me.0 },
 }

@@ -1,5 +1,5 @@
 -- How long an input is of which a part was read.
-use Rattle.std.proofs.Common.{◌≡◌, ℕ, ◌+◌, ◌-◌, ◌<◌, List, ◌++◌, length, Option, None, Some, IfSome, ap, ◌∙◌, arith, length-append}
+use Rattle.std.proofs.Common.{◌≡◌, ℕ, ◌+◌, ◌-◌, ◌<◌, ◌≤◌, List, ◌++◌, length, take, Option, None, Some, IfSome, ap, ◌∙◌, arith, length-append, length-take-le}
 use Rattle.std.specs.Io.KnownBytes.{Consumes}
 
 long : (xs front ys : List ℕ) (limit : ℕ) → xs ≡ front ++ ys → limit < length front → limit < length xs
@@ -12,7 +12,6 @@ longer None rest front limit given more = tt
 longer (Some xs) None front limit given more = absurd given
 longer (Some xs) (Some ys) front limit given more = long xs front ys limit given more
 
--- two parts are together longer than the limit
-pub longer_together : (front more : List ℕ) (len count limit : ℕ) → length front ≡ len → count ≡ length more → limit - len < count
-    → limit < length (front ++ more)
-longer_together front more len count limit e f over = let whole = length-append front more in omega arith
+-- what fills a text beyond the limit is longer than it
+pub longer_filled : (bytes : List ℕ) (filled count limit : ℕ) → filled + count ≤ length bytes → limit - filled < count → limit < length (take (filled + count) bytes)
+longer_filled bytes filled count limit fits over = let whole = length-take-le (filled + count) bytes fits in omega arith

@@ -1,3 +1,5 @@
 mod Ends
 mod Inputs
 mod PieceFacts
+mod Rooms
+mod Reports

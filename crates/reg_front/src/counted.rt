@@ -12,6 +12,7 @@ use std::io::{Read, Write};
 pub struct Counted<T> {
     inner: T,
     failures: u64,
+    expected: usize,
 }
 
 impl<T> Counted<T> {
@@ -20,7 +21,23 @@ impl<T> Counted<T> {
         ensures inner { counted_inner result ≡ inner }
         ensures failures { counted_failures result ≡ 0 }
     {
-        Counted { inner, failures: 0 }
+        Counted {
+            inner,
+            failures: 0,
+            expected: 0,
+        }
+    }
+
+    /// The same, as a reader of which so many bytes are expected ([`Source::expected`]).
+    pub fn expecting(self, expected: usize) -> Counted<T>
+        ensures inner { counted_inner result ≡ counted_inner self }
+        ensures failures { counted_failures result ≡ counted_failures self }
+    {
+        Counted {
+            inner: self.inner,
+            failures: self.failures,
+            expected,
+        }
     }
 
     // Counts a failed call.
@@ -42,6 +59,10 @@ impl<R: Read> Source for Counted<R> {
             Ok(count) => Ok(count),
             Err(_) => Err(self.fail()),
         }
+    }
+
+    fn expected(&self) -> usize {
+        self.expected
     }
 }
 

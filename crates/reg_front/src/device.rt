@@ -1,12 +1,13 @@
 //! Reading a whole input and writing a whole text.
 
-ghost use Rattle.std.specs.Prelude.{◌≡◌, ◌≤◌, IfErr, IfOk, IfSome, OnOk, OnErr, vec_len};
-ghost use Rattle.reg_front.specs.Streams.{CanFail};
+ghost use Rattle.std.specs.Prelude.{◌≡◌, ◌<◌, ◌≤◌, ◌+◌, [], IfErr, IfOk, IfSome, OnOk, OnErr, drop, length, take, vec_len};
+ghost use Rattle.std.specs.Io.KnownBytes.{Consumes, IsAtEnd, Keeps};
+ghost use Rattle.reg_front.specs.Streams.{CanFail, HasFailed, IsGood};
 ghost use Rattle.reg_front.specs.Devices.{FailsToWrite, IsReadWhole, Writes, most_input};
 ghost use Rattle.reg_front.specs.Faults.{IsReadFault};
 
 use crate::stream::{CallFailed, Sink, Source};
-use std::alloc::Global;
+use std::alloc::{AllocError, Global};
 
 /// The most bytes of an input: 2^30.
 pub(crate) const MOST_INPUT: usize = 1 << 30;
@@ -15,7 +16,8 @@ pub(crate) const MOST_INPUT: usize = 1 << 30;
 // that an input has ended, or is too long, before these are used up.
 const MOST_READS: u64 = 1 << 32;
 
-// The most bytes that one call of `read` brings.
+// How much new room is made ready for a call of `read`, in bytes: little enough to be near the processor still when the
+// call fills it.
 const PIECE: usize = 64 * 1024;
 
 /// Why an input could not be read to its end.
@@ -41,23 +43,77 @@ pub(crate) fn read_all<R: Source>(alloc: Global, reader: &mut R) -> Result<Vec<u
     ensures limit { IfOk result (λ text. vec_len text ≤ most_input) }
     ensures fault { IfErr result (IsReadFault (R.stream reader.old) (R.stream reader.new)) }
 {
-    let mut text = Vec::new(alloc);
-    let mut piece = [0; PIECE];
+    let mut text = begin_text(alloc, reader.expected());
+    let mut filled = 0;
     for _call in 0..MOST_READS {
-        match reader.read(&mut piece) {
-            Ok(0) => return Ok(text),
+        if make_room(&mut text, filled).is_err() {
+            return Err(ReadFault::NoMemory);
+        }
+        match read_behind(reader, text.as_mut_slice(), filled) {
+            Ok(0) => {
+                text.truncate(filled);
+                return Ok(text);
+            }
             Ok(count) => {
-                if count > MOST_INPUT - text.len() {
+                if count > MOST_INPUT - filled {
                     return Err(ReadFault::TooLong);
                 }
-                if text.extend_from_slice(&piece[..count]).is_err() {
-                    return Err(ReadFault::NoMemory);
-                }
+                filled += count;
             }
             Err(_) => return Err(ReadFault::Failed),
         }
     }
     unreachable!()
+}
+
+// An empty text. It has room for the expected bytes, and for one more, at which their end is found. If that is too much, it
+// has none, and gets it as the bytes come.
+fn begin_text(alloc: Global, expected: usize) -> Vec<u8>
+    ensures { result.items ≡ [] }
+{
+    let mut text = Vec::new(alloc);
+    if expected > 0 {
+        let _ = text.reserve_exact(expected.min(MOST_INPUT) + 1);
+    }
+    text
+}
+
+// Makes room for a call of `read` behind the first `filled` bytes. Each byte of the room is written once, with 0. If the room
+// is used up, the text gets as much again.
+fn make_room(text: &mut Vec<u8>, filled: usize) -> Result<(), AllocError>
+    requires within { filled ≤ vec_len text.old }
+    requires limit { filled ≤ most_input }
+    ensures within { filled ≤ vec_len text.new }
+    ensures front { take filled text.new.items ≡ take filled text.old.items }
+    ensures room { OnOk result (filled < vec_len text.new) }
+{
+    if filled == text.capacity() {
+        text.reserve_exact(filled.min(MOST_INPUT - filled).max(PIECE))?;
+    }
+    let end = filled + (text.capacity() - filled).min(PIECE);
+    if text.len() < end {
+        text.resize(end, 0)?;
+    }
+    Ok(())
+}
+
+// Calls `read` for the room behind the first `filled` bytes, which stay.
+fn read_behind<R: Source>(
+    reader: &mut R,
+    text: &mut [u8],
+    filled: usize,
+) -> Result<usize, CallFailed>
+    requires stream { CanFail (R.stream reader.old) }
+    requires room { filled < length text.old }
+    ensures front { take filled text.new ≡ take filled text.old }
+    ensures fits { IfOk result (λ count. filled + count ≤ length text.new) }
+    ensures given { IfOk result (λ count. Consumes (R.stream reader.old).bytes (R.stream reader.new).bytes (take count (drop filled text.new))) }
+    ensures kept { OnErr result (Keeps (R.stream reader.old).bytes (R.stream reader.new).bytes) }
+    ensures end { IfOk result (λ count. count ≡ 0 → IsAtEnd (R.stream reader.new).bytes) }
+    ensures good { OnOk result (IsGood (R.stream reader.old) (R.stream reader.new)) }
+    ensures failed { OnErr result (HasFailed (R.stream reader.old) (R.stream reader.new)) }
+{
+    reader.read(&mut text[filled..])
 }
 
 /// Writes the whole text, and does not flush the writer.

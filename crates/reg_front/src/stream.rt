@@ -27,6 +27,12 @@ pub trait Source {
         ensures bytes { ReadConsumes (stream self.old).bytes (stream self.new).bytes result buf.new }
         ensures good { OnOk result (IsGood (stream self.old) (stream self.new)) }
         ensures failed { OnErr result (HasFailed (stream self.old) (stream self.new)) };
+
+    /// How many bytes are likely left, so that room for them can be made at once: 0 if that is not known. Nothing is
+    /// promised of it.
+    fn expected(&self) -> usize {
+        0
+    }
 }
 
 /// A writer that tells its bytes and counts its failed calls. Both are for proofs alone.

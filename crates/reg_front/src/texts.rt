@@ -2,8 +2,7 @@
 
 ghost use Rattle.std.specs.Prelude.{◌≡◌, ◌≤◌, ◌+◌, ◌++◌, [], true, None, IfOk, MatchResult};
 ghost use Rattle.reg_book.specs.Chains.{book_after};
-ghost use Rattle.reg_book.specs.Day.{settled_day, log_of};
-ghost use Rattle.reg_book.specs.Settled.{IsOfBook};
+ghost use Rattle.reg_book.specs.Day.{day_of, settled_day, log_of, replies_of};
 ghost use Rattle.reg_work.specs.Faults.{are_workers};
 ghost use Rattle.reg_text.specs.Inputs.{day_of_input};
 ghost use Rattle.reg_text.specs.NextDays.{report_of};
@@ -19,27 +18,28 @@ ghost use Rattle.reg_front.specs.Runs.{command_fault, IsPlanText, IsTextFor, IsC
 
 use crate::command::Question;
 use crate::fault::FrontFault;
-use reg_base::{AccountNo, NoMemory};
-use reg_book::{Closed, Replaced, SettleFault, Settled, settle_in_place, settle_plain};
+use reg_base::{AccountNo, Batch, NoMemory, Rules};
+use reg_book::{
+    Book, ClosedDay, SettleFault, Settled, log_is_made_again, settle_in_place, settle_plain,
+};
 use reg_plan::Plan;
 use reg_text::{
     DayInput, StatementFault, figures_over, plan_text, statement, totals_text, write_report_over,
     write_report_pieces,
 };
-use reg_work::{OpenGate, WorkFault, settle_with};
+use reg_work::{OpenGate, WorkFault, close_with};
 use std::alloc::Global;
 use std::sync::Wait;
 use std::thread::Threads;
 
-/// What a command has used: its text, the closed day that the text was made from, if the command closed the day, and the
-/// accounts as they were before the day, if they were replaced. Nothing is done with it but to free it, or not to.
+/// What a command has used: its text, and the closed day that the text was made from, if the command closed the day. Nothing
+/// is done with it but to free it, or not to.
 #[derive(Drop)]
 pub(crate) struct Used {
     // What comes before `text`: none, unless several workers have spelled it.
     pub(crate) pieces: Vec<Vec<u8>>,
     pub(crate) text: Vec<u8>,
-    closed: Option<Closed>,
-    replaced: Option<Replaced>,
+    closed: Option<ClosedDay>,
 }
 
 /// The text that answers a question of a day. `bytes` are no longer needed: a text of figures takes their memory.
@@ -94,14 +94,16 @@ pub(crate) fn make_report<T: Threads + Wait + Sync>(
         return make_report_in_place(alloc, day, bytes);
     }
     drop(bytes);
-    let (closed, replaced) = close_by_workers(rt, alloc, day, workers)?;
-    let rows = closed.rows.as_slice();
-    let pieces = write_report_pieces(rt, alloc, &closed.book, rows, threads_for(workers))?;
+    log_is_made_again();
+    let DayInput { book, rules, batch } = day;
+    let closed = close_by_workers(rt, alloc, book, &rules, &batch, workers)?;
+    let replies = closed.replies.as_slice();
+    let threads = threads_for(workers);
+    let pieces = write_report_pieces(rt, alloc, &closed.book, &batch, replies, threads)?;
     Ok(Used {
         pieces,
         text: Vec::new(alloc),
         closed: Some(closed),
-        replaced: Some(replaced),
     })
 }
 
@@ -110,13 +112,15 @@ fn make_report_in_place(alloc: Global, day: DayInput, bytes: Vec<u8>) -> Result<
     requires { day.batch.base + 1 ≡ day.book.next }
     ensures { MatchResult result (λ used. text_of_pieces used.pieces.items ++ used.text.items ≡ report_of (day_of_input day)) (λ fault. fault ≡ front.NoMemory) }
 {
-    let closed = close_day(alloc, day)?;
-    let text = write_report_over(bytes, &closed.book, closed.rows.as_slice())?;
+    log_is_made_again();
+    let DayInput { book, rules, batch } = day;
+    let closed = settle_in_place(alloc, book, &rules, &batch)?;
+    let text = write_report_over(bytes, &closed.book, &batch, closed.replies.as_slice())?;
     Ok(used_for(alloc, text, Some(closed)))
 }
 
 // What a command has used whose text lies in one place.
-fn used_for(alloc: Global, text: Vec<u8>, closed: Option<Closed>) -> Used
+fn used_for(alloc: Global, text: Vec<u8>, closed: Option<ClosedDay>) -> Used
     ensures text { result.text ≡ text }
     ensures pieces { result.pieces.items ≡ [] }
 {
@@ -124,7 +128,6 @@ fn used_for(alloc: Global, text: Vec<u8>, closed: Option<Closed>) -> Used
         pieces: Vec::new(alloc),
         text,
         closed,
-        replaced: None,
     }
 }
 
@@ -187,53 +190,30 @@ fn settle(alloc: Global, day: &DayInput) -> Result<Settled, NoMemory>
     }
 }
 
-// Settles the day on its own book. Answers the book after the day, and the log.
-fn close_day(alloc: Global, day: DayInput) -> Result<Closed, NoMemory>
+// Settles the day on its own book.
+fn close_day(alloc: Global, day: DayInput) -> Result<ClosedDay, NoMemory>
     requires { day.batch.base + 1 ≡ day.book.next }
-    ensures book { IfOk result (λ closed. closed.book ≡ book_after (day_of_input day)) }
-    ensures log { IfOk result (λ closed. closed.rows.items ≡ log_of (day_of_input day)) }
+    ensures { IfOk result (λ closed. closed.book ≡ book_after (day_of_input day)) }
 {
     settle_in_place(alloc, day.book, &day.rules, &day.batch)
 }
 
-// Settles the day by workers, and puts the settled day into its book. Answers the book after the day with the log, and the
-// accounts that were replaced.
+// Settles a batch by workers, to whom the accounts of the book move.
 fn close_by_workers<T: Threads + Wait + Sync>(
     rt: &T,
     alloc: Global,
-    day: DayInput,
+    book: Book,
+    rules: &Rules,
+    batch: &Batch,
     workers: u32,
-) -> Result<(Closed, Replaced), FrontFault>
-    requires { day.batch.base + 1 ≡ day.book.next }
+) -> Result<ClosedDay, FrontFault>
+    requires { batch.now.base + 1 ≡ book.next }
     ensures { MatchResult result
-        (λ r. (are_workers workers ≡ true) × (r.0.book ≡ book_after (day_of_input day)) × (r.0.rows.items ≡ log_of (day_of_input day)))
-        (IsCommandFault (Settle workers) day.book) }
+        (λ closed. (are_workers workers ≡ true) × (closed.book ≡ book_after (day_of book rules.now batch.now)) × (closed.replies.items ≡ replies_of (day_of book rules.now batch.now)))
+        (IsCommandFault (Settle workers) book) }
 {
-    let settled = settle_by_workers(rt, alloc, &day, workers)?;
-    let mut book = day.book;
-    match book.commit_and_keep(settled) {
-        Ok((rows, replaced)) => Ok((Closed { book, rows }, replaced)),
-        Err(_) => unreachable!(),
-    }
-}
-
-// Settles the day by workers. Its book stays as it is.
-fn settle_by_workers<T: Threads + Wait + Sync>(
-    rt: &T,
-    alloc: Global,
-    day: &DayInput,
-    workers: u32,
-) -> Result<Settled, FrontFault>
-    requires { day.now.batch.base + 1 ≡ day.now.book.next }
-    ensures settled { MatchResult result
-        (λ s. (are_workers workers ≡ true) × (s ≡ settled_day (day_of_input day.now)))
-        (IsCommandFault (Settle workers) day.now.book) }
-    ensures of_book { IfOk result (λ s. IsOfBook day.now.book s) }
-{
-    match settle_with(
-        rt, alloc, &day.book, &day.rules, &day.batch, workers, &OpenGate,
-    ) {
-        Ok((settled, _)) => Ok(settled),
+    match close_with(rt, alloc, book, rules, batch, workers, &OpenGate) {
+        Ok((closed, _)) => Ok(closed),
         Err(WorkFault::Workers) => Err(FrontFault::Workers),
         Err(WorkFault::WrongBase { .. }) => unreachable!(),
         Err(WorkFault::NoThread) => Err(FrontFault::NoThread),

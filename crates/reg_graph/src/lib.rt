@@ -44,6 +44,7 @@ mod world;
 
 pub use reg_schedules::{Event, EventFault, MOST_WORKERS, Whereabouts, laws};
 pub use reg_tasks::{
-    Context, Done, Lack, Naming, Outcome, Parcel, Ran, RunFault, Slots, Task, Unnamed, run_order,
+    BookOf, Context, Done, Lack, Naming, Outcome, Parcel, Ran, RunFault, Slots, Task, Unnamed,
+    Vault, run_order,
 };
 pub use world::World;

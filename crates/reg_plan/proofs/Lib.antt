@@ -12,3 +12,5 @@ pub mod LastTouchers
 pub mod Sorting
 pub mod PlanLaws
 pub mod FaultPositions
+pub mod Flat
+pub mod Fewness

@@ -13,6 +13,7 @@ use Rattle.reg_base.specs.Footprint.{EachFootprintIsSound}
 use Rattle.reg_plan.specs.declared.arrow.Arrow.{Arrow}
 use Rattle.reg_plan.specs.Arrows.{arrow_order}
 use Rattle.reg_plan.specs.TouchList.{touches_from, arrows_of, openings_of, touch_cmp, AreTouches, AreSorted}
+use Rattle.reg_base.specs.Footprints.{footprints}
 use Rattle.reg_plan.specs.Plans.{level_at, IsBetween}
 use Rattle.reg_plan.specs.Laws.{EachBatchHasAPlan}
 use Rattle.reg_plan.proofs.Links.{touch_cmp-total}
@@ -58,15 +59,16 @@ module _ (arrows : List Arrow) (places : ℕ) (by_head : IsNonDecreasingBy (λ (
 pub each_has_a_plan : EachFootprintIsSound → EachBatchHasAPlan
 each_has_a_plan sound d is =
     let sorted : InOrder (λ x y. is_lt (touch_cmp x y)) (touches_from d 1 is) = in_order (λ x y. is_lt (touch_cmp x y)) (ranks_by touch_cmp-total (λ t. t)).one_way (touches_from d 1 is) in
-    let touches : AreTouches d is sorted.list = record { each = sorted.each; sorted = sorted.sorted } in
+    let touches : AreTouches (footprints d is) sorted.list = record { each = sorted.each; sorted = sorted.sorted } in
     let arrows : InOrder (λ x y. is_lt (arrow_order x y)) (arrows_of sorted.list) = in_order (λ x y. is_lt (arrow_order x y)) (ranks_by arrow_order-total (λ w. w)).one_way (arrows_of sorted.list) in
     let made : AreSorted sorted.list arrows.list = record { each = arrows.each; sorted = arrows.sorted } in
     let levels : Raised arrows.list (length is) = all_raised arrows.list (length is) (heads_rise arrows.list arrows.sorted) (all_between sound d is sorted.list touches arrows.list made) in (
-      record { arrows = arrows.list; openings = openings_of sorted.list; levels = levels.levels },
+      record { arrows = arrows.list; openings = openings_of sorted.list; levels = levels.levels; footprints = footprints d is },
       record {
         arrows = are_arrows sound d is sorted.list touches arrows.list made;
         openings = are_openings sound d is sorted.list touches (openings_of sorted.list) refl;
         places = levels.size;
         levels = levels.raised.levels_are;
+        footprints = refl;
       },
     )

@@ -15,6 +15,7 @@ use Rattle.reg_plan.specs.declared.arrow.Touch.{Touch}
 use Rattle.reg_plan.specs.Arrows.{touches_place, IsArrow, IsOpening, AreArrows, same_arrow}
 use Rattle.reg_plan.specs.Plans.{AreOpenings, IsBetween}
 use Rattle.reg_plan.specs.TouchList.{touches_from, arrows_of, openings_of, same_touch, AreTouches, AreSorted}
+use Rattle.reg_base.specs.Footprints.{footprints}
 use Rattle.reg_plan.proofs.Members.{In, in_from, contains_from, in_moved, in_moved_back, of_each_member}
 use Rattle.reg_plan.proofs.Links.{touch, Rises, IsLink, IsFirst, links_of_are, each_link_of, openings_of_are, each_opening_of, distinct_arrows, openings_of_rise, rises-sorted}
 use Rattle.reg_plan.proofs.Touchings.{touched-place, place-touched, distinct_touches}
@@ -48,7 +49,7 @@ arrow_between_places d is w h = record {
   within = (place_within d is w.account w.to h.head).1;
 }
 
-module _ (sound : EachFootprintIsSound) (d : DirectoryValue) (is : List Instruction) (ts : List Touch) (touches : AreTouches d is ts) where
+module _ (sound : EachFootprintIsSound) (d : DirectoryValue) (is : List Instruction) (ts : List Touch) (touches : AreTouches (footprints d is) ts) where
   rises : Rises ts
   rises = rises-sorted ts touches.sorted (IsDistinct-IsPermutation same_touch same_touch-sym (touches_from d 1 is) ts touches.each (distinct_touches sound d 1 is))
 

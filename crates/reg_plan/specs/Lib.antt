@@ -4,3 +4,4 @@ pub mod Plans
 pub mod Orders
 pub mod Laws
 pub mod Ends
+pub mod Touched

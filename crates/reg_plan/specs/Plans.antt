@@ -1,4 +1,4 @@
--- A plan as plain data: arrows, openings and levels, and what holds of them.
+-- A plan as plain data: arrows, openings, levels and touched accounts, and what holds of them.
 use Rattle.std.specs.Prelude.{◌≡◌, ℕ, ◌+◌, ◌-◌, ◌<◌, ◌≤◌, ◌==◌, max, List, [], ◌∷◌, length, slice_index, map, filter, Contains, All, ◌↔◌}
 use Rattle.std.specs.List.Sorted.{IsNonDecreasingBy}
 use Rattle.reg_base.specs.declared.limits.TheConstants.{MOST_INSTRUCTIONS}
@@ -8,12 +8,16 @@ use Rattle.reg_base.specs.Rising.{IsRising}
 use Rattle.reg_plan.specs.declared.arrow.Arrow.{Arrow}
 use Rattle.reg_plan.specs.declared.arrow.Opening.{Opening}
 use Rattle.reg_plan.specs.Arrows.{IsOpening, AreArrows}
+use Rattle.reg_base.specs.Footprints.{footprints}
+use Rattle.reg_plan.specs.Touched.{AreFew}
 
--- the arrows in the order of head, tail and account; the openings; the level of each place
+-- the arrows in the order of head, tail and account; the openings; the level of each place; the accounts that the instruction
+-- at each place touches
 pub record PlanValue : Type 0 where
   pub arrows : List Arrow
   pub openings : List Opening
   pub levels : List ℕ
+  pub footprints : List (List ℕ)
 
 -- the arrows that lead to this place
 abbrev pub inward : List Arrow → ℕ → List Arrow
@@ -42,13 +46,15 @@ pub record IsBetween (places : ℕ) (arrow : Arrow) : Type 0 where
   pub forward : arrow.from < arrow.to
   pub within : arrow.to ≤ places
 
--- what a plan keeps: its arrows once by head and once by tail, each between two of its places
-pub record IsKept (arrows by_tail : List Arrow) (levels : List ℕ) : Type 0 where
+-- what a plan keeps: its arrows once by head and once by tail, each between two of its places, and few accounts for each place
+pub record IsKept (arrows by_tail : List Arrow) (levels : List ℕ) (lists : List (List ℕ)) : Type 0 where
   pub by_head : IsNonDecreasingBy (λ arrow. arrow.to) arrows
   pub tails : IsNonDecreasingBy (λ arrow. arrow.from) by_tail
   pub same : (place : ℕ) → outward by_tail place ≡ outward arrows place
   pub between : All (IsBetween (length levels)) arrows
   pub few : length levels ≤ MOST_INSTRUCTIONS
+  pub places : length lists ≡ length levels
+  pub few_each : AreFew lists
 
 -- these are the openings of the batch, one for each touched account, by rising account
 pub record AreOpenings (directory : DirectoryValue) (is : List Instruction) (openings : List Opening) : Type 0 where
@@ -61,3 +67,4 @@ pub record IsPlan (directory : DirectoryValue) (is : List Instruction) (plan : P
   pub openings : AreOpenings directory is plan.openings
   pub places : length plan.levels ≡ length is
   pub levels : AreLevels plan.arrows plan.levels
+  pub footprints : plan.footprints ≡ footprints directory is

@@ -6,20 +6,24 @@ use Rattle.std.specs.Ordering.{ordering_then, nat_cmp}
 use Rattle.std.specs.declared.cmp.Ordering.{Ordering}
 use Rattle.reg_base.specs.declared.instruction.Instruction.{Instruction}
 use Rattle.reg_base.specs.Directory.{DirectoryValue}
-use Rattle.reg_base.specs.Footprint.{footprint}
 use Rattle.reg_plan.specs.declared.arrow.Arrow.{Arrow}
 use Rattle.reg_plan.specs.declared.arrow.Opening.{Opening}
 use Rattle.reg_plan.specs.declared.arrow.Touch.{Touch}
 use Rattle.reg_plan.specs.Arrows.{arrow_order}
+use Rattle.reg_base.specs.Footprints.{footprints}
 
 -- the instruction at this place touches these accounts
 abbrev pub touched_at : ℕ → List ℕ → List Touch
 touched_at place accounts = map (λ a. record { account = a; place = place }) accounts
 
+-- the touches of the accounts of each instruction, the first of which stands at this place
+abbrev pub touches_of : ℕ → List (List ℕ) → List Touch
+touches_of place [] = []
+touches_of place (accounts ∷ lists) = touched_at place accounts ++ touches_of (place + 1) lists
+
 -- the touches of these instructions, the first of which stands at this place
 abbrev pub touches_from : DirectoryValue → ℕ → List Instruction → List Touch
-touches_from directory place [] = []
-touches_from directory place (i ∷ is) = touched_at place (footprint directory i.act) ++ touches_from directory (place + 1) is
+touches_from directory place is = touches_of place (footprints directory is)
 
 -- by account, and then by place
 abbrev pub touch_cmp : Touch → Touch → Ordering
@@ -53,9 +57,9 @@ abbrev pub openings_of : List Touch → List Opening
 openings_of [] = []
 openings_of (x ∷ xs) = opening_at x ∷ openings_after x xs
 
--- these are the touches of the batch, sorted by account and place
-pub record AreTouches (directory : DirectoryValue) (is : List Instruction) (touches : List Touch) : Type 0 where
-  pub each : IsPermutation (touches_from directory 1 is) touches
+-- these are the touches of the accounts of each instruction, sorted by account and place
+pub record AreTouches (lists : List (List ℕ)) (touches : List Touch) : Type 0 where
+  pub each : IsPermutation (touches_of 1 lists) touches
   pub sorted : IsSorted touch_cmp touches
 
 -- these are the arrows of touches, sorted by head, tail and account

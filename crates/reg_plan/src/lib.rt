@@ -33,10 +33,13 @@ mod arrows;
 mod index;
 pub mod laws;
 mod levels;
+mod likely;
 mod order;
 mod plan;
+mod touched;
 mod touches;
 
 pub use arrow::{Arrow, Opening};
+pub use likely::LikelySlots;
 pub use order::OrderFault;
 pub use plan::Plan;

@@ -1,20 +1,23 @@
 //! The plan of a batch.
 
-ghost use Rattle.std.specs.Prelude.{◌≡◌, ◌≤◌, None, IfOk, IfErr, OnOk, length};
-ghost use Rattle.reg_base.specs.declared.limits.TheConstants.{MOST_INSTRUCTIONS};
+ghost use Rattle.std.specs.Prelude.{◌≡◌, ◌-◌, ◌≤◌, [], None, IfOk, IfErr, OnOk, length, slice_index_or};
+ghost use Rattle.reg_base.specs.declared.limits.TheConstants.{MOST_INSTRUCTIONS, MOST_TOUCHED};
 
 use crate::arrow::{Arrow, Opening};
 use crate::arrows::{find_openings, sorted_arrows, sorted_by_tail};
 use crate::index::{End, likely_counts, with_end};
 use crate::levels::find_levels;
+use crate::likely::{LikelySlots, find_slots};
 use crate::order::{OrderFault, check_numbers};
+use crate::touched::Touched;
 use crate::touches::sorted_touches;
 use reg_base::laws::each_footprint_is_sound;
-use reg_base::{Batch, Directory, NoMemory};
+use reg_base::{AccountNo, Batch, Directory, NoMemory};
 use std::alloc::Global;
 use std::marker::Model;
 
-/// Which instructions of a batch have to wait for which others. A clause sees the plan as plain data.
+/// Which instructions of a batch have to wait for which others, and which accounts each of them touches. A clause sees the
+/// plan as plain data.
 #[derive(Debug, Drop)]
 pub struct Plan {
     arrows: Vec<Arrow>,
@@ -23,6 +26,8 @@ pub struct Plan {
     levels: Vec<u32>,
     heads: Vec<u32>,
     tails: Vec<u32>,
+    touched: Touched,
+    slots: Vec<u32>,
 }
 
 impl Model for Plan {
@@ -30,9 +35,9 @@ impl Model for Plan {
 
     ghost Value = { PlanValue };
 
-    ghost view = { λ p. record { arrows = p.arrows.items; openings = p.openings.items; levels = p.levels.items } };
+    ghost view = { λ p. record { arrows = p.arrows.items; openings = p.openings.items; levels = p.levels.items; footprints = p.touched } };
 
-    ghost invariant = { λ p. IsKept p.arrows.items p.by_tail.items p.levels.items };
+    ghost invariant = { λ p. IsKept p.arrows.items p.by_tail.items p.levels.items p.touched };
 }
 
 impl Plan {
@@ -51,13 +56,15 @@ impl Plan {
         // No instruction touches an account twice, so no arrow stands twice.
         each_footprint_is_sound();
         let places = batch.len() as usize;
-        let touches = sorted_touches(alloc, directory, batch.instructions())?;
+        let touched = Touched::of(alloc, directory, batch.instructions())?;
+        let touches = sorted_touches(alloc, &touched)?;
         let openings = find_openings(alloc, &touches)?;
         let arrows = sorted_arrows(alloc, &touches)?;
         let by_tail = sorted_by_tail(alloc, &arrows)?;
         let levels = find_levels(alloc, &arrows, places)?;
         let heads = likely_counts(alloc, End::Head, &arrows, places)?;
         let tails = likely_counts(alloc, End::Tail, &by_tail, places)?;
+        let slots = find_slots(alloc, &touched, &touches)?;
         Ok(Plan {
             arrows,
             by_tail,
@@ -65,6 +72,8 @@ impl Plan {
             levels,
             heads,
             tails,
+            touched,
+            slots,
         })
     }
 
@@ -109,6 +118,22 @@ impl Plan {
         ensures { result.now ≡ self.now.levels }
     {
         &self.levels
+    }
+
+    /// The accounts that the instruction at a place touches, in the order of its footprint. The place is counted from 1.
+    pub fn touched_at(&self, place: u32) -> &[AccountNo]
+        requires from_one { 1 ≤ place }
+        requires within { place ≤ length self.now.levels }
+        ensures value { result.now ≡ slice_index_or self.now.footprints (place - 1) [] }
+        ensures few { length result.now ≤ MOST_TOUCHED }
+    {
+        self.touched.at(place)
+    }
+
+    /// The likely places, among the openings, of the accounts that the instruction at a place touches, in the order of its
+    /// footprint. The place is counted from 1; of any other place the answer is of no use.
+    pub fn likely_slots(&self, place: u32) -> LikelySlots<'_> {
+        LikelySlots::from(&self.slots, self.touched.likely_begin(place))
     }
 
     /// How many places there are, at most 16,384.

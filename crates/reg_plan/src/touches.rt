@@ -2,40 +2,32 @@
 
 ghost use Rattle.std.specs.Prelude.{◌≡◌, ◌≤◌, ◌++◌, length, OnOk, IfOk};
 ghost use Rattle.reg_base.specs.declared.limits.TheConstants.{MOST_INSTRUCTIONS};
-ghost use Rattle.reg_plan.specs.TouchList.{touched_at, touches_from, AreTouches};
+ghost use Rattle.reg_plan.specs.TouchList.{touched_at, touches_of, AreTouches};
 
 use crate::arrow::Touch;
-use reg_base::{AccountNo, Directory, Instruction, NoMemory};
+use crate::touched::Touched;
+use reg_base::{AccountNo, NoMemory};
 use std::alloc::Global;
 
 // Each account that an instruction touches with the instruction's place, sorted by account and place.
-pub(crate) fn sorted_touches(
-    alloc: Global,
-    directory: &Directory,
-    instructions: &[Instruction],
-) -> Result<Vec<Touch>, NoMemory>
-    requires { length instructions.now ≤ MOST_INSTRUCTIONS }
-    ensures { IfOk result (λ touches. AreTouches directory.now instructions.now touches.items) }
+pub(crate) fn sorted_touches(alloc: Global, touched: &Touched) -> Result<Vec<Touch>, NoMemory>
+    requires { length touched.now ≤ MOST_INSTRUCTIONS }
+    ensures { IfOk result (λ touches. AreTouches touched.now touches.items) }
 {
-    let mut touches = find_touches(alloc, directory, instructions)?;
+    let mut touches = find_touches(alloc, touched)?;
     touches.sort_unstable();
     Ok(touches)
 }
 
 // Each account that an instruction touches with the instruction's place, in the order of the instructions.
-fn find_touches(
-    alloc: Global,
-    directory: &Directory,
-    instructions: &[Instruction],
-) -> Result<Vec<Touch>, NoMemory>
-    requires { length instructions.now ≤ MOST_INSTRUCTIONS }
-    ensures { IfOk result (λ touches. touches.items ≡ touches_from directory.now 1 instructions.now) }
+fn find_touches(alloc: Global, touched: &Touched) -> Result<Vec<Touch>, NoMemory>
+    requires { length touched.now ≤ MOST_INSTRUCTIONS }
+    ensures { IfOk result (λ touches. touches.items ≡ touches_of 1 touched.now) }
 {
-    let mut touches = Vec::new(alloc);
-    for (index, instruction) in instructions.iter().enumerate() {
+    let mut touches = Vec::with_capacity(alloc, touched.count())?;
+    for index in 0..touched.len() {
         let place = index as u32 + 1;
-        let touched = instruction.touches(directory);
-        push_touches(&mut touches, place, touched.as_slice())?;
+        push_touches(&mut touches, place, touched.at(place))?;
     }
     Ok(touches)
 }

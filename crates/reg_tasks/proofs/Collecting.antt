@@ -23,15 +23,15 @@ use Rattle.reg_account.specs.Account.{AccountValue}
 use Rattle.reg_base.specs.declared.instruction.Instruction.{Instruction}
 use Rattle.reg_rules.specs.State.{State, Setting}
 use Rattle.reg_rules.specs.Step.{step, row_of}
-use Rattle.reg_book.specs.Fold.{rows_of}
-use Rattle.reg_book.specs.Day.{Day, IsDay, setting, row_at, log_of, settled_day}
+use Rattle.reg_book.specs.Day.{Day, IsDay, setting, row_at, log_of, replies_of, settled_day}
+use Rattle.reg_book.specs.Fold.{rows_of, replies_in}
 use Rattle.reg_book.specs.Laws.{ValueIsLastTouchers, SettledAreTouched, SettledIsInOrder}
 use Rattle.reg_schedules.specs.Schedules.{AreLastValues}
 use Rattle.reg_schedules.specs.Pool.{directory, footprint_at, leads_on}
 use Rattle.reg_schedules.proofs.Members.{In}
 use Rattle.reg_schedules.proofs.Known.{footprint_touches}
 use Rattle.reg_schedules.proofs.Tails.{clash, touched_somewhere, last_of_all, not_last, last_touches}
-use Rattle.reg_tasks.specs.Gathering.{AreLast, AreOutcomes, AreWithin, named_accounts, places_of, row_replied, rows_in, replies_by_number, replies_from, counts_up, is_last, are_last, are_outcomes}
+use Rattle.reg_tasks.specs.Gathering.{AreLast, AreOutcomes, AreWithin, named_accounts, places_of, replies_kept, row_replied, rows_in, replies_by_number, replies_from, counts_up, is_last, are_each, are_last, are_outcomes}
 use Rattle.reg_tasks.specs.Slots.{opened_accounts}
 use Rattle.reg_tasks.specs.declared.naming.Naming.{Ghosts}
 use Rattle.reg_tasks.specs.declared.done.Done.{Done}
@@ -84,14 +84,14 @@ sorted_count key n xs same sorted =
 
 -- ---- numbers in a list
 
-in_number : (ns : List ℕ) (a : ℕ) → is_among ns a ≡ true → In a ns
+pub in_number : (ns : List ℕ) (a : ℕ) → is_among ns a ≡ true → In a ns
 in_number [] a e = absurd cc
 in_number (n ∷ ns) a e = by (eqb n a) refl e (in_number ns a) where
   by : (b : Bool) → eqb n a ≡ b → (b || is_among ns a) ≡ true → (is_among ns a ≡ true → In a ns) → In a (n ∷ ns)
   by true h g more = inl (eqb-true n a h)
   by false h g more = inr (more g)
 
-number_in : (ns : List ℕ) (a : ℕ) → In a ns → is_among ns a ≡ true
+pub number_in : (ns : List ℕ) (a : ℕ) → In a ns → is_among ns a ≡ true
 number_in [] a m = absurd m
 number_in (n ∷ ns) a (inl e) = ap (λ b. b || is_among ns a) (eq-eqb n a e)
 number_in (n ∷ ns) a (inr m) = by (eqb n a) (number_in ns a m) where
@@ -145,20 +145,35 @@ last_permuted day names others same is = record {
   accounts = IsPermutation-map (λ (n : ℕ × ℕ). n.0) names others same
 
 -- what the tests say, and when they pass
+pub each_tested : (day : Day) (places : List ℕ) → are_each day places ≡ true → places ≡ count_up 1 (length day.batch.instructions)
+each_tested day places e =
+    let counted = and_parts (eqb (length places) (length day.batch.instructions)) (counts_up 1 places) e in
+    counted_is 1 places counted.1 ∙ ap (count_up 1) (eqb-true (length places) (length day.batch.instructions) counted.0)
+
+pub tested_each : (day : Day) (places : List ℕ) → places ≡ count_up 1 (length day.batch.instructions) → are_each day places ≡ true
+tested_each day places e =
+    and_from (eqb (length places) (length day.batch.instructions)) (counts_up 1 places)
+    (eq-eqb (length places) (length day.batch.instructions) (ap length e ∙ size_count 1 (length day.batch.instructions)))
+    (ap (counts_up 1) e ∙ counts 1 (length day.batch.instructions))
+
 pub outcomes_tested : (day : Day) (plan : PlanValue) (accounts places : List ℕ) (names : List (ℕ × ℕ)) → are_outcomes day plan accounts places names ≡ true
     → (places ≡ count_up 1 (length day.batch.instructions)) × (are_last day plan accounts names ≡ true)
 outcomes_tested day plan accounts places names e =
-    let both = and_parts (eqb (length places) (length day.batch.instructions) && counts_up 1 places) (are_last day plan accounts names) e in
-    let counted = and_parts (eqb (length places) (length day.batch.instructions)) (counts_up 1 places) both.0 in
-    (counted_is 1 places counted.1 ∙ ap (count_up 1) (eqb-true (length places) (length day.batch.instructions) counted.0), both.1)
+    let both = and_parts (are_each day places) (are_last day plan accounts names) e in
+    (each_tested day places both.0, both.1)
 
 pub tested_outcomes : (day : Day) (plan : PlanValue) (accounts places : List ℕ) (names : List (ℕ × ℕ)) → places ≡ count_up 1 (length day.batch.instructions) → are_last day plan accounts names ≡ true
     → are_outcomes day plan accounts places names ≡ true
-tested_outcomes day plan accounts places names e l =
-    and_from (eqb (length places) (length day.batch.instructions) && counts_up 1 places) (are_last day plan accounts names)
-    (and_from (eqb (length places) (length day.batch.instructions)) (counts_up 1 places)
-    (eq-eqb (length places) (length day.batch.instructions) (ap length e ∙ size_count 1 (length day.batch.instructions)))
-    (ap (counts_up 1) e ∙ counts 1 (length day.batch.instructions))) l
+tested_outcomes day plan accounts places names e l = and_from (are_each day places) (are_last day plan accounts names) (tested_each day places e) l
+
+-- replies of all places pass the test once they are sorted
+module _ {N : Type 0} {b : Ghosts N} (day : Day) where
+  pub sorted_each : (done sorted : List (Done N b)) → IsPermutation done sorted → IsNonDecreasingBy (λ d. d.place) sorted → IsPermutation (count_up 1 (length day.batch.instructions)) (places_of done)
+      → places_of sorted ≡ count_up 1 (length day.batch.instructions)
+  sorted_each done sorted same rise each =
+      let n : ℕ = length day.batch.instructions in
+      sorted_count (λ (d : Done N b). d.place) n sorted
+      (IsPermutation-trans (count_up 1 n) (places_of done) (places_of sorted) each (IsPermutation-map (λ (d : Done N b). d.place) done sorted same)) rise
 
 module _ (tails : TailsAreLastTouchers) (last : LastToucherIsLast) (day : Day) (plan : PlanValue) (planned : ∥ IsPlan (directory day) day.batch.instructions plan ∥₁) where
   -- each touched account has an opening, and no other
@@ -171,7 +186,7 @@ module _ (tails : TailsAreLastTouchers) (last : LastToucherIsLast) (day : Day) (
     by false h true g = absurd (clash (touched_opened tails last day plan planned a g) h)
     by false h false g = refl
 
-  is_the_last : (a place : ℕ) → is_last day plan (a, place) ≡ true → place ≡ last_toucher (directory day) day.batch.instructions a (length day.batch.instructions)
+  pub is_the_last : (a place : ℕ) → is_last day plan (a, place) ≡ true → place ≡ last_toucher (directory day) day.batch.instructions a (length day.batch.instructions)
   is_the_last a place e =
       let both = and_parts (is_among (footprint_at day place) a) (not (leads_on plan place a)) e in
       ∥∥₁_elim planned (Prim.hlevel props) (λ made. sym (last_of_all tails last (directory day) day.batch.instructions plan made a place
@@ -242,9 +257,7 @@ module _ (tails : TailsAreLastTouchers) (last : LastToucherIsLast) (day : Day) (
         → IsPermutation ps sorted_ps → IsNonDecreasingBy (λ p. p.value.number) sorted_ps → AreOutcomes day (places_of done) (names_of ps)
         → are_outcomes day plan (opened_accounts plan.openings) (places_of sorted) (names_of sorted_ps) ≡ true
     outcomes_pass rising done sorted ps sorted_ps same rise same_ps rise_ps all =
-        let n : ℕ = length day.batch.instructions in
-        let places = sorted_count (λ (d : Done N b). d.place) n sorted
-        (IsPermutation-trans (count_up 1 n) (places_of done) (places_of sorted) all.each (IsPermutation-map (λ (d : Done N b). d.place) done sorted same)) rise in
+        let places = sorted_each day done sorted same rise all.each in
         let is = last_permuted day (names_of ps) (names_of sorted_ps) (IsPermutation-map (λ (p : Parcel N b). (p.value.number, p.after)) ps sorted_ps same_ps) all.last in
         tested_outcomes day plan (opened_accounts plan.openings) (places_of sorted) (names_of sorted_ps) places (last_tested (names_of sorted_ps) is (accounts_sorted rising sorted_ps is rise_ps))
 
@@ -331,6 +344,25 @@ module _ {N : Type 0} {b : Ghosts N} (day : Day) (named : b.day ≡ Some day) wh
   -- rows of all places, made again of their replies, are the log
   pub log_from : (done : List (Done N b)) → places_of done ≡ count_up 1 (length day.batch.instructions) → (rows : List LogRow) → map Some rows ≡ rows_in day done → rows ≡ log_of day
   log_from done e rows made = same_some rows (log_of day) (made ∙ rows_right done ∙ ap (map (row_at day)) e ∙ all_rows day)
+
+  -- and replies of all places are those of the day
+  pub replies_from_all : (done : List (Done N b)) → places_of done ≡ count_up 1 (length day.batch.instructions) → replies_kept done ≡ replies_of day
+  replies_from_all done e =
+      same_some (replies_kept done) (replies_of day)
+      (right done ∙ ap (map (λ p. option_map (λ (row : LogRow). row.reply) (row_at day p))) e
+      ∙ apart (count_up 1 (length day.batch.instructions)) ∙ ap (map (option_map (λ (row : LogRow). row.reply))) (all_rows day) ∙ inside (log_of day))
+    where
+      right : (ds : List (Done N b)) → map Some (replies_kept ds) ≡ map (λ p. option_map (λ (row : LogRow). row.reply) (row_at day p)) (places_of ds)
+      right [] = refl
+      right (d ∷ ds) = ap (λ o. o ∷ map Some (replies_kept ds)) (sym (d.right day named)) ∙ ap (λ os. option_map (λ (row : LogRow). row.reply) (row_at day d.place) ∷ os) (right ds)
+
+      apart : (ps : List ℕ) → map (λ p. option_map (λ (row : LogRow). row.reply) (row_at day p)) ps ≡ map (option_map (λ (row : LogRow). row.reply)) (map (row_at day) ps)
+      apart [] = refl
+      apart (p ∷ ps) = ap (λ os. option_map (λ (row : LogRow). row.reply) (row_at day p) ∷ os) (apart ps)
+
+      inside : (rows : List LogRow) → map (option_map (λ (row : LogRow). row.reply)) (map Some rows) ≡ map Some (replies_in rows)
+      inside [] = refl
+      inside (row ∷ rows) = ap (λ os. Some row.reply ∷ os) (inside rows)
 
 -- the values of the last parcels, by rising account, are the settled accounts
 module _ {N : Type 0} {b : Ghosts N} where

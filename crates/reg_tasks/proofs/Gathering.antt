@@ -72,7 +72,7 @@ in_account (w ∷ ws) a v e = by (eqb w.number a) e (in_account ws a v) where
   by true h more = inl (same_Some w v h)
   by false h more = inr (more h)
 
-account_in : (s : State) (v : AccountValue) → Up (λ (w : AccountValue). w.number) s → In v s → account s v.number ≡ Some v
+pub account_in : (s : State) (v : AccountValue) → Up (λ (w : AccountValue). w.number) s → In v s → account s v.number ≡ Some v
 account_in [] v up m = absurd m
 account_in (w ∷ ws) v up (inl e) = ap (λ b. cond b (Some w) (account ws v.number)) (eq-eqb w.number v.number (ap (λ (x : AccountValue). x.number) e)) ∙ ap Some e
 account_in (w ∷ ws) v up (inr m) =
@@ -86,7 +86,7 @@ among_in (w ∷ ws) v (inr m) = by (eqb w.number v.number) (among_in ws v m) whe
   by true e = refl
   by false e = e
 
-in_among : (s : State) (a : ℕ) → is_among (numbers s) a ≡ true → (v : AccountValue) × In v s × (v.number ≡ a)
+pub in_among : (s : State) (a : ℕ) → is_among (numbers s) a ≡ true → (v : AccountValue) × In v s × (v.number ≡ a)
 in_among [] a e = absurd cc
 in_among (w ∷ ws) a e = by (eqb w.number a) refl e (in_among ws a) where
   by : (b : Bool) → eqb w.number a ≡ b → (b || is_among (numbers ws) a) ≡ true → (is_among (numbers ws) a ≡ true → (v : AccountValue) × In v ws × (v.number ≡ a)) → (v : AccountValue) × In v (w ∷ ws) × (v.number ≡ a)

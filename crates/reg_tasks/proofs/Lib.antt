@@ -15,5 +15,6 @@ pub mod AtEnd
 pub mod Fitting
 pub mod Assembled
 pub mod Values
-pub mod Flat
 pub mod Touching
+pub mod LotFacts
+pub mod Returned

@@ -3,7 +3,9 @@ use Rattle.std.proofs.Common.{Bor, IsSome, ◌≡◌, ℕ, true, List, [], ◌�
 use Rattle.std.specs.Prelude.{All}
 use Rattle.std.proofs.lemmas.List.Elements.{All-from_recursion}
 use Rattle.reg_base.specs.Footprint.{EachFootprintIsSound}
-use Rattle.reg_schedules.specs.Pool.{footprint_at}
+use Rattle.reg_base.specs.Touches.{is_touched}
+use Rattle.reg_schedules.specs.Pool.{directory, footprint_at}
+use Rattle.reg_schedules.proofs.Tails.{touched_from}
 use Rattle.reg_schedules.proofs.Known.{footprint_touches, touched_known}
 use Rattle.reg_schedules.proofs.Members.{all_among}
 use Rattle.reg_schedules.specs.Docks.{names_needed}
@@ -42,3 +44,9 @@ no_arrows (x ∷ xs) e = absurd (omega (arith, e))
 pub all_known : EachFootprintIsSound → (day : Day) (place : ℕ) → All (λ a. is_some (account day.book.accounts a) ≡ true) (footprint_at day place)
 all_known sound day place =
     All-from_recursion _ _ (all_among (λ a. is_some (account day.book.accounts a) ≡ true) (footprint_at day place) (λ a e. touched_known sound day place a (sym (footprint_touches day place a) ∙ e)))
+
+-- and some instruction touches each of them
+pub all_touched_at : (day : Day) (place : ℕ) → All (λ a. is_touched (directory day) day.batch.instructions a ≡ true) (footprint_at day place)
+all_touched_at day place =
+    All-from_recursion _ _ (all_among (λ a. is_touched (directory day) day.batch.instructions a ≡ true) (footprint_at day place)
+    (λ a e. touched_from (directory day) day.batch.instructions a place (sym (footprint_touches day place a) ∙ e)))

@@ -1,16 +1,13 @@
--- The accounts that are kept for each place are those that its instruction touches, and they are few.
-use Rattle.std.proofs.Common.{◌≡◌, ℕ, zero, suc, ◌-◌, ◌≤◌, List, [], ◌∷◌, length, get_or, refl, ap, ◌∙◌, arith}
+-- The accounts that are kept for each place are those that its instruction touches.
+use Rattle.std.proofs.Common.{◌≡◌, ℕ, zero, suc, ◌-◌, ◌≤◌, List, [], ◌∷◌, get_or, refl, ap, ◌∙◌, arith}
 use Rattle.std.specs.Prelude.{slice_get}
 use Rattle.std.specs.Option.{option_map_or}
-use Rattle.std.specs.List.{AllByRecursion}
 use Rattle.reg_base.specs.declared.instruction.Instruction.{Instruction}
-use Rattle.reg_base.specs.declared.limits.TheConstants.{MOST_TOUCHED}
 use Rattle.reg_base.specs.Directory.{DirectoryValue}
 use Rattle.reg_base.specs.Footprint.{footprint}
-use Rattle.reg_book.specs.Places.{footprints}
+use Rattle.reg_base.specs.Footprints.{footprints}
 use Rattle.reg_book.specs.Day.{Day}
 use Rattle.reg_schedules.specs.Pool.{directory, footprint_at}
-use Rattle.reg_tasks.specs.Touched.{AreFew}
 
 kept_from : (d : DirectoryValue) (is : List Instruction) (k : ℕ) → get_or (footprints d is) k [] ≡ option_map_or (λ i. footprint d i.act) (slice_get is k) []
 kept_from d [] k = refl
@@ -22,13 +19,3 @@ kept_at day zero low = absurd (omega (arith, low))
 kept_at day (suc k) low =
     let same : suc k - 1 ≡ k = omega arith in
     ap (λ n. get_or (footprints (directory day) day.batch.instructions) n []) same ∙ kept_from (directory day) day.batch.instructions k
-
--- each of these lists is few
-abbrev pub EachFew : List (List ℕ) → Type 0
-EachFew lists = AllByRecursion (λ accounts. length accounts ≤ MOST_TOUCHED) lists
-
--- so the one at a place is, if there is one
-pub few_at : (lists : List (List ℕ)) → EachFew lists → AreFew lists
-few_at [] few k = omega arith
-few_at (xs ∷ lists) few zero = few.0
-few_at (xs ∷ lists) few (suc k) = few_at lists few.1 k

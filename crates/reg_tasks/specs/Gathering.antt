@@ -64,6 +64,10 @@ module _ {N : Type 0} {b : Ghosts N} where
   abbrev pub places_of : List (Done N b) → List ℕ
   places_of done = map (λ d. d.place) done
 
+  -- the replies to them
+  abbrev pub replies_kept : List (Done N b) → List Reply
+  replies_kept done = map (λ d. d.reply) done
+
   -- their rows in a day
   abbrev pub rows_in : Day → List (Done N b) → List (Option LogRow)
   rows_in day done = map (λ d. row_replied day d.place d.reply) done
@@ -81,6 +85,10 @@ pub record AreOutcomes (day : Day) (places : List ℕ) (names : List (ℕ × ℕ
   pub each : IsPermutation (count_up 1 (length day.batch.instructions)) places
   pub last : AreLast day names
 
+-- if a day is named, the places are not each of its places once
+abbrev pub AreNotEach : Option Day → List ℕ → Type 0
+AreNotEach name places = (day : Day) → name ≡ Some day → ¬ (IsPermutation (count_up 1 (length day.batch.instructions)) places)
+
 -- if a day is named, they are not its
 abbrev pub AreNotAll : Option Day → List ℕ → List (ℕ × ℕ) → Type 0
 AreNotAll name places names = (day : Day) → name ≡ Some day → ¬ (AreOutcomes day places names)
@@ -89,6 +97,10 @@ AreNotAll name places names = (day : Day) → name ≡ Some day → ¬ (AreOutco
 abbrev pub counts_up : ℕ → List ℕ → Bool
 counts_up first [] = true
 counts_up first (x ∷ xs) = (x == first) && counts_up (first + 1) xs
+
+-- the places are 1, 2 and so on to the last
+abbrev pub are_each : Day → List ℕ → Bool
+are_each day places = (length places == length day.batch.instructions) && counts_up 1 places
 
 -- the instruction at the place of this name touches its account, and no later one does: no arrow leads on from there
 abbrev pub is_last : Day → PlanValue → ℕ × ℕ → Bool
@@ -101,9 +113,9 @@ are_last day plan [] (name ∷ names) = false
 are_last day plan (a ∷ more) [] = false
 are_last day plan (a ∷ more) (name ∷ names) = ((name.0 == a) && is_last day plan name) && are_last day plan more names
 
--- the places are 1, 2 and so on to the last, and the names are the last ones of these accounts
+-- each place is there, in order, and the names are the last ones of these accounts
 abbrev pub are_outcomes : Day → PlanValue → List ℕ → List ℕ → List (ℕ × ℕ) → Bool
-are_outcomes day plan accounts places names = ((length places == length day.batch.instructions) && counts_up 1 places) && are_last day plan accounts names
+are_outcomes day plan accounts places names = are_each day places && are_last day plan accounts names
 
 -- if a day is named, these are its log and its settled accounts, in their order
 pub record IsGathered (name : Option Day) (rows : List LogRow) (accounts : State) : Type 0 where

@@ -1,4 +1,6 @@
 pub mod Contexts
+pub mod Lent
+pub mod Lots
 pub mod Names
 pub mod Parcels
 pub mod Tasks
@@ -6,4 +8,3 @@ pub mod Gathering
 pub mod Slots
 pub mod Openings
 pub mod Standing
-pub mod Touched

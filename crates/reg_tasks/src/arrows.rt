@@ -6,18 +6,20 @@ ghost use Rattle.reg_tasks.specs.Openings.{first_in};
 ghost use Rattle.reg_tasks.specs.Slots.{opened_accounts};
 
 use crate::context::Context;
-use crate::likely::slot_of;
+use crate::likely::find_slot;
 use crate::naming::Naming;
 use crate::needs::{arrow_at, tail_in};
+use crate::parcel::Parcel;
 use reg_base::AccountNo;
 use reg_plan::Opening;
 
-// The place of the first instruction that touches an account, if one of these openings is the account's.
-fn first_in(openings: &[Opening], account: AccountNo) -> Option<u32>
+// The place of the first instruction that touches an account, if one of these openings is the account's. If it is the likely
+// one, one comparison shows it.
+fn first_in(openings: &[Opening], account: AccountNo, likely: u32) -> Option<u32>
     requires { IsRising (opened_accounts openings.now) }
     ensures { result ≡ first_in openings.now account }
 {
-    match slot_of(openings, account) {
+    match find_slot(openings, account, likely) {
         Some(slot) => Some(openings[slot].first),
         None => None,
     }
@@ -59,12 +61,12 @@ impl<N: Naming> Context<'_, N> {
             .any(|arrow| arrow.account == account)
     }
 
-    /// The place of the first instruction that touches an account, if one does. Places are counted from 1.
+    /// The place of the first instruction that touches the account of a parcel, if one does. Places are counted from 1.
     ///
-    /// The time is logarithmic in the touched accounts.
-    pub fn first_at(&self, account: AccountNo) -> Option<u32>
-        ensures { result ≡ first_at self.now.plan account }
+    /// The time is logarithmic in the touched accounts, and does not depend on them for a parcel of this context.
+    pub fn first_for(&self, parcel: &Parcel<N>) -> Option<u32>
+        ensures { result ≡ first_at self.now.plan parcel.now.value.number }
     {
-        first_in(self.openings(), account)
+        first_in(self.openings(), parcel.account(), parcel.likely_slot())
     }
 }

@@ -4,7 +4,7 @@ ghost use Rattle.std.specs.Prelude.{◌≡◌, ◌≤◌, Some, length, map, IfO
 ghost use Rattle.std.specs.List.Sorted.{IsNonDecreasingBy};
 ghost use Rattle.reg_tasks.specs.Contexts.{the_day};
 ghost use Rattle.reg_tasks.specs.Parcels.{names_of};
-ghost use Rattle.reg_tasks.specs.Gathering.{AreWithin, places_of, row_replied, rows_in, counts_up, is_last, are_last, are_outcomes};
+ghost use Rattle.reg_tasks.specs.Gathering.{AreWithin, places_of, row_replied, rows_in, counts_up, is_last, are_each, are_last, are_outcomes};
 ghost use Rattle.reg_tasks.specs.Slots.{name_of, opened_accounts};
 
 use crate::context::Context;
@@ -27,28 +27,12 @@ pub(crate) fn sort_done<N: Naming>(rows: &mut [Done<N>])
 }
 
 /// Sorts the last parcels of a day by the numbers of their accounts.
-pub(crate) fn sort_parcels<N: Naming>(context: &Context<N>, parcels: &mut [Parcel<N>])
+pub(crate) fn sort_parcels<N: Naming>(parcels: &mut [Parcel<N>])
     ensures same { IsPermutation parcels.old parcels.new }
     ensures sorted { IsNonDecreasingBy (λ parcel. parcel.value.number) parcels.new }
 {
-    bring_near(parcels, |parcel| likely_slot(context, parcel));
+    bring_near(parcels, |parcel| parcel.likely_slot() as usize);
     parcels.sort_unstable_by_key(|parcel| parcel.account());
-}
-
-// Where the account of a parcel is likely to have its slot, if the instruction after which the parcel stands touches it.
-fn likely_slot<N: Naming>(context: &Context<N>, parcel: &Parcel<N>) -> usize {
-    let place = parcel.after();
-    if place == 0 || place > context.batch().len() {
-        return usize::MAX;
-    }
-    let mut slots = context.likely_slots(place);
-    for account in context.touched_at(place) {
-        let slot = slots.next();
-        if *account == parcel.account() {
-            return slot;
-        }
-    }
-    usize::MAX
 }
 
 // Whether the places are 1, 2 and so on.
@@ -65,9 +49,16 @@ fn count_up<N: Naming>(rows: &[Done<N>]) -> bool
     true
 }
 
-// Whether no later instruction touches the account of a parcel: the instruction after which it stands does, and no arrow
-// leads on from there.
-fn is_last<N: Naming>(context: &Context<N>, parcel: &Parcel<N>) -> bool
+/// Whether there is a reply at each place, by rising place.
+pub(crate) fn are_each<N: Naming>(context: &Context<N>, rows: &[Done<N>]) -> bool
+    ensures { result ≡ are_each (the_day context.now) (places_of rows.now) }
+{
+    rows.len() == context.batch().len() as usize && count_up(rows)
+}
+
+/// Whether no later instruction touches the account of a parcel: the instruction after which it stands does, and no arrow
+/// leads on from there.
+pub(crate) fn is_last<N: Naming>(context: &Context<N>, parcel: &Parcel<N>) -> bool
     ensures { result ≡ is_last (the_day context.now) context.now.plan (name_of parcel.now) }
 {
     let place = parcel.after();
@@ -86,9 +77,9 @@ pub(crate) fn are_last<N: Naming>(context: &Context<N>, parcels: &[Parcel<N>]) -
     if parcels.len() != openings.len() {
         return false;
     }
-    for place in 0..parcels.len() {
-        let parcel = &parcels[place];
-        if parcel.account() != openings[place].account || !is_last(context, parcel) {
+    for index in 0..parcels.len() {
+        let parcel = &parcels[index];
+        if parcel.account() != openings[index].account || !is_last(context, parcel) {
             return false;
         }
     }
@@ -103,7 +94,7 @@ pub(crate) fn are_outcomes<N: Naming>(
 ) -> bool
     ensures { result ≡ are_outcomes (the_day context.now) context.now.plan (opened_accounts context.now.plan.openings) (places_of rows.now) (names_of parcels.now) }
 {
-    rows.len() == context.batch().len() as usize && count_up(rows) && are_last(context, parcels)
+    are_each(context, rows) && are_last(context, parcels)
 }
 
 // The row in the log of an instruction that was run: the batch has all of it but the reply.

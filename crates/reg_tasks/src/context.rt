@@ -6,40 +6,35 @@ ghost use Rattle.reg_rules.specs.State.{account};
 ghost use Rattle.reg_plan.specs.Plans.{IsPlan, inward, outward};
 ghost use Rattle.reg_book.specs.Book.{directory_of};
 ghost use Rattle.reg_book.specs.Day.{IsDay};
-ghost use Rattle.reg_book.specs.Places.{footprints};
 ghost use Rattle.reg_book.specs.Settling.{IsSettleFault};
 ghost use Rattle.reg_schedules.specs.Pool.{footprint_at};
 ghost use Rattle.reg_base.specs.Rising.{IsRising};
 ghost use Rattle.reg_base.specs.declared.limits.TheConstants.{MOST_TOUCHED};
+ghost use Rattle.reg_tasks.specs.Lent.{lent_book, AreOfBook};
 ghost use Rattle.reg_tasks.specs.Names.{IsNamed};
 ghost use Rattle.reg_tasks.specs.Slots.{opened_accounts};
-ghost use Rattle.reg_tasks.specs.Touched.{AreFew};
 
-use crate::likely::Likely;
+use crate::book_of::BookOf;
 use crate::naming::Naming;
 use crate::parcel::Parcel;
-use crate::touched::Touched;
 use reg_base::laws::each_footprint_is_sound;
-use reg_base::{AccountNo, Batch, NoMemory, Rules};
+use reg_base::{AccountNo, Batch, Directory, NoMemory, Rules};
 use reg_book::{Book, SettleFault};
-use reg_plan::{Arrow, Opening, Plan};
+use reg_plan::{Arrow, LikelySlots, Opening, Plan};
 use std::alloc::Global;
 use std::marker::PhantomData;
 
-/// The book, the rules and the batch of a day, the plan of its instructions, and the accounts that each of them touches.
+/// The book, the rules and the batch of a day, and the plan of its instructions.
 #[derive(Drop)]
 pub struct Context<'a, N: Naming> {
-    book: &'a Book,
+    book: BookOf<'a, N>,
     rules: &'a Rules,
     batch: &'a Batch,
     plan: Plan,
-    touched: Touched,
     of: PhantomData<N>,
-    pub ghost named: { IsNamed N.day book.now rules.now batch.now },
-    pub ghost follows: { batch.now.base + 1 ≡ book.now.next },
-    pub ghost planned: { ∥ IsPlan (directory_of book.now.accounts) batch.now.instructions plan ∥₁ },
-    pub ghost kept: { touched ≡ footprints (directory_of book.now.accounts) batch.now.instructions },
-    pub ghost few: { AreFew touched },
+    pub ghost named: { IsNamed N.day book rules.now batch.now },
+    pub ghost follows: { batch.now.base + 1 ≡ book.next },
+    pub ghost planned: { ∥ IsPlan (directory_of book.accounts) batch.now.instructions plan ∥₁ },
 }
 
 impl<'a, N: Naming> Context<'a, N> {
@@ -60,8 +55,47 @@ impl<'a, N: Naming> Context<'a, N> {
     ) -> Result<Context<'a, N>, SettleFault>
         requires day { IsNamed N.day book.now rules.now batch.now }
         ensures answer { MatchResult result
-            (λ c. (batch.now.base + 1 ≡ book.now.next) × (c.book.now ≡ book.now) × (c.rules.now ≡ rules.now) × (c.batch.now ≡ batch.now))
+            (λ c. (batch.now.base + 1 ≡ book.now.next) × (c.book ≡ book.now) × (c.rules.now ≡ rules.now) × (c.batch.now ≡ batch.now))
             (IsSettleFault book.now batch.now) }
+    {
+        Context::over(alloc, BookOf::kept(book), rules, batch)
+    }
+
+    /// The context of the named day while its instructions are settled on the accounts of its book, which were given away:
+    /// the directory and the next record number are those of the book. It opens no account: a [`Vault`](crate::Vault) does.
+    ///
+    /// The time is linear in the instructions, sorting apart.
+    ///
+    /// # Errors
+    /// `WrongBase` if the first record number of the batch is not the book's next record number. Otherwise `NoMemory` if
+    /// memory ran out.
+    pub fn of_lent(
+        alloc: Global,
+        directory: &'a Directory,
+        next: u64,
+        rules: &'a Rules,
+        batch: &'a Batch,
+    ) -> Result<Context<'a, N>, SettleFault>
+        requires lent { AreOfBook (lent_book N.day) directory.now next }
+        requires day { IsNamed N.day (lent_book N.day) rules.now batch.now }
+        ensures answer { MatchResult result
+            (λ c. (batch.now.base + 1 ≡ next) × (c.book ≡ lent_book N.day) × (c.rules.now ≡ rules.now) × (c.batch.now ≡ batch.now))
+            (IsSettleFault (lent_book N.day) batch.now) }
+    {
+        Context::over(alloc, BookOf::lent(directory, next), rules, batch)
+    }
+
+    // The context of a day of this book.
+    fn over(
+        alloc: Global,
+        book: BookOf<'a, N>,
+        rules: &'a Rules,
+        batch: &'a Batch,
+    ) -> Result<Context<'a, N>, SettleFault>
+        requires day { IsNamed N.day book rules.now batch.now }
+        ensures answer { MatchResult result
+            (λ c. (batch.now.base + 1 ≡ book.entry.next) × (c.book ≡ book.entry) × (c.rules.now ≡ rules.now) × (c.batch.now ≡ batch.now))
+            (IsSettleFault book.entry batch.now) }
     {
         let next = book.next_record();
         if batch.base() + 1 != next {
@@ -70,20 +104,11 @@ impl<'a, N: Naming> Context<'a, N> {
         let Ok(plan) = Plan::of(alloc, batch, book.directory()) else {
             return Err(SettleFault::NoMemory);
         };
-        let Ok(touched) = Touched::of(
-            alloc,
-            book.directory(),
-            batch.instructions(),
-            plan.openings(),
-        ) else {
-            return Err(SettleFault::NoMemory);
-        };
         Ok(Context {
             book,
             rules,
             batch,
             plan,
-            touched,
             of: PhantomData,
         })
     }
@@ -91,16 +116,16 @@ impl<'a, N: Naming> Context<'a, N> {
     /// The plan of the instructions.
     pub fn plan(&self) -> &Plan
         ensures value { result.now ≡ self.now.plan }
-        ensures planned { ∥ IsPlan (directory_of self.now.book.now.accounts) self.now.batch.now.instructions result.now ∥₁ }
+        ensures planned { ∥ IsPlan (directory_of self.now.book.accounts) self.now.batch.now.instructions result.now ∥₁ }
     {
         &self.plan
     }
 
-    /// The book.
-    pub fn book(&self) -> &'a Book
-        ensures { result.now ≡ self.now.book.now }
+    /// The book, or what stays of it while its accounts are given away.
+    pub fn book(&self) -> &BookOf<'a, N>
+        ensures { result.now ≡ self.now.book }
     {
-        self.book
+        &self.book
     }
 
     /// The rules.
@@ -133,12 +158,12 @@ impl<'a, N: Naming> Context<'a, N> {
         ensures value { result.now ≡ footprint_at (the_day self.now) place }
         ensures few { length result.now ≤ MOST_TOUCHED }
     {
-        self.touched.at(place)
+        self.plan.touched_at(place)
     }
 
     // Where the accounts that the instruction at a place touches are likely to have their slots, in their order.
-    pub(crate) fn likely_slots(&self, place: u32) -> Likely<'_> {
-        self.touched.likely_at(place)
+    pub(crate) fn likely_slots(&self, place: u32) -> LikelySlots<'_> {
+        self.plan.likely_slots(place)
     }
 
     // The first instruction of each touched account, by rising account.
@@ -167,27 +192,50 @@ impl<'a, N: Naming> Context<'a, N> {
         self.plan.outward(place)
     }
 
-    // The value of an account of the book.
-    pub(crate) fn open(&self, alloc: Global, number: AccountNo) -> Result<Parcel<N>, NoMemory>
-        requires known { is_some (account self.now.book.now.accounts number) ≡ true }
-        ensures value { IfOk result (λ p. account self.now.book.now.accounts number ≡ Some p.value) }
+    // The value of an account of the book, which is likely to have this slot. If the accounts of the book were given away, there
+    // is none: nobody asks then.
+    pub(crate) fn open(
+        &self,
+        alloc: Global,
+        number: AccountNo,
+        likely_slot: u32,
+    ) -> Result<Parcel<N>, NoMemory>
+        requires known { is_some (account self.now.book.accounts number) ≡ true }
+        ensures value { IfOk result (λ p. account self.now.book.accounts number ≡ Some p.value) }
         ensures after { IfOk result (λ p. p.after ≡ 0) }
     {
-        let value = self.book.get(number).unwrap().copy(alloc)?;
-        Ok(Parcel::new(value, 0))
+        let Some(book) = self.book.itself() else {
+            return Err(NoMemory);
+        };
+        let value = book.get(number).unwrap().copy(alloc)?;
+        Ok(Parcel::new(value, 0, likely_slot))
     }
 
-    /// The opening value of an account that some instruction touches.
-    ///
-    /// # Errors
-    /// `NoMemory` if memory ran out.
-    pub fn opening(&self, alloc: Global, number: AccountNo) -> Result<Parcel<N>, NoMemory>
-        requires touched { IsTrue (is_touched (directory_of self.now.book.now.accounts) self.now.batch.now.instructions number) }
-        ensures value { IfOk result (λ p. account self.now.book.now.accounts number ≡ Some p.value) }
+    // The opening value of an account that some instruction touches, and that is likely to have this slot.
+    pub(crate) fn open_touched(
+        &self,
+        alloc: Global,
+        number: AccountNo,
+        likely_slot: u32,
+    ) -> Result<Parcel<N>, NoMemory>
+        requires touched { IsTrue (is_touched (directory_of self.now.book.accounts) self.now.batch.now.instructions number) }
+        ensures value { IfOk result (λ p. account self.now.book.accounts number ≡ Some p.value) }
         ensures after { IfOk result (λ p. p.after ≡ 0) }
     {
         // An account that an instruction touches is in the directory, and so in the book.
         each_footprint_is_sound();
-        self.open(alloc, number)
+        self.open(alloc, number, likely_slot)
+    }
+
+    /// The opening value of an account that some instruction touches, as a copy of what the book has.
+    ///
+    /// # Errors
+    /// `NoMemory` if memory ran out, or if the accounts of the book were given away.
+    pub fn opening(&self, alloc: Global, number: AccountNo) -> Result<Parcel<N>, NoMemory>
+        requires touched { IsTrue (is_touched (directory_of self.now.book.accounts) self.now.batch.now.instructions number) }
+        ensures value { IfOk result (λ p. account self.now.book.accounts number ≡ Some p.value) }
+        ensures after { IfOk result (λ p. p.after ≡ 0) }
+    {
+        self.open_touched(alloc, number, 0)
     }
 }

@@ -92,7 +92,7 @@ fn are_rising(accounts: &[Account]) -> bool
 
 // Whether rows and accounts, each in order, make a settled day of the context's batch that may be committed to its book.
 fn are_whole<N: Naming>(context: &Context<N>, rows: &[LogRow], accounts: &[Account]) -> bool
-    ensures { IsTrue result ↔ IsWhole context.now.book.now context.now.batch.now rows.now accounts.now }
+    ensures { IsTrue result ↔ IsWhole context.now.book context.now.batch.now rows.now accounts.now }
 {
     let batch = context.batch();
     let book = context.book();
@@ -138,7 +138,7 @@ fn settle<N: Naming>(
 ) -> Option<Settled>
     requires gathered { IsGathered N.day rows.items accounts.items }
     ensures settled { MatchOption result (N.day ≡ None) (λ s. IfSome N.day (λ d. s ≡ settled_day d)) }
-    ensures of_book { IfSome result (λ s. IsOfBook context.now.book.now s) }
+    ensures of_book { IfSome result (λ s. IsOfBook context.now.book s) }
 {
     context.is_day();
     settled_is_closing();
@@ -158,7 +158,7 @@ pub(crate) fn settle_log<N: Naming>(
 ) -> Result<Settled, Lack>
     requires log { AreFirstRows N.day (length context.now.batch.now.instructions) log.items }
     ensures settled { IfOk result (λ s. IfSome N.day (λ d. s ≡ settled_day d)) }
-    ensures of_book { IfOk result (λ s. IsOfBook context.now.book.now s) }
+    ensures of_book { IfOk result (λ s. IsOfBook context.now.book s) }
     ensures lack { IfErr result (LacksFor ((d : Day) → N.day ≡ Some d → are_last (the_day context.now) context.now.plan (opened_accounts context.now.plan.openings) (names_of parcels.items) ≡ false)) }
 {
     context.is_day();
@@ -185,7 +185,7 @@ fn settle_sorted<N: Naming>(
     parcels: Vec<Parcel<N>>,
 ) -> Result<Settled, Lack>
     ensures settled { IfOk result (λ s. IfSome N.day (λ d. s ≡ settled_day d)) }
-    ensures of_book { IfOk result (λ s. IsOfBook context.now.book.now s) }
+    ensures of_book { IfOk result (λ s. IsOfBook context.now.book s) }
     ensures lack { IfErr result (LacksFor ((d : Day) → N.day ≡ Some d
         → are_outcomes (the_day context.now) context.now.plan (opened_accounts context.now.plan.openings) (places_of rows.items) (names_of parcels.items) ≡ false)) }
 {
@@ -243,7 +243,7 @@ impl<N: Naming> Context<'_, N> {
         requires log { log.items ≡ log_of (the_day self.now) }
         requires accounts { AreLastValues (the_day self.now) accounts.items }
         ensures settled { result ≡ settled_day (the_day self.now) }
-        ensures of_book { IsOfBook self.now.book.now result }
+        ensures of_book { IsOfBook self.now.book result }
     {
         self.is_day();
         settled_is_closing();
@@ -267,13 +267,13 @@ impl<N: Naming> Context<'_, N> {
         mut parcels: Vec<Parcel<N>>,
     ) -> Result<Settled, Lack>
         ensures settled { IfOk result (λ s. IfSome N.day (λ d. s ≡ settled_day d)) }
-        ensures of_book { IfOk result (λ s. IsOfBook self.now.book.now s) }
+        ensures of_book { IfOk result (λ s. IsOfBook self.now.book s) }
         ensures lack { IfErr result (LacksFor (AreNotAll N.day (places_of rows.items) (names_of parcels.items))) }
     {
         last_toucher_is_last();
         tails_are_last_touchers();
         sort_done(&mut rows);
-        sort_parcels(self, &mut parcels);
+        sort_parcels(&mut parcels);
         settle_sorted(alloc, self, rows, parcels)
     }
 
@@ -293,7 +293,7 @@ impl<N: Naming> Context<'_, N> {
         requires rows { AreRows N.day rows.items }
         requires parcels { AreClosing N.day (names_of parcels.items) }
         ensures settled { IfOk result (λ s. IfSome N.day (λ d. s ≡ settled_day d)) }
-        ensures of_book { IfOk result (λ s. IsOfBook self.now.book.now s) }
+        ensures of_book { IfOk result (λ s. IsOfBook self.now.book s) }
     {
         let done = with_places(alloc, self, rows)?;
         self.gather_done(alloc, done, parcels).or(Err(NoMemory))

@@ -36,12 +36,16 @@
 #![tactic(auto)]
 
 mod arrows;
+mod book_of;
 mod collect;
 mod context;
 mod done;
+mod gate;
 mod gather;
 mod lack;
+mod laying;
 mod likely;
+mod lot;
 mod naming;
 mod nearby;
 mod needs;
@@ -49,14 +53,19 @@ mod opened;
 mod order;
 mod outcome;
 mod parcel;
+mod replies;
 mod run;
 mod slot;
 mod slots;
+mod taking;
 mod task;
-mod touched;
+mod turn;
+mod vault;
 
+pub use book_of::BookOf;
 pub use context::Context;
 pub use done::Done;
+pub use gate::{Gate, OpenGate};
 pub use lack::Lack;
 pub use naming::{Naming, Unnamed};
 pub use order::{RunFault, run_order};
@@ -64,3 +73,5 @@ pub use outcome::{Outcome, Ran};
 pub use parcel::Parcel;
 pub use slots::Slots;
 pub use task::Task;
+pub use turn::run_at;
+pub use vault::Vault;

@@ -2,27 +2,27 @@
 
 ghost use Rattle.std.specs.Prelude.{IsPermutation};
 
-// Exchanges the item at a position with the one at its own place, if that one does not belong there. Answers the position
+// Exchanges the item at a position with the one at its own index, if that one does not belong there. Answers the position
 // that is looked at next.
-fn bring_one<T, F: Fn(&T) -> usize>(items: &mut [T], place_of: &F, at: usize) -> usize
-    requires { F.IsAlwaysCallable place_of.now }
+fn bring_one<T, F: Fn(&T) -> usize>(items: &mut [T], index_of: &F, at: usize) -> usize
+    requires { F.IsAlwaysCallable index_of.now }
     ensures { IsPermutation items.old items.new }
 {
     if at >= items.len() {
         return at;
     }
-    let place = place_of(&items[at]);
-    if place == at || place >= items.len() || place_of(&items[place]) == place {
+    let index = index_of(&items[at]);
+    if index == at || index >= items.len() || index_of(&items[index]) == index {
         return at + 1;
     }
-    items.swap(at, place);
+    items.swap(at, index);
     at
 }
 
-/// Brings each item to its likely place, counted from 0, if it has one of its own. Nothing is promised of the order. No item
-/// is moved more often than once to a place that is its own, so the time is linear.
-pub(crate) fn bring_near<T, F: Fn(&T) -> usize>(items: &mut [T], place_of: F)
-    requires { F.IsAlwaysCallable place_of }
+/// Brings each item to its likely index, counted from 0, if it has one of its own. Nothing is promised of the order. No item
+/// is moved more often than once to an index that is its own, so the time is linear.
+pub(crate) fn bring_near<T, F: Fn(&T) -> usize>(items: &mut [T], index_of: F)
+    requires { F.IsAlwaysCallable index_of }
     ensures { IsPermutation items.old items.new }
 {
     let mut at = 0;
@@ -30,6 +30,6 @@ pub(crate) fn bring_near<T, F: Fn(&T) -> usize>(items: &mut [T], place_of: F)
         if at >= items.len() {
             return;
         }
-        at = bring_one(items, &place_of, at);
+        at = bring_one(items, &index_of, at);
     }
 }

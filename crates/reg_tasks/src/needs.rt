@@ -83,9 +83,9 @@ fn find_from<N: Naming>(
 ) -> Option<usize>
     ensures { FindsFrom (names_of parcels.now) from (account, after) result }
 {
-    for place in from..parcels.len() {
-        if is_named(&parcels[place], account, after) {
-            return Some(place);
+    for index in from..parcels.len() {
+        if is_named(&parcels[index], account, after) {
+            return Some(index);
         }
     }
     None
@@ -102,11 +102,11 @@ pub(crate) fn put_in_order<N: Naming>(
     ensures permutation { IsPermutation parcels.old parcels.new }
     ensures names { names_of parcels.new ≡ names_needed arrows.now accounts.now }
 {
-    for place in 0..accounts.len() {
-        let account = accounts[place];
-        let found = find_from(parcels, place, account, tail_in(arrows, account));
+    for index in 0..accounts.len() {
+        let account = accounts[index];
+        let found = find_from(parcels, index, account, tail_in(arrows, account));
         if let Some(other) = found {
-            parcels.swap(place, other);
+            parcels.swap(index, other);
         }
     }
 }
@@ -118,8 +118,8 @@ pub(crate) fn are_of<N: Naming>(parcels: &[Parcel<N>], accounts: &[AccountNo]) -
     if parcels.len() != accounts.len() {
         return false;
     }
-    for place in 0..accounts.len() {
-        if parcels[place].account() != accounts[place] {
+    for index in 0..accounts.len() {
+        if parcels[index].account() != accounts[index] {
             return false;
         }
     }

@@ -9,21 +9,23 @@ use crate::naming::Naming;
 use crate::parcel::Parcel;
 use reg_base::laws::each_footprint_is_sound;
 use reg_base::{AccountNo, NoMemory};
+use reg_plan::LikelySlots;
 use std::alloc::Global;
 
-/// The opening values of accounts that are in the book, in their order.
+/// The opening values of accounts that are in the book, in their order. The likely slots are those of the accounts.
 pub(crate) fn open_all<N: Naming>(
     alloc: Global,
     context: &Context<N>,
     accounts: &[AccountNo],
+    mut likely: LikelySlots,
 ) -> Result<Vec<Parcel<N>>, NoMemory>
-    requires known { All (λ a. is_some (account context.now.book.now.accounts a) ≡ true) accounts.now }
+    requires known { All (λ a. is_some (account context.now.book.accounts a) ≡ true) accounts.now }
     ensures names { IfOk result (λ ps. names_of ps.items ≡ map (λ a. (a, 0)) accounts.now) }
-    ensures values { IfOk result (λ ps. map (λ p. Some p.value) ps.items ≡ map (λ a. account context.now.book.now.accounts a) accounts.now) }
+    ensures values { IfOk result (λ ps. map (λ p. Some p.value) ps.items ≡ map (λ a. account context.now.book.accounts a) accounts.now) }
 {
     let mut parcels = Vec::with_capacity(alloc, accounts.len())?;
     for account in accounts {
-        let parcel = context.open(alloc, *account)?;
+        let parcel = context.open(alloc, *account, likely.next())?;
         parcels.push(parcel)?;
     }
     Ok(parcels)
@@ -58,7 +60,7 @@ impl<N: Naming> Context<'_, N> {
         requires within { place ≤ length self.now.batch.now.instructions }
         requires there { position < length (footprint_at (the_day self.now) place) }
         ensures first { IfOk result (λ p. is_some p ≡ (tail_of self.now.plan place (slice_index (footprint_at (the_day self.now) place) position) == 0)) }
-        ensures value { IfOk result (λ p. IfSome p (λ p. account self.now.book.now.accounts (slice_index (footprint_at (the_day self.now) place) position) ≡ Some p.value)) }
+        ensures value { IfOk result (λ p. IfSome p (λ p. account self.now.book.accounts (slice_index (footprint_at (the_day self.now) place) position) ≡ Some p.value)) }
         ensures after { IfOk result (λ p. IfSome p (λ p. p.after ≡ 0)) }
     {
         each_footprint_is_sound();
@@ -66,6 +68,7 @@ impl<N: Naming> Context<'_, N> {
         if self.tail_of(place, account) != 0 {
             return Ok(None);
         }
-        Ok(Some(self.open(alloc, account)?))
+        let slot = self.likely_slots(place).at(position);
+        Ok(Some(self.open(alloc, account, slot)?))
     }
 }

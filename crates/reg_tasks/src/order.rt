@@ -11,9 +11,11 @@ ghost use Rattle.reg_tasks.specs.Standing.{stands};
 
 use crate::context::Context;
 use crate::done::Done;
+use crate::gate::OpenGate;
 use crate::lack::Lack;
 use crate::naming::Naming;
 use crate::slots::Slots;
+use crate::turn::run_at;
 use reg_base::laws::last_toucher_is_last;
 use reg_book::Settled;
 use reg_plan::OrderFault;
@@ -58,14 +60,8 @@ fn run_place<N: Naming>(
     ensures laid { OnOk result (IsLaidBack N.day (the_day slots.old.context.now) place (stands slots.old) (stands slots.new)) }
     ensures lack { IfErr result (IsLack N.day) }
 {
-    let task = slots.take(alloc, place)?;
-    let Ok(outcome) = task.run(alloc, slots.context()) else {
-        return Err(Lack::Memory);
-    };
-    match slots.lay(outcome) {
-        Ok((_, done)) => Ok(done),
-        Err(_) => Err(Lack::Foreign),
-    }
+    let (ran, row) = run_at(alloc, slots, &OpenGate, place)?;
+    Ok(Done::new(ran.place(), row))
 }
 
 // Runs the instructions at these places one after another.
@@ -97,7 +93,7 @@ fn run_places<N: Naming>(
 fn run_legal<N: Naming>(alloc: Global, context: &Context<N>, order: &[u32]) -> Result<Settled, Lack>
     requires legal { first_order_fault context.now.plan order.now ≡ None }
     ensures settled { IfOk result (λ s. IfSome N.day (λ d. s ≡ settled_day d)) }
-    ensures of_book { IfOk result (λ s. IsOfBook context.now.book.now s) }
+    ensures of_book { IfOk result (λ s. IsOfBook context.now.book s) }
     ensures lack { IfErr result (IsLack N.day) }
 {
     last_toucher_is_last();
@@ -126,7 +122,7 @@ pub fn run_order<N: Naming>(
 ) -> Result<Settled, RunFault>
     ensures legal { OnOk result (first_order_fault context.now.plan order.now ≡ None) }
     ensures settled { IfOk result (λ s. IfSome N.day (λ d. s ≡ settled_day d)) }
-    ensures of_book { IfOk result (λ s. IsOfBook context.now.book.now s) }
+    ensures of_book { IfOk result (λ s. IsOfBook context.now.book s) }
     ensures fault { IfErr result (IsRunFault context.now.plan order.now) }
 {
     context.plan().check_order(alloc, order)?;

@@ -53,13 +53,6 @@ impl<N: Naming> Outcome<N> {
         }
     }
 
-    // The place of the instruction, counted from 1.
-    pub(crate) fn place(&self) -> u32
-        ensures { result ≡ self.now.place }
-    {
-        self.place
-    }
-
     // The parcels, as the instruction left them.
     pub(crate) fn parcels(&self) -> &[Parcel<N>]
         ensures value { result.now ≡ self.now.parcels.items }

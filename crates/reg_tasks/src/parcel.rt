@@ -15,12 +15,13 @@ use std::marker::PhantomData;
 pub struct Parcel<N: Naming> {
     value: Account,
     after: u32,
+    likely_slot: u32,
     of: PhantomData<N>,
     pub ghost right: { IsValue N.day value after },
 }
 
 impl<N: Naming> Parcel<N> {
-    pub(crate) fn new(value: Account, after: u32) -> Parcel<N>
+    pub(crate) fn new(value: Account, after: u32, likely_slot: u32) -> Parcel<N>
         requires { IsValue N.day value after }
         ensures value { result.value ≡ value }
         ensures after { result.after ≡ after }
@@ -28,6 +29,7 @@ impl<N: Naming> Parcel<N> {
         Parcel {
             value,
             after,
+            likely_slot,
             of: PhantomData,
         }
     }
@@ -44,6 +46,11 @@ impl<N: Naming> Parcel<N> {
         ensures { result ≡ self.now.after }
     {
         self.after
+    }
+
+    // Which slot its account is likely to have. Nothing is promised of it: whoever takes it tests whether it is the account's.
+    pub(crate) fn likely_slot(&self) -> u32 {
+        self.likely_slot
     }
 
     /// The account as it is there.

@@ -18,6 +18,7 @@ use arrayvec::ArrayVec;
 use reg_account::Account;
 use reg_base::{MOST_TOUCHED, NoMemory, RecordNo};
 use reg_book::has_row_ahead;
+use reg_plan::LikelySlots;
 use reg_rules::{LogRow, execute, log_row};
 use std::alloc::Global;
 
@@ -95,10 +96,12 @@ pub(crate) fn unpack<N: Naming>(
     (own, afters)
 }
 
-// The parcels of these accounts, each after a place of its own, in the room that was made for them.
+// The parcels of these accounts, each after a place of its own, in the room that was made for them. The likely slots are
+// those of the accounts.
 pub(crate) fn pack<N: Naming>(
     own: Vec<Account>,
     afters: &[u32],
+    mut likely: LikelySlots,
     mut parcels: Vec<Parcel<N>>,
 ) -> Vec<Parcel<N>>
     requires right { AreValues N.day own.items afters.now }
@@ -110,16 +113,19 @@ pub(crate) fn pack<N: Naming>(
 {
     let mut index = 0;
     for value in own {
-        parcels.push(Parcel::new(value, afters[index])).unwrap();
+        let parcel = Parcel::new(value, afters[index], likely.next());
+        parcels.push(parcel).unwrap();
         index += 1;
     }
     parcels
 }
 
-// The parcels of these accounts after this place, in the room that was made for them.
+// The parcels of these accounts after this place, in the room that was made for them. The likely slots are those of the
+// accounts.
 pub(crate) fn pack_after<N: Naming>(
     own: Vec<Account>,
     place: u32,
+    mut likely: LikelySlots,
     mut parcels: Vec<Parcel<N>>,
 ) -> Vec<Parcel<N>>
     requires right { AllByRecursion (λ v. IsValue N.day v place) own.items }
@@ -129,7 +135,8 @@ pub(crate) fn pack_after<N: Naming>(
     ensures afters { afters_of result.items ≡ map (λ v. place) own.items }
 {
     for value in own {
-        parcels.push(Parcel::new(value, place)).unwrap();
+        let parcel = Parcel::new(value, place, likely.next());
+        parcels.push(parcel).unwrap();
     }
     parcels
 }

@@ -11,12 +11,12 @@ ghost use Rattle.reg_tasks.specs.Slots.{opened_accounts, name_of, standing_in, l
 
 use crate::context::Context;
 use crate::lack::Lack;
-use crate::likely::{Likely, find_slot};
+use crate::likely::find_slot;
 use crate::naming::Naming;
 use crate::needs::{is_named, tail_in};
 use crate::parcel::Parcel;
 use reg_base::{AccountNo, NoMemory};
-use reg_plan::{Arrow, Opening};
+use reg_plan::{Arrow, LikelySlots, Opening};
 use std::alloc::Global;
 
 // Takes the parcel out of the slot of an account.
@@ -24,7 +24,7 @@ fn take_parcel<N: Naming>(
     openings: &[Opening],
     slots: &mut [Option<Parcel<N>>],
     account: AccountNo,
-    likely: usize,
+    likely: u32,
 ) -> Option<Parcel<N>>
     requires rising { IsRising (opened_accounts openings.now) }
     requires size { length slots.old ≡ length openings.now }
@@ -42,14 +42,13 @@ fn lay_parcel<N: Naming>(
     openings: &[Opening],
     slots: &mut [Option<Parcel<N>>],
     parcel: Parcel<N>,
-    likely: usize,
 ) -> bool
     requires rising { IsRising (opened_accounts openings.now) }
     requires size { length slots.old ≡ length openings.now }
     ensures there { result ≡ is_among (opened_accounts openings.now) parcel.value.number }
     ensures laid { result ≡ true → (b : ℕ) → standing_in openings.now slots.new b ≡ (if parcel.value.number == b then Some (name_of parcel) else standing_in openings.now slots.old b) }
 {
-    let Some(slot) = find_slot(openings, parcel.account(), likely) else {
+    let Some(slot) = find_slot(openings, parcel.account(), parcel.likely_slot()) else {
         return false;
     };
     slots[slot].replace(parcel);
@@ -65,9 +64,11 @@ pub(crate) fn open_slots<N: Naming>(
 {
     let openings = context.openings();
     let mut slots = Vec::with_capacity(alloc, openings.len())?;
+    let mut slot: u32 = 0;
     for opening in openings {
-        let parcel = context.opening(alloc, opening.account)?;
+        let parcel = context.open_touched(alloc, opening.account, slot)?;
         slots.push(Some(parcel))?;
+        slot = slot.saturating_add(1);
     }
     Ok(slots)
 }
@@ -78,7 +79,7 @@ fn stands<N: Naming>(
     slots: &[Option<Parcel<N>>],
     account: AccountNo,
     after: u32,
-    likely: usize,
+    likely: u32,
 ) -> bool
     requires rising { IsRising (opened_accounts openings.now) }
     requires size { length slots.now ≡ length openings.now }
@@ -100,7 +101,7 @@ pub(crate) fn are_ready<N: Naming>(
     slots: &[Option<Parcel<N>>],
     accounts: &[AccountNo],
     arrows: &[Arrow],
-    mut likely: Likely,
+    mut likely: LikelySlots,
 ) -> bool
     requires rising { IsRising (opened_accounts openings.now) }
     requires size { length slots.now ≡ length openings.now }
@@ -124,7 +125,7 @@ pub(crate) fn take_parcels<N: Naming>(
     openings: &[Opening],
     slots: &mut [Option<Parcel<N>>],
     accounts: &[AccountNo],
-    mut likely: Likely,
+    mut likely: LikelySlots,
 ) -> Result<Vec<Parcel<N>>, NoMemory>
     requires rising { IsRising (opened_accounts openings.now) }
     requires size { length slots.old ≡ length openings.now }
@@ -143,16 +144,12 @@ pub(crate) fn take_parcels<N: Naming>(
 }
 
 // Whether there is a slot for each of these parcels.
-pub(crate) fn have_slots<N: Naming>(
-    openings: &[Opening],
-    parcels: &[Parcel<N>],
-    mut likely: Likely,
-) -> bool
+pub(crate) fn have_slots<N: Naming>(openings: &[Opening], parcels: &[Parcel<N>]) -> bool
     requires rising { IsRising (opened_accounts openings.now) }
     ensures { result ≡ list_all (λ n. is_among (opened_accounts openings.now) n.0) (names_of parcels.now) }
 {
     for parcel in parcels {
-        if find_slot(openings, parcel.account(), likely.next()).is_none() {
+        if find_slot(openings, parcel.account(), parcel.likely_slot()).is_none() {
             return false;
         }
     }
@@ -164,7 +161,6 @@ pub(crate) fn lay_parcels<N: Naming>(
     openings: &[Opening],
     slots: &mut [Option<Parcel<N>>],
     parcels: Vec<Parcel<N>>,
-    mut likely: Likely,
 ) -> bool
     requires rising { IsRising (opened_accounts openings.now) }
     requires size { length slots.old ≡ length openings.now }
@@ -172,7 +168,7 @@ pub(crate) fn lay_parcels<N: Naming>(
     ensures laid { result ≡ true → (b : ℕ) → standing_in openings.now slots.new b ≡ laid_at (names_of parcels.items) (standing_in openings.now slots.old b) b }
 {
     for parcel in parcels {
-        if !lay_parcel(openings, slots, parcel, likely.next()) {
+        if !lay_parcel(openings, slots, parcel) {
             return false;
         }
     }

@@ -10,7 +10,9 @@ use crate::naming::Naming;
 use crate::outcome::{Outcome, Ran};
 use crate::parcel::Parcel;
 use crate::slot::{are_ready, empty_slots, have_slots, lay_parcels, open_slots, take_parcels};
+use crate::taking::{lay_slots, take_slots};
 use crate::task::Task;
+use crate::vault::Vault;
 use reg_base::NoMemory;
 use reg_base::laws::{each_footprint_is_sound, last_toucher_is_last};
 use reg_book::Settled;
@@ -38,6 +40,7 @@ impl<'c, 'a, N: Naming> Slots<'c, 'a, N> {
     ghost use Rattle.reg_tasks.specs.Parcels.{names_of};
     ghost use Rattle.reg_tasks.specs.Slots.{AreOpened, AreTaken, AreLaid, StandAsBefore, IsAtEnd, LacksFor, have_slots, is_ready};
     ghost use Rattle.reg_tasks.specs.Standing.{stands};
+    ghost use Rattle.reg_tasks.specs.declared.lack.Lack.TheVariants.{Foreign};
 
     /// The slots before the first instruction: the opening value stands in each.
     ///
@@ -53,6 +56,27 @@ impl<'c, 'a, N: Naming> Slots<'c, 'a, N> {
         tails_are_last_touchers();
         let slots = open_slots(alloc, context)?;
         Ok(Slots { context, slots })
+    }
+
+    /// The same as [`Slots::open`], but the accounts are taken out of a vault and not copied.
+    ///
+    /// # Errors
+    /// `NoMemory` if memory ran out, or if one of the accounts was taken out before.
+    pub fn open_from(
+        alloc: Global,
+        context: &'c Context<'a, N>,
+        vault: &mut Vault<N>,
+    ) -> Result<Slots<'c, 'a, N>, NoMemory>
+        ensures context { IfOk result (λ s. s.context.now ≡ context.now) }
+        ensures opened { IfOk result (λ s. AreOpened (the_day context.now) (stands s)) }
+    {
+        last_toucher_is_last();
+        tails_are_last_touchers();
+        let taken = take_slots(alloc, context, vault)?;
+        Ok(Slots {
+            context,
+            slots: taken,
+        })
     }
 
     /// The day whose instructions these are.
@@ -116,12 +140,11 @@ impl<'c, 'a, N: Naming> Slots<'c, 'a, N> {
         last_toucher_is_last();
         tails_are_last_touchers();
         let openings = self.context.openings();
-        let likely = self.context.likely_slots(outcome.place());
-        if !have_slots(openings, outcome.parcels(), likely) {
+        if !have_slots(openings, outcome.parcels()) {
             return Err(outcome);
         }
         let (ran, row, parcels) = outcome.into_parts();
-        lay_parcels(openings, &mut self.slots, parcels, likely);
+        lay_parcels(openings, &mut self.slots, parcels);
         Ok((ran, row))
     }
 
@@ -145,6 +168,17 @@ impl<'c, 'a, N: Naming> Slots<'c, 'a, N> {
         Ok((ran, done))
     }
 
+    /// Lays what stands in the slots back into a vault. Takes no memory.
+    ///
+    /// # Errors
+    /// `Foreign` if a slot is empty, or if what stands in it is not what the last instruction left.
+    pub fn lay_back(self, vault: &mut Vault<N>) -> Result<(), Lack>
+        ensures { IfErr result (λ lack. lack ≡ Foreign) }
+    {
+        let Slots { context, slots, .. } = self;
+        lay_slots(context, vault, slots)
+    }
+
     /// The settled day, from its log and what stands in the slots.
     ///
     /// # Errors
@@ -153,7 +187,7 @@ impl<'c, 'a, N: Naming> Slots<'c, 'a, N> {
     pub fn close_log(self, alloc: Global, log: Vec<LogRow>) -> Result<Settled, Lack>
         requires log { AreFirstRows N.day (length self.context.now.batch.now.instructions) log.items }
         ensures settled { IfOk result (λ s. IfSome N.day (λ d. s ≡ settled_day d)) }
-        ensures of_book { IfOk result (λ s. IsOfBook self.entry.context.now.book.now s) }
+        ensures of_book { IfOk result (λ s. IsOfBook self.entry.context.now.book s) }
         ensures lack { IfErr result (LacksFor ((d : Day) → N.day ≡ Some d → ¬ (IsAtEnd d (count_up 1 (length d.batch.instructions)) (stands self.entry)))) }
     {
         last_toucher_is_last();
@@ -170,7 +204,7 @@ impl<'c, 'a, N: Naming> Slots<'c, 'a, N> {
     /// account is not what its last instruction left. If no day is named, also if they are of another context.
     pub fn close(self, alloc: Global, done: Vec<Done<N>>) -> Result<Settled, Lack>
         ensures settled { IfOk result (λ s. IfSome N.day (λ d. s ≡ settled_day d)) }
-        ensures of_book { IfOk result (λ s. IsOfBook self.entry.context.now.book.now s) }
+        ensures of_book { IfOk result (λ s. IsOfBook self.entry.context.now.book s) }
         ensures lack { IfErr result (LacksFor ((d : Day) → N.day ≡ Some d → ¬ (IsAtEnd d (places_of done.items) (stands self.entry)))) }
     {
         last_toucher_is_last();

@@ -50,7 +50,7 @@ impl<N: Naming> Task<N> {
     pub fn assemble(
         context: &Context<N>,
         place: u32,
-        mut parcels: Vec<Parcel<N>>,
+        parcels: Vec<Parcel<N>>,
     ) -> Result<Task<N>, Vec<Parcel<N>>>
         requires from_one { 1 ≤ place }
         requires within { place ≤ length context.now.batch.now.instructions }
@@ -67,11 +67,28 @@ impl<N: Naming> Task<N> {
         if !are_needed(&parcels, touched, arrows) {
             return Err(parcels);
         }
+        Ok(Task::of_unordered(context, place, parcels))
+    }
+
+    /// The task of a place with just the parcels that its instruction needs, in any order. Tests nothing: for a dock, which
+    /// has tested each of them when it came. The place is counted from 1. Takes no memory.
+    pub fn of_unordered(context: &Context<N>, place: u32, mut parcels: Vec<Parcel<N>>) -> Task<N>
+        requires from_one { 1 ≤ place }
+        requires within { place ≤ length context.now.batch.now.instructions }
+        requires needed { has_names (names_of parcels.items) (names_needed (inward context.now.plan.arrows place) (footprint_at (the_day context.now) place)) ≡ true }
+        ensures place { result.place ≡ place }
+        ensures parcels { IsPermutation parcels.items result.parcels.items }
+        ensures complete { complete (the_day context.now) context.now.plan place (parcels_of parcels.items) ≡ Some (task_of result) }
+    {
         each_footprint_is_sound();
         last_toucher_is_last();
         tails_are_last_touchers();
-        put_in_order(&mut parcels, touched, arrows);
-        Ok(Task { place, parcels })
+        put_in_order(
+            &mut parcels,
+            context.touched_at(place),
+            context.arrows_to(place),
+        );
+        Task { place, parcels }
     }
 
     /// The task of a place with just the parcels that its instruction needs, in the order of its footprint. Tests nothing:
@@ -104,7 +121,7 @@ impl<N: Naming> Task<N> {
         ensures waits { IfOk result (λ t. is_some t ≡ (length (inward context.now.plan.arrows place) == 0)) }
         ensures place { IfOk result (λ t. IfSome t (λ t. t.place ≡ place)) }
         ensures names { IfOk result (λ t. IfSome t (λ t. names_of t.parcels.items ≡ map (λ a. (a, 0)) (footprint_at (the_day context.now) place))) }
-        ensures values { IfOk result (λ t. IfSome t (λ t. map (λ p. Some p.value) t.parcels.items ≡ map (λ a. account context.now.book.now.accounts a) (footprint_at (the_day context.now) place))) }
+        ensures values { IfOk result (λ t. IfSome t (λ t. map (λ p. Some p.value) t.parcels.items ≡ map (λ a. account context.now.book.accounts a) (footprint_at (the_day context.now) place))) }
     {
         if !context.arrows_to(place).is_empty() {
             return Ok(None);
@@ -112,7 +129,8 @@ impl<N: Naming> Task<N> {
         each_footprint_is_sound();
         last_toucher_is_last();
         tails_are_last_touchers();
-        let parcels = open_all(alloc, context, context.touched_at(place))?;
+        let likely = context.likely_slots(place);
+        let parcels = open_all(alloc, context, context.touched_at(place), likely)?;
         Ok(Some(Task { place, parcels }))
     }
 
@@ -175,12 +193,13 @@ impl<N: Naming> Task<N> {
             return Err(self);
         };
         let Task { place, parcels } = self;
+        let likely = context.likely_slots(place);
         let (mut own, afters) = unpack(parcels, room);
         let Ok(row) = carry_out(alloc, context, place, &mut own) else {
-            let parcels = pack(own, afters.as_slice(), left);
+            let parcels = pack(own, afters.as_slice(), likely, left);
             return Err(Task { place, parcels });
         };
-        let parcels = pack_after(own, place, left);
+        let parcels = pack_after(own, place, likely, left);
         Ok(Outcome::new(place, row, parcels))
     }
 }

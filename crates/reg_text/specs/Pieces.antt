@@ -1,16 +1,35 @@
--- A text in pieces, and the rows of values spelled run by run.
-use Rattle.std.specs.Prelude.{◌≡◌, ℕ, ◌<◌, List, length, Result, IfOk, Vec, slice_index_or}
+-- A text in pieces, and what is spelled run by run.
+use Rattle.std.specs.Prelude.{◌≡◌, ℕ, ◌+◌, ◌*◌, ◌<◌, List, drop, length, Result, IfOk, Vec, slice_index_or}
 use Rattle.std.specs.Global.{Global}
 use Rattle.std.specs.Fork.{slice_chunk}
 use Rattle.std.specs.List.{flat_map}
+use Rattle.reg_base.specs.Batch.{BatchValue}
 use Rattle.reg_base.specs.declared.directory.NoMemory.{NoMemory}
-use Rattle.reg_text.specs.Records.{Record}
-use Rattle.reg_text.specs.Report.{text_of}
+use Rattle.reg_account.specs.Account.{AccountValue}
+use Rattle.reg_rules.specs.declared.reply.LogRow.{LogRow}
+use Rattle.reg_rules.specs.declared.reply.Reply.{Reply}
+use Rattle.reg_book.specs.Fold.{rows_from}
+use Rattle.reg_book.specs.Totals.{totals_of}
+use Rattle.reg_text.specs.declared.writing.pieces.Blocks.{Blocks}
+use Rattle.reg_text.specs.Report.{text_of, log_rows}
+use Rattle.reg_text.specs.Sections.{account_block}
 
 -- the bytes of pieces one after another
 abbrev pub text_of_pieces : List (Vec ℕ Global) → List ℕ
 text_of_pieces pieces = flat_map (λ piece. piece.items) pieces
 
--- each of these is the text of a run of so many values, unless memory ran out
-abbrev pub SpellsAt : {X : Type 0} → (X → List Record) → List X → ℕ → List (Result (Vec ℕ Global) NoMemory) → Type 0
-SpellsAt rows values size runs = (n : ℕ) (r : Result (Vec ℕ Global) NoMemory) → n < length runs → IfOk (slice_index_or runs n r) (λ text. text.items ≡ text_of (flat_map rows (slice_chunk values size n)))
+-- each of these is made of a run of so many values, of which the first has this place, unless memory ran out
+abbrev pub MadeAt : {X Y : Type 0} → (ℕ → List X → Y → Type 0) → List X → ℕ → List (Result Y NoMemory) → Type 0
+MadeAt {X} {Y} IsOf values size runs = (n : ℕ) (r : Result Y NoMemory) → n < length runs → IfOk (slice_index_or runs n r) (IsOf (n * size) (slice_chunk values size n))
+
+-- the log rows of instructions from this place on, counted from 0, with these replies
+abbrev pub rows_after : BatchValue → ℕ → List Reply → List LogRow
+rows_after batch first replies = rows_from batch.day (batch.base + first + 1) (drop first batch.instructions) replies
+
+-- the text is that of these rows
+abbrev pub IsLogOf : BatchValue → ℕ → List Reply → Vec ℕ Global → Type 0
+IsLogOf batch first replies text = text.items ≡ text_of (log_rows (rows_after batch first replies))
+
+-- what was spelled of accounts is the text of their blocks, with their totals
+abbrev pub AreBlocksOf : ℕ → List AccountValue → Blocks → Type 0
+AreBlocksOf first accounts blocks = (blocks.text.items ≡ text_of (flat_map account_block accounts)) × (blocks.totals ≡ totals_of accounts)

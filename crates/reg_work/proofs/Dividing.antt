@@ -1,5 +1,5 @@
 -- Dividing a list.
-use Rattle.std.proofs.Common.{rules, ◌≡◌, ◌<◌, ◌≤◌, ℕ, ◌+◌, ◌-◌, ◌*◌, List, [], ◌∷◌, ◌++◌, All, map, take, drop, vec_len, Vec, Global, arith, ap, ◌∙◌, append_assoc, append-nil}
+use Rattle.std.proofs.Common.{rules, ◌≡◌, ◌<◌, ◌≤◌, ℕ, ◌+◌, ◌-◌, ◌*◌, List, [], ◌∷◌, ◌++◌, All, map, take, drop, vec_len, Vec, Global, arith, ap, ◌∙◌, refl, append_assoc, append-nil}
 use Rattle.std.proofs.lemmas.Grind.{flat_map-append}
 use Rattle.std.proofs.lemmas.List.{map-append, take-append-drop}
 use Rattle.std.proofs.lemmas.List.Elements.{All-append}
@@ -25,3 +25,7 @@ module _ {T : Type 0} where
   pub even_more : (least : ℕ) (parts new : List (Vec T Global)) (part : Vec T Global) → new ≡ parts ++ part ∷ [] → All (λ size. (least ≤ size) × (size ≤ least + 1)) (map vec_len parts) → (least ≤ vec_len part) × (vec_len part ≤ least + 1)
       → All (λ size. (least ≤ size) × (size ≤ least + 1)) (map vec_len new)
   even_more least parts new part is even one = rw (is, map-append vec_len parts (part ∷ [])) (All-append (λ size. (least ≤ size) × (size ≤ least + 1)) (map vec_len parts) (vec_len part ∷ []) even (search rules))
+
+  -- one part more, behind the others
+  pub joined-more : (all parts : List (Vec T Global)) (part : Vec T Global) → all ≡ parts ++ part ∷ [] → joined all ≡ joined parts ++ part.items
+  joined-more all parts part is = rw (is, flat_map-append (λ (p : Vec T Global). p.items) parts (part ∷ []), append-nil part.items) refl

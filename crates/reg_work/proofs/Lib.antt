@@ -1,3 +1,4 @@
+pub mod ClosedBooks
 pub mod Counting
 pub mod Dividing
 pub mod Ending

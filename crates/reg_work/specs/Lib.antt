@@ -1,8 +1,9 @@
 pub mod Ends
 pub mod Faults
+pub mod Frames
 pub mod Handing
 pub mod Parts
 pub mod Shifts
 pub mod Shortages
-pub mod Stints
-pub mod Turns
+pub mod EndedWorkers
+pub mod Executions

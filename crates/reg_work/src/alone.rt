@@ -4,48 +4,17 @@ ghost use Rattle.std.specs.Prelude.{◌≡◌, ℕ, ◌≤◌, [], ◌∷◌, �
 ghost use Rattle.reg_book.specs.Day.{settled_day};
 ghost use Rattle.reg_book.specs.Settled.{IsOfBook};
 ghost use Rattle.reg_counting.specs.Counting.{times, once};
-ghost use Rattle.reg_tasks.specs.Names.{IsRowOfDay};
-ghost use Rattle.reg_tasks.specs.Contexts.{the_day};
 ghost use Rattle.reg_tasks.specs.Gathering.{AreFirstRows};
-ghost use Rattle.reg_tasks.specs.Slots.{IsLaidBack};
-ghost use Rattle.reg_tasks.specs.Standing.{stands};
 ghost use Rattle.reg_work.specs.declared.fault.Shortage.TheVariants.{Memory};
 ghost use Rattle.reg_work.specs.Shifts.{AreShifts, places_ran};
 
 use crate::fault::Shortage;
-use crate::gate::Gate;
 use crate::shift::Shift;
 use reg_base::NoMemory;
 use reg_book::Settled;
 use reg_rules::LogRow;
-use reg_tasks::{Context, Naming, Ran, Slots};
+use reg_tasks::{Context, Gate, Naming, Ran, Slots, run_at};
 use std::alloc::Global;
-
-// Takes the task of a place, passes the gate, runs the task, and lays back what it leaves. Answers the row of the place.
-fn run_place<N: Naming, G: Gate>(
-    alloc: Global,
-    slots: &mut Slots<'_, '_, N>,
-    gate: &G,
-    place: u32,
-) -> Result<(Ran<N>, LogRow), Shortage>
-    requires from_one { 1 ≤ place }
-    requires within { place ≤ length slots.old.context.now.batch.now.instructions }
-    ensures context { slots.new.context.now ≡ slots.old.context.now }
-    ensures place { IfOk result (λ kept. kept.0.place ≡ place) }
-    ensures row { IfOk result (λ kept. IsRowOfDay N.day place kept.1) }
-    ensures laid { OnOk result (IsLaidBack N.day (the_day slots.old.context.now) place (stands slots.old) (stands slots.new)) }
-    ensures memory { IfErr result (λ lack. lack ≡ Memory) }
-{
-    let task = slots.take(alloc, place)?;
-    gate.enter(0, &task);
-    let Ok(outcome) = task.run(alloc, slots.context()) else {
-        return Err(Shortage::Memory);
-    };
-    let Ok(kept) = slots.lay_for_row(outcome) else {
-        return Err(Shortage::Memory);
-    };
-    Ok(kept)
-}
 
 // Puts one more item behind those that are there.
 fn keep<T: Drop>(items: &mut Vec<T>, item: T) -> Result<(), NoMemory>
@@ -55,8 +24,11 @@ fn keep<T: Drop>(items: &mut Vec<T>, item: T) -> Result<(), NoMemory>
     Ok(())
 }
 
-// Runs the instructions in the order of the batch, and answers the log.
-fn run_in_order<N: Naming, G: Gate>(
+/// Runs the instructions in the order of the batch, and answers the log.
+///
+/// # Errors
+/// `Memory` if memory ran out.
+pub(crate) fn run_in_order<N: Naming, G: Gate>(
     alloc: Global,
     slots: &mut Slots<'_, '_, N>,
     gate: &G,
@@ -70,11 +42,26 @@ fn run_in_order<N: Naming, G: Gate>(
     let mut ran = Vec::with_capacity(alloc, places as usize)?;
     let mut log = Vec::with_capacity(alloc, places as usize)?;
     for before in 0..places {
-        let (one, row) = run_place(alloc, slots, gate, before + 1)?;
+        let (one, row) = run_at(alloc, slots, gate, before + 1)?;
         keep(&mut ran, one)?;
         keep(&mut log, row)?;
     }
     Ok((ran, log))
+}
+
+/// The shift of a worker that is the only one.
+///
+/// # Errors
+/// `NoMemory` if memory ran out.
+pub(crate) fn only_shift<N: Naming>(
+    alloc: Global,
+    ran: Vec<Ran<N>>,
+) -> Result<Vec<Shift<N>>, NoMemory>
+    ensures { IfOk result (λ shifts. (count : ℕ) → ((p : ℕ) → times p (places_ran ran.items) ≡ once count p) → AreShifts 1 count shifts.items) }
+{
+    let mut shifts = Vec::with_capacity(alloc, 1)?;
+    keep(&mut shifts, Shift { worker: 0, ran })?;
+    Ok(shifts)
 }
 
 /// Settles the day of a context by one worker, which is the calling thread. Nobody else needs what an instruction leaves, so
@@ -88,14 +75,13 @@ pub(crate) fn settle_alone<N: Naming, G: Gate>(
     gate: &G,
 ) -> Result<(Settled, Vec<Shift<N>>), Shortage>
     ensures settled { IfOk result (λ s. IfSome N.day (λ d. s.0 ≡ settled_day d)) }
-    ensures of_book { IfOk result (λ s. IsOfBook context.now.book.now s.0) }
+    ensures of_book { IfOk result (λ s. IsOfBook context.now.book s.0) }
     ensures shifts { IfOk result (λ s. AreShifts 1 (length context.now.batch.now.instructions) s.1.items) }
     ensures memory { IfErr result (λ lack. lack ≡ Memory) }
 {
     let mut slots = Slots::open(alloc, context)?;
     let (ran, log) = run_in_order(alloc, &mut slots, gate)?;
-    let mut shifts = Vec::with_capacity(alloc, 1)?;
-    keep(&mut shifts, Shift { worker: 0, ran })?;
+    let shifts = only_shift(alloc, ran)?;
     let settled = slots.close_log(alloc, log)?;
     Ok((settled, shifts))
 }

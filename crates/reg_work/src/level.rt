@@ -7,10 +7,9 @@ ghost use Rattle.reg_work.specs.Parts.{joined};
 ghost use Rattle.reg_work.specs.Shortages.{IsShortage};
 
 use crate::fault::Shortage;
-use crate::gate::Gate;
 use crate::parts::divide;
 use reg_base::NoMemory;
-use reg_tasks::{Context, Naming, Outcome, Task};
+use reg_tasks::{Context, Gate, Naming, Outcome, Task};
 use std::alloc::Global;
 use std::snapshot::Snapshot;
 use std::sync::Wait;

@@ -38,22 +38,24 @@
 #![tactic(auto)]
 
 mod alone;
-mod crew;
-mod crewed;
+mod closing;
+mod execution;
 mod fault;
-mod gate;
 mod level;
+mod opener;
 mod parts;
-mod post;
-mod room;
-mod settle;
+mod shared;
 mod shift;
+mod stealing;
 mod tally;
-mod turn;
+mod threads;
+mod waves;
+mod work_loop;
 mod worker;
 
-pub use crewed::settle_with;
+pub use closing::close_with;
 pub use fault::WorkFault;
-pub use gate::{Gate, OpenGate};
-pub use settle::settle_waves;
+pub use reg_tasks::{Gate, OpenGate};
 pub use shift::Shift;
+pub use stealing::settle_with;
+pub use waves::settle_waves;

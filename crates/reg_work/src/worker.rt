@@ -1,132 +1,350 @@
-//! What a worker does until all is done.
+//! A worker: what it has, and its steps.
 
-ghost use Rattle.std.specs.Prelude.{◌≡◌, true};
-ghost use Rattle.reg_claim.specs.Seats.{known};
-ghost use Rattle.reg_work.specs.Ends.{sees_end};
+ghost use Rattle.std.specs.Prelude.{◌≡◌, ◌≤◌, [], length};
+ghost use Rattle.reg_claim.specs.Seats.{known, seat_table};
+ghost use Rattle.reg_schedules.specs.Pool.{leads_on};
+ghost use Rattle.reg_tasks.specs.Gathering.{places_of};
+ghost use Rattle.reg_deques.specs.Yards.{deques_of_pass};
+ghost use Rattle.reg_work.specs.Shifts.{places_ran};
 
-use crate::gate::Gate;
-use crate::post::Post;
-use crate::room::{Board, Room};
-use crossbeam_utils::Backoff;
+use crate::execution::Execution;
+use crate::opener::Opener;
+use crate::shared::{Shared, SharedIds};
 use reg_base::NoMemory;
-use reg_tasks::{Naming, Task};
+use reg_claim::Seat;
+use reg_schedules::MOST_WORKERS;
+use reg_tasks::{Done, Gate, Naming, Parcel, Ran, Task};
+use reg_yard::{Owner, Pass};
 use std::alloc::Global;
+use std::marker::PhantomData;
 use std::sync::Wait;
-use std::thread::Parker;
-use std::time::Duration;
+use std::sync::atomic::Ordering;
 
-// How long a worker sleeps that has found nothing for a while, in microseconds. An instruction takes about one, and to fall
-// asleep and to wake up takes some five. The system may add 50 of its own.
-const NAP: u64 = 50;
-
-/// What a worker leaves: it has seen that all is done, or that the workers are to leave.
+/// A worker: its deque, what it knows of the others, its seat, and what it did.
 #[derive(Drop)]
-pub(crate) struct Stint<N: Naming, B: Room> {
-    pub(crate) worker: u32,
-    pub(crate) post: Post<N, B>,
-    pub(crate) ghost over: { sees_end B.count (known post.seat) ≡ true },
+pub(crate) struct Worker<N: Naming, I: SharedIds> {
+    pub(crate) owner: Owner<N>,
+    pub(crate) pass: Pass<N>,
+    pub(crate) seat: Seat,
+    pub(crate) ran: Vec<Ran<N>>,
+    pub(crate) done: Vec<Done<N>>,
+    pub(crate) closing: Vec<Parcel<N>>,
+    pub(crate) of: PhantomData<I>,
+    pub(crate) ghost table_is: { seat_table seat ≡ I.table },
+    pub(crate) ghost one_share: { (known seat).share ≡ 1 },
+    pub(crate) ghost finished: { places_ran ran.items ≡ (known seat).finished },
+    pub(crate) ghost rows: { places_of done.items ≡ (known seat).finished },
+    pub(crate) ghost deques_are: { deques_of_pass pass ≡ I.deques },
 }
 
-// Claims and runs a task, hands on what it left, and finishes it. A task whose place is claimed already is not run.
-fn take_turn<N: Naming, B: Room, R: Wait, G: Gate>(
-    rt: &R,
-    alloc: Global,
-    board: &Board<'_, N, B>,
-    gate: &G,
-    worker: u32,
-    post: &mut Post<N, B>,
-    task: Task<N>,
-) -> Result<(), NoMemory> {
-    let Some(mut turn) = post.run(alloc, board, gate, worker, task)? else {
-        return Ok(());
-    };
-    post.hand_on(rt, board, &mut turn)?;
-    post.finish(board, turn)
-}
+impl<N: Naming, I: SharedIds> Worker<N, I> {
+    ghost use Rattle.std.specs.Prelude.{◌≢◌, ◌⊎◌, ℕ, true, Some, ◌++◌, ◌∷◌, IfOk, IfSome, IfNone, OnOk};
+    ghost use Rattle.std.specs.Option.{option_map};
+    ghost use Rattle.reg_plan.specs.Plans.{inward};
+    ghost use Rattle.reg_tasks.specs.Contexts.{the_day};
+    ghost use Rattle.reg_tasks.specs.Parcels.{values_of};
+    ghost use Rattle.reg_tasks.specs.Tasks.{task_of};
+    ghost use Rattle.reg_deques.specs.Views.{with_put};
+    ghost use Rattle.reg_deques.specs.Steps.{TakesOwn};
+    ghost use Rattle.reg_deques.specs.Passes.{owned};
+    ghost use Rattle.reg_deques.specs.Yards.{views, StealsAt};
+    ghost use Rattle.reg_yard.specs.Parcels.{parcel_of, goes_to};
+    ghost use Rattle.reg_work.specs.Ends.{sees_end, IsToFinish};
+    ghost use Rattle.reg_work.specs.Frames.{OwnerAlone, PassAlone, SeatAlone};
+    ghost use Rattle.reg_work.specs.Handing.{IsDelivered, with_task};
+    ghost use Rattle.reg_work.specs.Executions.{reply_at};
 
-// The task that a worker runs next, if it finds one: of its own deque, else of the places that it opens, else of another
-// worker's deque. It opens and steals nothing once it sees that the workers are to leave.
-fn find<N: Naming, B: Room, R: Wait>(
-    rt: &R,
-    alloc: Global,
-    board: &Board<'_, N, B>,
-    post: &mut Post<N, B>,
-) -> Result<Option<Task<N>>, NoMemory> {
-    let own = post.take_own();
-    if own.is_some() {
-        return Ok(own);
+    pub(crate) fn new(alloc: Global, owner: Owner<N>, pass: Pass<N>, seat: Seat) -> Worker<N, I>
+        requires table { seat_table seat ≡ I.table }
+        requires share { (known seat).share ≡ 1 }
+        requires fresh { (known seat).finished ≡ [] }
+        requires deques { deques_of_pass pass ≡ I.deques }
+        ensures same { known result.seat ≡ known seat }
+        ensures sides { (result.owner ≡ owner) × (result.pass ≡ pass) }
+        ensures none { (result.ran.items ≡ []) × (result.done.items ≡ []) × (result.closing.items ≡ []) }
+    {
+        Worker {
+            owner,
+            pass,
+            seat,
+            ran: Vec::new(alloc),
+            done: Vec::new(alloc),
+            closing: Vec::new(alloc),
+            of: PhantomData,
+        }
     }
-    for _ in 0..board.context.batch().len() {
-        if post.is_over(board) {
+
+    /// Whether all places are finished, or the workers are to leave.
+    pub(crate) fn is_over(&mut self, shared: &Shared<'_, N, I>) -> bool
+        ensures over { result ≡ sees_end I.count (known self.new.seat) }
+        ensures rest { SeatAlone self.old self.new }
+    {
+        let look = shared.table.look(&mut self.seat);
+        look.stopped || look.done >= shared.context.batch().len()
+    }
+
+    /// Tells all workers to leave.
+    pub(crate) fn stop(&mut self, shared: &Shared<'_, N, I>)
+        ensures over { sees_end I.count (known self.new.seat) ≡ true }
+        ensures rest { SeatAlone self.old self.new }
+    {
+        shared.table.stop(&mut self.seat);
+    }
+
+    /// Opens the next places of the day that no worker has opened, as many as the opener opens at once. Answers whether there
+    /// may be more.
+    ///
+    /// # Errors
+    /// `NoMemory` if memory ran out, or if a dock gives back an opening value.
+    pub(crate) fn open_next<R: Wait, O: Opener<N>>(
+        &mut self,
+        rt: &R,
+        alloc: Global,
+        shared: &Shared<'_, N, I>,
+        opener: &mut O,
+    ) -> Result<bool, NoMemory>
+        ensures rest { OwnerAlone self.old self.new }
+    {
+        let count = shared.context.batch().len();
+        let places = opener.at_once();
+        if places == 0 || shared.opened.load(Ordering::SeqCst) >= count {
+            return Ok(false);
+        }
+        let first = shared.opened.fetch_add(places, Ordering::SeqCst);
+        for before in first..first.saturating_add(places).min(count) {
+            self.open_place(rt, alloc, shared, opener, before + 1)?;
+        }
+        Ok(true)
+    }
+
+    // Opens a place: puts its task into the worker's own deque, if the instruction waits for no other, and otherwise
+    // delivers the opening values that it needs.
+    fn open_place<R: Wait, O: Opener<N>>(
+        &mut self,
+        rt: &R,
+        alloc: Global,
+        shared: &Shared<'_, N, I>,
+        opener: &mut O,
+        place: u32,
+    ) -> Result<(), NoMemory>
+        requires from_one { 1 ≤ place }
+        requires within { place ≤ length shared.now.context.now.batch.now.instructions }
+        ensures rest { OwnerAlone self.old self.new }
+        ensures task { OnOk result (length (inward shared.now.context.now.plan.arrows place) ≡ 0 → owned self.new.owner ≡ with_put (place ∷ []) (owned self.old.owner)) }
+    {
+        if let Some(task) = opener.open_task(alloc, shared.context, place)? {
+            return self.put(task);
+        }
+        for position in 0..shared.context.touched_at(place).len() {
+            if let Some(parcel) = opener.open_value(alloc, shared.context, place, position)? {
+                self.deliver(rt, shared, parcel)?;
+            }
+        }
+        Ok(())
+    }
+
+    // Puts a task into the worker's own deque.
+    fn put(&mut self, task: Task<N>) -> Result<(), NoMemory>
+        ensures rest { OwnerAlone self.old self.new }
+        ensures task { OnOk result (owned self.new.owner ≡ with_put (task.place ∷ []) (owned self.old.owner)) }
+    {
+        if self.owner.put(task).is_err() {
+            return Err(NoMemory);
+        }
+        Ok(())
+    }
+
+    // Delivers an opening value to the dock that awaits it, and puts the task that is complete with it into the worker's own
+    // deque.
+    fn deliver<R: Wait>(
+        &mut self,
+        rt: &R,
+        shared: &Shared<'_, N, I>,
+        parcel: Parcel<N>,
+    ) -> Result<(), NoMemory>
+        ensures rest { OwnerAlone self.old self.new }
+        ensures delivered { OnOk result (IsDelivered N.day (goes_to shared.now.docks.context.now.plan (parcel_of parcel)) (parcel_of parcel) (owned self.old.owner) (owned self.new.owner)) }
+    {
+        match shared.docks.deliver(rt, parcel) {
+            Ok(task) => self.put_complete(task),
+            Err(_) => Err(NoMemory),
+        }
+    }
+
+    // Puts a task that a dock gave out, if it did, into the worker's own deque.
+    fn put_complete(&mut self, complete: Option<Task<N>>) -> Result<(), NoMemory>
+        ensures rest { OwnerAlone self.old self.new }
+        ensures task { OnOk result (owned self.new.owner ≡ with_task (option_map task_of complete) (owned self.old.owner)) }
+    {
+        match complete {
+            Some(task) => self.put(task),
+            None => Ok(()),
+        }
+    }
+
+    /// The first task of its own deque.
+    pub(crate) fn take_own(&mut self) -> Option<Task<N>>
+        ensures rest { OwnerAlone self.old self.new }
+        ensures some { IfSome result (λ t. TakesOwn (owned self.old.owner) t.place (owned self.new.owner)) }
+        ensures none { IfNone result (owned self.new.owner ≡ owned self.old.owner) }
+    {
+        self.owner.take_own()
+    }
+
+    /// The first task of another worker's deque, in rising number.
+    pub(crate) fn steal(&mut self, shared: &Shared<'_, N, I>) -> Option<Task<N>>
+        ensures rest { PassAlone self.old self.new }
+        ensures some { IfSome result (λ t. (from : ℕ) × (from ≢ self.old.pass.worker) × StealsAt from (views self.old.pass) t.place (views self.new.pass)) }
+        ensures none { IfNone result (views self.new.pass ≡ views self.old.pass) }
+    {
+        let own = self.pass.worker();
+        let workers = shared.yard.workers();
+        for from in 0..MOST_WORKERS {
+            if from != own && (from as usize) < workers {
+                let stolen = shared.yard.steal(&mut self.pass, from);
+                if stolen.is_some() {
+                    return stolen;
+                }
+            }
+        }
+        None
+    }
+
+    /// Claims the place of a task, passes the gate and runs the task. If the place is claimed already, the task is not
+    /// run, and there is no execution.
+    ///
+    /// # Errors
+    /// `NoMemory` if memory ran out. If no day is named, also if the task is of another context.
+    pub(crate) fn run<G: Gate>(
+        &mut self,
+        alloc: Global,
+        shared: &Shared<'_, N, I>,
+        gate: &G,
+        worker: u32,
+        task: Task<N>,
+    ) -> Result<Option<Execution<N>>, NoMemory>
+        ensures execution { IfOk result (λ execution. IfSome execution (λ t. IsToFinish t.ran.place (known self.new.seat))) }
+        ensures rest { SeatAlone self.old self.new }
+        ensures place { IfOk result (λ execution. IfSome execution (λ t. t.ran.place ≡ task.place)) }
+        ensures made { IfOk result (λ execution. IfSome execution (λ t. reply_at (the_day shared.now.context.now) task.place (values_of task.parcels.items) ≡ Some (values_of t.left.items, t.done.reply))) }
+        ensures none { IfOk result (λ execution. IfNone execution (known self.new.seat ≡ known self.old.seat)) }
+    {
+        let place = task.place();
+        if place == 0 || place > shared.context.batch().len() {
+            return Err(NoMemory);
+        }
+        if !shared.table.claim(&mut self.seat, place) {
             return Ok(None);
         }
-        if !post.open_next(rt, alloc, board)? {
-            break;
-        }
-        let opened = post.take_own();
-        if opened.is_some() {
-            return Ok(opened);
-        }
-    }
-    Ok(post.steal(board))
-}
-
-// One step of a worker: finds a task and takes its turn with it. Answers whether it found one.
-fn step<N: Naming, B: Room, R: Wait, G: Gate>(
-    rt: &R,
-    alloc: Global,
-    board: &Board<'_, N, B>,
-    gate: &G,
-    worker: u32,
-    post: &mut Post<N, B>,
-) -> Result<bool, NoMemory> {
-    let Some(task) = find(rt, alloc, board, post)? else {
-        return Ok(false);
-    };
-    take_turn(rt, alloc, board, gate, worker, post, task)?;
-    Ok(true)
-}
-
-// Lets a worker wait that has found nothing. It spins at first, then it lets others have the processor, and if that has not
-// helped it sleeps for a while: nobody wakes it.
-fn pause<R: Wait>(rt: &R, backoff: &Backoff) {
-    if backoff.is_completed() {
-        Parker::new().park_timeout(rt, Duration::from_micros(NAP));
-    } else {
-        backoff.snooze();
-    }
-}
-
-/// Runs tasks until all are done, or the workers are to leave. If memory runs out, it tells all workers to leave. It
-/// leaves only after a look that shows the one or the other.
-pub(crate) fn work<N: Naming, B: Room, R: Wait, G: Gate>(
-    rt: &R,
-    alloc: Global,
-    board: &Board<'_, N, B>,
-    gate: &G,
-    worker: u32,
-    post: Post<N, B>,
-) -> Stint<N, B>
-    ensures { result.worker ≡ worker }
-{
-    let mut post = post;
-    let backoff = Backoff::new();
-    for _ in rt.forever() {
-        let found = match step(rt, alloc, board, gate, worker, &mut post) {
-            Ok(found) => found,
-            Err(_) => {
-                post.stop(board);
-                false
-            }
+        gate.enter(worker, &task);
+        let Ok(outcome) = task.run(alloc, shared.context) else {
+            return Err(NoMemory);
         };
-        if found {
-            backoff.reset();
-            continue;
-        }
-        if post.is_over(board) {
-            return Stint { worker, post };
-        }
-        pause(rt, &backoff);
+        let (ran, done, left) = outcome.into_done();
+        Ok(Some(Execution { ran, done, left }))
     }
-    unreachable!()
+
+    /// Hands on what an instruction left: to the dock of the instruction that waits for it, and each task that is complete
+    /// with it into the worker's own deque. What no other instruction needs is kept.
+    ///
+    /// # Errors
+    /// `NoMemory` if memory ran out, or if a dock gives back a parcel that another instruction needs.
+    pub(crate) fn hand_on<R: Wait>(
+        &mut self,
+        rt: &R,
+        shared: &Shared<'_, N, I>,
+        execution: &mut Execution<N>,
+    ) -> Result<(), NoMemory>
+        ensures seat { self.new.seat ≡ self.old.seat }
+        ensures work { (self.new.ran ≡ self.old.ran) × (self.new.done ≡ self.old.done) }
+        ensures pass { self.new.pass ≡ self.old.pass }
+        ensures ran { (execution.new.ran ≡ execution.old.ran) × (execution.new.done ≡ execution.old.done) }
+        ensures all { OnOk result (execution.new.left.items ≡ []) }
+    {
+        while let Some(parcel) = execution.left.pop() {
+            self.hand_on_one(rt, shared, execution.ran.place(), parcel)?;
+        }
+        Ok(())
+    }
+
+    // Hands on one parcel that the instruction at a place left. Most parcels are awaited, so their docks are asked first; one
+    // that comes back is kept, if no other instruction needs it.
+    fn hand_on_one<R: Wait>(
+        &mut self,
+        rt: &R,
+        shared: &Shared<'_, N, I>,
+        place: u32,
+        parcel: Parcel<N>,
+    ) -> Result<(), NoMemory>
+        ensures seat { self.new.seat ≡ self.old.seat }
+        ensures work { (self.new.ran ≡ self.old.ran) × (self.new.done ≡ self.old.done) }
+        ensures pass { self.new.pass ≡ self.old.pass }
+        ensures handed { OnOk result (IsDelivered N.day (goes_to shared.now.docks.context.now.plan (parcel_of parcel)) (parcel_of parcel) (owned self.old.owner) (owned self.new.owner) ⊎ (self.new.closing.items ≡ self.old.closing.items ++ parcel ∷ [])) }
+    {
+        match shared.docks.deliver(rt, parcel) {
+            Ok(complete) => self.put_complete(complete),
+            Err(back) => self.keep(shared, place, back),
+        }
+    }
+
+    // Keeps a parcel that no dock awaits.
+    fn keep(
+        &mut self,
+        shared: &Shared<'_, N, I>,
+        place: u32,
+        parcel: Parcel<N>,
+    ) -> Result<(), NoMemory>
+        ensures seat { self.new.seat ≡ self.old.seat }
+        ensures work { (self.new.ran ≡ self.old.ran) × (self.new.done ≡ self.old.done) }
+        ensures pass { self.new.pass ≡ self.old.pass }
+        ensures owner { self.new.owner ≡ self.old.owner }
+        ensures kept { OnOk result (self.new.closing.items ≡ self.old.closing.items ++ parcel ∷ []) }
+    {
+        if leads_on(shared, place, &parcel) {
+            return Err(NoMemory);
+        }
+        self.closing.push(parcel)?;
+        Ok(())
+    }
+
+    /// Counts the place of an execution as finished, and keeps its reply. All that it left was handed on.
+    ///
+    /// # Errors
+    /// `NoMemory` if memory ran out.
+    pub(crate) fn finish(
+        &mut self,
+        shared: &Shared<'_, N, I>,
+        execution: Execution<N>,
+    ) -> Result<(), NoMemory>
+        requires claimed { IsToFinish execution.ran.place (known self.old.seat) }
+        requires handed { execution.left.items ≡ [] }
+        ensures ran { OnOk result (self.new.ran.items ≡ self.old.ran.items ++ execution.ran ∷ []) }
+        ensures done { OnOk result (self.new.done.items ≡ self.old.done.items ++ execution.done ∷ []) }
+        ensures closing { self.new.closing ≡ self.old.closing }
+        ensures owner { self.new.owner ≡ self.old.owner }
+        ensures pass { self.new.pass ≡ self.old.pass }
+    {
+        self.ran.reserve(1)?;
+        self.done.reserve(1)?;
+        let Execution { ran, done, .. } = execution;
+        shared.table.finish(&mut self.seat, ran.place());
+        self.ran.push_reserved(ran);
+        self.done.push_reserved(done);
+        Ok(())
+    }
+}
+
+// Whether another instruction needs a parcel that the instruction at a place left.
+fn leads_on<N: Naming, I: SharedIds>(
+    shared: &Shared<'_, N, I>,
+    place: u32,
+    parcel: &Parcel<N>,
+) -> bool
+    ensures { 1 ≤ place → place ≤ length shared.now.context.now.batch.now.instructions → result ≡ leads_on shared.now.context.now.plan place parcel.now.value.number }
+{
+    let context = shared.context;
+    if place == 0 || place > context.batch().len() {
+        return false;
+    }
+    context.leads_on(place, parcel.account())
 }

@@ -3,3 +3,4 @@ pub mod Starting
 pub mod Heads
 pub mod Wanted
 pub mod Taken
+pub mod Complete

@@ -8,6 +8,7 @@ ghost use Rattle.reg_tasks.specs.Parcels.{parcels_of};
 ghost use Rattle.reg_tasks.specs.Tasks.{task_of};
 ghost use Rattle.reg_yard.specs.Held.{left_at, waiting_of, FitInDock, FewWait, HaveRoom};
 
+use crate::awaited::awaited_accounts;
 use reg_tasks::{Context, Naming, Parcel, Task};
 
 /// The task of a place, if these parcels are all that it awaits, and otherwise the parcels. The place is counted from 1.
@@ -26,8 +27,10 @@ pub(crate) fn try_assemble<N: Naming>(
     ensures place { IfSome result.1 (λ t. t.place ≡ place) }
     ensures parcels { IfSome result.1 (λ t. IsPermutation parcels.items t.parcels.items) }
 {
-    match Task::assemble(context, place, parcels) {
-        Ok(task) => (None, Some(task)),
-        Err(parcels) => (Some(parcels), None),
+    if parcels.len() < awaited_accounts(context, place).len() {
+        return (Some(parcels), None);
     }
+    // Each that came was awaited, and none came twice: so as many as the accounts are all of them.
+    let task = Task::of_unordered(context, place, parcels);
+    (None, Some(task))
 }

@@ -12,7 +12,7 @@ pub(crate) fn place_for<N: Naming>(context: &Context<N>, parcel: &Parcel<N>) -> 
 {
     let after = parcel.after();
     if after == 0 {
-        return context.first_at(parcel.account());
+        return context.first_for(parcel);
     }
     if after > context.batch().len() {
         return None;

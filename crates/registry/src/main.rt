@@ -12,7 +12,7 @@ ghost use Rattle.registry.specs.Statuses.{exit_status_of};
 mod input;
 mod words;
 
-use crate::input::Input;
+use crate::input::{Input, file_length};
 use crate::words::read_words;
 use clap::error::ErrorKind;
 use reg_front::{Command, Counted, FrontFault, Sink, Source, run_without_freeing, tell_fault};
@@ -131,13 +131,14 @@ fn read_arguments<R: Env + AllocGlobal>(rt: &R) -> Result<Vec<String>, AllocErro
 }
 
 fn main(rt: HostRuntime) -> ExitCode {
+    let mut reader = Counted::new(Input::new(rt.stdin(), rt.stderr())).expecting(file_length(&rt));
     let mut faults = Counted::new(rt.stderr());
     let status = match read_arguments(&rt) {
         Ok(words) => serve(
             &rt,
             rt.alloc(),
             words.as_slice(),
-            &mut Counted::new(Input::new(rt.stdin(), rt.stderr())),
+            &mut reader,
             &mut Counted::new(rt.stdout()),
             &mut faults,
         ),

@@ -4,43 +4,40 @@
 //! `registry` does more: it takes words, settles by workers, tells what failed, and reads no more than 2^30 bytes.
 #![tactic(auto)]
 
-ghost use Rattle.std.specs.Prelude.{◌≡◌, IfOk, OnOk};
-ghost use Rattle.reg_book.specs.Day.{day_of, log_of, settled_day};
-ghost use Rattle.reg_book.specs.Settled.{committed};
+ghost use Rattle.std.specs.Prelude.{◌≡◌, IfSome};
+ghost use Rattle.reg_book.specs.Day.{Day};
+ghost use Rattle.reg_cuts.specs.Rows.{rows_in_text};
+ghost use Rattle.reg_text.specs.Inputs.{day_of_input};
+ghost use Rattle.reg_text.specs.NextDays.{report_of};
+ghost use Rattle.reg_text.specs.Reading.{IsReading};
 
-use reg_base::{Batch, Rules};
-use reg_book::{Book, SettleFault, settle_plain};
-use reg_rules::LogRow;
-use reg_text::{read_day, write_report};
+use reg_book::settle_plain;
+use reg_text::{DayInput, read_day, write_report};
 use std::alloc::Global;
 use std::io::{Read, Write};
 use std::process::ExitCode;
 
-/// Settles a day, puts it into the book, and answers its log.
-///
-/// # Errors
-/// As [`settle_plain`]. The book stays as it is.
-fn close_day(
-    alloc: Global,
-    book: &mut Book,
-    rules: &Rules,
-    batch: &Batch,
-) -> Result<Vec<LogRow>, SettleFault>
-    ensures book { OnOk result (book.new ≡ committed book.old (settled_day (day_of book.old rules.now batch.now))) }
-    ensures log { IfOk result (λ rows. rows.items ≡ log_of (day_of book.old rules.now batch.now)) }
+/// The report of a day. `None` if memory ran out.
+fn report_from_day(alloc: Global, mut day: DayInput) -> Option<Vec<u8>>
+    ensures { IfSome result (λ report. report.items ≡ report_of (day_of_input day)) }
 {
-    let settled = settle_plain(alloc, book, rules, batch)?;
-    match book.commit(settled) {
-        Ok(rows) => Ok(rows),
-        Err((_, stale)) => Err(SettleFault::WrongBase { next: stale.next }),
-    }
+    let Ok(settled) = settle_plain(alloc, &day.book, &day.rules, &day.batch) else {
+        return None;
+    };
+    let Ok(log) = day.book.commit(settled) else {
+        return None;
+    };
+    write_report(alloc, &day.book, log.as_slice()).ok()
 }
 
 /// The report of the day that this text describes. `None` if it is no day text, or if memory ran out.
-fn report_of(alloc: Global, text: &[u8]) -> Option<Vec<u8>> {
-    let mut day = read_day(alloc, text).ok()?;
-    let log = close_day(alloc, &mut day.book, &day.rules, &day.batch).ok()?;
-    write_report(alloc, &day.book, log.as_slice()).ok()
+fn report_from_text(alloc: Global, text: &[u8]) -> Option<Vec<u8>>
+    ensures { IfSome result (λ report. (day : Day) × IsReading (rows_in_text text.now) day × (report.items ≡ report_of day)) }
+{
+    let Ok(day) = read_day(alloc, text) else {
+        return None;
+    };
+    report_from_day(alloc, day)
 }
 
 fn main(rt: HostRuntime) -> ExitCode {
@@ -48,7 +45,7 @@ fn main(rt: HostRuntime) -> ExitCode {
     if rt.stdin().read_to_end(&mut text).is_err() {
         return ExitCode::FAILURE;
     }
-    let Some(report) = report_of(rt.alloc(), text.as_slice()) else {
+    let Some(report) = report_from_text(rt.alloc(), text.as_slice()) else {
         return ExitCode::FAILURE;
     };
     match rt.stdout().write_all(report.as_slice()) {

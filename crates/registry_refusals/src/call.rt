@@ -121,3 +121,25 @@ pub(crate) fn try_threads<G: Debug, F: Fn() -> Ended, W: Write>(
     }
     tell_right(writer, ended == wanted)
 }
+
+/// Tries a call that starts threads and uses up what it is given: the first of two like things, and if it was refused something
+/// the second. It is lent nothing that it could change.
+pub(crate) fn try_using_up<T: Drop, F: Fn(T) -> Ended, W: Write>(
+    first: T,
+    second: T,
+    call: F,
+    wanted: Ended,
+    writer: &mut W,
+) -> Result<(), Stop>
+    requires { F.IsAlwaysCallable call }
+{
+    tell(writer, &"begin")?;
+    let mut ended = call(first);
+    tell_end(writer, ended)?;
+    if ended.is_refused() {
+        tell_unchanged(writer, true)?;
+        ended = call(second);
+        tell(writer, &ended.word())?;
+    }
+    tell_right(writer, ended == wanted)
+}

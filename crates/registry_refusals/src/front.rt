@@ -10,8 +10,8 @@ use std::io::Write;
 use std::sync::Wait;
 use std::thread::Threads;
 
-// `run`. It reads from a slice and writes into a digest, which takes no memory. A command that is refused something writes
-// nothing.
+// `run`. It reads from a slice, whose length it is told, and writes into a digest, which takes no memory. A command that is
+// refused something writes nothing.
 fn run_command<R: Threads + Wait + Sync>(
     rt: &R,
     alloc: Global,
@@ -20,7 +20,7 @@ fn run_command<R: Threads + Wait + Sync>(
 ) -> Ended {
     let mut rest = text;
     let mut written = Digest::new();
-    let mut reader = Counted::new(&mut rest);
+    let mut reader = Counted::new(&mut rest).expecting(text.len());
     let mut writer = Counted::new(&mut written);
     let answer = run(rt, alloc, &mut reader, &mut writer, *command);
     match answer {

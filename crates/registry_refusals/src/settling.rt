@@ -1,13 +1,13 @@
 //! Settling a day, in each way.
 
-use crate::call::{Call, try_call, try_rehearsed, try_threads};
+use crate::call::{Call, try_call, try_rehearsed, try_threads, try_using_up};
 use crate::digest::digest_of;
 use crate::endings::{Ended, how_ended};
 use crate::stop::Stop;
-use reg_book::{SettleFault, settle_plain};
+use reg_book::{SettleFault, settle_in_place, settle_plain};
 use reg_tasks::{Context, Unnamed, run_order};
-use reg_text::DayInput;
-use reg_work::{OpenGate, settle_waves, settle_with};
+use reg_text::{DayInput, read_day};
+use reg_work::{OpenGate, close_with, settle_waves, settle_with};
 use std::alloc::Global;
 use std::io::Write;
 use std::sync::Wait;
@@ -150,4 +150,49 @@ pub(crate) fn try_workers<R: Threads + Wait + Sync, W: Write>(
 ) -> Result<(), Stop> {
     let call = || settled_by_workers(rt, alloc, day, workers);
     try_threads(day, call, settled_plainly(alloc, day), writer)
+}
+
+// The day of a text.
+fn day_of(alloc: Global, text: &[u8]) -> Result<DayInput, Stop> {
+    match read_day(alloc, text) {
+        Ok(day) => Ok(day),
+        Err(_) => Err(Stop::Input),
+    }
+}
+
+// `settle_in_place`.
+fn closed_in_place(alloc: Global, day: DayInput) -> Ended {
+    let DayInput { book, rules, batch } = day;
+    if batch.base() + 1 != book.next_record() {
+        return Ended::Otherwise;
+    }
+    how_ended(settle_in_place(alloc, book, &rules, &batch))
+}
+
+// `close_with`, of which the closed day alone is looked at.
+fn closed_by_workers<R: Threads + Wait + Sync>(
+    rt: &R,
+    alloc: Global,
+    day: DayInput,
+    workers: u32,
+) -> Ended {
+    let DayInput { book, rules, batch } = day;
+    match close_with(rt, alloc, book, &rules, &batch, workers, &OpenGate) {
+        Ok((closed, _)) => Ended::Done(digest_of(&closed)),
+        Err(fault) => fault.into(),
+    }
+}
+
+/// Tries `close_with`, which uses up the book.
+pub(crate) fn try_closing<R: Threads + Wait + Sync, W: Write>(
+    rt: &R,
+    alloc: Global,
+    text: &[u8],
+    workers: u32,
+    writer: &mut W,
+) -> Result<(), Stop> {
+    let wanted = closed_in_place(alloc, day_of(alloc, text)?);
+    let (first, second) = (day_of(alloc, text)?, day_of(alloc, text)?);
+    let call = |day: DayInput| closed_by_workers(rt, alloc, day, workers);
+    try_using_up(first, second, call, wanted, writer)
 }

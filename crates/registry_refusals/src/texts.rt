@@ -6,7 +6,7 @@ use crate::endings::{Ended, how_ended};
 use crate::stop::Stop;
 use reg_base::{AccountNo, NoMemory};
 use reg_book::settle_plain;
-use reg_rules::LogRow;
+use reg_rules::{Closing, Holdings, LogRow, Reply};
 use reg_text::{
     DayFault, DayInput, figures, read_day, read_day_by_parts, statement, totals_text, write_book,
     write_report, write_report_pieces,
@@ -75,13 +75,40 @@ fn spell_pieces<R: Threads + Sync>(
     rt: &R,
     alloc: Global,
     day: &DayInput,
-    rows: &[LogRow],
+    replies: &[Reply],
     threads: u32,
 ) -> Result<Vec<Vec<u8>>, NoMemory> {
+    let (book, batch) = (&day.book, &day.batch);
     if threads == 0 {
-        return write_report_pieces(rt, alloc, &day.book, rows, 1);
+        return write_report_pieces(rt, alloc, book, batch, replies, 1);
     }
-    write_report_pieces(rt, alloc, &day.book, rows, threads as usize)
+    write_report_pieces(rt, alloc, book, batch, replies, threads as usize)
+}
+
+// A copy of a reply.
+fn copy_reply(alloc: Global, reply: &Reply) -> Result<Reply, Stop> {
+    match reply {
+        Reply::Done { closing, figure } => {
+            let mut holdings = Holdings::new(alloc);
+            for held in closing.as_slice() {
+                holdings.push(*held)?;
+            }
+            Ok(Reply::Done {
+                closing: Closing::new(holdings),
+                figure: *figure,
+            })
+        }
+        Reply::Refused(refusal) => Ok(Reply::Refused(*refusal)),
+    }
+}
+
+// Copies of the replies in log rows.
+fn copy_replies(alloc: Global, rows: &[LogRow]) -> Result<Vec<Reply>, Stop> {
+    let mut replies = Vec::new(alloc);
+    for row in rows {
+        replies.push(copy_reply(alloc, &row.reply)?)?;
+    }
+    Ok(replies)
 }
 
 /// Tries `write_report_pieces` by so many threads: its pieces are to be the report that `write_report` writes.
@@ -100,7 +127,8 @@ pub(crate) fn try_pieces<R: Threads + Sync, W: Write>(
         return Err(Stop::Short);
     };
     let wanted = Ended::Done(digest_of_pieces(&[whole]));
-    let call = || how_spelled(spell_pieces(rt, alloc, day, rows, threads));
+    let replies = copy_replies(alloc, rows)?;
+    let call = || how_spelled(spell_pieces(rt, alloc, day, &replies, threads));
     try_threads(day, call, wanted, writer)
 }
 

@@ -7,7 +7,7 @@ use crate::claims::try_table;
 use crate::docks::{try_dock, try_docks};
 use crate::front::{try_command, try_settle};
 use crate::plans::{try_check, try_plan, try_plan_text};
-use crate::settling::{try_order, try_plain, try_waves, try_workers};
+use crate::settling::{try_closing, try_order, try_plain, try_waves, try_workers};
 use crate::steps::try_execute;
 use crate::stop::Stop;
 use crate::tasks::{try_context, try_gather, try_opening, try_run};
@@ -48,6 +48,9 @@ pub(crate) fn try_word<R: Threads + Wait + Sync, W: Write>(
     }
     if name == "read_day_by_parts" {
         return try_read_by_parts(rt, alloc, text, number, writer);
+    }
+    if name == "close_with" {
+        return try_closing(rt, alloc, text, number, writer);
     }
     if let Some(command) = name.strip_prefix("command_") {
         return try_run_of(rt, alloc, command, number, text, writer);

@@ -1,9 +1,9 @@
 //! Distributions: one account gives to one to eight others, by all ways of settling.
 
-use crate::crew::shifts;
 use crate::fixtures::{read, worked};
 use crate::levels::is_same;
 use crate::orders::{opening, settled, told};
+use crate::stealing::shifts;
 use reg_tasks::{Context, Unnamed, run_order};
 use reg_text::DayInput;
 use reg_work::OpenGate;

@@ -4,8 +4,6 @@
 #[cfg(test)]
 mod book;
 #[cfg(test)]
-mod crew;
-#[cfg(test)]
 mod distributions;
 #[cfg(test)]
 mod docks;
@@ -20,7 +18,11 @@ mod orders;
 #[cfg(test)]
 mod periods;
 #[cfg(test)]
+mod stealing;
+#[cfg(test)]
 mod texts;
+#[cfg(test)]
+mod vaults;
 #[cfg(test)]
 mod worlds;
 #[cfg(test)]

@@ -1,9 +1,8 @@
 //! Why a run ends early, and what is written.
 
-use reg_book::Settled;
 use reg_work::WorkFault;
 use std::alloc::{AllocError, Global};
-use std::fmt::Display;
+use std::fmt::{Debug, Display};
 use std::io::Write;
 
 /// Why nothing more was done.
@@ -39,10 +38,21 @@ pub(crate) fn tell<W: Write>(writer: &mut W, line: &impl Display) -> Result<(), 
     Ok(())
 }
 
-/// What a settled day is, in a text that tells two different ones apart.
-pub(crate) fn told(alloc: Global, settled: &Settled) -> Result<String, Stop> {
-    match format!(in alloc; "{:?}", settled) {
+/// What a settled or a closed day is, in a text that tells two different ones apart.
+pub(crate) fn told<T: Debug>(alloc: Global, day: &T) -> Result<String, Stop> {
+    match format!(in alloc; "{:?}", day) {
         Ok(text) => Ok(text),
         Err(_) => Err(Stop::Short),
+    }
+}
+
+/// The number that stands at this place of the words.
+pub(crate) fn number_at(words: &[String], place: usize) -> Result<u32, Stop> {
+    let Some(word) = words.get(place) else {
+        return Err(Stop::Input);
+    };
+    match word.as_str().parse::<u32>() {
+        Ok(number) => Ok(number),
+        Err(_) => Err(Stop::Input),
     }
 }

@@ -2,21 +2,24 @@
 //! spelled run by run, by several threads.
 
 ghost use Rattle.std.specs.Prelude.{◌≡◌, ◌<◌, ◌≤◌, ◌+◌, ◌/◌, ◌%◌, ◌++◌, ◌∷◌, [], codes, min, IfOk, OnOk, vec_len, length};
-ghost use Rattle.std.specs.List.{flat_map};
 ghost use Rattle.csv.specs.Writing.{default_writer, row_text};
-ghost use Rattle.reg_base.specs.declared.kinds.AllowanceKind.TheVariants.{General, Aviation};
+ghost use Rattle.reg_book.specs.Day.{rows_replied};
+ghost use Rattle.reg_book.specs.Totals.{totals_of};
 ghost use Rattle.reg_text.specs.Numbers.{number};
-ghost use Rattle.reg_text.specs.Spelling.{book_rows, end_row};
-ghost use Rattle.reg_text.specs.Report.{text_of, log_rows, totals_row, report_rows};
-ghost use Rattle.reg_text.specs.Pieces.{text_of_pieces, SpellsAt};
+ghost use Rattle.reg_text.specs.Spelling.{book_rows};
+ghost use Rattle.reg_text.specs.Report.{text_of, log_rows, report_rows};
+ghost use Rattle.reg_text.specs.Totals.{rows_of_totals};
+ghost use Rattle.reg_text.specs.Pieces.{text_of_pieces, MadeAt, IsLogOf, AreBlocksOf};
 
-use crate::writing::report::{put_end, put_next, put_totals, write_report};
+use crate::writing::entries::put_log_after;
+use crate::writing::report::{put_next, put_totals, write_report_over};
 use crate::writing::row::RowText;
-use crate::writing::rows::{Rows, put_each};
+use crate::writing::rows::put_each;
 use crate::writing::text::Text;
-use reg_base::{AllowanceKind, NoMemory};
-use reg_book::Book;
-use reg_rules::LogRow;
+use reg_account::Account;
+use reg_base::{Batch, NoMemory};
+use reg_book::{Book, BothTotals, add_up};
+use reg_rules::Reply;
 use std::alloc::{AllocError, Global};
 use std::thread;
 use std::thread::Threads;
@@ -24,28 +27,80 @@ use std::thread::Threads;
 // So many log rows and accounts are spelled by one thread: to start others would take longer.
 const FEW: usize = 1_024;
 
-// The text of the rows of values.
-fn spell_run<T: Rows>(alloc: Global, values: &[T]) -> Result<Vec<u8>, NoMemory>
-    ensures { IfOk result (λ text. text.items ≡ text_of (flat_map T.rows values.now)) }
+// What was spelled of accounts: their blocks, and their totals.
+#[derive(Drop)]
+struct Blocks {
+    text: Vec<u8>,
+    totals: BothTotals,
+}
+
+// The text of the log rows of instructions with these replies. The first of them is at this place, counted from 0.
+fn spell_log(
+    alloc: Global,
+    batch: &Batch,
+    first: usize,
+    replies: &[Reply],
+) -> Result<Vec<u8>, NoMemory>
+    ensures { IfOk result (IsLogOf batch.now first replies.now) }
 {
     let mut text = Text::new(alloc);
     let mut row = RowText::new();
-    put_each(&mut text, &mut row, values)?;
+    put_log_after(&mut text, &mut row, batch, first, replies)?;
     Ok(text.into_bytes())
 }
 
-// Spells each run of so many values, each in a thread of its own where one can be started.
-fn spell_runs<R: Threads + Sync, T: Rows + Sync>(
+// Spells the log rows of each run of so many replies, each in a thread of its own where one can be started.
+fn spell_logs<R: Threads + Sync>(
     rt: &R,
     alloc: Global,
-    values: &[T],
+    batch: &Batch,
+    replies: &[Reply],
     size: usize,
 ) -> Result<Vec<Result<Vec<u8>, NoMemory>>, AllocError>
     requires { 0 < size }
-    ensures len { IfOk result (λ runs. vec_len runs ≡ length values.now / size + min 1 (length values.now % size)) }
-    ensures each { IfOk result (λ runs. SpellsAt T.rows values.now size runs.items) }
+    ensures len { IfOk result (λ runs. vec_len runs ≡ length replies.now / size + min 1 (length replies.now % size)) }
+    ensures each { IfOk result (λ runs. MadeAt (IsLogOf batch.now) replies.now size runs.items) }
 {
-    thread::map_chunks(rt, alloc, values, size, &|_, run| { spell_run(alloc, run) })
+    thread::map_chunks(
+        rt,
+        alloc,
+        replies,
+        size,
+        &|first, run| { spell_log(alloc, batch, first, run) },
+    )
+}
+
+// The blocks of accounts, and their totals.
+fn spell_blocks(alloc: Global, accounts: &[Account]) -> Result<Blocks, NoMemory>
+    ensures { IfOk result (AreBlocksOf 0 accounts.now) }
+{
+    let mut text = Text::new(alloc);
+    let mut row = RowText::new();
+    put_each(&mut text, &mut row, accounts)?;
+    Ok(Blocks {
+        text: text.into_bytes(),
+        totals: add_up(accounts),
+    })
+}
+
+// Spells the blocks of each run of so many accounts, each in a thread of its own where one can be started.
+fn spell_all_blocks<R: Threads + Sync>(
+    rt: &R,
+    alloc: Global,
+    accounts: &[Account],
+    size: usize,
+) -> Result<Vec<Result<Blocks, NoMemory>>, AllocError>
+    requires { 0 < size }
+    ensures len { IfOk result (λ runs. vec_len runs ≡ length accounts.now / size + min 1 (length accounts.now % size)) }
+    ensures each { IfOk result (λ runs. MadeAt AreBlocksOf accounts.now size runs.items) }
+{
+    thread::map_chunks(
+        rt,
+        alloc,
+        accounts,
+        size,
+        &|_, run| { spell_blocks(alloc, run) },
+    )
 }
 
 // How many values a run has, if so many values are to lie in at most so many runs.
@@ -56,51 +111,46 @@ fn run_size(count: usize, workers: usize) -> usize
     (count / workers).saturating_add(1)
 }
 
-// Adds the rows of values, in at most so many pieces.
-fn add_runs<R: Threads + Sync, T: Rows + Sync>(
+// Adds the log of a batch with these replies, in at most so many pieces.
+fn add_log<R: Threads + Sync>(
     rt: &R,
     alloc: Global,
     pieces: &mut Vec<Vec<u8>>,
-    values: &[T],
+    batch: &Batch,
+    replies: &[Reply],
     workers: usize,
 ) -> Result<(), NoMemory>
     requires { 1 ≤ workers }
-    ensures { OnOk result (text_of_pieces pieces.new.items ≡ text_of_pieces pieces.old.items ++ text_of (flat_map T.rows values.now)) }
+    ensures { OnOk result (text_of_pieces pieces.new.items ≡ text_of_pieces pieces.old.items ++ text_of (log_rows (rows_replied batch.now replies.now))) }
 {
-    let size = run_size(values.len(), workers);
-    for run in spell_runs(rt, alloc, values, size)? {
+    let size = run_size(replies.len(), workers);
+    for run in spell_logs(rt, alloc, batch, replies, size)? {
         pieces.push(run?)?;
     }
     Ok(())
 }
 
-// Adds the rows of a log.
-#[tactic(auto, using(std::proofs::lemmas::List::Concat::flat_map_single))]
-fn add_log<R: Threads + Sync>(
-    rt: &R,
-    alloc: Global,
-    pieces: &mut Vec<Vec<u8>>,
-    rows: &[LogRow],
-    workers: usize,
-) -> Result<(), NoMemory>
-    requires { 1 ≤ workers }
-    ensures { OnOk result (text_of_pieces pieces.new.items ≡ text_of_pieces pieces.old.items ++ text_of (log_rows rows.now)) }
-{
-    add_runs(rt, alloc, pieces, rows, workers)
-}
-
-// Adds the blocks of the accounts of a book.
+// Adds the blocks of the accounts of a book, in at most so many pieces. Answers the totals of the book.
 fn add_accounts<R: Threads + Sync>(
     rt: &R,
     alloc: Global,
     pieces: &mut Vec<Vec<u8>>,
     book: &Book,
     workers: usize,
-) -> Result<(), NoMemory>
+) -> Result<BothTotals, NoMemory>
     requires { 1 ≤ workers }
-    ensures { OnOk result (text_of_pieces pieces.new.items ≡ text_of_pieces pieces.old.items ++ text_of (book_rows book.now)) }
+    ensures text { OnOk result (text_of_pieces pieces.new.items ≡ text_of_pieces pieces.old.items ++ text_of (book_rows book.now)) }
+    ensures totals { IfOk result (λ totals. totals ≡ totals_of book.now.accounts) }
 {
-    add_runs(rt, alloc, pieces, book.accounts(), workers)
+    let accounts = book.accounts();
+    let size = run_size(accounts.len(), workers);
+    let mut totals = BothTotals::none();
+    for run in spell_all_blocks(rt, alloc, accounts, size)? {
+        let blocks = run?;
+        totals = totals.plus(&blocks.totals);
+        pieces.push(blocks.text)?;
+    }
+    Ok(totals)
 }
 
 // The first row of the book.
@@ -114,38 +164,18 @@ fn spell_head(alloc: Global, book: &Book) -> Result<Vec<u8>, NoMemory>
 }
 
 // The totals, and the row `end`.
-fn spell_tail(alloc: Global, book: &Book) -> Result<Vec<u8>, NoMemory>
-    ensures { IfOk result (λ text. text.items ≡ text_of (totals_row book.now General ∷ totals_row book.now Aviation ∷ end_row ∷ [])) }
+fn spell_tail(alloc: Global, totals: &BothTotals) -> Result<Vec<u8>, NoMemory>
+    ensures { IfOk result (λ text. text.items ≡ text_of (rows_of_totals totals.now)) }
 {
     let mut text = Text::new(alloc);
     let mut row = RowText::new();
-    put_totals(&mut text, &mut row, book, AllowanceKind::General)?;
-    put_totals(&mut text, &mut row, book, AllowanceKind::Aviation)?;
-    put_end(&mut text)?;
+    put_totals(&mut text, &mut row, totals)?;
     Ok(text.into_bytes())
 }
 
-// The log and the book.
-fn spell_front<R: Threads + Sync>(
-    rt: &R,
-    alloc: Global,
-    book: &Book,
-    rows: &[LogRow],
-    workers: usize,
-) -> Result<Vec<Vec<u8>>, NoMemory>
-    requires { 1 ≤ workers }
-    ensures { IfOk result (λ pieces. text_of_pieces pieces.items ≡ text_of (log_rows rows.now) ++ row_text default_writer (codes "book" ∷ number book.now.next ∷ []) ++ text_of (book_rows book.now)) }
-{
-    let mut pieces = Vec::new(alloc);
-    add_log(rt, alloc, &mut pieces, rows, workers)?;
-    pieces.push(spell_head(alloc, book)?)?;
-    add_accounts(rt, alloc, &mut pieces, book, workers)?;
-    Ok(pieces)
-}
-
-/// The report of a settled day in pieces, spelled by so many threads. Their bytes one after another are the text that
-/// `write_report` makes; they are never put together. Another thread adds up the totals at the same time. A short report
-/// is one piece.
+/// The report of a batch with these replies in pieces, spelled by so many threads. Their bytes one after another are the
+/// text that [`write_report_over`](crate::write_report_over) makes; they are never put together. Each thread adds up the
+/// accounts that it spells, for the totals. A short report is one piece.
 ///
 /// # Errors
 /// `NoMemory` if memory ran out. That a thread can't be started is no error.
@@ -153,32 +183,34 @@ pub fn write_report_pieces<R: Threads + Sync>(
     rt: &R,
     alloc: Global,
     book: &Book,
-    rows: &[LogRow],
+    batch: &Batch,
+    replies: &[Reply],
     workers: usize,
 ) -> Result<Vec<Vec<u8>>, NoMemory>
     requires { 1 ≤ workers }
-    ensures { IfOk result (λ pieces. text_of_pieces pieces.items ≡ text_of (report_rows book.now rows.now)) }
+    ensures { IfOk result (λ pieces. text_of_pieces pieces.items ≡ text_of (report_rows book.now (rows_replied batch.now replies.now))) }
 {
-    if book.accounts().len() < FEW && rows.len() < FEW {
-        return spell_at_once(alloc, book, rows);
+    if book.accounts().len() < FEW && replies.len() < FEW {
+        return spell_at_once(alloc, book, batch, replies);
     }
-    let (tail, front) = thread::join(
-        rt,
-        || spell_tail(alloc, book),
-        ||
-            requires { 1 ≤ workers }
-        { spell_front(rt, alloc, book, rows, workers) },
-    );
-    let mut pieces = front?;
-    pieces.push(tail?)?;
+    let mut pieces = Vec::new(alloc);
+    add_log(rt, alloc, &mut pieces, batch, replies, workers)?;
+    pieces.push(spell_head(alloc, book)?)?;
+    let totals = add_accounts(rt, alloc, &mut pieces, book, workers)?;
+    pieces.push(spell_tail(alloc, &totals)?)?;
     Ok(pieces)
 }
 
 // The report in one piece.
-fn spell_at_once(alloc: Global, book: &Book, rows: &[LogRow]) -> Result<Vec<Vec<u8>>, NoMemory>
-    ensures { IfOk result (λ pieces. text_of_pieces pieces.items ≡ text_of (report_rows book.now rows.now)) }
+fn spell_at_once(
+    alloc: Global,
+    book: &Book,
+    batch: &Batch,
+    replies: &[Reply],
+) -> Result<Vec<Vec<u8>>, NoMemory>
+    ensures { IfOk result (λ pieces. text_of_pieces pieces.items ≡ text_of (report_rows book.now (rows_replied batch.now replies.now))) }
 {
-    let text = write_report(alloc, book, rows)?;
+    let text = write_report_over(Vec::new(alloc), book, batch, replies)?;
     let mut pieces = Vec::new(alloc);
     pieces.push(text)?;
     Ok(pieces)

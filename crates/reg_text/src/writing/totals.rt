@@ -4,10 +4,10 @@ ghost use Rattle.std.specs.Prelude.{◌≡◌, IfOk};
 ghost use Rattle.reg_text.specs.Report.{text_of};
 ghost use Rattle.reg_text.specs.Totals.{totals_rows};
 
-use crate::writing::report::{put_end, put_totals};
+use crate::writing::report::put_totals;
 use crate::writing::row::RowText;
 use crate::writing::text::Text;
-use reg_base::{AllowanceKind, NoMemory};
+use reg_base::NoMemory;
 use reg_book::Book;
 use std::alloc::Global;
 
@@ -21,8 +21,6 @@ pub fn totals_text(alloc: Global, book: &Book) -> Result<Vec<u8>, NoMemory>
 {
     let mut text = Text::new(alloc);
     let mut row = RowText::new();
-    put_totals(&mut text, &mut row, book, AllowanceKind::General)?;
-    put_totals(&mut text, &mut row, book, AllowanceKind::Aviation)?;
-    put_end(&mut text)?;
+    put_totals(&mut text, &mut row, &book.both_totals())?;
     Ok(text.into_bytes())
 }

@@ -7,9 +7,9 @@ use Rattle.std.specs.Prelude.{All}
 use Rattle.reg_rules.specs.declared.reply.Reply.{Reply}
 use Rattle.reg_rules.specs.State.{State, Setting, numbers}
 use Rattle.reg_rules.specs.Laws.{IsReady}
-use Rattle.reg_rules.specs.Step.{step, row_of}
+use Rattle.reg_rules.specs.Step.{step}
 use Rattle.reg_book.specs.Places.{StandAt, AllStandAt, places_lists}
-use Rattle.reg_book.proofs.Folds.{rows_more, state_more, numbers_more}
+use Rattle.reg_book.proofs.Folds.{replies_more, state_more, numbers_more}
 use Rattle.reg_book.proofs.Ranks.{stand-of}
 use Rattle.reg_book.proofs.settle.settle_all.Goals as goal
 
@@ -30,8 +30,7 @@ loop-place-preserved c =
     let setting = c.args.setting.now in
     let within : c.loop-place.place < length c.instructions-instructions.result.now = search rules in
     let counted : c.unwrap-number.result ≡ c.loop-place.last + 1 = search rules in
-    let grown : c.push.new.self.items ≡ c.loop-place.rows.items ++ c.log_row.result ∷ [] = c.in_ok-push.ensures.items in
-    let noted : c.log_row.result ≡ row_of setting c.unwrap-number.result c.index-instructions-place.result c.in_ok-reply.reply = c.log_row.ensures ∙ ap (λ (k : Setting). row_of k c.unwrap-number.result c.index-instructions-place.result c.in_ok-reply.reply) c.setting.view_is in
+    let grown : c.push.new.self.items ≡ c.loop-place.replies.items ++ c.in_ok-reply.reply ∷ [] = c.in_ok-push.ensures.items in
     let own : IsInstruction c.index-instructions-place.result =
     subst IsInstruction (sym c.index-instructions-place.is)
     ((subst (All IsInstruction) (sym c.instructions-instructions.ensures) c.base-last.ensures.room.each) c.loop-place.place c.index-instructions-place.result within) in
@@ -44,8 +43,8 @@ loop-place-preserved c =
       counted = omega (arith, c.loop-place.invariant.counted);
       ready = subst (IsReady (c.loop-place.last + 1 + 1)) (sym stepped) ready;
       same_numbers = numbers_more c.step_laws.ensures setting c.loop-place.accounts c.take_turn.new.accounts c.unwrap-number.result c.index-instructions-place.result c.in_ok-reply.reply c.in_ok-reply.ensures ∙ c.loop-place.invariant.same_numbers;
-      so_far = rows_more setting c.loop-place.accounts c.take_turn.new.accounts c.instructions-instructions.result.now c.loop-place.place c.loop-place.last c.unwrap-number.result
-          c.index-instructions-place.result c.in_ok-reply.reply c.loop-place.rows.items c.push.new.self.items _ c.log_row.result within c.index-instructions-place.is counted c.in_ok-reply.ensures noted grown c.loop-place.invariant.so_far;
+      so_far = replies_more setting c.loop-place.accounts c.take_turn.new.accounts c.instructions-instructions.result.now c.loop-place.place c.loop-place.last c.unwrap-number.result
+          c.index-instructions-place.result c.in_ok-reply.reply c.loop-place.replies.items c.push.new.self.items _ within c.index-instructions-place.is counted c.in_ok-reply.ensures grown c.loop-place.invariant.so_far;
       state = state_more setting c.loop-place.accounts c.take_turn.new.accounts c.instructions-instructions.result.now c.loop-place.place c.loop-place.last c.unwrap-number.result
           c.index-instructions-place.result c.in_ok-reply.reply _ within c.index-instructions-place.is counted c.in_ok-reply.ensures c.loop-place.invariant.state;
     }

@@ -1,7 +1,7 @@
 use Rattle.std.proofs.Common.{◌≡◌, ◌+◌, ◌++◌, drop}
 use Rattle.reg_rules.specs.State.{numbers}
 use Rattle.reg_rules.specs.Laws.{IsReady}
-use Rattle.reg_book.specs.Fold.{state_after, rows_of}
+use Rattle.reg_book.specs.Fold.{state_after, rows_of, replies_in}
 use Rattle.reg_book.proofs.settle.settle_all.Given as goal
 
 abbrev pub invariant-loop-place : goal.invariant-loop-place
@@ -11,8 +11,8 @@ invariant-loop-place l =
       counted : l.last ≡ l.initial.last + l.place;
       ready : IsReady (l.last + 1) l.accounts;
       same_numbers : numbers l.accounts ≡ numbers l.initial.accounts;
-      so_far : l.rows.items ++ rows_of setting l.accounts (l.last + 1) (drop l.place l.instructions)
-          ≡ rows_of setting l.initial.accounts (l.initial.last + 1) l.instructions;
+      so_far : l.replies.items ++ replies_in (rows_of setting l.accounts (l.last + 1) (drop l.place l.instructions))
+          ≡ replies_in (rows_of setting l.initial.accounts (l.initial.last + 1) l.instructions);
       state : state_after setting l.accounts (l.last + 1) (drop l.place l.instructions)
           ≡ state_after setting l.initial.accounts (l.initial.last + 1) l.instructions;
     }

@@ -1,12 +1,14 @@
-use Rattle.std.proofs.Common.{◌≡◌, ◌+◌, rules, length, sym, ap, ◌∙◌, subst}
-use Rattle.reg_rules.specs.State.{State, numbers}
+use Rattle.std.proofs.Common.{List, ◌≡◌, ◌+◌, rules, length, sym, ap, ◌∙◌, subst}
+use Rattle.reg_rules.specs.declared.reply.Reply.{Reply}
+use Rattle.reg_rules.specs.State.{State, Setting, numbers}
 use Rattle.reg_rules.specs.Laws.{IsReady}
 use Rattle.reg_book.specs.Book.{directory_of}
 use Rattle.reg_book.specs.Day.{Day, IsDay, day_of}
 use Rattle.reg_book.specs.Fold.{touched_of}
 use Rattle.reg_book.specs.Places.{AllStandAt, places_lists}
 use Rattle.reg_book.specs.Settled.{IsSettled, IsOfBook}
-use Rattle.reg_book.proofs.Days.{day-made, settled-kept, settled-of_book, touched-ready}
+use Rattle.reg_book.proofs.Days.{day-made, log-made, settled-kept, settled-of_book, touched-ready}
+use Rattle.reg_book.proofs.Folds.{size-replies_of}
 use Rattle.reg_book.proofs.settle.settle_batch.Goals as goal
 use Rattle.reg_book.proofs.settle.settle_batch.Goals.{After-deref}
 
@@ -38,24 +40,33 @@ settle_all-requires-clause-places c =
     let second = subst (λ (s : State). AllStandAt directory (numbers s) ps c.args.batch.now.instructions) (sym c.deref_mut.ensures.value) first in
     subst (λ vs. AllStandAt directory (numbers c.deref_mut.result.now) (places_lists vs) c.args.batch.now.instructions) (sym c.deref.ensures.value) second
 
+pub make_log-requires : goal.make_log-requires
+make_log-requires c =
+    let setting : Setting = record { rules = c.args.rules.now; day = c.day.result; directory = c.directory-directory.result.now } in
+    ap (λ (replies : List Reply). length replies) c.in_ok-replies.ensures.replies ∙ size-replies_of setting c.deref_mut.result.now (c.args.batch.now.base + 1) c.args.batch.now.instructions
+
 pub new-requires : goal.new-requires
 new-requires c =
     let day : Day = day_of c.args.book.now c.args.rules.now c.args.batch.now in
     let size : c.in_ok-accounts.field-0.accounts.len ≡ length c.in_ok-accounts.field-0.accounts.items = search rules in
+    let setting : Setting = record { rules = c.args.rules.now; day = c.day.result; directory = c.directory-directory.result.now } in
+    let logged = log-made setting c.deref_mut.result.now c.args.batch.now c.in_ok-replies.replies.items c.in_ok-rows.rows.items c.day.ensures c.in_ok-replies.ensures.replies c.in_ok-rows.ensures in
     let made = day-made c.step_laws.ensures day c.day.result c.directory-directory.result.now c.instructions.result.now c.accounts.result.now
     c.in_ok-accounts.field-0.accounts.items c.deref_mut.result.now c.settle_all.new.accounts c.in_ok-rows.rows.items c.base-base.result c.in_ok-accounts.field-0.accounts.len
     c.accounts.ensures.kept c.day.ensures c.directory-directory.ensures c.instructions.ensures c.accounts.ensures.value c.in_ok-accounts.ensures.accounts c.deref_mut.ensures.value
-    c.in_ok-rows.ensures.rows c.in_ok-rows.ensures.accounts c.base-base.ensures.value size in
+    logged c.in_ok-replies.ensures.accounts c.base-base.ensures.value size in
     subst IsSettled (sym made) (settled-kept c.step_laws.ensures day c.accounts.ensures.kept c.base-base.ensures.room)
 
 pub returns-clause-settled : goal.returns-clause-settled
 returns-clause-settled c =
     let size : c.in_ok-accounts.field-0.accounts.len ≡ length c.in_ok-accounts.field-0.accounts.items = search rules in
+    let setting : Setting = record { rules = c.args.rules.now; day = c.day.result; directory = c.directory-directory.result.now } in
+    let logged = log-made setting c.deref_mut.result.now c.args.batch.now c.in_ok-replies.replies.items c.in_ok-rows.rows.items c.day.ensures c.in_ok-replies.ensures.replies c.in_ok-rows.ensures in
     c.new.ensures
     ∙ day-made c.step_laws.ensures (day_of c.args.book.now c.args.rules.now c.args.batch.now) c.day.result c.directory-directory.result.now c.instructions.result.now c.accounts.result.now
     c.in_ok-accounts.field-0.accounts.items c.deref_mut.result.now c.settle_all.new.accounts c.in_ok-rows.rows.items c.base-base.result c.in_ok-accounts.field-0.accounts.len
     c.accounts.ensures.kept c.day.ensures c.directory-directory.ensures c.instructions.ensures c.accounts.ensures.value c.in_ok-accounts.ensures.accounts c.deref_mut.ensures.value
-    c.in_ok-rows.ensures.rows c.in_ok-rows.ensures.accounts c.base-base.ensures.value size
+    logged c.in_ok-replies.ensures.accounts c.base-base.ensures.value size
 
 pub returns-clause-of_book : goal.returns-clause-of_book
 returns-clause-of_book c =

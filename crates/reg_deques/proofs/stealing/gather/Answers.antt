@@ -1,5 +1,5 @@
 use Rattle.std.proofs.Common.{ap, ◌∙◌, arith}
-use Rattle.reg_deques.proofs.Holdings.{joins, settles}
+use Rattle.reg_deques.proofs.TicketViews.{joins, settles}
 use Rattle.reg_deques.proofs.stealing.gather.Goals as goal
 
 pub join_seat-requires : goal.join_seat-requires

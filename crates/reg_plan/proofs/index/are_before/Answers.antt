@@ -1,4 +1,4 @@
-use Rattle.std.proofs.Common.{ℕ, get_or, arith, subst, ◌∙◌, ◌-◌, ◌≡◌, ◌≤◌, ◌<◌}
+use Rattle.std.proofs.Common.{get_or, arith, subst, ◌∙◌, ◌-◌, ◌≤◌, ◌<◌}
 use Rattle.std.proofs.lemmas.Bool.{leb-true}
 use Rattle.reg_plan.specs.declared.arrow.Arrow.{Arrow}
 use Rattle.reg_plan.specs.Ends.{end_at, AreBefore}

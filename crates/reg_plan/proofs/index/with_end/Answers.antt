@@ -1,4 +1,4 @@
-use Rattle.std.proofs.Common.{ℕ, ◌+◌, ◌-◌, ◌≤◌, length, take, sym, ap, subst, ◌∙◌}
+use Rattle.std.proofs.Common.{◌+◌, ◌-◌, ◌≤◌, take, sym, ap, subst, ◌∙◌}
 use Rattle.reg_plan.specs.Ends.{end_at, AreBefore}
 use Rattle.reg_plan.proofs.Slices.{with_key, fewer, rest_is}
 use Rattle.reg_plan.proofs.index.with_end.Goals as goal

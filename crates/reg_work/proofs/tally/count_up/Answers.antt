@@ -3,64 +3,65 @@ use Rattle.std.proofs.lemmas.List.{nil_from_length}
 use Rattle.reg_counting.specs.Counting.{times, once}
 use Rattle.reg_claim.specs.declared.views.View.{View}
 use Rattle.reg_claim.specs.Seats.{known}
+use Rattle.reg_work.specs.Parts.{joined}
 use Rattle.reg_work.specs.Shifts.{workers_of}
-use Rattle.reg_work.specs.Stints.{stint_workers, all_done, all_closing}
+use Rattle.reg_work.specs.EndedWorkers.{ended_numbers, all_done, all_closing}
 use Rattle.reg_work.proofs.Counting.{times-append, times-mapped}
 use Rattle.reg_work.proofs.Ending.{joined-sees, all-finished, was-there}
 use Rattle.reg_work.proofs.tally.count_up.Goals as goal
 
-pub loop-stint-preserved : goal.loop-stint-preserved
-loop-stint-preserved g c =
-    let i = c.loop-stint.invariant in
+pub loop-ended_worker-preserved : goal.loop-ended_worker-preserved
+loop-ended_worker-preserved g c =
+    let i = c.loop-ended_worker.invariant in
     let view = c.join-rest.ensures.view in
-    let post = c.in-Some.stint.post in
+    let worker = c.in-Some.ended_worker.worker in
     let items = c.in-Some.ensures.steps.0 in
     let left = ap length items in
     let part = ap (λ (v : View). v.share) view in
-    let one = post.one_part in
+    let one = worker.one_share in
     let share = i.share in
     record {
       can_go = record {};
       ends = record {};
       table = c.join-rest.ensures.same ∙ i.table;
       share = omega arith;
-      seen = inr (rw view (joined-sees g.B.Room.count _ (known c.loop-stint.rest) (known post.seat) i.seen c.in-Some.stint.over));
+      seen = inr (rw view (joined-sees g.I.SharedIds.count _ (known c.loop-ended_worker.rest) (known worker.seat) i.seen c.in-Some.ended_worker.over));
       times = λ p.
           ap (λ (v : View). times p v.finished) view
-          ∙ times-append p (known c.loop-stint.rest).finished (known post.seat).finished
-          ∙ (let old = i.times p in let new = c.in_ok-add.ensures.times p in let same = ap (times p) post.finished in omega arith);
+          ∙ times-append p (known c.loop-ended_worker.rest).finished (known worker.seat).finished
+          ∙ (let old = i.times p in let new = c.in_ok-add.ensures.times p in let same = ap (times p) worker.finished in omega arith);
       rows = λ p.
           ap (λ (v : View). times p v.finished) view
-          ∙ times-append p (known c.loop-stint.rest).finished (known post.seat).finished
-          ∙ (let old = i.rows p in let new = times-mapped (λ d. d.place) p c.add.new.self.done.items c.loop-stint.work.done.items post.done.items c.in_ok-add.ensures.done in let same = ap (times p) post.rows in omega arith);
-      workers = ap (λ ws. ws ++ stint_workers c.next.new.self.rest.items) c.in_ok-add.ensures.workers
-          ∙ append_assoc (workers_of c.loop-stint.work.shifts.items) (c.in-Some.stint.worker ∷ []) (stint_workers c.next.new.self.rest.items)
-          ∙ ap (λ ss. workers_of c.loop-stint.work.shifts.items ++ stint_workers ss) (sym items)
+          ∙ times-append p (known c.loop-ended_worker.rest).finished (known worker.seat).finished
+          ∙ (let old = i.rows p in let new = times-mapped (λ d. d.place) p c.add.new.self.done.items c.loop-ended_worker.work.done.items worker.done.items c.in_ok-add.ensures.done in let same = ap (times p) worker.rows in omega arith);
+      workers = ap (λ ws. ws ++ ended_numbers c.next.new.self.rest.items) c.in_ok-add.ensures.workers
+          ∙ append_assoc (workers_of c.loop-ended_worker.work.shifts.items) (c.in-Some.ended_worker.number ∷ []) (ended_numbers c.next.new.self.rest.items)
+          ∙ ap (λ ss. workers_of c.loop-ended_worker.work.shifts.items ++ ended_numbers ss) (sym items)
           ∙ i.workers;
       done = ap (λ ds. ds ++ all_done c.next.new.self.rest.items) c.in_ok-add.ensures.done
-          ∙ append_assoc c.loop-stint.work.done.items post.done.items (all_done c.next.new.self.rest.items)
-          ∙ ap (λ ss. c.loop-stint.work.done.items ++ all_done ss) (sym items)
+          ∙ append_assoc c.loop-ended_worker.work.done.items worker.done.items (all_done c.next.new.self.rest.items)
+          ∙ ap (λ ss. c.loop-ended_worker.work.done.items ++ all_done ss) (sym items)
           ∙ i.done;
       closing = ap (λ ps. ps ++ all_closing c.next.new.self.rest.items) c.in_ok-add.ensures.closing
-          ∙ append_assoc c.loop-stint.work.closing.items post.closing.items (all_closing c.next.new.self.rest.items)
-          ∙ ap (λ ss. c.loop-stint.work.closing.items ++ all_closing ss) (sym items)
+          ∙ append_assoc (joined c.loop-ended_worker.work.closing.items) worker.closing.items (all_closing c.next.new.self.rest.items)
+          ∙ ap (λ ss. joined c.loop-ended_worker.work.closing.items ++ all_closing ss) (sym items)
           ∙ i.closing;
     }
 
 pub returns : goal.returns
 returns g c =
-    let i = c.loop-stint.invariant in
-    let none : c.loop-stint.stint-iterator.rest.items ≡ [] = nil_from_length _ (sym c.loop-stint.stint-iterator.rest.ok.0 ∙ c.in-None.ensures.steps.0) in
+    let i = c.loop-ended_worker.invariant in
+    let none : c.loop-ended_worker.ended_worker-iterator.rest.items ≡ [] = nil_from_length _ (sym c.loop-ended_worker.ended_worker-iterator.rest.ok.0 ∙ c.in-None.ensures.steps.0) in
     let all = c.close-tally.ensures in
-    let ends = was-there g.B.Room.count _ _ (known c.loop-stint.rest) (ap length none) c.requires.some i.seen in
+    let ends = was-there g.I.SharedIds.count _ _ (known c.loop-ended_worker.rest) (ap length none) c.requires.some i.seen in
     let places_are = c.requires.table.1 in
-    let whole = all-finished g.B.Room.count (known c.loop-stint.rest) c.close-tally.result.done c.close-tally.result.stopped ends all.stopped c.if-tally.false all.seen (let most = all.most in omega arith) ∙ sym places_are in
+    let whole = all-finished g.I.SharedIds.count (known c.loop-ended_worker.rest) c.close-tally.result.done c.close-tally.result.stopped ends all.stopped c.if-tally.false all.seen (let most = all.most in omega arith) ∙ sym places_are in
     record {
       shifts = record {
-        workers_are = sym (append-nil (workers_of c.loop-stint.work.shifts.items)) ∙ ap (λ ss. workers_of c.loop-stint.work.shifts.items ++ stint_workers ss) (sym none) ∙ i.workers ∙ c.requires.workers;
+        workers_are = sym (append-nil (workers_of c.loop-ended_worker.work.shifts.items)) ∙ ap (λ ss. workers_of c.loop-ended_worker.work.shifts.items ++ ended_numbers ss) (sym none) ∙ i.workers ∙ c.requires.workers;
         each_once = λ p. sym (i.times p) ∙ all.all whole p ∙ ap (λ n. once n p) places_are;
       };
-      done = sym (append-nil c.loop-stint.work.done.items) ∙ ap (λ ss. c.loop-stint.work.done.items ++ all_done ss) (sym none) ∙ i.done;
-      closing = sym (append-nil c.loop-stint.work.closing.items) ∙ ap (λ ss. c.loop-stint.work.closing.items ++ all_closing ss) (sym none) ∙ i.closing;
+      done = sym (append-nil c.loop-ended_worker.work.done.items) ∙ ap (λ ss. c.loop-ended_worker.work.done.items ++ all_done ss) (sym none) ∙ i.done;
+      closing = sym (append-nil (joined c.loop-ended_worker.work.closing.items)) ∙ ap (λ ss. joined c.loop-ended_worker.work.closing.items ++ all_closing ss) (sym none) ∙ i.closing;
       each_done = λ p. sym (i.rows p) ∙ all.all whole p ∙ ap (λ n. once n p) places_are;
     }

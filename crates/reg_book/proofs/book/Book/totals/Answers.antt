@@ -1,14 +1,15 @@
-use Rattle.std.proofs.Common.{ap, ◌∙◌}
-use Rattle.std.specs.Prelude.{List, sum_by}
-use Rattle.reg_base.specs.declared.kinds.Retirement.TheVariants.{Surrendered, Deleted}
-use Rattle.reg_account.specs.Account.{AccountValue, held_by, retired_by}
-use Rattle.reg_book.specs.Book.{BookValue}
-use Rattle.reg_book.specs.declared.book.Totals.{Totals}
+use Rattle.std.proofs.Common.{◌≡◌, List, ap, refl, ◌∙◌}
+use Rattle.reg_base.specs.declared.kinds.AllowanceKind.{AllowanceKind}
+use Rattle.reg_base.specs.declared.kinds.AllowanceKind.TheVariants.{General, Aviation}
+use Rattle.reg_account.specs.Account.{AccountValue}
+use Rattle.reg_book.specs.declared.totals.BothTotals.{BothTotals}
+use Rattle.reg_book.specs.Totals.{totals_in, totals_of, totals_for}
 use Rattle.reg_book.proofs.book.Book.totals.Goals as goal
+
+each-kind : (accounts : List AccountValue) (kind : AllowanceKind) → totals_for (totals_of accounts) kind ≡ totals_in accounts kind
+each-kind accounts General = refl
+each-kind accounts Aviation = refl
 
 pub returns : goal.returns
 returns c =
-    let kind = c.args.kind in
-    c.add_up.ensures
-    ∙ ap (λ (xs : List AccountValue). let t : Totals = record { held = sum_by (λ v. held_by v kind) xs; surrendered = sum_by (λ v. retired_by v Surrendered kind) xs; deleted = sum_by (λ v. retired_by v Deleted kind) xs } in t)
-    (c.deref.ensures.value ∙ ap (λ (b : BookValue). b.accounts) c.self.view_is)
+    c.of_kind.ensures ∙ ap (λ (both : BothTotals). totals_for both c.args.kind) c.both_totals.ensures ∙ each-kind c.args.self.now.accounts c.args.kind

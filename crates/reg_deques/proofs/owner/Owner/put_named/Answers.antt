@@ -1,5 +1,5 @@
 use Rattle.std.proofs.Common.{◌≡◌, ◌∷◌, [], length, suc, ap, sym, ◌∙◌, arith}
-use Rattle.reg_deques.proofs.Holdings.{issues, returns, length_more}
+use Rattle.reg_deques.proofs.TicketViews.{issues, returns, length_more}
 use Rattle.reg_deques.proofs.Moves.{puts_task}
 use Rattle.reg_deques.proofs.owner.Owner.put_named.Goals as goal
 

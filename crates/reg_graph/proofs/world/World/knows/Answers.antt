@@ -13,7 +13,7 @@ use Rattle.reg_graph.proofs.world.World.knows.Goals as goal
 
 pub returns-clause-rows : goal.returns-clause-rows
 returns-clause-rows g c =
-    let day = day_of c.args.self.now.context.now.book.now c.args.self.now.context.now.rules.now c.args.self.now.context.now.batch.now in
+    let day = day_of c.args.self.now.context.now.book c.args.self.now.context.now.rules.now c.args.self.now.context.now.batch.now in
     let plan = c.args.self.now.context.now.plan in
     let w = world_of c.args.self.now.parts in
     ∥∥₁_elim c.args.self.now.context.now.planned (Prim.hlevel props) (λ made. ∥∥₁_elim c.args.self.now.reached (Prim.hlevel props) (λ r.
@@ -22,7 +22,7 @@ returns-clause-rows g c =
 
 pub returns-clause-docks : goal.returns-clause-docks
 returns-clause-docks g c =
-    let day = day_of c.args.self.now.context.now.book.now c.args.self.now.context.now.rules.now c.args.self.now.context.now.batch.now in
+    let day = day_of c.args.self.now.context.now.book c.args.self.now.context.now.rules.now c.args.self.now.context.now.batch.now in
     let plan = c.args.self.now.context.now.plan in
     let w = world_of c.args.self.now.parts in
     let many : length w.docks ≡ length c.args.self.now.parts.docks.items = length-map c.args.self.now.parts.docks.items _ in
@@ -32,7 +32,7 @@ returns-clause-docks g c =
 
 pub returns-clause-few : goal.returns-clause-few
 returns-clause-few g c =
-    let day = day_of c.args.self.now.context.now.book.now c.args.self.now.context.now.rules.now c.args.self.now.context.now.batch.now in
+    let day = day_of c.args.self.now.context.now.book c.args.self.now.context.now.rules.now c.args.self.now.context.now.batch.now in
     let plan = c.args.self.now.context.now.plan in
     let w = world_of c.args.self.now.parts in
     let many : length w.hands ≡ length c.args.self.now.parts.hands.items = length-map c.args.self.now.parts.hands.items _ in
@@ -42,7 +42,7 @@ returns-clause-few g c =
 
 pub returns-clause-once : goal.returns-clause-once
 returns-clause-once g c =
-    let day = day_of c.args.self.now.context.now.book.now c.args.self.now.context.now.rules.now c.args.self.now.context.now.batch.now in
+    let day = day_of c.args.self.now.context.now.book c.args.self.now.context.now.rules.now c.args.self.now.context.now.batch.now in
     let plan = c.args.self.now.context.now.plan in
     let w = world_of c.args.self.now.parts in
     λ place low high.
@@ -52,7 +52,7 @@ returns-clause-once g c =
 
 pub returns-clause-list_room : goal.returns-clause-list_room
 returns-clause-list_room g c =
-    let day = day_of c.args.self.now.context.now.book.now c.args.self.now.context.now.rules.now c.args.self.now.context.now.batch.now in
+    let day = day_of c.args.self.now.context.now.book c.args.self.now.context.now.rules.now c.args.self.now.context.now.batch.now in
     let plan = c.args.self.now.context.now.plan in
     let w = world_of c.args.self.now.parts in
     λ worker task parcels tasks h l.
@@ -62,7 +62,7 @@ returns-clause-list_room g c =
 
 pub returns-clause-held : goal.returns-clause-held
 returns-clause-held g c =
-    let day = day_of c.args.self.now.context.now.book.now c.args.self.now.context.now.rules.now c.args.self.now.context.now.batch.now in
+    let day = day_of c.args.self.now.context.now.book c.args.self.now.context.now.rules.now c.args.self.now.context.now.batch.now in
     let plan = c.args.self.now.context.now.plan in
     let w = world_of c.args.self.now.parts in
     λ worker task h.
@@ -73,7 +73,7 @@ returns-clause-held g c =
 
 pub returns-clause-sent : goal.returns-clause-sent
 returns-clause-sent g c =
-    let day = day_of c.args.self.now.context.now.book.now c.args.self.now.context.now.rules.now c.args.self.now.context.now.batch.now in
+    let day = day_of c.args.self.now.context.now.book c.args.self.now.context.now.rules.now c.args.self.now.context.now.batch.now in
     let plan = c.args.self.now.context.now.plan in
     let w = world_of c.args.self.now.parts in
     λ worker parcels h p ps e.
@@ -84,7 +84,7 @@ returns-clause-sent g c =
 
 pub returns-clause-dock_room : goal.returns-clause-dock_room
 returns-clause-dock_room g c =
-    let day = day_of c.args.self.now.context.now.book.now c.args.self.now.context.now.rules.now c.args.self.now.context.now.batch.now in
+    let day = day_of c.args.self.now.context.now.book c.args.self.now.context.now.rules.now c.args.self.now.context.now.batch.now in
     let plan = c.args.self.now.context.now.plan in
     let w = world_of c.args.self.now.parts in
     λ worker parcels h place came head there.

@@ -1,9 +1,11 @@
 use Rattle.std.proofs.Common.{◌≡◌, length, arith, sym, ap, subst, ◌∙◌}
 use Rattle.std.specs.Prelude.{All}
 use Rattle.std.specs.List.Sorted.{IsNonDecreasingBy}
+use Rattle.std.proofs.lemmas.List.{length-map}
 use Rattle.reg_plan.specs.declared.arrow.Arrow.{Arrow}
 use Rattle.reg_plan.specs.TouchList.{AreTouches, AreSorted, openings_of}
 use Rattle.reg_plan.specs.Plans.{outward, IsBetween, AreLevels}
+use Rattle.reg_base.specs.Footprints.{footprints}
 use Rattle.reg_plan.proofs.Results.{are_arrows, are_openings, all_between}
 use Rattle.reg_plan.proofs.Slices.{heads_rise}
 use Rattle.reg_plan.proofs.plan.Plan.of.Goals as goal
@@ -18,7 +20,8 @@ find_levels-requires-clause-between c =
     let is = c.args.batch.now.instructions in
     let ts = c.in_ok-touches.touches.items in
     let arrows = c.in_ok-arrows.arrows.items in
-    let touches : AreTouches d is ts = subst (λ js. AreTouches d js ts) c.instructions.ensures c.in_ok-touches.ensures in
+    let own : c.in_ok-touched.touched ≡ footprints d is = c.in_ok-touched.ensures.value ∙ ap (footprints d) c.instructions.ensures in
+    let touches : AreTouches (footprints d is) ts = subst (λ lists. AreTouches lists ts) own c.in_ok-touches.ensures in
     let made : AreSorted ts arrows = subst (λ xs. AreSorted xs arrows) c.deref-2.ensures.value c.in_ok-arrows.ensures in
     subst (λ xs. All (IsBetween c.len-places.result) xs) (sym c.deref-4.ensures.value)
     (subst (λ n. All (IsBetween n) arrows) (sym c.len-places.ensures.value) (all_between c.each_footprint_is_sound.ensures d is ts touches arrows made))
@@ -29,15 +32,19 @@ invariant_of-result c =
     let is = c.args.batch.now.instructions in
     let ts = c.in_ok-touches.touches.items in
     let arrows = c.in_ok-arrows.arrows.items in
-    let touches : AreTouches d is ts = subst (λ js. AreTouches d js ts) c.instructions.ensures c.in_ok-touches.ensures in
+    let own : c.in_ok-touched.touched ≡ footprints d is = c.in_ok-touched.ensures.value ∙ ap (footprints d) c.instructions.ensures in
+    let touches : AreTouches (footprints d is) ts = subst (λ lists. AreTouches lists ts) own c.in_ok-touches.ensures in
     let made : AreSorted ts arrows = subst (λ xs. AreSorted xs arrows) c.deref-2.ensures.value c.in_ok-arrows.ensures in
     let size : length c.in_ok-levels.levels.items ≡ length is = c.in_ok-levels.ensures.size ∙ c.len-places.ensures.value in
+    let count : length c.in_ok-touched.touched ≡ length is = ap length own ∙ length-map is _ in
     record {
       by_head = heads_rise arrows c.in_ok-arrows.ensures.sorted;
       tails = c.in_ok-by_tail.ensures.sorted;
       same = λ place. c.in_ok-by_tail.ensures.same place ∙ ap (λ xs. outward xs place) c.deref-3.ensures.value;
       between = subst (λ n. All (IsBetween n) arrows) (sym size) (all_between c.each_footprint_is_sound.ensures d is ts touches arrows made);
       few = omega (arith, size, c.len-places.ensures.room.few);
+      places = count ∙ sym size;
+      few_each = c.in_ok-touched.ensures.few;
     }
 
 pub returns : goal.returns
@@ -46,11 +53,13 @@ returns c =
     let is = c.args.batch.now.instructions in
     let ts = c.in_ok-touches.touches.items in
     let arrows = c.in_ok-arrows.arrows.items in
-    let touches : AreTouches d is ts = subst (λ js. AreTouches d js ts) c.instructions.ensures c.in_ok-touches.ensures in
+    let own : c.in_ok-touched.touched ≡ footprints d is = c.in_ok-touched.ensures.value ∙ ap (footprints d) c.instructions.ensures in
+    let touches : AreTouches (footprints d is) ts = subst (λ lists. AreTouches lists ts) own c.in_ok-touches.ensures in
     let made : AreSorted ts arrows = subst (λ xs. AreSorted xs arrows) c.deref-2.ensures.value c.in_ok-arrows.ensures in
     record {
       arrows = are_arrows c.each_footprint_is_sound.ensures d is ts touches arrows made;
       openings = are_openings c.each_footprint_is_sound.ensures d is ts touches c.in_ok-openings.openings.items (c.in_ok-openings.ensures ∙ ap openings_of c.deref.ensures.value);
       places = c.in_ok-levels.ensures.size ∙ c.len-places.ensures.value;
       levels = subst (λ xs. AreLevels xs c.in_ok-levels.levels.items) c.deref-4.ensures.value c.in_ok-levels.ensures.levels;
+      footprints = own;
     }

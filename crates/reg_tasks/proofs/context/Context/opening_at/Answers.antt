@@ -10,6 +10,6 @@ open-requires g c =
     let position = c.args.position in
     let a = c.index-touched_at-position.result in
     record {
-      known = subst (λ b. is_some (account c.args.self.now.book.now.accounts b) ≡ true) (ap (λ touched. get_or touched position a) (sym c.touched_at.ensures.value) ∙ sym c.index-touched_at-position.is)
+      known = subst (λ b. is_some (account c.args.self.now.book.accounts b) ≡ true) (ap (λ touched. get_or touched position a) (sym c.touched_at.ensures.value) ∙ sym c.index-touched_at-position.is)
           (all_known c.each_footprint_is_sound.ensures (the_day c.args.self.now) c.args.place position a c.requires.there);
     }

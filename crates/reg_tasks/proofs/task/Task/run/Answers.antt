@@ -24,9 +24,9 @@ pack-parcels-requires-clause-right g c =
 pub pack_after-parcels-requires-clause-right : goal.pack_after-parcels-requires-clause-right
 pack_after-parcels-requires-clause-right g c =
     let right : (d : Day) → g.N.Naming.day ≡ Some d → IsRight d c.args.self.place (values_of c.args.self.parcels.items) c.carry_out.new.own c.in-Ok-carry_out.row =
-    ran_named c.step_laws.ensures c.each_is_a_step.ensures c.value_is_last_touchers.ensures (day_of c.args.context.now.book.now c.args.context.now.rules.now c.args.context.now.batch.now) c.args.self.place
+    ran_named c.step_laws.ensures c.each_is_a_step.ensures c.value_is_last_touchers.ensures (day_of c.args.context.now.book c.args.context.now.rules.now c.args.context.now.batch.now) c.args.self.place
     c.args.self.parcels.items c.carry_out.new.own c.in-Ok-carry_out.row c.args.context.now.named c.args.self.complete
-    (ap (run_at (day_of c.args.context.now.book.now c.args.context.now.rules.now c.args.context.now.batch.now) c.args.self.place) (sym (c.deref_mut.ensures.value ∙ c.unpack-own.ensures.own)) ∙ c.in-Ok-carry_out.ensures.ok) in
+    (ap (run_at (day_of c.args.context.now.book c.args.context.now.rules.now c.args.context.now.batch.now) c.args.self.place) (sym (c.deref_mut.ensures.value ∙ c.unpack-own.ensures.own)) ∙ c.in-Ok-carry_out.ensures.ok) in
     let touched : (d : Day) → g.N.Naming.day ≡ Some d → numbers (values_of c.args.self.parcels.items) ≡ footprint_at d c.args.self.place =
     λ d e. (c.fits.ensures.is_for c.if-not-fits.false).touched ∙ ap (λ (x : Day). footprint_at x c.args.self.place) (c.args.context.now.named d e) in
     let size : c.unpack-own.result.0.len ≡ length c.unpack-own.result.0.items = search rules in
@@ -38,17 +38,17 @@ pack_after-parcels-requires-clause-right g c =
 pub new-requires-clause-row : goal.new-requires-clause-row
 new-requires-clause-row g c =
     let right : (d : Day) → g.N.Naming.day ≡ Some d → IsRight d c.args.self.place (values_of c.args.self.parcels.items) c.carry_out.new.own c.in-Ok-carry_out.row =
-    ran_named c.step_laws.ensures c.each_is_a_step.ensures c.value_is_last_touchers.ensures (day_of c.args.context.now.book.now c.args.context.now.rules.now c.args.context.now.batch.now) c.args.self.place
+    ran_named c.step_laws.ensures c.each_is_a_step.ensures c.value_is_last_touchers.ensures (day_of c.args.context.now.book c.args.context.now.rules.now c.args.context.now.batch.now) c.args.self.place
     c.args.self.parcels.items c.carry_out.new.own c.in-Ok-carry_out.row c.args.context.now.named c.args.self.complete
-    (ap (run_at (day_of c.args.context.now.book.now c.args.context.now.rules.now c.args.context.now.batch.now) c.args.self.place) (sym (c.deref_mut.ensures.value ∙ c.unpack-own.ensures.own)) ∙ c.in-Ok-carry_out.ensures.ok) in
+    (ap (run_at (day_of c.args.context.now.book c.args.context.now.rules.now c.args.context.now.batch.now) c.args.self.place) (sym (c.deref_mut.ensures.value ∙ c.unpack-own.ensures.own)) ∙ c.in-Ok-carry_out.ensures.ok) in
     λ d e. (right d e).row_is
 
 pub new-requires-clause-left : goal.new-requires-clause-left
 new-requires-clause-left g c =
     let right : (d : Day) → g.N.Naming.day ≡ Some d → IsRight d c.args.self.place (values_of c.args.self.parcels.items) c.carry_out.new.own c.in-Ok-carry_out.row =
-    ran_named c.step_laws.ensures c.each_is_a_step.ensures c.value_is_last_touchers.ensures (day_of c.args.context.now.book.now c.args.context.now.rules.now c.args.context.now.batch.now) c.args.self.place
+    ran_named c.step_laws.ensures c.each_is_a_step.ensures c.value_is_last_touchers.ensures (day_of c.args.context.now.book c.args.context.now.rules.now c.args.context.now.batch.now) c.args.self.place
     c.args.self.parcels.items c.carry_out.new.own c.in-Ok-carry_out.row c.args.context.now.named c.args.self.complete
-    (ap (run_at (day_of c.args.context.now.book.now c.args.context.now.rules.now c.args.context.now.batch.now) c.args.self.place) (sym (c.deref_mut.ensures.value ∙ c.unpack-own.ensures.own)) ∙ c.in-Ok-carry_out.ensures.ok) in
+    (ap (run_at (day_of c.args.context.now.book c.args.context.now.rules.now c.args.context.now.batch.now) c.args.self.place) (sym (c.deref_mut.ensures.value ∙ c.unpack-own.ensures.own)) ∙ c.in-Ok-carry_out.ensures.ok) in
     let touched : (d : Day) → g.N.Naming.day ≡ Some d → numbers (values_of c.args.self.parcels.items) ≡ footprint_at d c.args.self.place =
     λ d e. (c.fits.ensures.is_for c.if-not-fits.false).touched ∙ ap (λ (x : Day). footprint_at x c.args.self.place) (c.args.context.now.named d e) in
     let size : c.unpack-own.result.0.len ≡ length c.unpack-own.result.0.items = search rules in

@@ -1,0 +1,370 @@
+#!/usr/bin/env -S python3 -B
+"""Tries the program for hours: many drawn days, seams at every row, days at every limit at once, and a gigabyte.
+
+usage: long.py days|seams|limits|gigabyte [--program PROGRAM] [--workers WORKERS] [--refusals REFUSALS]
+               [--minutes N] [--count N] [--seed N] [--jobs N] [--folder FOLDER]
+
+PROGRAM is out/registry, unless another is named. WORKERS and REFUSALS are the programs registry_workers and registry_refusals,
+which `cd crates/NAME && rt run` builds.
+
+days      draws days, of both versions and all acts, damaged ones among them, and some so large that they are read by several parts.
+          Each is settled by one to eight workers on one, two and four processors in turn. Of each second run the threads are held
+          up at random at their start and where they take memory (`delay.c`, which needs a C compiler, `cc`). Every answer must be
+          that of the second answer (tools/rules.py, tools/faults.py). With WORKERS each day is also settled by workers that are
+          held up at random at the gate.
+seams     draws such texts, and texts of cases/ that were changed (`mutations.py`). Behind drawn lines of each it puts so many
+          empty ones that the program reads it by several parts, each of which begins at the next account, or where none follows at
+          the next instruction. Every answer must be that of the second answer. REFUSALS, if it is named, reads each text by one to
+          eight parts, and by so many that each account and each instruction begins one: the day, or the first fault, must be that
+          of one thread.
+limits    settles days at every limit at once, by one to eight workers: 100,000 accounts with 64 representatives, 256 trusted
+          accounts and 7 correction factors each, 64 administrators, every day of all years, 16,384 instructions up to the last
+          record number; and 1,000 accounts with 4,096 surrenders each besides. What must come out is made here.
+gigabyte  settles such a day of 2^30 bytes, with emissions of each year, by one, four and eight workers, and refuses one byte more.
+
+`days` and `seams` end after N minutes (left out: 10) or N texts; the same seed gives the same texts. FOLDER is where `limits` and
+`gigabyte` put their texts, of up to a gigabyte, and where texts on which an answer differs are kept (left out: out/long). N jobs
+run at once (left out: 1). The last line is 'N passed, M failed', which counts texts, or runs by `limits` and `gigabyte`.
+"""
+import argparse
+import datetime
+import itertools
+import os
+import random
+import re
+import subprocess
+import sys
+import tempfile
+import time
+from concurrent.futures import ProcessPoolExecutor
+from pathlib import Path
+
+import fuzz
+import mutations
+
+TOP = Path(__file__).resolve().parent.parent
+faults, rules, second_answer = fuzz.faults, fuzz.rules, fuzz.second_answer
+WORKERS = range(1, 9)
+PROCESSORS = (1, 2, 4)
+# One of so many drawn days grows until it has several parts.
+ONE_GROWS = 25
+# So many parts cut a drawn text at each of its accounts and instructions.
+EACH_ROW = 300
+# A text is read by so many numbers of workers, each time with other seams.
+SEAMED = 3
+MOST_SECONDS = 60
+MOST_INPUT = 2**30
+ROUND = 64
+DATE, LAST_RECORD, MOST_INSTRUCTIONS = "2025-03-31", 10**15, 16_384
+
+
+# Drawn texts.
+
+
+def drawn_text(seed, chance, is_damaged):
+    """A drawn day as bytes, seldom a large one."""
+    rows = (second_answer.damaged_rows if is_damaged else second_answer.drawn_rows)(seed)
+    if chance.randrange(ONE_GROWS) == 0:
+        rows = [row.encode() for row in rows]
+        mutations.grow(chance, rows)
+        return b"\n".join([*rows, b""])
+    return second_answer.text_of(rows, seed)
+
+
+def expected_of(text):
+    """What `settle` has to answer: output, line and status."""
+    fault = faults.first_fault(text)
+    return ("", fault, 3) if fault else (rules.answers(text)["settle"], "", 0)
+
+
+def on_processors(count, chance):
+    """Lets what is started from now on run on so many processors, or on all there are."""
+    os.sched_setaffinity(0, chance.sample(ALL_PROCESSORS, min(count, len(ALL_PROCESSORS))))
+
+
+ALL_PROCESSORS = sorted(os.sched_getaffinity(0))
+
+
+def settled_wrongly(words, text, seed):
+    """How many runs of the program there were, and what is wrong with one of them."""
+    chance, expected = random.Random(f"runs {seed}"), expected_of(text)
+    for workers in WORKERS:
+        on_processors(PROCESSORS[(seed + workers) % len(PROCESSORS)], chance)
+        if words.library and (seed + workers) // len(PROCESSORS) % 2:
+            os.environ.update(LD_PRELOAD=words.library, DELAY_SEED=str(chance.randrange(2**32)))
+        said = fuzz.difference(words.program, f"settle --workers {workers}", text, expected)
+        os.environ.pop("LD_PRELOAD", None)
+        if said:
+            return workers, said
+    if words.workers and not expected[2]:
+        return len(WORKERS) + 1, gated_wrongly(words, text, seed, chance)
+    return len(WORKERS), ""
+
+
+def gated_wrongly(words, text, seed, chance):
+    """What is wrong with a day that is settled by workers that are held up at the gate."""
+    workers = 1 + seed % len(WORKERS)
+    on_processors(PROCESSORS[seed % len(PROCESSORS)], chance)
+    arguments = ["try", workers, chance.randrange(workers), chance.randrange(1, 2**31), 2]
+    lines, status = answer_of(words.workers, arguments, text)
+    return "" if (lines, status) == (["same"] * 2, 0) else f"{arguments}: status {status}, {lines}"
+
+
+def answer_of(program, arguments, text):
+    """The lines that a program writes, and its status."""
+    try:
+        run = subprocess.run([program, *map(str, arguments)], input=text, capture_output=True, timeout=MOST_SECONDS)
+    except subprocess.TimeoutExpired:
+        return [f"no answer in {MOST_SECONDS} seconds"], None
+    return run.stdout.decode(errors="replace").splitlines(), run.returncode
+
+
+def padded(chance, text, parts):
+    """The text with empty lines behind some of its lines, so many that it is read by so many parts, if it has that many accounts
+    or instructions."""
+    places = [found.end() for found in re.finditer(b"\n", text)]
+    cuts = sorted(chance.choices(places, k=2 * parts)) if places else []
+    pieces = [text[first:last] for first, last in zip([0, *cuts], [*cuts, len(text)])]
+    return (b"\n" * (fuzz.PART * parts // max(1, len(cuts)) + 1)).join(pieces)
+
+
+def seamed_wrongly(words, text, seed):
+    """What is wrong with a text that is read by parts, with other seams for each number of workers."""
+    chance = random.Random(f"seams {seed}")
+    # Empty lines change nothing where there are no quotes.
+    expected = None if b'"' in text else expected_of(text)
+    for workers in chance.sample(WORKERS[1:], SEAMED):
+        longer = padded(chance, text, workers)
+        said = fuzz.difference(words.program, f"settle --workers {workers}", longer, expected or expected_of(longer))
+        if said:
+            return workers, said
+    if words.refusals:
+        return SEAMED + len(WORKERS) + 1, read_wrongly(words, text)
+    return SEAMED, ""
+
+
+def read_wrongly(words, text):
+    """What is wrong with a text that registry_refusals reads by parts."""
+    calls = [f"read_day_by_parts:{parts}" for parts in [*WORKERS, EACH_ROW]]
+    lines, status = answer_of(words.refusals, calls, text)
+    wanted = [line for call in calls for line in (call, "begin", "end", "done", "right")]
+    return "" if (lines, status) == (wanted, 0) else f"status {status}, {[*set(lines) - set(wanted)]}"
+
+
+def try_text(task):
+    """Draws a text and tries it: its bytes, how many runs there were, and what is wrong."""
+    words, seed, cases = task
+    chance = random.Random(f"long {words.seed} {seed}")
+    number = 10_000_000 * words.seed + seed
+    if words.part == "seams" and seed % 2:
+        text = mutations.mutated(chance, chance.choice(cases), chance.choice(cases), False)
+    else:
+        text = drawn_text(number, chance, seed % 4 == 2)
+    runs, said = (seamed_wrongly if words.part == "seams" else settled_wrongly)(words, text, number)
+    return text, runs, said
+
+
+def try_drawn(words):
+    """Tries drawn texts until the time is over. Answers how many passed and failed."""
+    until, passed, failed, runs = time.monotonic() + 60 * words.minutes, 0, 0, 0
+    cases, seeds = (fuzz.first_texts() if words.part == "seams" else []), itertools.count()
+    with ProcessPoolExecutor(words.jobs) as pool:
+        while time.monotonic() < until and passed + failed < words.count:
+            tasks = [(words, seed, cases) for seed in itertools.islice(seeds, ROUND)]
+            for text, count, said in pool.map(try_text, tasks):
+                passed, failed, runs = passed + (not said), failed + bool(said), runs + count
+                if said:
+                    print(f"DIFFERS: {fuzz.Corpus.save(words.folder, text)}: {said[:400]}", flush=True)
+    print(f"{passed + failed} texts, {runs} runs")
+    return passed, failed
+
+
+# Days at every limit.
+
+
+def heading(is_whole):
+    """The rows before the accounts: as many as there may be of each kind."""
+    yield f"format,2\nday,{DATE},{LAST_RECORD - MOST_INSTRUCTIONS + 1}\n"
+    yield "".join(f"period,{year},{year}\n" for year in range(2021, 2029)) + "current,8\nlags,0,1000,1000,1000\n"
+    yield "".join(f"surrender,{pair}\n" for pair in second_answer.PAIRS)
+    yield "".join(f"admin,{number}\n" for number in range(901, 965))
+    first, days = datetime.date(2021, 1, 1), 29_219 if is_whole else 2_000
+    yield "".join(f"work,{first + datetime.timedelta(place)}\n" for place in range(days))
+
+
+FACTORS = "".join(f"correction,{period},{-LAST_RECORD + period}\n" for period in range(2, 9))
+USERS = "".join(f"user,{number},both\n" for number in range(101, 165))
+TRUSTED = "".join(f"trusted,{number},{DATE}\n" for number in range(1, 257))
+EMISSIONS = "".join(f"emissions,{year},1000000000000\n" for year in range(2021, 2101))
+
+
+class TransferDay:
+    """16,384 transfers, each from another account to one of the 256 that all accounts trust."""
+
+    accounts, receivers = 100_000, 256
+
+    def __init__(self, lists=""):
+        self.lists = FACTORS + USERS + TRUSTED + lists
+
+    def source(self, place):
+        return self.receivers + 1 + 5 * place
+
+    def account(self, number, held):
+        return f"account,{number},trading,{number},open,no,no,0,{held},0\n{self.lists}"
+
+    def instruction(self, place):
+        return f"{DATE},101,164,transfer,{self.source(place)},{1 + place % self.receivers},general,{1 + place}"
+
+    def opening(self, number):
+        return 0 if number <= self.receivers else 10**15
+
+    def text(self):
+        yield from heading(True)
+        yield from (self.account(number, self.opening(number)) for number in range(1, self.accounts + 1))
+        yield from (f"do,{self.instruction(place)}\n" for place in range(MOST_INSTRUCTIONS))
+        yield "end\n"
+
+    def report(self):
+        held = {number: self.opening(number) for number in range(1, self.accounts + 1)}
+        for place in range(MOST_INSTRUCTIONS):
+            source, to = self.source(place), 1 + place % self.receivers
+            held[source] -= 1 + place
+            held[to] += 1 + place
+            record = LAST_RECORD - MOST_INSTRUCTIONS + 1 + place
+            yield f"log,{record},{DATE},{self.instruction(place)},done,,{source},{held[source]},0,{to},{held[to]},0\n"
+        yield f"book,{LAST_RECORD + 1}\n"
+        yield from (self.account(number, held[number]) for number in range(1, self.accounts + 1))
+        yield f"totals,general,{sum(held.values())},0,0\ntotals,aviation,0,0,0\nend\n"
+
+
+class ReversalDay(TransferDay):
+    """16,384 reversals on a thousand accounts that have surrendered as often as an account can."""
+
+    accounts, rows = 1_000, 4_096
+
+    def account(self, number, _held, reversed_rows=0):
+        flags = (("yes" if record <= reversed_rows else "no") for record in range(1, self.rows + 1))
+        rows = "".join(f"retired,{record},surrender,general,7,{DATE},{flag},8\n" for record, flag in enumerate(flags, 1))
+        held = 7 * reversed_rows
+        return f"account,{number},operator,{number},open,no,no,0,{held},0\n{FACTORS}{USERS}{TRUSTED}{rows}"
+
+    def instruction(self, place):
+        return f"{DATE},901,964,reverse,{1 + place % self.accounts},{1 + place // self.accounts}"
+
+    def report(self):
+        for place in range(MOST_INSTRUCTIONS):
+            number, record = 1 + place % self.accounts, LAST_RECORD - MOST_INSTRUCTIONS + 1 + place
+            held = 7 * (1 + place // self.accounts)
+            yield f"log,{record},{DATE},{self.instruction(place)},done,,{number},{held},0\n"
+        yield f"book,{LAST_RECORD + 1}\n"
+        each, more = divmod(MOST_INSTRUCTIONS, self.accounts)
+        yield from (self.account(number, 0, each + (number <= more)) for number in range(1, self.accounts + 1))
+        left = 7 * (self.rows * self.accounts - MOST_INSTRUCTIONS)
+        yield f"totals,general,{7 * MOST_INSTRUCTIONS},{left},0\ntotals,aviation,0,0,0\nend\n"
+
+
+def write_text(path, day, bytes_wanted=0):
+    """Writes a day to a file, and answers its size; behind its row `end` empty lines, up to so many bytes."""
+    with open(path, "wb", buffering=1 << 20) as file:
+        for piece in day.text():
+            file.write(piece.encode())
+        size = file.tell()
+        if size > bytes_wanted > 0:
+            raise SystemExit(f"long.py: the day has {size} bytes, more than {bytes_wanted}")
+        for at in range(size, bytes_wanted, 1 << 20):
+            file.write(b"\n" * min(1 << 20, bytes_wanted - at))
+    return path.stat().st_size
+
+
+def differs(program, arguments, path, wanted):
+    """What is wrong with a run on the text of a file; `wanted` gives its output piece by piece."""
+    with open(path, "rb") as text, subprocess.Popen(
+        [program, *arguments], stdin=text, stdout=subprocess.PIPE, stderr=subprocess.DEVNULL, bufsize=1 << 20
+    ) as run:
+        said = ""
+        for number, piece in enumerate(wanted, 1):
+            found = run.stdout.read(len(piece))
+            if found != piece.encode():
+                said = f"piece {number} is {found[:200]!r}, and has to be {piece[:200]!r}"
+                break
+        if not said and run.stdout.read(1):
+            said = "more is written than there has to be"
+        if said:
+            run.kill()
+    return said or (f"status {run.returncode}" if run.returncode else "")
+
+
+def totals_of(day):
+    """The last rows of a report: what the command `totals` writes."""
+    return [piece for piece in day.report() if piece.startswith("totals,")]
+
+
+def try_day(words, name, day, counts, bytes_wanted=0):
+    """Runs a day by these numbers of workers, and `totals`. Answers how many runs passed and failed."""
+    path = words.folder / f"{name}.csv"
+    size, tally = write_text(path, day, bytes_wanted), [0, 0]
+    for workers in [*counts, 0]:
+        arguments = ["settle", "--workers", str(workers)] if workers else ["totals"]
+        begun = time.monotonic()
+        said = differs(words.program, arguments, path, day.report() if workers else totals_of(day))
+        tally[bool(said)] += 1
+        passed = f"{time.monotonic() - begun:.0f} s"
+        print(f"{name}, {size} bytes, {' '.join(arguments)}: {said or 'as it has to be'}, {passed}", flush=True)
+    return path, tally
+
+
+def try_limits(words):
+    tallies = []
+    for name, day in (("transfers", TransferDay()), ("reversals", ReversalDay())):
+        path, tally = try_day(words, name, day, WORKERS)
+        path.unlink()
+        tallies.append(tally)
+    return [sum(both) for both in zip(*tallies)]
+
+
+def try_gigabyte(words):
+    path, tally = try_day(words, "gigabyte", TransferDay(EMISSIONS), (1, 4, 8), MOST_INPUT)
+    with open(path, "ab") as file:
+        file.write(b"\n")
+    with open(path, "rb") as text:
+        run = subprocess.run([words.program, "settle"], stdin=text, capture_output=True)
+    path.unlink()
+    is_refused = (run.returncode, run.stdout, run.stderr) == (5, b"", b"read failed\n")
+    print(f"one byte more: {'refused' if is_refused else run.stderr[:200]}")
+    return tally[0] + is_refused, tally[1] + (not is_refused)
+
+
+def arguments():
+    parser = argparse.ArgumentParser(description=__doc__, formatter_class=argparse.RawDescriptionHelpFormatter)
+    parser.add_argument("part", choices=["days", "seams", "limits", "gigabyte"])
+    parser.add_argument("--program", type=os.path.abspath, default=str(TOP / "out" / "registry"))
+    parser.add_argument("--workers", type=os.path.abspath)
+    parser.add_argument("--refusals", type=os.path.abspath)
+    parser.add_argument("--minutes", type=float, default=10)
+    parser.add_argument("--count", type=float, default=float("inf"))
+    parser.add_argument("--seed", type=int, default=1)
+    parser.add_argument("--jobs", type=int, default=1)
+    parser.add_argument("--folder", type=Path, default=TOP / "out" / "long")
+    words = parser.parse_args()
+    for program in filter(None, (words.program, words.workers, words.refusals)):
+        if not os.access(program, os.X_OK):
+            parser.error(f"there is no program {program}")
+    words.folder.mkdir(parents=True, exist_ok=True)
+    return words
+
+
+def main():
+    words, words.library = arguments(), ""
+    with tempfile.TemporaryDirectory() as work:
+        if words.part == "days":
+            words.library = os.path.join(work, "delay.so")
+            source = str(TOP / "bench" / "delay.c")
+            subprocess.run(["cc", "-shared", "-fPIC", "-O1", "-o", words.library, source, "-ldl"], check=True)
+        parts = {"limits": try_limits, "gigabyte": try_gigabyte}
+        passed, failed = parts.get(words.part, try_drawn)(words)
+    print(f"{passed} passed, {failed} failed")
+    return 1 if failed or not passed else 0
+
+
+if __name__ == "__main__":
+    sys.exit(main())

@@ -1,0 +1,114 @@
+#!/usr/bin/env -S python3 -B
+"""Runs the program, and the calls of registry_refusals, under valgrind's memcheck, helgrind and drd.
+
+usage: valgrind.py [--program PROGRAM] [--refusals REFUSALS] [--tool TOOL] [--jobs N] [--show]
+
+PROGRAM is out/registry, unless another is named. It settles small days by four workers: the examples, those of
+cases/run-refusals, one that is read by several parts and written in several pieces, which the other commands answer too, and
+one of which all workers have something to run. With REFUSALS each call of cases/run-refusals is made once, with nothing
+refused. TOOL is one of the three (left out: each in turn).
+
+What valgrind takes for an error and is none stands in valgrind.supp, with the reason. A run fails if valgrind tells another error,
+or if the answer is another one than without valgrind. With --show the errors are shown. N runs go on at once (left out: 1).
+The last line is 'N passed, M failed'; the exit status is 0 only if none failed and at least one passed.
+"""
+import argparse
+import os
+import random
+import subprocess
+import sys
+import tempfile
+from concurrent.futures import ThreadPoolExecutor
+from dataclasses import dataclass
+from pathlib import Path
+
+import days
+import fuzz
+import mutations
+
+TOP = Path(__file__).resolve().parent.parent
+TOOLS = {"memcheck": ["--leak-check=no"], "helgrind": ["--history-level=none"], "drd": []}
+WORKERS = 4
+TRANSFERS = 2_000
+# The exit status of a run in which valgrind tells an error.
+TOLD = 99
+MOST_SECONDS = 300
+
+
+@dataclass(frozen=True)
+class Run:
+    """A program with its words and its input."""
+
+    name: str
+    words: tuple
+    text: bytes
+
+
+def runs(words):
+    """All runs: those of the program, and those of the calls."""
+    refusals = fuzz.script("run-refusals")
+    settle = (words.program, "settle", "--workers", str(WORKERS))
+    for path in sorted((TOP / "examples").glob("*.csv")):
+        yield Run(path.stem, settle, path.read_bytes())
+    large = large_day(refusals)
+    yield Run("a day of several parts and pieces", settle, large)
+    for command in ("plan", "figures", "totals", "statement 1"):
+        yield Run(f"{command} of this day", (words.program, *command.split()), large)
+    yield Run("many transfers", settle, "\n".join(days.day_text(600, TRANSFERS, 2)).encode())
+    for case in refusals.cases_of("", "", words.refusals or "", words.program):
+        program = case.program
+        if words.refusals or program.path == words.program:
+            yield Run(case.name, (program.path, *program.words), program.text)
+
+
+def large_day(refusals):
+    """A day of some 200 KB, with more log rows than one thread spells."""
+    rows = refusals.LOGGED.text.splitlines()
+    mutations.grow(random.Random(1), rows)
+    return b"\n".join([*rows, b""])
+
+
+def difference(tool, run):
+    """What is wrong with a run, and what valgrind tells of it."""
+    plain = subprocess.run(run.words, input=run.text, capture_output=True)
+    with tempfile.NamedTemporaryFile() as log:
+        # With `--fair-sched` each thread has its turn; otherwise one worker is done before the next has begun.
+        valgrind = ["valgrind", f"--tool={tool}", *TOOLS[tool], "--fair-sched=yes", "--quiet", f"--error-exitcode={TOLD}"]
+        valgrind += [f"--log-file={log.name}", f"--suppressions={TOP / 'bench' / 'valgrind.supp'}"]
+        try:
+            under = subprocess.run([*valgrind, *run.words], input=run.text, capture_output=True, timeout=MOST_SECONDS)
+        except subprocess.TimeoutExpired:
+            return f"no answer in {MOST_SECONDS} seconds", ""
+        told = Path(log.name).read_text(errors="replace")
+    if under.returncode == TOLD:
+        return "valgrind tells an error", told
+    if (under.returncode, under.stdout, under.stderr) != (plain.returncode, plain.stdout, plain.stderr):
+        return f"it answers otherwise, with status {under.returncode}", told
+    return "", told
+
+
+def main():
+    parser = argparse.ArgumentParser(description=__doc__, formatter_class=argparse.RawDescriptionHelpFormatter)
+    parser.add_argument("--program", type=os.path.abspath, default=str(TOP / "out" / "registry"))
+    parser.add_argument("--refusals", type=os.path.abspath)
+    parser.add_argument("--tool", choices=TOOLS)
+    parser.add_argument("--jobs", type=int, default=1)
+    parser.add_argument("--show", action="store_true")
+    words = parser.parse_args()
+    for program in filter(None, (words.program, words.refusals)):
+        if not os.access(program, os.X_OK):
+            parser.error(f"there is no program {program}")
+    passed = failed = 0
+    every = [*runs(words)]
+    for tool in [words.tool] if words.tool else TOOLS:
+        with ThreadPoolExecutor(words.jobs) as pool:
+            for run, (said, told) in zip(every, pool.map(lambda run: difference(tool, run), every)):
+                passed, failed = passed + (not said), failed + bool(said)
+                if said:
+                    print(f"FAILED: {tool}: {run.name}: {said}\n{told if words.show else ''}", end="", flush=True)
+    print(f"{passed} passed, {failed} failed")
+    return 1 if failed or not passed else 0
+
+
+if __name__ == "__main__":
+    sys.exit(main())

@@ -1,0 +1,17 @@
+use Rattle.std.proofs.Common.{◌++◌, ℕ, List, Vec, ap, ◌∙◌}
+use Rattle.std.specs.Global.{Global}
+use Rattle.reg_rules.specs.declared.reply.Reply.{Reply}
+use Rattle.reg_book.specs.Day.{rows_replied}
+use Rattle.reg_text.specs.Inputs.{day_of_input}
+use Rattle.reg_text.specs.Pieces.{text_of_pieces}
+use Rattle.reg_text.specs.Report.{text_of, report_rows}
+use Rattle.reg_front.proofs.Reports.{reported}
+use Rattle.reg_front.proofs.texts.make_report_in_place.Goals as goal
+
+pub returns : goal.returns
+returns c =
+    let closed = c.in_ok-closed.closed in
+    ap (λ (pieces : List (Vec ℕ Global)). text_of_pieces pieces ++ c.used_for.result.text.items) c.used_for.ensures.pieces
+    ∙ ap (λ (text : Vec ℕ Global). text.items) c.used_for.ensures.text
+    ∙ reported c.log_is_made_again.ensures (day_of_input c.args.day) closed.book closed.replies.items c.in_ok-text.text.items c.in_ok-closed.ensures.book c.in_ok-closed.ensures.replies
+    (c.in_ok-text.ensures ∙ ap (λ (rs : List Reply). text_of (report_rows closed.book (rows_replied c.args.day.batch rs))) c.as_slice.ensures.value)

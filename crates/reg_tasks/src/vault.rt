@@ -1,0 +1,147 @@
+//! The accounts of a book that was given away, while its day is settled on them.
+
+ghost use Rattle.std.specs.Prelude.{◌≡◌, length};
+ghost use Rattle.reg_base.specs.Rising.{IsRising};
+ghost use Rattle.reg_rules.specs.State.{numbers};
+ghost use Rattle.reg_tasks.specs.Lots.{HaveNumbers, AreHere, AreTouched, AreBack};
+
+use crate::collect::is_last;
+use crate::context::Context;
+use crate::laying::{count_back, mark, put_at, stand_at, vacate_at};
+use crate::lot::Lot;
+use crate::naming::Naming;
+use crate::parcel::Parcel;
+use reg_account::Account;
+use reg_base::laws::{each_footprint_is_sound, last_toucher_is_last};
+use reg_base::{AccountNo, NoMemory};
+use reg_book::{untouched_stay, value_is_last_touchers};
+use reg_plan::laws::tails_are_last_touchers;
+use std::alloc::Global;
+use std::marker::PhantomData;
+
+/// The accounts of a book that was given away, by rising number, while its day is settled on them. An account that is taken
+/// out leaves a vacant one in its place, with the same number, until it is laid back as its last instruction left it. So
+/// places never change, and no account is copied.
+#[derive(Drop)]
+pub struct Vault<N: Naming> {
+    accounts: Vec<Account>,
+    lots: Vec<Lot>,
+    of: PhantomData<N>,
+    pub ghost rising: { IsRising (numbers accounts.items) },
+    pub ghost size: { length lots.items ≡ length accounts.items },
+    pub ghost numbered: { HaveNumbers N.day accounts.items },
+    pub ghost here: { AreHere N.day accounts.items lots.items },
+    pub ghost touched: { AreTouched N.day accounts.items lots.items },
+    pub ghost back: { AreBack N.day accounts.items lots.items },
+}
+
+impl<N: Naming> Vault<N> {
+    ghost use Rattle.std.specs.Prelude.{◌==◌, ◌<◌, true, Some, is_some, slice_get, slice_index, IfErr, IfSome, OnOk, IsTrue};
+    ghost use Rattle.reg_base.specs.Touches.{is_touched};
+    ghost use Rattle.reg_book.specs.Book.{directory_of};
+    ghost use Rattle.reg_book.specs.Day.{closing_state};
+    ghost use Rattle.reg_tasks.specs.Contexts.{the_day};
+    ghost use Rattle.reg_tasks.specs.Gathering.{is_last};
+    ghost use Rattle.reg_tasks.specs.Lots.{AreOfDay, back_count};
+    ghost use Rattle.reg_tasks.specs.Slots.{name_of};
+    ghost use Rattle.reg_tasks.specs.declared.lot.Lot.TheVariants.{Here};
+
+    /// The vault of the accounts of a book, of which none was taken out. If a day is named, the book must be the day's.
+    ///
+    /// # Errors
+    /// `NoMemory` if memory ran out. The accounts are dropped then.
+    pub fn of(alloc: Global, accounts: Vec<Account>) -> Result<Vault<N>, NoMemory>
+        requires rising { IsRising (numbers accounts.items) }
+        requires of_day { AreOfDay N.day accounts.items }
+    {
+        let lots = vec![in alloc; Lot::Here; accounts.len()]?;
+        Ok(Vault {
+            accounts,
+            lots,
+            of: PhantomData,
+        })
+    }
+
+    /// Takes out an account that some instruction touches, and answers its opening value. `None` if it was taken out before.
+    /// Takes no memory.
+    ///
+    /// The time is logarithmic in the accounts, and constant where their numbers rise evenly.
+    pub fn take(&mut self, context: &Context<N>, number: AccountNo) -> Option<Parcel<N>>
+        requires touched { IsTrue (is_touched (directory_of context.now.book.accounts) context.now.batch.now.instructions number) }
+        ensures number { IfSome result (λ p. p.value.number ≡ number) }
+        ensures after { IfSome result (λ p. p.after ≡ 0) }
+    {
+        let place = stand_at(&self.accounts, number)?;
+        if !self.lots[place].is_here() {
+            return None;
+        }
+        Some(self.take_at(context, place))
+    }
+
+    // Takes out the account at a place, which an instruction touches and which was not taken out.
+    fn take_at(&mut self, context: &Context<N>, place: usize) -> Parcel<N>
+        requires within { place < length self.old.accounts.items }
+        requires here { slice_get self.old.lots.items place ≡ Some Here }
+        requires touched { IsTrue (is_touched (directory_of context.now.book.accounts) context.now.batch.now.instructions (slice_index (numbers self.old.accounts.items) place)) }
+        ensures number { result.value.number ≡ slice_index (numbers self.old.accounts.items) place }
+        ensures after { result.after ≡ 0 }
+    {
+        let _context = context;
+        mark(&mut self.lots, place, Lot::Out);
+        let value = vacate_at(&mut self.accounts, place);
+        // (whoever needs its slot searches for it)
+        Parcel::new(value, 0, 0)
+    }
+
+    /// Lays an account back in its place, as its last instruction left it. Takes no memory.
+    ///
+    /// # Errors
+    /// The parcel as it was, if a later instruction needs it, or if there is no such account.
+    pub fn lay(&mut self, context: &Context<N>, parcel: Parcel<N>) -> Result<(), Parcel<N>>
+        ensures last { OnOk result (is_last (the_day context.now) context.now.plan (name_of parcel) ≡ true) }
+        ensures back { IfErr result (λ p. p ≡ parcel) }
+    {
+        let Some(place) = stand_at(&self.accounts, parcel.account()) else {
+            return Err(parcel);
+        };
+        if !is_last(context, &parcel) {
+            return Err(parcel);
+        }
+        self.lay_at(context, place, parcel);
+        Ok(())
+    }
+
+    // Lays a last value back at the place of its account.
+    fn lay_at(&mut self, context: &Context<N>, place: usize, parcel: Parcel<N>)
+        requires within { place < length self.old.accounts.items }
+        requires number { slice_index (numbers self.old.accounts.items) place ≡ parcel.value.number }
+        requires last { is_last (the_day context.now) context.now.plan (name_of parcel) ≡ true }
+    {
+        let _context = context;
+        untouched_stay();
+        value_is_last_touchers();
+        last_toucher_is_last();
+        tails_are_last_touchers();
+        let (value, _) = parcel.into_parts();
+        mark(&mut self.lots, place, Lot::Back);
+        put_at(&mut self.accounts, place, value);
+    }
+
+    /// The accounts after the day, exactly if every account that an instruction touches is back. Takes no memory.
+    ///
+    /// The time is linear in the accounts, with one byte read of each.
+    pub fn close(self, context: &Context<N>) -> Option<Vec<Account>>
+        ensures all_back { is_some result ≡ (back_count self.lots.items == length context.now.plan.openings) }
+        ensures closing { IfSome result (λ accounts. IfSome N.day (λ d. accounts.items ≡ closing_state d)) }
+    {
+        untouched_stay();
+        each_footprint_is_sound();
+        last_toucher_is_last();
+        tails_are_last_touchers();
+        if count_back(&self.lots) != context.openings().len() {
+            return None;
+        }
+        let Vault { accounts, .. } = self;
+        Some(accounts)
+    }
+}

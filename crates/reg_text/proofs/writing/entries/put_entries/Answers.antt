@@ -1,0 +1,10 @@
+use Rattle.std.proofs.Common.{◌+◌, ◌++◌, sym, ap, ◌∙◌, arith}
+use Rattle.std.proofs.lemmas.List.{append-nil}
+use Rattle.reg_text.proofs.EntryFacts.{log_text, none-left}
+use Rattle.reg_text.proofs.writing.entries.put_entries.Goals as goal
+
+pub returns : goal.returns
+returns c =
+    let text = c.loop-place.text in
+    let over = none-left c.args.day (c.loop-place.entry + 1) c.loop-place.place c.args.instructions.now c.args.replies.now (omega (arith, c.min-place-end.ensures, c.loop-place-test.false)) in
+    sym (append-nil text) ∙ ap (λ rows. text ++ log_text rows) (sym over) ∙ c.loop-place.invariant.whole

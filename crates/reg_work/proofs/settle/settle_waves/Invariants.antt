@@ -1,7 +1,0 @@
-use Rattle.std.proofs.Common.{Some}
-use Rattle.reg_book.specs.Day.{day_of}
-use Rattle.reg_work.proofs.settle.settle_waves.Given as goal
-
--- the name is the day of the call's own book, rules and batch
-abbrev pub ghosts-settle_named : goal.ghosts-settle_named
-ghosts-settle_named g a = record { day = Some (day_of a.book.now a.rules.now a.batch.now) }

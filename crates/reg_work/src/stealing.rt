@@ -1,0 +1,243 @@
+//! Settlement by workers that steal.
+
+ghost use Rattle.std.specs.Prelude.{◌≡◌, ℕ, ◌+◌, ◌≤◌, ◌<◌, [], true, length, map, vec_len, All, IfOk, IfErr, IfSome, MatchResult};
+ghost use Rattle.reg_book.specs.Day.{day_of, settled_day};
+ghost use Rattle.reg_book.specs.Settled.{IsOfBook};
+ghost use Rattle.reg_claim.specs.Views.{fresh};
+ghost use Rattle.reg_claim.specs.Seats.{known, seat_table, table_id, places};
+ghost use Rattle.reg_counting.specs.Counting.{times, once};
+ghost use Rattle.reg_tasks.specs.Gathering.{places_of};
+ghost use Rattle.reg_tasks.specs.Names.{IsNamed};
+ghost use Rattle.reg_deques.specs.Yards.{deques, deques_of_pass};
+ghost use Rattle.reg_work.specs.Faults.{are_workers, IsWorkFault};
+ghost use Rattle.reg_work.specs.Shifts.{AreShifts};
+ghost use Rattle.reg_work.specs.Shortages.{IsShortage};
+
+use crate::alone::settle_alone;
+use crate::fault::{Shortage, WorkFault};
+use crate::opener::{COPIED_AT_ONCE, Copying, Opener};
+use crate::shared::{Shared, SharedIds};
+use crate::shift::Shift;
+use crate::tally::{Work, count_up, join_parts};
+use crate::threads::run_in_threads;
+use crate::waves::is_allowed;
+use crate::worker::Worker;
+use reg_base::{Batch, NoMemory, Rules};
+use reg_book::{Book, Settled};
+use reg_claim::{ClaimTable, Seat};
+use reg_tasks::{Context, Gate, Naming};
+use reg_yard::{Docks, Owner, Pass, Yard};
+use std::alloc::Global;
+use std::marker::{Brand, PhantomData};
+use std::sync::Wait;
+use std::sync::atomic::AtomicU32;
+use std::thread::Threads;
+
+// The workers, each with a seat of its own.
+fn make_workers<N: Naming, I: SharedIds>(
+    alloc: Global,
+    table: &ClaimTable,
+    seat: Seat,
+    owners: Vec<Owner<N>>,
+    passes: Vec<Pass<N>>,
+) -> Result<(Seat, Vec<Worker<N, I>>), NoMemory>
+    requires table { (table_id table.now ≡ I.table) × (seat_table seat ≡ I.table) }
+    requires fresh { ((known seat).share ≡ 16) × ((known seat).finished ≡ []) × ((known seat).seen ≡ 0) }
+    requires few { (vec_len passes ≤ 8) × (vec_len owners ≡ vec_len passes) }
+    requires deques { All (λ p. deques_of_pass p ≡ I.deques) passes.items }
+    ensures table { IfOk result (λ r. seat_table r.0 ≡ I.table) }
+    ensures share { IfOk result (λ r. (known r.0).share + vec_len r.1 ≡ 16) }
+    ensures fresh { IfOk result (λ r. ((known r.0).finished ≡ []) × ((known r.0).seen ≡ 0)) }
+    ensures each { IfOk result (λ r. vec_len r.1 ≡ vec_len passes) }
+    ensures passes { IfOk result (λ r. map (λ p. p.pass) r.1.items ≡ passes.items) }
+    ensures owners { IfOk result (λ r. map (λ p. p.owner) r.1.items ≡ owners.items) }
+{
+    let mut rest = seat;
+    let mut unstarted = Vec::with_capacity(alloc, passes.len())?;
+    let mut owners = owners.into_iter();
+    for pass in passes {
+        let Some(owner) = owners.next() else {
+            return Err(NoMemory);
+        };
+        let (kept, own) = table.split(rest);
+        rest = kept;
+        unstarted.push(Worker::new(alloc, owner, pass, own))?;
+    }
+    Ok((rest, unstarted))
+}
+
+// Divides the table among the workers, lets them work, and counts up what they did.
+fn run_workers<
+    'c,
+    N: Naming + Send + Sync,
+    I: SharedIds + Send + Sync,
+    R: Threads + Wait + Sync,
+    G: Gate,
+    O: Opener<N>,
+>(
+    rt: &R,
+    alloc: Global,
+    context: &'c Context<'c, N>,
+    docks: Docks<'c, 'c, N>,
+    table: ClaimTable,
+    seat: Seat,
+    yard: Yard<N>,
+    owners: Vec<Owner<N>>,
+    passes: Vec<Pass<N>>,
+    gate: &G,
+    others: Copying,
+    own: &mut O,
+) -> Result<Work<N>, Shortage>
+    requires count { length context.now.batch.now.instructions ≡ I.count }
+    requires table { (table_id table ≡ I.table) × (places table ≡ I.count) × (seat_table seat ≡ I.table) }
+    requires fresh { known seat ≡ fresh }
+    requires yard { deques yard ≡ I.deques }
+    requires passes { All (λ p. deques_of_pass p ≡ I.deques) passes.items }
+    requires some { 0 < vec_len passes }
+    requires few { (vec_len passes ≤ 8) × (vec_len owners ≡ vec_len passes) }
+    ensures shifts { IfOk result (λ w. AreShifts (vec_len passes) I.count w.shifts.items) }
+    ensures each_done { IfOk result (λ w. (p : ℕ) → times p (places_of w.done.items) ≡ once I.count p) }
+{
+    let (rest, mut unstarted): (Seat, Vec<Worker<N, I>>) = make_workers(
+        alloc, &table, seat, owners, passes,
+    )?;
+    let last = unstarted.pop().unwrap();
+    let shared: Shared<'_, N, I> = Shared {
+        context,
+        docks,
+        table,
+        yard,
+        opened: AtomicU32::new(0),
+        of: PhantomData,
+    };
+    let ended_workers = run_in_threads(rt, alloc, &shared, gate, unstarted, last, others, own)?;
+    let Shared { table, .. } = shared;
+    Ok(count_up(alloc, table, rest, ended_workers)?)
+}
+
+/// Runs the day of a context by several workers, which have docks, deques and a claim table. The calling thread opens places by
+/// an opener of its own.
+///
+/// # Errors
+/// `Thread` if a thread could not be started. `Memory` if memory ran out.
+pub(crate) fn run_by_stealing<
+    N: Naming + Send + Sync,
+    R: Threads + Wait + Sync,
+    G: Gate,
+    O: Opener<N>,
+>(
+    rt: &R,
+    alloc: Global,
+    context: &Context<N>,
+    workers: u32,
+    gate: &G,
+    others: Copying,
+    own: &mut O,
+) -> Result<Work<N>, Shortage>
+    requires several { 2 ≤ workers }
+    requires workers { are_workers workers ≡ true }
+    ensures shifts { IfOk result (λ w. AreShifts workers (length context.now.batch.now.instructions) w.shifts.items) }
+    ensures lack { IfErr result (IsShortage workers) }
+    ensures each_done { IfOk result (λ w. (p : ℕ) → times p (places_of w.done.items) ≡ once (length context.now.batch.now.instructions) p) }
+{
+    let docks = Docks::of_waiting(alloc, context)?;
+    let (yard, owners, passes) = Yard::new(alloc, workers)?;
+    let Ok((table, seat)) = ClaimTable::new(alloc, context.batch().len()) else {
+        return Err(Shortage::Memory);
+    };
+    run_workers::<N, Brand, R, G, O>(
+        rt, alloc, context, docks, table, seat, yard, owners, passes, gate, others, own,
+    )
+}
+
+// Settles the day of a context.
+fn settle_context<N: Naming + Send + Sync, R: Threads + Wait + Sync, G: Gate>(
+    rt: &R,
+    alloc: Global,
+    context: &Context<N>,
+    workers: u32,
+    gate: &G,
+) -> Result<(Settled, Vec<Shift<N>>), Shortage>
+    requires workers { are_workers workers ≡ true }
+    ensures settled { IfOk result (λ s. IfSome N.day (λ d. s.0 ≡ settled_day d)) }
+    ensures of_book { IfOk result (λ s. IsOfBook context.now.book s.0) }
+    ensures shifts { IfOk result (λ s. AreShifts workers (length context.now.batch.now.instructions) s.1.items) }
+    ensures lack { IfErr result (IsShortage workers) }
+{
+    if workers == 1 {
+        return settle_alone(alloc, context, gate);
+    }
+    let others = Copying {
+        places: COPIED_AT_ONCE,
+    };
+    let work = run_by_stealing(rt, alloc, context, workers, gate, others, &mut { others })?;
+    let Work {
+        shifts,
+        done,
+        closing,
+    } = work;
+    let closing = join_parts(alloc, closing)?;
+    let settled = context.gather_done(alloc, done, closing)?;
+    Ok((settled, shifts))
+}
+
+// Settles a batch by workers whose number is within its limits. If a day is named, it is this one.
+fn settle_named<N: Naming + Send + Sync, R: Threads + Wait + Sync, G: Gate>(
+    rt: &R,
+    alloc: Global,
+    book: &Book,
+    rules: &Rules,
+    batch: &Batch,
+    workers: u32,
+    gate: &G,
+) -> Result<(Settled, Vec<Shift<N>>), WorkFault>
+    requires day { IsNamed N.day book.now rules.now batch.now }
+    requires workers { are_workers workers ≡ true }
+    ensures answer { MatchResult result
+        (λ s. (batch.now.base + 1 ≡ book.now.next) × IfSome N.day (λ d. s.0 ≡ settled_day d))
+        (IsWorkFault workers book.now batch.now) }
+    ensures of_book { IfOk result (λ s. IsOfBook book.now s.0) }
+    ensures shifts { IfOk result (λ s. AreShifts workers (length batch.now.instructions) s.1.items) }
+{
+    let context = Context::<N>::of(alloc, book, rules, batch)?;
+    Ok(settle_context(rt, alloc, &context, workers, gate)?)
+}
+
+/// Settles a batch by workers. Each of several workers has a deque of tasks. A worker takes the first task of its own deque. If
+/// there is none, it opens the next instructions of the day, and puts the tasks of those that wait for no other into its deque. If all are
+/// opened, it steals the first task of another worker's deque, in rising number. It claims the task's place, calls the gate, runs the task, hands on what the
+/// instruction left to the instructions that wait for it, puts each task that is complete with that into its own deque,
+/// and finishes the place. It leaves after it saw that all places are finished, or that the workers are to leave. The book
+/// is not changed.
+///
+/// The last of several workers is the calling thread, and each other one has a thread of its own. A single worker is the
+/// calling thread. Nobody waits for it, so it needs no deque, no dock and no claim: it runs the instructions in the order
+/// of the batch, each on what those before it left, and passes the gate before each.
+///
+/// The settled day is that of `settle_plain`, whatever the number of workers and the order in which they work. There is a
+/// shift for each worker, from worker 0 on, and each place from 1 to the number of instructions is in one shift, once.
+///
+/// # Errors
+/// The first of these that applies. `Workers` if the number of workers is not 1 to 8. `WrongBase` if the first record number
+/// of the batch is not the book's next record number. `NoThread` if a thread could not be started. `NoMemory` if memory ran
+/// out. All threads have ended then.
+pub fn settle_with<R: Threads + Wait + Sync, G: Gate>(
+    rt: &R,
+    alloc: Global,
+    book: &Book,
+    rules: &Rules,
+    batch: &Batch,
+    workers: u32,
+    gate: &G,
+) -> Result<(Settled, Vec<Shift<Brand>>), WorkFault>
+    ensures settled { MatchResult result
+        (λ s. (are_workers workers ≡ true) × (batch.now.base + 1 ≡ book.now.next) × (s.0 ≡ settled_day (day_of book.now rules.now batch.now)))
+        (IsWorkFault workers book.now batch.now) }
+    ensures of_book { IfOk result (λ s. IsOfBook book.now s.0) }
+    ensures shifts { IfOk result (λ s. AreShifts workers (length batch.now.instructions) s.1.items) }
+{
+    if !is_allowed(workers) {
+        return Err(WorkFault::Workers);
+    }
+    settle_named::<Brand, R, G>(rt, alloc, book, rules, batch, workers, gate)
+}

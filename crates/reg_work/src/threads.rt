@@ -1,0 +1,159 @@
+//! The threads of the workers of a call.
+
+ghost use Rattle.std.specs.Prelude.{◌≡◌, ◌≤◌, ◌<◌, ◌+◌, ◌++◌, [], vec_len, vec_capacity, map, IfOk, IfErr, OnOk};
+ghost use Rattle.reg_work.specs.declared.fault.Shortage.TheVariants.{Thread};
+ghost use Rattle.reg_work.specs.Shifts.{numbers_below};
+ghost use Rattle.reg_work.specs.EndedWorkers.{ended_numbers};
+
+use crate::fault::Shortage;
+use crate::opener::{Copying, Opener};
+use crate::shared::{Shared, SharedIds};
+use crate::work_loop::{EndedWorker, work};
+use crate::worker::Worker;
+use reg_tasks::{Gate, Naming};
+use std::alloc::Global;
+use std::sync::Wait;
+use std::thread;
+use std::thread::{Promise, PromisedHandle, Scope, Threads};
+
+/// A thread leaves the worker with this number, at its end.
+#[derive(Clone, Copy)]
+pub(crate) struct EndOf {
+    number: u32,
+}
+
+impl<N: Naming, I: SharedIds> Promise<EndedWorker<N, I>> for EndOf {
+    ghost kept_by = { λ promise ended_worker. ended_worker.number ≡ promise.number };
+}
+
+type Handle<N, I> = PromisedHandle<EndedWorker<N, I>, EndOf>;
+
+// Starts a thread for each worker, from worker 0 on, until one cannot be started. There is room for their handles. Each worker
+// has the opener.
+fn start_all<
+    's,
+    'b: 's,
+    E,
+    N: Naming + Send + Sync + 's,
+    I: SharedIds + Send + Sync + 's,
+    R: Wait + Sync + 's,
+    G: Gate + 's,
+>(
+    scope: &Scope<'s, E>,
+    rt: &'s R,
+    alloc: Global,
+    shared: &'s Shared<'b, N, I>,
+    gate: &'s G,
+    unstarted: Vec<Worker<N, I>>,
+    opener: Copying,
+    handles: &mut Vec<Handle<N, I>>,
+) -> Result<(), Shortage>
+    requires none { handles.old.items ≡ [] }
+    requires room { vec_len unstarted ≤ vec_capacity handles.old }
+    requires few { vec_len unstarted ≤ 8 }
+    ensures all { OnOk result (map (λ handle. handle.promise.number) handles.new.items ≡ numbers_below (vec_len unstarted)) }
+    ensures each { OnOk result (vec_len handles.new ≡ vec_len unstarted) }
+    ensures fault { IfErr result (λ fault. fault ≡ Thread) }
+{
+    let mut next: u32 = 0;
+    for worker in unstarted {
+        let number = next;
+        let started = scope.spawn_with(
+            EndOf { number },
+            move || -> EndedWorker<N, I>
+                ensures { result.number ≡ number }
+            { work(rt, alloc, shared, gate, number, worker, &mut { opener }) },
+        );
+        let Ok(handle) = started else {
+            return Err(Shortage::Thread);
+        };
+        handles.push_reserved(handle);
+        next = number.saturating_add(1);
+    }
+    Ok(())
+}
+
+// Joins all threads, and keeps what they leave, for which there is room.
+fn join_all<N: Naming, I: SharedIds, R: Threads>(
+    rt: &R,
+    handles: Vec<Handle<N, I>>,
+    ended_workers: &mut Vec<EndedWorker<N, I>>,
+)
+    requires none { ended_workers.old.items ≡ [] }
+    requires room { vec_len handles + 1 ≤ vec_capacity ended_workers.old }
+    ensures all { ended_numbers ended_workers.new.items ≡ map (λ handle. handle.promise.number) handles.items }
+    ensures each { vec_len ended_workers.new ≡ vec_len handles }
+    ensures room { vec_len ended_workers.new + 1 ≤ vec_capacity ended_workers.new }
+{
+    for handle in handles {
+        ended_workers.push_reserved(handle.join(rt));
+    }
+}
+
+// Joins all threads that were started, which were told to leave. What they leave is dropped.
+fn join_and_drop<N: Naming, I: SharedIds, R: Threads>(rt: &R, handles: Vec<Handle<N, I>>) {
+    for handle in handles {
+        handle.join(rt);
+    }
+}
+
+/// Runs the workers: each in a thread of its own, but for the last, which is the calling thread. It opens places by an opener
+/// of its own. All threads are joined.
+///
+/// # Errors
+/// `Thread` if a thread could not be started: then those that were started are told to leave. `Memory` if memory ran out.
+pub(crate) fn run_in_threads<
+    N: Naming + Send + Sync,
+    I: SharedIds + Send + Sync,
+    R: Threads + Wait + Sync,
+    G: Gate,
+    O: Opener<N>,
+>(
+    rt: &R,
+    alloc: Global,
+    shared: &Shared<'_, N, I>,
+    gate: &G,
+    unstarted: Vec<Worker<N, I>>,
+    last: Worker<N, I>,
+    others: Copying,
+    own: &mut O,
+) -> Result<Vec<EndedWorker<N, I>>, Shortage>
+    requires few { vec_len unstarted ≤ 7 }
+    ensures workers { IfOk result (λ ended_workers. ended_numbers ended_workers.items ≡ numbers_below (vec_len unstarted + 1)) }
+    ensures each { IfOk result (λ ended_workers. vec_len ended_workers ≡ vec_len unstarted + 1) }
+{
+    let count = unstarted.len();
+    thread::scope(
+        thread::scope_env(),
+        rt,
+        move |scope| -> Result<Vec<EndedWorker<N, I>>, Shortage>
+            requires few { vec_len unstarted ≤ 7 }
+            requires number { count ≡ vec_len unstarted }
+            ensures workers { IfOk result (λ ended_workers. ended_numbers ended_workers.items ≡ numbers_below (vec_len unstarted + 1)) }
+            ensures each { IfOk result (λ ended_workers. vec_len ended_workers ≡ vec_len unstarted + 1) }
+        {
+            let mut last = last;
+            let mut handles = Vec::with_capacity(alloc, count)?;
+            let mut ended_workers = Vec::with_capacity(alloc, count + 1)?;
+            let Ok(()) = start_all(
+                scope,
+                rt,
+                alloc,
+                shared,
+                gate,
+                unstarted,
+                others,
+                &mut handles,
+            ) else {
+                last.stop(shared);
+                // A thread that is not joined may run on, and what it leaves is never dropped.
+                join_and_drop(rt, handles);
+                return Err(Shortage::Thread);
+            };
+            let ended_worker = work(rt, alloc, shared, gate, count as u32, last, own);
+            join_all(rt, handles, &mut ended_workers);
+            ended_workers.push_reserved(ended_worker);
+            Ok(ended_workers)
+        },
+    )
+}
