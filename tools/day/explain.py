@@ -1,6 +1,7 @@
 """Says what is wrong with a day text, for whoever has it open. The first line is what the program says of it, such as
 `row 12: date`; or that it has no fault. Then, for each fault that can be told: where it stands, what was found there, with what
-nobody sees made visible, what is expected, and a guess what happened, where one is likely.
+nobody sees made visible, what is expected, and a guess what happened, where one is likely. Of a text without a fault it tells the
+weekdays that its calendar leaves out: are they holidays?
 
 With --mend it writes the text to standard output without what a spreadsheet did to it: UTF-16, semicolons or tabs, blanks round
 fields, empty fields at the ends of rows, empty rows. Standard error tells what was changed, and what is still wrong. It never
@@ -15,6 +16,7 @@ from dataclasses import dataclass, field
 from typing import NamedTuple
 
 import faults
+from day import weekdays
 from day.errors import FOUND, RowFault, shown
 from day.guesses import OTHER_TEXTS, TAGS, guess
 from day.mending import mended
@@ -161,13 +163,12 @@ def is_other_text(index, fault, row):
     return index == 0 and fault.cause == "tag" and row[0] in OTHER_TEXTS
 
 
-def first_line(path):
-    """What the program says of the text; nothing if it has no fault."""
+def day_or_fault(path):
+    """The day of a text; or what the program says of its first fault."""
     try:
-        day_of(rows_of(path))
+        return day_of(rows_of(path)), None
     except RowFault as fault:
-        return fault.as_program()
-    return ""
+        return None, fault.as_program()
 
 
 def where(told, text):
@@ -233,10 +234,12 @@ def run(words):
     text = mended(words.day)
     if words.mend:
         return mend(words.day, text)
-    said = first_line(words.day)
-    if not said:
-        counts = [sum(row.startswith(tag) for row in text.source.rows) for tag in ("account,", "do,")]
-        print(f"{words.day} has no fault: rows {len(text.source)}, accounts {counts[0]}, instructions {counts[1]}")
+    day, said = day_or_fault(words.day)
+    if day:
+        print(f"{words.day} has no fault: rows {len(day.source)}, accounts {len(day.book)}, instructions {len(day.instructions)}")
+        left_out = weekdays.left_out(day.head.working_days)
+        if left_out:
+            print(f"weekdays without a work row: {weekdays.in_words(left_out)}")
         return 0
     lines, _ = explained(text)
     print("\n".join([said, *lines]))

@@ -18,7 +18,7 @@ import sys
 
 import faults
 import rules
-from day import pending
+from day import pending, weekdays
 from day.books import open_by_late_begin, sums_of
 from day.errors import FileFault, WordsFault
 from day.output import NewFile
@@ -69,7 +69,11 @@ def calendar_of(day, path, notes):
         notes.warn(f"{path}:{source.line(new.index(between[0]))}: {between[0]} was no working day in {day.path}, whose calendar "
                    f"goes on to {old[-1]}: due days change")  # fmt: skip
     notes.add(f"calendar: {len(added)} working days added, {len(new) - len(added)} repeated left out")
-    return sorted([*old, *added])
+    every = sorted([*old, *added])
+    left_out = [it for it in weekdays.left_out(every) if not old or it > old[-1]]
+    if left_out:
+        notes.add(f"calendar: weekdays without a work row: {weekdays.in_words(left_out)}")
+    return every
 
 
 def look_at_calendar(head, book, notes):
@@ -220,7 +224,7 @@ def run(words):
     entered = enter_due(head, waiting, notes)
     left = len(waiting) - len(entered)
     if left and not words.pending:
-        raise WordsFault(f"{left} instructions are not due on {date}: name a file for them by --pending")
+        raise WordsFault(f"instructions that are not due on {date}: {left}; name a file for them by --pending")
     new = new_instructions(words.do, report, len(entered))
     check_count(report, len(entered) + len(new))
     tell_refused(report, notes)

@@ -406,7 +406,8 @@ def read_rows_of(tag, path, reading):
     reader = Reader(source, reading)
     for index, row in enumerate(source.rows):
         if row.partition(",")[0] != tag:
-            raise source.fault(index, "tag", shown(row.partition(",")[0]), f"only {tag} rows in this file")
+            commas = ", with commas between their fields" if row.startswith((f"{tag};", f"{tag}\t")) else ""
+            raise source.fault(index, "tag", shown(row.partition(",")[0]), f"only {tag} rows in this file{commas}")
         reader.add(index)
     return source
 

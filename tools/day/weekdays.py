@@ -1,0 +1,21 @@
+"""The days from Monday to Friday that a calendar leaves out: holidays, or rows that somebody forgot. No rule knows which."""
+import datetime
+
+# More of them are only counted.
+MOST_TOLD = 5
+MONDAY_TO_FRIDAY = range(5)
+
+
+def left_out(working_days):
+    """The weekdays without a `work` row between the first and the last one."""
+    if not working_days:
+        return []
+    there, first, last = {*working_days}, working_days[0], working_days[-1]
+    every = (first + datetime.timedelta(place) for place in range((last - first).days))
+    return [it for it in every if it.weekday() in MONDAY_TO_FRIDAY and it not in there]
+
+
+def in_words(days):
+    """Days as a message tells them."""
+    more = [f"{len(days) - MOST_TOLD} more"] if len(days) > MOST_TOLD else []
+    return ", ".join([*(f"{it:%A} {it}" for it in days[:MOST_TOLD]), *more])
