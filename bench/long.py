@@ -1,7 +1,7 @@
 #!/usr/bin/env -S python3 -B
 """Tries the program for hours: many drawn days, seams at every row, days at every limit at once, and a gigabyte.
 
-usage: long.py days|seams|limits|gigabyte [--program PROGRAM] [--workers WORKERS] [--refusals REFUSALS]
+usage: long.py days|orders|seams|limits|gigabyte [--program PROGRAM] [--workers WORKERS] [--refusals REFUSALS]
                [--minutes N] [--count N] [--seed N] [--jobs N] [--folder FOLDER]
 
 PROGRAM is out/registry, unless another is named. WORKERS and REFUSALS are the programs registry_workers and registry_refusals,
@@ -12,6 +12,12 @@ days      draws days, of both versions and all acts, damaged ones among them, an
           up at random at their start and where they take memory (`delay.c`, which needs a C compiler, `cc`). Every answer must be
           that of the second answer (tools/rules.py, tools/faults.py). With WORKERS each day is also settled by workers that are
           held up at random at the gate.
+orders    draws days, and of each many more, whose instructions are some of its own in another order, one of them several times now
+          and then. PROGRAM settles each by one worker and by a drawn number of them, on one, two and four processors, and both must
+          write the same. If WORKERS is named, it settles all of them in one process in the place of PROGRAM, by one to eight
+          workers, of whom one is held up and the others are delayed at random: on copies of accounts, and then on the book's own.
+          Each must be the day that its instructions give one after another. The report of one of them must be the second answer. So
+          far more days are tried in the same time than by `days`.
 seams     draws such texts, and texts of cases/ that were changed (`mutations.py`). Behind drawn lines of each it puts so many
           empty ones that the program reads it by several parts, each of which begins at the next account, or where none follows at
           the next instruction. Every answer must be that of the second answer. REFUSALS, if it is named, reads each text by one to
@@ -22,9 +28,10 @@ limits    settles days at every limit at once, by one to eight workers: 100,000 
           record number; and 1,000 accounts with 4,096 surrenders each besides. What must come out is made here.
 gigabyte  settles such a day of 2^30 bytes, with emissions of each year, by one, four and eight workers, and refuses one byte more.
 
-`days` and `seams` end after N minutes (left out: 10) or N texts; the same seed gives the same texts. FOLDER is where `limits` and
-`gigabyte` put their texts, of up to a gigabyte, and where texts on which an answer differs are kept (left out: out/long). N jobs
-run at once (left out: 1). The last line is 'N passed, M failed', which counts texts, or runs by `limits` and `gigabyte`.
+`days`, `orders` and `seams` end after N minutes (left out: 10) or N texts; the same seed gives the same texts. FOLDER is where
+`limits` and `gigabyte` put their texts, of up to a gigabyte, and where texts on which an answer differs are kept (left out:
+out/long). N jobs run at once (left out: 1). The last line is 'N passed, M failed', which counts texts, or runs by `limits` and
+`gigabyte`.
 """
 import argparse
 import datetime
@@ -46,13 +53,15 @@ TOP = Path(__file__).resolve().parent.parent
 faults, rules, second_answer = fuzz.faults, fuzz.rules, fuzz.second_answer
 WORKERS = range(1, 9)
 PROCESSORS = (1, 2, 4)
+# Of each drawn day so many more are made.
+MORE_DAYS = 63
 # One of so many drawn days grows until it has several parts.
 ONE_GROWS = 25
 # So many parts cut a drawn text at each of its accounts and instructions.
 EACH_ROW = 300
 # A text is read by so many numbers of workers, each time with other seams.
 SEAMED = 3
-MOST_SECONDS = 60
+MOST_SECONDS, MOST_SECONDS_OF_MANY = 60, 300
 MOST_INPUT = 2**30
 ROUND = 64
 DATE, LAST_RECORD, MOST_INSTRUCTIONS = "2025-03-31", 10**15, 16_384
@@ -110,12 +119,58 @@ def gated_wrongly(words, text, seed, chance):
     return "" if (lines, status) == (["same"] * 2, 0) else f"{arguments}: status {status}, {lines}"
 
 
-def answer_of(program, arguments, text):
+def in_other_orders(chance, rows):
+    """The texts of days: that of these rows, and many with some of its instructions in another order, seldom one of them several
+    times."""
+    first = next((place for place, row in enumerate(rows) if row.startswith("do,")), len(rows) - 1)
+    start, own = "\n".join([*rows[:first], ""]).encode(), [f"{row}\n".encode() for row in rows[first:-1]]
+    yield b"".join([start, *own, b"end\n"])
+    for _ in range(MORE_DAYS):
+        is_repeated = own and chance.random() < 0.2
+        drawn = chance.choices(own, k=len(own)) if is_repeated else chance.sample(own, chance.randint(0, len(own)))
+        yield b"".join([start, *drawn, b"end\n"])
+
+
+def ordered_wrongly(words, rows, number):
+    """What is wrong with the days that come of these rows, of which the first one is as it is: the texts of all of them, or of the
+    one that differs; how many runs there were; and what is said."""
+    chance = random.Random(f"orders {number}")
+    texts = [*in_other_orders(chance, rows)]
+    on_processors(PROCESSORS[number % len(PROCESSORS)], chance)
+    said = (all_at_once if words.workers else one_by_one)(words, texts, chance)
+    if said:
+        return b"".join(texts), 0, said
+    text, workers = texts[number % len(texts)], 1 + number % len(WORKERS)
+    return text, 2 * len(texts) + 1, fuzz.difference(words.program, f"settle --workers {workers}", text, expected_of(text))
+
+
+def all_at_once(words, texts, chance):
+    """What is wrong with days that WORKERS settles in one process."""
+    arguments = ["each", chance.randrange(1, 2**31), len(texts)]
+    lines, status = answer_of(words.workers, arguments, b"".join(texts), MOST_SECONDS_OF_MANY)
+    if (lines, status) == (["same"] * len(texts), 0):
+        return ""
+    others = [(place, line) for place, line in enumerate(lines, 1) if line != "same"]
+    return f"{arguments}: status {status}, {len(lines)} lines, others than same: {others}"
+
+
+def one_by_one(words, texts, chance):
+    """What is wrong with a day that PROGRAM settles by one worker, and by several."""
+    for place, text in enumerate(texts, 1):
+        workers = chance.choice(WORKERS[1:])
+        one, several = (answer_of(words.program, ["settle", "--workers", count], text) for count in (1, workers))
+        if one != several or one[1] != 0:
+            differ = [pair for pair in itertools.zip_longest(one[0], several[0]) if len({*pair}) > 1]
+            return f"day {place}, {workers} workers: status {one[1]} and {several[1]}, {differ[:1]}"
+    return ""
+
+
+def answer_of(program, arguments, text, most_seconds=MOST_SECONDS):
     """The lines that a program writes, and its status."""
     try:
-        run = subprocess.run([program, *map(str, arguments)], input=text, capture_output=True, timeout=MOST_SECONDS)
+        run = subprocess.run([program, *map(str, arguments)], input=text, capture_output=True, timeout=most_seconds)
     except subprocess.TimeoutExpired:
-        return [f"no answer in {MOST_SECONDS} seconds"], None
+        return [f"no answer in {most_seconds} seconds"], None
     return run.stdout.decode(errors="replace").splitlines(), run.returncode
 
 
@@ -152,16 +207,20 @@ def read_wrongly(words, text):
 
 
 def try_text(task):
-    """Draws a text and tries it: its bytes, how many runs there were, and what is wrong."""
+    """Draws a text and tries it, or many at once: the bytes of one that differs, how many texts and runs there were, and what is
+    wrong."""
     words, seed, cases = task
     chance = random.Random(f"long {words.seed} {seed}")
     number = 10_000_000 * words.seed + seed
+    if words.part == "orders":
+        text, runs, said = ordered_wrongly(words, second_answer.drawn_rows(number), number)
+        return text, 1 + MORE_DAYS, runs, said
     if words.part == "seams" and seed % 2:
         text = mutations.mutated(chance, chance.choice(cases), chance.choice(cases), False)
     else:
         text = drawn_text(number, chance, seed % 4 == 2)
     runs, said = (seamed_wrongly if words.part == "seams" else settled_wrongly)(words, text, number)
-    return text, runs, said
+    return text, 1, runs, said
 
 
 def try_drawn(words):
@@ -171,8 +230,8 @@ def try_drawn(words):
     with ProcessPoolExecutor(words.jobs) as pool:
         while time.monotonic() < until and passed + failed < words.count:
             tasks = [(words, seed, cases) for seed in itertools.islice(seeds, ROUND)]
-            for text, count, said in pool.map(try_text, tasks):
-                passed, failed, runs = passed + (not said), failed + bool(said), runs + count
+            for text, texts, count, said in pool.map(try_text, tasks):
+                passed, failed, runs = passed + texts - bool(said), failed + bool(said), runs + count
                 if said:
                     print(f"DIFFERS: {fuzz.Corpus.save(words.folder, text)}: {said[:400]}", flush=True)
     print(f"{passed + failed} texts, {runs} runs")
@@ -336,7 +395,7 @@ def try_gigabyte(words):
 
 def arguments():
     parser = argparse.ArgumentParser(description=__doc__, formatter_class=argparse.RawDescriptionHelpFormatter)
-    parser.add_argument("part", choices=["days", "seams", "limits", "gigabyte"])
+    parser.add_argument("part", choices=["days", "orders", "seams", "limits", "gigabyte"])
     parser.add_argument("--program", type=os.path.abspath, default=str(TOP / "out" / "registry"))
     parser.add_argument("--workers", type=os.path.abspath)
     parser.add_argument("--refusals", type=os.path.abspath)
