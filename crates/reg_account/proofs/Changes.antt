@@ -55,7 +55,7 @@ retired_is_account a row is can fate ranged =
       holdings_fit = fits_with a.held row.kind (held_by a row.kind - row.amount) is.holdings_fit (omega (arith, most));
       users_fit = is.users_fit;
       trusted_fit = is.trusted_fit;
-      rows_fit = rows_fit_pushed a.rows row is.rows_fit can.later can.room (record { some = can.some; most = omega (arith, can.enough, most); period = fate }) ranged;
+      rows_fit = rows_fit_pushed a.rows row is.rows_fit can.later can.space (record { some = can.some; most = omega (arith, can.enough, most); period = fate }) ranged;
       retired_fits = retired_fits_pushed a.rows row is.retired_fits can.fits;
       emissions_fit = is.emissions_fit;
       figures_fit = is.figures_fit;

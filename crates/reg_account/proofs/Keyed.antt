@@ -41,7 +41,7 @@ module _ {X : Type 0} (key : X → ℕ) where
   low_key low (x ∷ xs) rises zero d lt = rises.0
   low_key low (x ∷ xs) rises (suc p) d lt = let h = low_key (suc (key x)) xs rises.1 p d (omega arith) in omega (arith, rises.0)
 
-  -- the item at a place is the item with its number
+  -- the item at an index is the item with its number
   pub item_at : (low : ℕ) (xs : List X) → RisesFrom low (map key xs) → (p n : ℕ) (d : X) → p < length xs → key (get_or xs p d) ≡ n → find (λ x. eqb (key x) n) xs ≡ Some (get_or xs p d)
   item_at low [] rises p n d lt e = absurd (omega arith)
   item_at low (x ∷ xs) rises zero n d lt e = ap (λ b. cond b (Some x) (find (λ y. eqb (key y) n) xs)) (eq-eqb (key x) n e)

@@ -18,21 +18,21 @@ use Rattle.reg_base.specs.declared.kinds.Retirement.{Retirement}
 use Rattle.reg_base.specs.declared.kinds.Retirement.TheVariants.{Surrendered, Deleted}
 use Rattle.reg_account.specs.declared.rows.RetirementRow.{RetirementRow}
 use Rattle.reg_account.specs.declared.sums.Sums.{Sums}
-use Rattle.reg_account.specs.Places.{RowStandsAt}
+use Rattle.reg_account.specs.RowIndexes.{RowStandsAt}
 use Rattle.reg_account.specs.Rows.{is_same_kind, is_same_retirement, retirement_of, is_for, amount_in, retired_in, amount_for, surrendered_in, row_numbers, row_in, marked_reversed, with_mark, AreBelow, RowFits, RowIsInRange, RowsFit, RetiredFits}
 use Rattle.reg_account.specs.Sums.{sum_at, sum_for, SumsAgree}
 use Rattle.reg_account.proofs.Keyed.{low_key, from_zero, is_rising, number_found}
 
--- the number at a place, read from the list of numbers
+-- the number at an index, read from the list of numbers
 pub number_at : (xs : List RetirementRow) (p : ℕ) (d : RetirementRow) → p < length xs → get_or (row_numbers xs) p 0 ≡ (get_or xs p d).number
 number_at [] p d lt = absurd (omega arith)
 number_at (x ∷ xs) zero d lt = refl
 number_at (x ∷ xs) (suc p) d lt = number_at xs p d (omega arith)
 
--- the row at a place that a search found
-pub searched_place : (xs : List RetirementRow) (n p : ℕ) → p < length xs → HoldsAt (λ y. nat_cmp y.number n ≡ Equal) xs p → RowStandsAt xs p n
-searched_place [] n p lt found = absurd (omega arith)
-searched_place (x ∷ xs) n p lt found = record {
+-- the row at an index that a search found
+pub searched_index : (xs : List RetirementRow) (n p : ℕ) → p < length xs → HoldsAt (λ y. nat_cmp y.number n ≡ Equal) xs p → RowStandsAt xs p n
+searched_index [] n p lt found = absurd (omega arith)
+searched_index (x ∷ xs) n p lt found = record {
   within = lt;
   has_number = number_at (x ∷ xs) p x lt ∙ number_found (λ y. y.number) (x ∷ xs) n p x found;
 }
@@ -45,7 +45,7 @@ marked_above low (x ∷ xs) n rises lt =
     ap (λ b. cond b (record x { reversed = true }) x ∷ with_mark n xs) (ne_eqb x.number n other)
     ∙ ap (λ ys. x ∷ ys) (marked_above (suc x.number) xs n rises.1 (omega (arith, rises.0)))
 
--- a row set to reversed at its place is the row of that number marked
+-- a row set to reversed at its index is the row of that number marked
 pub marked_set : (low : ℕ) (xs : List RetirementRow) → RisesFrom low (row_numbers xs) → (p n : ℕ) (d : RetirementRow) → p < length xs → (get_or xs p d).number ≡ n
     → set xs p (record (get_or xs p d) { reversed = true }) ≡ with_mark n xs
 marked_set low [] rises p n d lt e = absurd (omega arith)

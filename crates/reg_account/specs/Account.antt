@@ -84,8 +84,8 @@ held_by a kind = amount_of a.held kind
 abbrev pub retired_by : AccountValue → Retirement → AllowanceKind → ℕ
 retired_by a way kind = retired_in way kind a.rows
 
--- the account trusts the other, which this holder holds, on this day: they have the same holder, or its list has the other
--- with an entry that is in effect
+-- the account trusts the other, which this holder holds, on this day: they have the same holder, or its list has the
+-- other with an entry that is in effect
 abbrev pub trusts : AccountValue → ℕ → ℕ → ℕ → Bool
 trusts a other holder day = (a.holder == holder) || is_in_effect a.trusted other day
 
@@ -111,11 +111,15 @@ debited a kind amount = record a { held = with_amount a.held kind (held_by a kin
 
 -- the account after a surrender or a deletion: the allowances have left, and the row is its last one
 abbrev pub retired : AccountValue → RetirementRow → AccountValue
-retired a row = record a { held = with_amount a.held row.kind (held_by a row.kind - row.amount); rows = a.rows ++ row ∷ [] }
+retired a row = record a {
+  held = with_amount a.held row.kind (held_by a row.kind - row.amount);
+  rows = a.rows ++ row ∷ [];
+}
 
 -- the account after this row of it was reversed: the allowances are back, and the row is marked
 abbrev pub unretired_row : ℕ → AccountValue → RetirementRow → AccountValue
-unretired_row number a row = record a { held = with_amount a.held row.kind (held_by a row.kind + row.amount); rows = with_mark number a.rows }
+unretired_row number a row =
+    record a { held = with_amount a.held row.kind (held_by a row.kind + row.amount); rows = with_mark number a.rows }
 
 -- the account after its row with this number was reversed
 abbrev pub unretired : AccountValue → ℕ → AccountValue
@@ -138,7 +142,7 @@ pub record CanRetire (a : AccountValue) (row : RetirementRow) : Type 0 where
   pub fresh : row.reversed ≡ false
   pub some : 1 ≤ row.amount
   pub later : AreBelow row.number (row_numbers a.rows)
-  pub room : length a.rows < MOST_ROWS
+  pub space : length a.rows < MOST_ROWS
   pub enough : row.amount ≤ held_by a row.kind
   pub fits : retired_by a (retirement_of row.fate) row.kind + row.amount ≤ MOST_RETIRED
 
@@ -151,7 +155,7 @@ pub record CanUnretireRow (a : AccountValue) (row : RetirementRow) : Type 0 wher
 abbrev pub CanUnretire : AccountValue → ℕ → Type 0
 CanUnretire a number = MatchOption (row_in a.rows number) ⊥ (CanUnretireRow a)
 
--- there is a place for one more entry on the trusted account list
+-- there is space for one more entry on the trusted account list
 abbrev pub CanTrust : AccountValue → Type 0
 CanTrust a = length a.trusted < MOST_TRUSTED
 

@@ -38,8 +38,10 @@ is_factor_unfit factor = int_lt factor (pos 0 -ℤ MOST_CORRECTION) || int_lt MO
 
 -- the period is not a later one, or the factor is 0, too small or too large
 abbrev pub is_later_unfit : Correction → Bool
-is_later_unfit c = (nat_lt c.period 2 || nat_lt MOST_PERIODS c.period) || (int_eq c.factor (pos 0) || is_factor_unfit c.factor)
+is_later_unfit c = (nat_lt c.period 2 || nat_lt MOST_PERIODS c.period)
+    || (int_eq c.factor (pos 0) || is_factor_unfit c.factor)
 
 -- the periods don't rise, or one of them or its factor is unfit
 abbrev pub are_corrections_unfit : List Correction → Bool
-are_corrections_unfit corrections = not (is_rising_from 0 (correction_periods corrections)) || list_any is_later_unfit corrections
+are_corrections_unfit corrections =
+    not (is_rising_from 0 (correction_periods corrections)) || list_any is_later_unfit corrections

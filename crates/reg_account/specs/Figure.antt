@@ -1,5 +1,5 @@
--- The compliance status figure of a year: the allowances of both kinds surrendered for the period of the year, minus the
--- emissions of the years from the first of the period up to this one, plus the correction factor of the period.
+-- The compliance status figure of a year: the allowances of both kinds surrendered for the period of the year, minus
+-- the emissions of the years from the first of the period up to this one, plus the correction factor of the period.
 use Rattle.std.specs.Prelude.{ℕ, ◌+◌, ◌-◌, ℤ, pos, ◌+ℤ◌, ◌-ℤ◌, Bool, false, not, ◌&&◌, List, [], find, Option, Some, None, Result, Ok, Err, unwrap_or, is_none, if◌then◌else◌}
 use Rattle.std.specs.List.{sum_by}
 use Rattle.std.specs.Option.{option_map_or}
@@ -64,4 +64,5 @@ figure_by rules a year (Err fault) = Err fault
 
 -- the compliance status figure of a year, unless no period has the year
 abbrev pub figure_of : RulesValue → AccountValue → ℕ → Result ℤ FigureFault
-figure_of rules a year = if is_in_period rules year then figure_by rules a year (emitted_or_missing a (years_counted rules year)) else Err YearOutsidePeriod
+figure_of rules a year = if is_in_period rules year
+    then figure_by rules a year (emitted_or_missing a (years_counted rules year)) else Err YearOutsidePeriod

@@ -18,15 +18,20 @@ use Rattle.reg_account.specs.Figure.{figure_of, is_row_counted}
 
 -- each change keeps an account within its limits
 pub record ChangesKeepLimits : Type 0 where
-  pub credit : (a : AccountValue) (kind : AllowanceKind) (amount : ℕ) → IsAccount a → held_by a kind + amount ≤ MOST_HELD → IsAccount (credited a kind amount)
+  pub credit : (a : AccountValue) (kind : AllowanceKind) (amount : ℕ) → IsAccount a
+      → held_by a kind + amount ≤ MOST_HELD → IsAccount (credited a kind amount)
   pub debit : (a : AccountValue) (kind : AllowanceKind) (amount : ℕ) → IsAccount a → IsAccount (debited a kind amount)
-  pub retire : (a : AccountValue) (row : RetirementRow) → IsAccount a → CanRetire a row → FateFits row.fate → RowIsInRange row → IsAccount (retired a row)
+  pub retire : (a : AccountValue) (row : RetirementRow) → IsAccount a → CanRetire a row → FateFits row.fate
+      → RowIsInRange row → IsAccount (retired a row)
   pub unretire : (a : AccountValue) (number : ℕ) → IsAccount a → CanUnretire a number → IsAccount (unretired a number)
-  pub trust : (a : AccountValue) (new : TrustedEntry) → IsAccount a → CanTrust a → EntryIsInRange new → IsAccount (with_trusted a new)
+  pub trust : (a : AccountValue) (new : TrustedEntry) → IsAccount a → CanTrust a → EntryIsInRange new
+      → IsAccount (with_trusted a new)
   pub untrust : (a : AccountValue) (other : ℕ) → IsAccount a → IsAccount (without_trusted a other)
   pub set_status : (a : AccountValue) (status : Status) → IsAccount a → IsAccount (with_status a status)
-  pub set_emissions : (a : AccountValue) (new : Emission) → IsAccount a → EmissionFits new → EmissionIsInRange new → IsAccount (with_emissions a new)
-  pub determine : (a : AccountValue) (new : Figure) → IsAccount a → FigureFits new.tonnes → FigureIsInRange new → IsAccount (with_determined a new)
+  pub set_emissions : (a : AccountValue) (new : Emission) → IsAccount a → EmissionFits new → EmissionIsInRange new
+      → IsAccount (with_emissions a new)
+  pub determine : (a : AccountValue) (new : Figure) → IsAccount a → FigureFits new.tonnes → FigureIsInRange new
+      → IsAccount (with_determined a new)
 
 -- the allowances of a kind that the account holds, and those that it has surrendered
 abbrev pub counted : AllowanceKind → AccountValue → ℕ
@@ -39,27 +44,33 @@ of_kind kind own amount = if is_same_kind own kind then amount else 0
 -- what changes make of this number: a surrender leaves it as it is, a deletion takes its amount off, and a reversal
 -- undoes that
 pub record NumberLaws : Type 0 where
-  pub credit : (a : AccountValue) (own : AllowanceKind) (amount : ℕ) (kind : AllowanceKind) → counted kind (credited a own amount) ≡ counted kind a + of_kind kind own amount
+  pub credit : (a : AccountValue) (own : AllowanceKind) (amount : ℕ) (kind : AllowanceKind)
+      → counted kind (credited a own amount) ≡ counted kind a + of_kind kind own amount
   pub debit : (a : AccountValue) (own : AllowanceKind) (amount : ℕ) (kind : AllowanceKind) → amount ≤ held_by a own
       → counted kind (debited a own amount) + of_kind kind own amount ≡ counted kind a
   pub retire : (a : AccountValue) (row : RetirementRow) (kind : AllowanceKind) → CanRetire a row
       → counted kind (retired a row) + amount_in Deleted kind row ≡ counted kind a
-  pub unretire : (a : AccountValue) (number : ℕ) (row : RetirementRow) (kind : AllowanceKind) → IsAccount a → row_in a.rows number ≡ Some row → CanUnretireRow a row
+  pub unretire : (a : AccountValue) (number : ℕ) (row : RetirementRow) (kind : AllowanceKind) → IsAccount a
+      → row_in a.rows number ≡ Some row → CanUnretireRow a row
       → counted kind (unretired a number) ≡ counted kind a + amount_in Deleted kind row
 
 -- of the trusted account list only the entry of the account changes that is put on it, or taken off it
 pub record TrustLaws : Type 0 where
   pub trust : (a : AccountValue) (new : TrustedEntry) (other : ℕ) → IsAccount a
-      → effective_in (with_trusted a new).trusted other ≡ (if new.account == other then Some new.effective else effective_in a.trusted other)
+      → effective_in (with_trusted a new).trusted other
+      ≡ (if new.account == other then Some new.effective else effective_in a.trusted other)
   pub untrust : (a : AccountValue) (gone other : ℕ)
-      → effective_in (without_trusted a gone).trusted other ≡ (if gone == other then None else effective_in a.trusted other)
+      → effective_in (without_trusted a gone).trusted other
+      ≡ (if gone == other then None else effective_in a.trusted other)
 
 -- of the emissions (or determined figures) only those of the year change that is set
 pub record YearLaws : Type 0 where
   pub set_emissions : (a : AccountValue) (new : Emission) (year : ℕ) → IsAccount a
-      → emissions_in (with_emissions a new).emissions year ≡ (if new.year == year then Some new.tonnes else emissions_in a.emissions year)
+      → emissions_in (with_emissions a new).emissions year
+      ≡ (if new.year == year then Some new.tonnes else emissions_in a.emissions year)
   pub determine : (a : AccountValue) (new : Figure) (year : ℕ) → IsAccount a
-      → figure_in (with_determined a new).figures year ≡ (if new.year == year then Some new.tonnes else figure_in a.figures year)
+      → figure_in (with_determined a new).figures year
+      ≡ (if new.year == year then Some new.tonnes else figure_in a.figures year)
 
 -- the figure, if there is one, lowered by this amount
 abbrev pub lowered_by : ℕ → Result ℤ FigureFault → Result ℤ FigureFault
@@ -68,5 +79,7 @@ lowered_by amount (Err fault) = Err fault
 
 -- a reversal lowers the figure of a year by the amount of the row, if the row counts for it, and else leaves it
 pub record FigureLaws : Type 0 where
-  pub unretire : (rules : RulesValue) (a : AccountValue) (number : ℕ) (row : RetirementRow) (year : ℕ) → IsAccount a → row_in a.rows number ≡ Some row
-      → figure_of rules (unretired a number) year ≡ lowered_by (if is_row_counted rules year row then row.amount else 0) (figure_of rules a year)
+  pub unretire : (rules : RulesValue) (a : AccountValue) (number : ℕ) (row : RetirementRow) (year : ℕ) → IsAccount a
+      → row_in a.rows number ≡ Some row
+      → figure_of rules (unretired a number) year
+      ≡ lowered_by (if is_row_counted rules year row then row.amount else 0) (figure_of rules a year)

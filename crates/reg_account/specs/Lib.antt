@@ -6,6 +6,6 @@ pub mod Corrections
 pub mod Lists
 pub mod Account
 pub mod Figure
-pub mod Places
+pub mod RowIndexes
 pub mod Sums
 pub mod Laws

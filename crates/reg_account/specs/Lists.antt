@@ -7,7 +7,8 @@ use Rattle.reg_account.specs.declared.rows.RetirementRow.{RetirementRow}
 use Rattle.reg_account.specs.declared.years.Emission.{Emission}
 use Rattle.reg_account.specs.declared.years.Figure.{Figure}
 
--- the correction factors of later periods, the surrenders and deletions, the emissions and the determined figures as plain data
+-- the correction factors of later periods, the surrenders and deletions, the emissions and the determined figures as
+-- plain data
 pub record RecordsValue : Type 0 where
   pub corrections : List Correction
   pub rows : List RetirementRow
@@ -33,4 +34,11 @@ no_lists = record { corrections = []; users = []; trusted = []; rows = []; emiss
 
 -- the lists with these records
 abbrev pub lists_made : List Representative → List TrustedEntry → RecordsValue → ListsValue
-lists_made users trusted r = record { corrections = r.corrections; users = users; trusted = trusted; rows = r.rows; emissions = r.emissions; figures = r.figures }
+lists_made users trusted r = record {
+  corrections = r.corrections;
+  users = users;
+  trusted = trusted;
+  rows = r.rows;
+  emissions = r.emissions;
+  figures = r.figures;
+}

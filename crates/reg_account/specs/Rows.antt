@@ -36,7 +36,8 @@ is_for period fate.Deleted = false
 
 -- the row is a surrender (or a deletion) of this kind, and was not reversed
 abbrev pub counts : Retirement → AllowanceKind → RetirementRow → Bool
-counts way kind row = is_same_retirement (retirement_of row.fate) way && (is_same_kind row.kind kind && not row.reversed)
+counts way kind row = is_same_retirement (retirement_of row.fate) way
+    && (is_same_kind row.kind kind && not row.reversed)
 
 -- what a row adds to the surrendered (or deleted) amount of a kind
 abbrev pub amount_in : Retirement → AllowanceKind → RetirementRow → ℕ
@@ -112,11 +113,13 @@ is_row_unfit row = nat_lt row.amount 1 || (nat_lt MOST_RETIRED row.amount || is_
 
 -- there are too many rows, their numbers don't rise, or one of them is unfit
 abbrev pub are_rows_unfit : List RetirementRow → Bool
-are_rows_unfit rows = nat_lt MOST_ROWS (length rows) || (not (is_rising_from 0 (row_numbers rows)) || list_any is_row_unfit rows)
+are_rows_unfit rows = nat_lt MOST_ROWS (length rows)
+    || (not (is_rising_from 0 (row_numbers rows)) || list_any is_row_unfit rows)
 
 -- the surrendered (or deleted) amount of a kind is above its limit
 abbrev pub is_too_much : List RetirementRow → Retirement → Bool
-is_too_much rows way = nat_lt MOST_RETIRED (retired_in way General rows) || nat_lt MOST_RETIRED (retired_in way Aviation rows)
+is_too_much rows way = nat_lt MOST_RETIRED (retired_in way General rows)
+    || nat_lt MOST_RETIRED (retired_in way Aviation rows)
 
 -- a surrendered or a deleted amount is above its limit
 abbrev pub is_too_much_retired : List RetirementRow → Bool

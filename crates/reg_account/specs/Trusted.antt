@@ -17,11 +17,13 @@ effective_in entries account = option_map (λ t. t.effective) (find (λ t. t.acc
 
 -- the list has the account, and its entry takes effect on this day or took effect before
 abbrev pub is_in_effect : List TrustedEntry → ℕ → ℕ → Bool
-is_in_effect entries account day = option_map_or (λ effective. nat_le effective day) (effective_in entries account) false
+is_in_effect entries account day =
+    option_map_or (λ effective. nat_le effective day) (effective_in entries account) false
 
 -- the list with this entry, in place of an earlier one of the same account
 abbrev pub with_entry : TrustedEntry → List TrustedEntry → List TrustedEntry
-with_entry new entries = filter (λ t. nat_lt t.account new.account) entries ++ new ∷ filter (λ t. nat_lt new.account t.account) entries
+with_entry new entries =
+    filter (λ t. nat_lt t.account new.account) entries ++ new ∷ filter (λ t. nat_lt new.account t.account) entries
 
 -- the list without the entry of this account
 abbrev pub without_entry : ℕ → List TrustedEntry → List TrustedEntry

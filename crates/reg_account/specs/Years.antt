@@ -24,11 +24,13 @@ figure_in figures year = option_map (λ f. f.tonnes) (find (λ f. f.year == year
 
 -- the emissions, with these in place of earlier ones of the same year
 abbrev pub with_emission : Emission → List Emission → List Emission
-with_emission new emissions = filter (λ e. nat_lt e.year new.year) emissions ++ new ∷ filter (λ e. nat_lt new.year e.year) emissions
+with_emission new emissions =
+    filter (λ e. nat_lt e.year new.year) emissions ++ new ∷ filter (λ e. nat_lt new.year e.year) emissions
 
 -- the figures, with this one in place of an earlier one of the same year
 abbrev pub with_figure : Figure → List Figure → List Figure
-with_figure new figures = filter (λ f. nat_lt f.year new.year) figures ++ new ∷ filter (λ f. nat_lt new.year f.year) figures
+with_figure new figures =
+    filter (λ f. nat_lt f.year new.year) figures ++ new ∷ filter (λ f. nat_lt new.year f.year) figures
 
 -- the emissions of a year are within their limit
 abbrev pub EmissionFits : Emission → Type 0
@@ -69,7 +71,8 @@ is_figure_unfit f = int_lt f.tonnes (pos 0 -ℤ MOST_FIGURE) || int_lt MOST_FIGU
 
 -- the years of emissions don't rise, or emissions are too large
 abbrev pub are_emissions_unfit : List Emission → Bool
-are_emissions_unfit emissions = not (is_rising_from 0 (emission_years emissions)) || list_any is_emission_unfit emissions
+are_emissions_unfit emissions =
+    not (is_rising_from 0 (emission_years emissions)) || list_any is_emission_unfit emissions
 
 -- the years of figures don't rise, or a figure is too large or too small
 abbrev pub are_figures_unfit : List Figure → Bool

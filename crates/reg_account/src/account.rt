@@ -55,7 +55,9 @@ impl Account {
     /// The parts as they were, and the first fault that applies, in the order of [`AccountFault`].
     pub fn of(parts: AccountParts) -> Result<Self, (AccountParts, AccountFault)>
         ensures fault { option_map (λ e. e.1) (result_err result) ≡ first_account_fault (account_of parts) }
-        ensures value { MatchResult result (λ a. (a ≡ account_of parts) × IsAccount (account_of parts)) (λ e. e.0 ≡ parts) }
+        ensures value { MatchResult result
+            (λ a. (a ≡ account_of parts) × IsAccount (account_of parts))
+            (λ e. e.0 ≡ parts) }
     {
         if let Some(fault) = find_fault(&parts) {
             return Err((parts, fault));
@@ -70,8 +72,8 @@ impl Account {
         Ok(Account { parts })
     }
 
-    /// The account with these parts, none of which may have a fault. Takes no memory and looks at no list: for callers that
-    /// have tested each part, as a reader does that has tested each row.
+    /// The account with these parts, none of which may have a fault. Takes no memory and looks at no list: for callers
+    /// that have tested each part, as a reader does that has tested each row.
     pub fn of_fitting(parts: AccountParts) -> Self
         requires { IsAccount (account_of parts) }
         ensures { result ≡ account_of parts }
@@ -207,8 +209,8 @@ impl Account {
         self.parts.lists.trusted()
     }
 
-    /// The day on which this account's entry on the trusted account list takes effect, or `None` if the list has no such
-    /// entry. Found by binary search.
+    /// The day on which this account's entry on the trusted account list takes effect, or `None` if the list has no
+    /// such entry. Found by binary search.
     pub fn effective(&self, other: AccountNo) -> Option<Day>
         ensures { result ≡ effective_in self.now.trusted other }
     {
@@ -223,14 +225,15 @@ impl Account {
         self.parts.holder == holder || is_in_effect(self.parts.lists.trusted(), other, day)
     }
 
-    /// Puts the other account on the trusted account list, with an entry that takes effect on this day. An earlier entry
-    /// of that account is replaced. The list must have fewer than 256 entries. Nothing else changes.
+    /// Puts the other account on the trusted account list, with an entry that takes effect on this day. An earlier
+    /// entry of that account is replaced. The list must have fewer than 256 entries. Nothing else changes.
     ///
     /// # Errors
     /// `NoMemory` if there was no room for the entry. The account is unchanged.
     pub fn trust(&mut self, other: AccountNo, effective: Day) -> Result<(), NoMemory>
         requires { CanTrust self.old }
-        ensures ok { OnOk result (self.new ≡ with_trusted self.old (record { account = other; effective = effective })) }
+        ensures ok { OnOk result
+            (self.new ≡ with_trusted self.old (record { account = other; effective = effective })) }
         ensures err { OnErr result (self.new ≡ self.old) }
     {
         other.get();
@@ -257,8 +260,8 @@ impl Account {
         self.parts.lists.sum(Retirement::Surrendered, kind) as u64
     }
 
-    /// How many allowances of both kinds it has surrendered for this period, 0 to 2 x 10^15. Surrenders that were reversed do
-    /// not count.
+    /// How many allowances of both kinds it has surrendered for this period, 0 to 2 x 10^15. Surrenders that were
+    /// reversed do not count.
     pub fn surrendered_for(&self, period: u8) -> u64
         ensures value { result ≡ surrendered_in period self.now.rows }
         ensures limit { result ≤ MOST_RETIRED + MOST_RETIRED }
@@ -324,12 +327,13 @@ impl Account {
         find_figure(self.parts.lists.figures(), year)
     }
 
-    /// Its compliance figure of this year as of now: the allowances of both kinds that it surrendered for the period of the
-    /// year, minus its emissions of that period up to and including the year, plus its correction factor of the period, in
-    /// tonnes.
+    /// Its compliance figure of this year as of now: the allowances of both kinds that it surrendered for the period of
+    /// the year, minus its emissions of that period up to and including the year, plus its correction factor of the
+    /// period, in tonnes.
     ///
     /// # Errors
-    /// The year is outside every period, or the first year of its period without emissions, if it is this one or earlier.
+    /// The year is outside every period, or the first year of its period without emissions, if it is this one or
+    /// earlier.
     pub fn figure(&self, rules: &Rules, year: Year) -> Result<i64, FigureFault>
         ensures value { result ≡ figure_of rules.now self.now year }
         ensures limits { IfOk result FigureFits }
@@ -356,9 +360,9 @@ impl Account {
         Ok(())
     }
 
-    /// Reverses the surrender or deletion with this record number: the allowances are back, and the row is marked. There
-    /// must be such a row, it must not be reversed, and the holding must stay within its limit. Nothing else changes.
-    /// Takes no memory.
+    /// Reverses the surrender or deletion with this record number: the allowances are back, and the row is marked.
+    /// There must be such a row, it must not be reversed, and the holding must stay within its limit. Nothing else
+    /// changes. Takes no memory.
     pub fn unretire(&mut self, number: RecordNo)
         requires { CanUnretire self.old number }
         ensures { self.new ≡ unretired self.old number }
@@ -419,8 +423,8 @@ impl Account {
         Ok(Account { parts })
     }
 
-    /// Moves the account out, with all its lists. What stays has the same number, kind, holder, status, switches, correction
-    /// factor of period 1 and holdings, and nothing in its lists. Takes no memory.
+    /// Moves the account out, with all its lists. What stays has the same number, kind, holder, status, switches,
+    /// correction factor of period 1 and holdings, and nothing in its lists. Takes no memory.
     pub fn vacate(&mut self) -> Account
         ensures value { result ≡ self.old }
         ensures left { self.new ≡ vacated self.old }

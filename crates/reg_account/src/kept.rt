@@ -9,7 +9,7 @@ ghost use Rattle.reg_account.specs.Years.{emission_years, figure_years, with_emi
 ghost use Rattle.reg_account.specs.Lists.{RecordsValue, no_records};
 
 use crate::corrections::Correction;
-use crate::rows::{RetirementRow, copy_rows, mark_reversed, place_of};
+use crate::rows::{RetirementRow, copy_rows, index_of, mark_reversed};
 use crate::sums::{Sums, count_row, get_sum, get_sum_for, uncount_row};
 use crate::years::{Emission, Figure, put_emission, put_figure};
 use reg_base::{AllowanceKind, NoMemory, RecordNo, Retirement};
@@ -33,7 +33,12 @@ impl Model for Kept {
 
     ghost Value = { RecordsValue };
 
-    ghost view = { λ k. record { corrections = k.corrections.items; rows = k.rows.items; emissions = k.emissions.items; figures = k.figures.items } };
+    ghost view = { λ k. record {
+      corrections = k.corrections.items;
+      rows = k.rows.items;
+      emissions = k.emissions.items;
+      figures = k.figures.items;
+    } };
 
     ghost invariant = { λ k. SumsAgree k.sums k.rows.items };
 }
@@ -90,7 +95,8 @@ impl Kept {
 
     #[inline(always)]
     pub(crate) fn push_correction(&mut self, correction: Correction) -> Result<(), NoMemory>
-        ensures ok { OnOk result (self.new ≡ record self.old { corrections = self.old.corrections ++ correction ∷ [] }) }
+        ensures ok { OnOk result
+            (self.new ≡ record self.old { corrections = self.old.corrections ++ correction ∷ [] }) }
         ensures err { OnErr result (self.new ≡ self.old) }
     {
         self.corrections.push(correction)?;
@@ -149,9 +155,9 @@ impl Kept {
         ensures row { result ≡ row_in self.old.rows number }
         ensures marked { self.new ≡ record self.old { rows = with_mark number self.old.rows } }
     {
-        match place_of(&self.rows, number) {
-            Some(place) => {
-                let row = mark_reversed(&mut self.rows, place);
+        match index_of(&self.rows, number) {
+            Some(index) => {
+                let row = mark_reversed(&mut self.rows, index);
                 let reversed = row;
                 uncount_row(&mut self.sums, reversed);
                 Some(row)

@@ -1,4 +1,5 @@
-//! The lists of an account: its correction factors of later periods, its representatives, its trusted account list, and its records.
+//! The lists of an account: its correction factors of later periods, its representatives, its trusted account list, and
+//! its records.
 
 ghost use Rattle.std.specs.Prelude.{◌≡◌, ◌++◌, [], ◌∷◌, false, IfOk, OnOk, OnErr, MatchOption};
 ghost use Rattle.reg_base.specs.Rising.{IsRising};
@@ -47,7 +48,8 @@ impl Model for Lists {
 
     ghost Value = { ListsValue };
 
-    ghost view = { λ l. option_map_or (λ b. lists_made b.value.users.items b.value.trusted.items b.value.records) l.filled no_lists };
+    ghost view = { λ l. option_map_or
+        (λ b. lists_made b.value.users.items b.value.trusted.items b.value.records) l.filled no_lists };
 }
 
 impl Lists {
@@ -127,7 +129,8 @@ impl Lists {
     /// `NoMemory` if memory ran out. The lists are unchanged.
     #[inline(always)]
     pub fn push_correction(&mut self, correction: Correction) -> Result<(), NoMemory>
-        ensures ok { OnOk result (self.new ≡ record self.old { corrections = self.old.corrections ++ correction ∷ [] }) }
+        ensures ok { OnOk result
+            (self.new ≡ record self.old { corrections = self.old.corrections ++ correction ∷ [] }) }
         ensures err { OnErr result (self.new ≡ self.old) }
     {
         match &mut self.filled {
@@ -252,8 +255,8 @@ impl Lists {
         }
     }
 
-    /// How many allowances of this kind were surrendered (or deleted) and not reversed. Takes no memory and goes through
-    /// no list.
+    /// How many allowances of this kind were surrendered (or deleted) and not reversed. Takes no memory and goes
+    /// through no list.
     pub fn sum(&self, way: Retirement, kind: AllowanceKind) -> u128
         ensures { result ≡ retired_in way kind self.now.rows }
     {
@@ -263,8 +266,8 @@ impl Lists {
         }
     }
 
-    /// How many allowances of both kinds were surrendered for this period, 1 to 8, and not reversed. Takes no memory and goes
-    /// through no list.
+    /// How many allowances of both kinds were surrendered for this period, 1 to 8, and not reversed. Takes no memory
+    /// and goes through no list.
     pub fn surrendered_for(&self, period: u8) -> u128
         requires { IsWithin 1 MOST_PERIODS period }
         ensures { result ≡ surrendered_in period self.now.rows }

@@ -28,23 +28,26 @@ pub struct AccountParts {
     pub outside: bool,
     /// Whether a transfer to a trusted account needs no approval.
     pub waiver: bool,
-    /// The correction factor of its compliance figures of period 1, from -10^15 to 10^15 tonnes of carbon dioxide equivalent.
+    /// The correction factor of its compliance figures of period 1, from -10^15 to 10^15 tonnes of carbon dioxide
+    /// equivalent.
     pub correction: i64,
     /// What it holds: 0 to 10^15 allowances of each kind.
     pub held: Holdings,
-    /// Its correction factors of later periods (by rising period, 2 to 8; each from -10^15 to 10^15 tonnes, and none 0), its
-    /// representatives (at most 64, by rising user number), its trusted account list (at most 256 entries, by rising account
-    /// number), its surrenders and deletions (at most 4,096, by rising record number; a surrender for a period from 1 to 8; no
-    /// surrendered and no deleted amount of a kind above 10^15), its emissions and its determined figures (each by rising year).
+    /// Its correction factors of later periods (by rising period, 2 to 8; each from -10^15 to 10^15 tonnes, and none
+    /// 0), its representatives (at most 64, by rising user number), its trusted account list (at most 256 entries, by
+    /// rising account number), its surrenders and deletions (at most 4,096, by rising record number; a surrender for a
+    /// period from 1 to 8; no surrendered and no deleted amount of a kind above 10^15), its emissions and its
+    /// determined figures (each by rising year).
     pub lists: Lists,
 }
 
 /// Why parts are not an account: the first of these that applies.
 #[derive(Clone, Copy, Debug, PartialEq, Eq, Error)]
 pub enum AccountFault {
-    /// A correction factor is below -10^15 or above 10^15 tonnes; or the periods of later factors don't rise from 2 to 8, or
-    /// one of these factors is 0.
-    #[error("a correction factor is not -10^15 to 10^15 tonnes, or those of later periods are 0 or don't rise from 2 to 8")]
+    /// A correction factor is below -10^15 or above 10^15 tonnes; or the periods of later factors don't rise from 2 to
+    /// 8, or one of these factors is 0.
+    #[error("a correction factor is not -10^15 to 10^15 tonnes, or those of later periods are 0 or don't rise
+        from 2 to 8")]
     Correction,
     /// A holding is above 10^15 allowances.
     #[error("a holding is above 10^15 allowances")]
@@ -55,9 +58,10 @@ pub enum AccountFault {
     /// There are more than 256 trusted accounts, or their numbers don't rise.
     #[error("the trusted accounts are more than 256, or don't rise")]
     Trusted,
-    /// There are more than 4,096 surrenders and deletions, their numbers don't rise, an amount is not 1 to 10^15, or the
-    /// period of a surrender is not 1 to 8.
-    #[error("the surrenders and deletions are more than 4,096, don't rise, or have an amount that is not 1 to 10^15 or a period that is not 1 to 8")]
+    /// There are more than 4,096 surrenders and deletions, their numbers don't rise, an amount is not 1 to 10^15, or
+    /// the period of a surrender is not 1 to 8.
+    #[error("the surrenders and deletions are more than 4,096, don't rise, or have an amount that is not 1 to 10^15 or a
+        period that is not 1 to 8")]
     Rows,
     /// A surrendered or a deleted amount of a kind is above 10^15 allowances.
     #[error("a surrendered or deleted amount is above 10^15 allowances")]

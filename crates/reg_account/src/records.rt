@@ -1,5 +1,5 @@
-//! The records of an account: its correction factors of later periods, its surrenders and deletions, its emissions and its
-//! determined figures.
+//! The records of an account: its correction factors of later periods, its surrenders and deletions, its emissions and
+//! its determined figures.
 
 ghost use Rattle.std.specs.Prelude.{◌≡◌, ◌++◌, [], ◌∷◌, false, IfOk, OnOk, OnErr, MatchOption};
 ghost use Rattle.reg_base.specs.Rising.{IsRising};
@@ -17,8 +17,9 @@ use reg_base::{AllowanceKind, NoMemory, RecordNo, Retirement, Year};
 use std::alloc::Global;
 use std::marker::Model;
 
-/// The correction factors of later periods of an account, its surrenders and deletions, its emissions and its determined
-/// figures, not yet tested. A contract sees them as plain data. Most accounts have none, so records without anything take no memory.
+/// The correction factors of later periods of an account, its surrenders and deletions, its emissions and its
+/// determined figures, not yet tested. A contract sees them as plain data. Most accounts have none, so records without
+/// anything take no memory.
 #[derive(Debug, Drop)]
 pub(crate) struct Records {
     alloc: Global,
@@ -88,7 +89,8 @@ impl Records {
     /// `NoMemory` if memory ran out. The records are unchanged.
     #[inline(always)]
     pub(crate) fn push_correction(&mut self, correction: Correction) -> Result<(), NoMemory>
-        ensures ok { OnOk result (self.new ≡ record self.old { corrections = self.old.corrections ++ correction ∷ [] }) }
+        ensures ok { OnOk result
+            (self.new ≡ record self.old { corrections = self.old.corrections ++ correction ∷ [] }) }
         ensures err { OnErr result (self.new ≡ self.old) }
     {
         match &mut self.kept {
@@ -162,8 +164,8 @@ impl Records {
         }
     }
 
-    /// How many allowances of this kind were surrendered (or deleted) and not reversed. Takes no memory and goes through
-    /// no list.
+    /// How many allowances of this kind were surrendered (or deleted) and not reversed. Takes no memory and goes
+    /// through no list.
     pub(crate) fn sum(&self, way: Retirement, kind: AllowanceKind) -> u128
         ensures { result ≡ retired_in way kind self.now.rows }
     {
@@ -173,8 +175,8 @@ impl Records {
         }
     }
 
-    /// How many allowances of both kinds were surrendered for this period, 1 to 8, and not reversed. Takes no memory and goes
-    /// through no list.
+    /// How many allowances of both kinds were surrendered for this period, 1 to 8, and not reversed. Takes no memory
+    /// and goes through no list.
     pub(crate) fn surrendered_for(&self, period: u8) -> u128
         requires { IsWithin 1 MOST_PERIODS period }
         ensures { result ≡ surrendered_in period self.now.rows }

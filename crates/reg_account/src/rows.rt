@@ -3,7 +3,7 @@
 ghost use Rattle.std.specs.Prelude.{◌≡◌, ◌<◌, Some, None, IfOk, MatchOption, length, slice_index};
 ghost use Rattle.reg_base.specs.Rising.{IsRising};
 ghost use Rattle.reg_account.specs.Rows.{retirement_of, row_numbers, row_in, with_mark};
-ghost use Rattle.reg_account.specs.Places.{RowStandsAt};
+ghost use Rattle.reg_account.specs.RowIndexes.{RowStandsAt};
 
 use reg_base::{AllowanceKind, Day, NoMemory, RecordNo, Retirement};
 use std::alloc::Global;
@@ -49,13 +49,13 @@ pub struct RetirementRow {
     pub reversed: bool,
 }
 
-/// The place of the row with this number, counted from 0.
-pub(crate) fn place_of(rows: &[RetirementRow], number: RecordNo) -> Option<usize>
+/// The index of the row with this number, counted from 0.
+pub(crate) fn index_of(rows: &[RetirementRow], number: RecordNo) -> Option<usize>
     requires { IsRising (row_numbers rows.now) }
-    ensures { MatchOption result (row_in rows.now number ≡ None) (λ place. RowStandsAt rows.now place number) }
+    ensures { MatchOption result (row_in rows.now number ≡ None) (λ index. RowStandsAt rows.now index number) }
 {
     match rows.binary_search_by_key(&number, |row| row.number) {
-        Ok(place) => Some(place),
+        Ok(index) => Some(index),
         Err(_) => None,
     }
 }
@@ -66,20 +66,20 @@ pub(crate) fn find_row(rows: &[RetirementRow], number: RecordNo) -> Option<Retir
     ensures { result ≡ row_in rows.now number }
 {
     match rows.binary_search_by_key(&number, |row| row.number) {
-        Ok(place) => Some(rows[place]),
+        Ok(index) => Some(rows[index]),
         Err(_) => None,
     }
 }
 
-/// Marks the row at this place as reversed, and answers it as it was.
-pub(crate) fn mark_reversed(rows: &mut [RetirementRow], place: usize) -> RetirementRow
+/// Marks the row at this index as reversed, and answers it as it was.
+pub(crate) fn mark_reversed(rows: &mut [RetirementRow], index: usize) -> RetirementRow
     requires rising { IsRising (row_numbers rows.old) }
-    requires within { place < length rows.old }
-    ensures row { row_in rows.old (slice_index (row_numbers rows.old) place) ≡ Some result }
-    ensures marked { rows.new ≡ with_mark (slice_index (row_numbers rows.old) place) rows.old }
+    requires within { index < length rows.old }
+    ensures row { row_in rows.old (slice_index (row_numbers rows.old) index) ≡ Some result }
+    ensures marked { rows.new ≡ with_mark (slice_index (row_numbers rows.old) index) rows.old }
 {
-    let row = rows[place];
-    rows[place].reversed = true;
+    let row = rows[index];
+    rows[index].reversed = true;
     row
 }
 

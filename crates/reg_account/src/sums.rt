@@ -60,11 +60,14 @@ pub(crate) fn get_sum_for(sums: &Sums, period: u8) -> u128
 /// Counts a row that was added, if it is not reversed. A surrender for a period that there cannot be counts for none.
 pub(crate) fn count_row(sums: &mut Sums, row: RetirementRow)
     requires of_kind { sum_at sums.old (retirement_of row.fate) row.kind + 18446744073709551615 < 2 ^ 128 }
-    requires of_period { (period : ℕ) → IsWithin 1 MOST_PERIODS period → sum_for sums.old period + 18446744073709551615 < 2 ^ 128 }
+    requires of_period { (period : ℕ) → IsWithin 1 MOST_PERIODS period
+        → sum_for sums.old period + 18446744073709551615 < 2 ^ 128 }
     requires eight { length sums.old.by_period ≡ MOST_PERIODS }
     ensures limit { row.amount ≤ 18446744073709551615 }
-    ensures counted { (way : Way) (kind : AllowanceKind) → sum_at sums.new way kind ≡ sum_at sums.old way kind + amount_in way kind row }
-    ensures counted_for { (period : ℕ) → IsWithin 1 MOST_PERIODS period → sum_for sums.new period ≡ sum_for sums.old period + amount_for period row }
+    ensures counted { (way : Way) (kind : AllowanceKind)
+        → sum_at sums.new way kind ≡ sum_at sums.old way kind + amount_in way kind row }
+    ensures counted_for { (period : ℕ) → IsWithin 1 MOST_PERIODS period
+        → sum_for sums.new period ≡ sum_for sums.old period + amount_for period row }
     ensures eight { length sums.new.by_period ≡ MOST_PERIODS }
 {
     if row.reversed {
@@ -90,10 +93,13 @@ pub(crate) fn count_row(sums: &mut Sums, row: RetirementRow)
 pub(crate) fn uncount_row(sums: &mut Sums, row: RetirementRow)
     requires counted { row.reversed ≡ false }
     requires enough { row.amount ≤ sum_at sums.old (retirement_of row.fate) row.kind }
-    requires enough_for { (period : ℕ) → IsWithin 1 MOST_PERIODS period → amount_for period row ≤ sum_for sums.old period }
+    requires enough_for { (period : ℕ) → IsWithin 1 MOST_PERIODS period
+        → amount_for period row ≤ sum_for sums.old period }
     requires eight { length sums.old.by_period ≡ MOST_PERIODS }
-    ensures counted { (way : Way) (kind : AllowanceKind) → sum_at sums.new way kind + amount_in way kind row ≡ sum_at sums.old way kind }
-    ensures counted_for { (period : ℕ) → IsWithin 1 MOST_PERIODS period → sum_for sums.new period + amount_for period row ≡ sum_for sums.old period }
+    ensures counted { (way : Way) (kind : AllowanceKind)
+        → sum_at sums.new way kind + amount_in way kind row ≡ sum_at sums.old way kind }
+    ensures counted_for { (period : ℕ) → IsWithin 1 MOST_PERIODS period
+        → sum_for sums.new period + amount_for period row ≡ sum_for sums.old period }
     ensures eight { length sums.new.by_period ≡ MOST_PERIODS }
 {
     let amount = u128::from(row.amount);
@@ -123,7 +129,8 @@ fn is_period(period: u8) -> bool
 fn raise_for(sums: &mut ByPeriod, period: u8, amount: u128)
     requires room { (p : ℕ) → IsWithin 1 MOST_PERIODS p → slice_index sums.old (p - 1) + amount < 2 ^ 128 }
     requires eight { length sums.old ≡ MOST_PERIODS }
-    ensures raised { (p : ℕ) → IsWithin 1 MOST_PERIODS p → slice_index sums.new (p - 1) ≡ slice_index sums.old (p - 1) + (if p == period then amount else 0) }
+    ensures raised { (p : ℕ) → IsWithin 1 MOST_PERIODS p
+        → slice_index sums.new (p - 1) ≡ slice_index sums.old (p - 1) + (if p == period then amount else 0) }
     ensures eight { length sums.new ≡ MOST_PERIODS }
 {
     if is_period(period) {
@@ -133,9 +140,11 @@ fn raise_for(sums: &mut ByPeriod, period: u8, amount: u128)
 
 // Lowers the sum of this period, if there may be such a period.
 fn lower_for(sums: &mut ByPeriod, period: u8, amount: u128)
-    requires enough { (p : ℕ) → IsWithin 1 MOST_PERIODS p → (if p == period then amount else 0) ≤ slice_index sums.old (p - 1) }
+    requires enough { (p : ℕ) → IsWithin 1 MOST_PERIODS p
+        → (if p == period then amount else 0) ≤ slice_index sums.old (p - 1) }
     requires eight { length sums.old ≡ MOST_PERIODS }
-    ensures lowered { (p : ℕ) → IsWithin 1 MOST_PERIODS p → slice_index sums.new (p - 1) + (if p == period then amount else 0) ≡ slice_index sums.old (p - 1) }
+    ensures lowered { (p : ℕ) → IsWithin 1 MOST_PERIODS p
+        → slice_index sums.new (p - 1) + (if p == period then amount else 0) ≡ slice_index sums.old (p - 1) }
     ensures eight { length sums.new ≡ MOST_PERIODS }
 {
     if is_period(period) {

@@ -19,7 +19,7 @@ pub struct TrustedEntry {
 impl Default for TrustedEntry {
     ghost is_default = { λ t. t ≡ record { account = 1; effective = 18628 } };
 
-    /// The lowest account number and the first day. It fills the unused places of a short list.
+    /// The lowest account number and the first day. It fills the unused rest of a short list.
     fn default() -> Self {
         TrustedEntry {
             account: AccountNo::new(1).unwrap(),
@@ -37,7 +37,7 @@ pub(crate) fn find_effective(entries: &[TrustedEntry], account: AccountNo) -> Op
     ensures { result ≡ effective_in entries.now account }
 {
     match entries.binary_search_by_key(&account, |entry| entry.account) {
-        Ok(place) => Some(entries[place].effective),
+        Ok(index) => Some(entries[index].effective),
         Err(_) => None,
     }
 }
@@ -66,8 +66,8 @@ pub(crate) fn put_entry(entries: &mut Entries, new: TrustedEntry) -> Result<(), 
         .as_slice()
         .binary_search_by_key(&new.account, |entry| entry.account)
     {
-        Ok(place) => entries[place] = new,
-        Err(place) => entries.insert(place, new)?,
+        Ok(index) => entries[index] = new,
+        Err(index) => entries.insert(index, new)?,
     }
     Ok(())
 }
@@ -81,8 +81,8 @@ pub(crate) fn remove_entry(entries: &mut Entries, account: AccountNo)
         .as_slice()
         .binary_search_by_key(&account, |entry| entry.account)
     {
-        Ok(place) => {
-            entries.remove(place);
+        Ok(index) => {
+            entries.remove(index);
         }
         Err(_) => {}
     }

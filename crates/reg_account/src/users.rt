@@ -20,7 +20,7 @@ impl Default for Representative {
 
     ghost is_default = { λ u. u ≡ record { user = 1; right = Propose } };
 
-    /// The lowest user number. It fills the unused places of a short list.
+    /// The lowest user number. It fills the unused rest of a short list.
     fn default() -> Self {
         Representative {
             user: UserNo::new(1).unwrap(),
@@ -35,7 +35,7 @@ pub(crate) fn find_right(users: &[Representative], user: UserNo) -> Option<Right
     ensures { result ≡ right_in users.now user }
 {
     match users.binary_search_by_key(&user, |representative| representative.user) {
-        Ok(place) => Some(users[place].right),
+        Ok(index) => Some(users[index].right),
         Err(_) => None,
     }
 }

@@ -30,7 +30,7 @@ pub(crate) fn find_emissions(emissions: &[Emission], year: Year) -> Option<u64>
     ensures { result ≡ emissions_in emissions.now year }
 {
     match emissions.binary_search_by_key(&year, |emission| emission.year) {
-        Ok(place) => Some(emissions[place].tonnes),
+        Ok(index) => Some(emissions[index].tonnes),
         Err(_) => None,
     }
 }
@@ -41,7 +41,7 @@ pub(crate) fn find_figure(figures: &[Figure], year: Year) -> Option<i64>
     ensures { result ≡ figure_in figures.now year }
 {
     match figures.binary_search_by_key(&year, |figure| figure.year) {
-        Ok(place) => Some(tonnes_of(figures[place])),
+        Ok(index) => Some(tonnes_of(figures[index])),
         Err(_) => None,
     }
 }
@@ -62,8 +62,8 @@ pub(crate) fn put_emission(emissions: &mut Vec<Emission>, new: Emission) -> Resu
     ensures err { OnErr result (emissions.new.items ≡ emissions.old.items) }
 {
     match emissions.binary_search_by_key(&new.year, |emission| emission.year) {
-        Ok(place) => emissions[place] = new,
-        Err(place) => emissions.insert(place, new)?,
+        Ok(index) => emissions[index] = new,
+        Err(index) => emissions.insert(index, new)?,
     }
     Ok(())
 }
@@ -78,8 +78,8 @@ pub(crate) fn put_figure(figures: &mut Vec<Figure>, new: Figure) -> Result<(), N
     ensures err { OnErr result (figures.new.items ≡ figures.old.items) }
 {
     match figures.binary_search_by_key(&new.year, |figure| figure.year) {
-        Ok(place) => figures[place] = new,
-        Err(place) => figures.insert(place, new)?,
+        Ok(index) => figures[index] = new,
+        Err(index) => figures.insert(index, new)?,
     }
     Ok(())
 }

@@ -1,4 +1,4 @@
--- The first fault of a list of numbers, and of rules, is the first place at which the numbers do not rise.
+-- The first fault of a list of numbers, and of rules, is the first position at which the numbers do not rise.
 use Rattle.std.proofs.Common.{◌≡◌, ℕ, zero, suc, ◌+◌, ◌-◌, ◌<◌, ◌≤◌, Bool, true, false, cond, ◌&&◌, ◌||◌, leb, ltb, List, [], ◌∷◌, ◌++◌, map, length, Option, Some, None, refl, sym, ap, ◌∙◌, inl, inr, arith}
 use Rattle.std.specs.Prelude.{find, slice_index, is_some}
 use Rattle.std.specs.Option.{option_map, option_or}
@@ -9,7 +9,7 @@ use Rattle.std.proofs.lemmas.List.Folds.{find-append}
 use Rattle.reg_base.specs.declared.limits.TheConstants.{MOST_ADMINISTRATORS, MOST_LAG, MOST_PERIODS}
 use Rattle.reg_base.specs.declared.rules.RulesFault.{RulesFault}
 use Rattle.reg_base.specs.declared.rules.RulesFault.TheVariants.{TooManyAdmins, AdminsNotRising, LagTooLong, PeriodCount, PeriodReversed, PeriodsNotRising, CurrentOutside}
-use Rattle.reg_base.specs.Rising.{AreAbove, IsRising, FirstNotAbove, FirstNotRising, count_up, places_from_one, is_not_above, is_fall}
+use Rattle.reg_base.specs.Rising.{AreAbove, IsRising, FirstNotAbove, FirstNotRising, count_up, positions_from_one, is_not_above, is_fall}
 use Rattle.reg_base.specs.Periods.{ArePeriods, IsPeriodOf, PeriodsRise, first_years, last_years, is_period_reversed}
 use Rattle.reg_base.specs.Rules.{RulesValue, rules_have, period_faults, first_period_fault, first_rules_fault, has_long_lag, is_period_count_wrong, is_current_outside, FitRulesHaveNoFault}
 
@@ -28,36 +28,36 @@ none-counted test first (suc more) fails =
     ap (λ b. cond b (Some first) (find test (count_up (first + 1) more))) (fails first (omega arith) (omega arith))
     ∙ none-counted test (first + 1) more (λ k le lt. fails k (omega arith) (omega arith))
 
-first-counted : (test : ℕ → Bool) (first more place : ℕ) → first ≤ place → place < first + more → test place ≡ true
-    → ((k : ℕ) → first ≤ k → k < place → test k ≡ false) → find test (count_up first more) ≡ Some place
-first-counted test first zero place le lt passes fails = absurd (omega arith)
-first-counted test first (suc more) place le lt passes fails = elim (cases_lt first place) [
+first-counted : (test : ℕ → Bool) (first more position : ℕ) → first ≤ position → position < first + more → test position ≡ true
+    → ((k : ℕ) → first ≤ k → k < position → test k ≡ false) → find test (count_up first more) ≡ Some position
+first-counted test first zero position le lt passes fails = absurd (omega arith)
+first-counted test first (suc more) position le lt passes fails = elim (cases_lt first position) [
   | inl before ↦
       ap (λ b. cond b (Some first) (find test (count_up (first + 1) more))) (fails first (omega arith) before)
-      ∙ first-counted test (first + 1) more place (omega arith) (omega arith) passes (λ k le' lt'. fails k (omega arith) lt')
+      ∙ first-counted test (first + 1) more position (omega arith) (omega arith) passes (λ k le' lt'. fails k (omega arith) lt')
   | inr at ↦
-      let same : first ≡ place = omega arith in
+      let same : first ≡ position = omega arith in
       ap (λ b. cond b (Some first) (find test (count_up (first + 1) more))) (ap test same ∙ passes) ∙ ap (λ n. Some n) same
 ]
 
--- a place where the numbers rise is no fall
-rises-here : (lower xs : List ℕ) (place : ℕ) → (2 ≤ place → place ≤ length xs → slice_index lower (place - 2) < slice_index xs (place - 1)) → is_not_above lower xs place ≡ false
-rises-here lower xs place rises = elim (cases_lt 1 place) [
-  | inr early ↦ and_left (ltb 1 place) (leb place (length xs) && leb (slice_index xs (place - 1)) (slice_index lower (place - 2))) (le-ltb 1 place early)
-  | inl late ↦ and_right (ltb 1 place) (leb place (length xs) && leb (slice_index xs (place - 1)) (slice_index lower (place - 2))) (within-or-past late)
+-- a position where the numbers rise is no fall
+rises-here : (lower xs : List ℕ) (position : ℕ) → (2 ≤ position → position ≤ length xs → slice_index lower (position - 2) < slice_index xs (position - 1)) → is_not_above lower xs position ≡ false
+rises-here lower xs position rises = elim (cases_lt 1 position) [
+  | inr early ↦ and_left (ltb 1 position) (leb position (length xs) && leb (slice_index xs (position - 1)) (slice_index lower (position - 2))) (le-ltb 1 position early)
+  | inl late ↦ and_right (ltb 1 position) (leb position (length xs) && leb (slice_index xs (position - 1)) (slice_index lower (position - 2))) (within-or-past late)
 ] where
-  within-or-past : 1 < place → (leb place (length xs) && leb (slice_index xs (place - 1)) (slice_index lower (place - 2))) ≡ false
-  within-or-past late = elim (cases_lt (length xs) place) [
-    | inl past ↦ and_left (leb place (length xs)) (leb (slice_index xs (place - 1)) (slice_index lower (place - 2))) (lt-leb place (length xs) past)
-    | inr within ↦ and_right (leb place (length xs)) (leb (slice_index xs (place - 1)) (slice_index lower (place - 2))) (lt-leb (slice_index xs (place - 1)) (slice_index lower (place - 2)) (rises (omega arith) within))
+  within-or-past : 1 < position → (leb position (length xs) && leb (slice_index xs (position - 1)) (slice_index lower (position - 2))) ≡ false
+  within-or-past late = elim (cases_lt (length xs) position) [
+    | inl past ↦ and_left (leb position (length xs)) (leb (slice_index xs (position - 1)) (slice_index lower (position - 2))) (lt-leb position (length xs) past)
+    | inr within ↦ and_right (leb position (length xs)) (leb (slice_index xs (position - 1)) (slice_index lower (position - 2))) (lt-leb (slice_index xs (position - 1)) (slice_index lower (position - 2)) (rises (omega arith) within))
   ]
 
-falls-here : (lower xs : List ℕ) (place : ℕ) → FirstNotAbove lower xs place → is_not_above lower xs place ≡ true
-falls-here lower xs place fall =
-    and_from _ _ (lt-ltb 1 place (omega (arith, fall.after_the_first)))
-    (and_from _ _ (le-leb place (length xs) fall.within) (le-leb (slice_index xs (place - 1)) (slice_index lower (place - 2)) fall.not_above))
+falls-here : (lower xs : List ℕ) (position : ℕ) → FirstNotAbove lower xs position → is_not_above lower xs position ≡ true
+falls-here lower xs position fall =
+    and_from _ _ (lt-ltb 1 position (omega (arith, fall.after_the_first)))
+    (and_from _ _ (le-leb position (length xs) fall.within) (le-leb (slice_index xs (position - 1)) (slice_index lower (position - 2)) fall.not_above))
 
-pub above-no_fall : (lower xs : List ℕ) → AreAbove lower xs → find (is_not_above lower xs) (places_from_one xs) ≡ None
+pub above-no_fall : (lower xs : List ℕ) → AreAbove lower xs → find (is_not_above lower xs) (positions_from_one xs) ≡ None
 above-no_fall lower xs above =
     none-counted (is_not_above lower xs) 1 (length xs) (λ k le lt. rises-here lower xs k (λ two within. step k two within)) where
       step : (k : ℕ) → 2 ≤ k → k ≤ length xs → slice_index lower (k - 2) < slice_index xs (k - 1)
@@ -66,40 +66,40 @@ above-no_fall lower xs above =
           let up : slice_index lower (k - 2) < slice_index xs ((k - 2) + 1) = above (k - 2) (omega arith) in
           omega (arith, ap (λ n. slice_index xs n) at)
 
-pub first-not_above : (lower xs : List ℕ) (place : ℕ) → FirstNotAbove lower xs place → find (is_not_above lower xs) (places_from_one xs) ≡ Some place
-first-not_above lower xs place fall =
-    first-counted (is_not_above lower xs) 1 (length xs) place (omega (arith, fall.after_the_first)) (omega (arith, fall.within)) (falls-here lower xs place fall)
+pub first-not_above : (lower xs : List ℕ) (position : ℕ) → FirstNotAbove lower xs position → find (is_not_above lower xs) (positions_from_one xs) ≡ Some position
+first-not_above lower xs position fall =
+    first-counted (is_not_above lower xs) 1 (length xs) position (omega (arith, fall.after_the_first)) (omega (arith, fall.within)) (falls-here lower xs position fall)
     (λ k le lt. rises-here lower xs k (λ two within. step k two lt)) where
-      step : (k : ℕ) → 2 ≤ k → k < place → slice_index lower (k - 2) < slice_index xs (k - 1)
+      step : (k : ℕ) → 2 ≤ k → k < position → slice_index lower (k - 2) < slice_index xs (k - 1)
       step k two lt =
           let at : (k - 2) + 1 ≡ k - 1 = omega arith in
           let up : slice_index lower (k - 2) < slice_index xs ((k - 2) + 1) = fall.rising_before (k - 2) (omega arith) in
           omega (arith, ap (λ n. slice_index xs n) at)
 
-pub rising-no_fall : (xs : List ℕ) → IsRising xs → find (is_fall xs) (places_from_one xs) ≡ None
+pub rising-no_fall : (xs : List ℕ) → IsRising xs → find (is_fall xs) (positions_from_one xs) ≡ None
 rising-no_fall xs rising = above-no_fall xs xs rising
 
-pub first-fall : (xs : List ℕ) (place : ℕ) → FirstNotRising xs place → find (is_fall xs) (places_from_one xs) ≡ Some place
-first-fall xs place fall = first-not_above xs xs place fall
+pub first-fall : (xs : List ℕ) (position : ℕ) → FirstNotRising xs position → find (is_fall xs) (positions_from_one xs) ≡ Some position
+first-fall xs position fall = first-not_above xs xs position fall
 
 -- the faults of rules in order, as far as those before them are ruled out
 module _ (r : RulesValue) (few : length r.admins ≤ MOST_ADMINISTRATORS) where
-  after-few : first_rules_fault r ≡ find (rules_have r) (map (λ place. AdminsNotRising place) (places_from_one r.admins) ++ LagTooLong ∷ period_faults r)
-  after-few = ap (λ b. cond b (Some TooManyAdmins) (find (rules_have r) (map (λ place. AdminsNotRising place) (places_from_one r.admins) ++ LagTooLong ∷ period_faults r))) (le-ltb MOST_ADMINISTRATORS (length r.admins) few)
+  after-few : first_rules_fault r ≡ find (rules_have r) (map (λ position. AdminsNotRising position) (positions_from_one r.admins) ++ LagTooLong ∷ period_faults r)
+  after-few = ap (λ b. cond b (Some TooManyAdmins) (find (rules_have r) (map (λ position. AdminsNotRising position) (positions_from_one r.admins) ++ LagTooLong ∷ period_faults r))) (le-ltb MOST_ADMINISTRATORS (length r.admins) few)
 
-  by-places : (o : Option ℕ) → find (is_fall r.admins) (places_from_one r.admins) ≡ o
-      → first_rules_fault r ≡ option_or (option_map (λ place. AdminsNotRising place) o) (find (rules_have r) (LagTooLong ∷ period_faults r))
-  by-places o at =
+  by-positions : (o : Option ℕ) → find (is_fall r.admins) (positions_from_one r.admins) ≡ o
+      → first_rules_fault r ≡ option_or (option_map (λ position. AdminsNotRising position) o) (find (rules_have r) (LagTooLong ∷ period_faults r))
+  by-positions o at =
       after-few
-      ∙ find-append (rules_have r) (map (λ place. AdminsNotRising place) (places_from_one r.admins)) (LagTooLong ∷ period_faults r)
+      ∙ find-append (rules_have r) (map (λ position. AdminsNotRising position) (positions_from_one r.admins)) (LagTooLong ∷ period_faults r)
       ∙ ap (λ p. option_or p (find (rules_have r) (LagTooLong ∷ period_faults r)))
-      (find-map (rules_have r) (λ place. AdminsNotRising place) (places_from_one r.admins) ∙ ap (option_map (λ place. AdminsNotRising place)) at)
+      (find-map (rules_have r) (λ position. AdminsNotRising position) (positions_from_one r.admins) ∙ ap (option_map (λ position. AdminsNotRising position)) at)
 
-  pub admins-fault : (place : ℕ) → FirstNotRising r.admins place → first_rules_fault r ≡ Some (AdminsNotRising place)
-  admins-fault place fall = by-places (Some place) (first-fall r.admins place fall)
+  pub admins-fault : (position : ℕ) → FirstNotRising r.admins position → first_rules_fault r ≡ Some (AdminsNotRising position)
+  admins-fault position fall = by-positions (Some position) (first-fall r.admins position fall)
 
   pub after-admins : IsRising r.admins → first_rules_fault r ≡ find (rules_have r) (LagTooLong ∷ period_faults r)
-  after-admins rising = by-places None (rising-no_fall r.admins rising)
+  after-admins rising = by-positions None (rising-no_fall r.admins rising)
 
 or-false : (a b : Bool) → a ≡ false → b ≡ false → (a || b) ≡ false
 or-false a b p q = ap (λ c. c || b) p ∙ q
@@ -116,32 +116,32 @@ after-lags r few rising short = after-admins r few rising ∙ ap (λ b. cond b (
 
 -- the faults that are left once the number of the periods is well, and once none of them is reversed
 module _ (r : RulesValue) (count : is_period_count_wrong r ≡ false) where
-  abbrev places : List RulesFault
-  places = map (λ place. PeriodsNotRising place) (places_from_one (first_years r.periods))
+  abbrev not_rising : List RulesFault
+  not_rising = map (λ position. PeriodsNotRising position) (positions_from_one (first_years r.periods))
 
   pub reversed-fault : list_any is_period_reversed r.periods ≡ true → first_period_fault r ≡ Some PeriodReversed
   reversed-fault reversed =
-      ap (λ b. cond b (Some PeriodCount) (cond (list_any is_period_reversed r.periods) (Some PeriodReversed) (find (rules_have r) (places ++ CurrentOutside ∷ [])))) count
-      ∙ ap (λ b. cond b (Some PeriodReversed) (find (rules_have r) (places ++ CurrentOutside ∷ []))) reversed
+      ap (λ b. cond b (Some PeriodCount) (cond (list_any is_period_reversed r.periods) (Some PeriodReversed) (find (rules_have r) (not_rising ++ CurrentOutside ∷ [])))) count
+      ∙ ap (λ b. cond b (Some PeriodReversed) (find (rules_have r) (not_rising ++ CurrentOutside ∷ []))) reversed
 
   by-periods : (o : Option ℕ) → list_any is_period_reversed r.periods ≡ false
-      → find (is_not_above (last_years r.periods) (first_years r.periods)) (places_from_one (first_years r.periods)) ≡ o
-      → first_period_fault r ≡ option_or (option_map (λ place. PeriodsNotRising place) o) (cond (is_current_outside r) (Some CurrentOutside) None)
+      → find (is_not_above (last_years r.periods) (first_years r.periods)) (positions_from_one (first_years r.periods)) ≡ o
+      → first_period_fault r ≡ option_or (option_map (λ position. PeriodsNotRising position) o) (cond (is_current_outside r) (Some CurrentOutside) None)
   by-periods o standing at =
-      ap (λ b. cond b (Some PeriodCount) (cond (list_any is_period_reversed r.periods) (Some PeriodReversed) (find (rules_have r) (places ++ CurrentOutside ∷ [])))) count
-      ∙ ap (λ b. cond b (Some PeriodReversed) (find (rules_have r) (places ++ CurrentOutside ∷ []))) standing
-      ∙ find-append (rules_have r) places (CurrentOutside ∷ [])
+      ap (λ b. cond b (Some PeriodCount) (cond (list_any is_period_reversed r.periods) (Some PeriodReversed) (find (rules_have r) (not_rising ++ CurrentOutside ∷ [])))) count
+      ∙ ap (λ b. cond b (Some PeriodReversed) (find (rules_have r) (not_rising ++ CurrentOutside ∷ []))) standing
+      ∙ find-append (rules_have r) not_rising (CurrentOutside ∷ [])
       ∙ ap (λ p. option_or p (cond (is_current_outside r) (Some CurrentOutside) None))
-      (find-map (rules_have r) (λ place. PeriodsNotRising place) (places_from_one (first_years r.periods)) ∙ ap (option_map (λ place. PeriodsNotRising place)) at)
+      (find-map (rules_have r) (λ position. PeriodsNotRising position) (positions_from_one (first_years r.periods)) ∙ ap (option_map (λ position. PeriodsNotRising position)) at)
 
-  pub falling-fault : (place : ℕ) → list_any is_period_reversed r.periods ≡ false → FirstNotAbove (last_years r.periods) (first_years r.periods) place → first_period_fault r ≡ Some (PeriodsNotRising place)
-  falling-fault place standing fall = by-periods (Some place) standing (first-not_above (last_years r.periods) (first_years r.periods) place fall)
+  pub falling-fault : (position : ℕ) → list_any is_period_reversed r.periods ≡ false → FirstNotAbove (last_years r.periods) (first_years r.periods) position → first_period_fault r ≡ Some (PeriodsNotRising position)
+  falling-fault position standing fall = by-periods (Some position) standing (first-not_above (last_years r.periods) (first_years r.periods) position fall)
 
   pub current-fault : list_any is_period_reversed r.periods ≡ false → PeriodsRise r.periods → first_period_fault r ≡ cond (is_current_outside r) (Some CurrentOutside) None
   current-fault standing rise = by-periods None standing (above-no_fall (last_years r.periods) (first_years r.periods) rise)
 
 pub count-fault : (r : RulesValue) → is_period_count_wrong r ≡ true → first_period_fault r ≡ Some PeriodCount
-count-fault r wrong = ap (λ b. cond b (Some PeriodCount) (find (rules_have r) (PeriodReversed ∷ map (λ place. PeriodsNotRising place) (places_from_one (first_years r.periods)) ++ CurrentOutside ∷ []))) wrong
+count-fault r wrong = ap (λ b. cond b (Some PeriodCount) (find (rules_have r) (PeriodReversed ∷ map (λ position. PeriodsNotRising position) (positions_from_one (first_years r.periods)) ++ CurrentOutside ∷ []))) wrong
 
 pub then-outside : (b : Bool) → then_some b CurrentOutside ≡ cond b (Some CurrentOutside) None
 then-outside true = refl

@@ -149,6 +149,6 @@ one-more first shared i d before now lt is grown =
     ∙ sym (each_once-append (first ∷ map (λ share. share.to) (take i shared)) (get_or shared i d).to)
     ∙ ap (λ ns. each_once (first ∷ ns)) (sym (map-append (λ (share : Share). share.to) (take i shared) (get_or shared i d ∷ [])) ∙ ap (map (λ share. share.to)) (sym (take_more shared i d lt)))
 
-pub room-left : (first : ℕ) (shared : List Share) (i : ℕ) (before : List ℕ) → before ≡ each_once (first ∷ map (λ share. share.to) (take i shared)) → length before ≤ 1 + i
-room-left first shared i before is =
+pub space-left : (first : ℕ) (shared : List Share) (i : ℕ) (before : List ℕ) → before ≡ each_once (first ∷ map (λ share. share.to) (take i shared)) → length before ≤ 1 + i
+space-left first shared i before is =
     omega (arith, ap length is, each_once_short (first ∷ map (λ share. share.to) (take i shared)), length-map (take i shared) (λ share. share.to), length-take i shared)

@@ -15,7 +15,13 @@ use Rattle.reg_base.specs.declared.act.Act.TheVariants.{Transfer, Surrender, Del
 
 -- allowances pass from one account to another
 abbrev pub passing : ℕ → ℕ → AllowanceKind → ℕ → Movement
-passing from to kind amount = record { first = from; change = Debit kind amount; kind = kind; leaves = amount; shares = record { to = to; amount = amount } ∷ [] }
+passing from to kind amount = record {
+  first = from;
+  change = Debit kind amount;
+  kind = kind;
+  leaves = amount;
+  shares = record { to = to; amount = amount } ∷ [];
+}
 
 -- how many allowances these shares are together
 abbrev pub total_of : List Share → ℕ
@@ -23,17 +29,25 @@ total_of shares = sum_by (λ share. share.amount) shares
 
 -- allowances pass from one account to several others
 abbrev pub distributing : ℕ → AllowanceKind → List Share → Movement
-distributing from kind shares = record { first = from; change = Debit kind (total_of shares); kind = kind; leaves = total_of shares; shares = shares }
+distributing from kind shares = record {
+  first = from;
+  change = Debit kind (total_of shares);
+  kind = kind;
+  leaves = total_of shares;
+  shares = shares;
+}
 
 -- allowances leave an account for good, and no other account receives any
 abbrev pub retiring : ℕ → Retirement → AllowanceKind → ℕ → Movement
-retiring from way kind amount = record { first = from; change = Retire way kind amount; kind = kind; leaves = amount; shares = [] }
+retiring from way kind amount =
+    record { first = from; change = Retire way kind amount; kind = kind; leaves = amount; shares = [] }
 
 -- no allowance leaves the account, so that the kind says nothing
 abbrev pub staying : ℕ → Change → Movement
 staying account made = record { first = account; change = made; kind = General; leaves = 0; shares = [] }
 
--- what becomes of the act's first account, which allowances leave it, and which other accounts receive some: a row for each act
+-- what becomes of the act's first account, which allowances leave it, and which other accounts receive some: a row for
+-- each act
 abbrev pub movement_of : Act → Movement
 movement_of (Transfer from to kind amount) = passing from to kind amount
 movement_of (Surrender from kind amount) = retiring from Surrendered kind amount
@@ -123,7 +137,8 @@ other_known made = None
 abbrev pub also_known : Act → Option ℕ
 also_known act = other_known (change_of act)
 
--- what leaves the first account is what its change takes away, and of the same kind; others receive just that, or nothing
+-- what leaves the first account is what its change takes away, and of the same kind; others receive just that, or
+-- nothing
 abbrev pub Balances : Movement → Change → Type 0
 Balances m (Debit kind amount) = (m.kind ≡ kind) × ((m.leaves ≡ amount) × (total_of m.shares ≡ amount))
 Balances m (Retire way kind amount) = (m.kind ≡ kind) × ((m.leaves ≡ amount) × (m.shares ≡ []))

@@ -13,10 +13,13 @@ pub record IsPadded {X : Type 0} (most : ℕ) (unused : X) (array : List X) (cou
 abbrev pub padded : {X : Type 0} → ℕ → X → List X → List X
 padded most unused xs = xs ++ replicate (most - length xs) unused
 
-pub count_again : {X : Type 0} (most : ℕ) (unused : X) (array : List X) (count : ℕ) → IsPadded most unused array count → length (take count array) ≡ count
-count_again most unused array count p = let fits = p.count_fits in let size = p.size in length-take-le count array (omega arith)
+pub count_again : {X : Type 0} (most : ℕ) (unused : X) (array : List X) (count : ℕ) → IsPadded most unused array count
+    → length (take count array) ≡ count
+count_again most unused array count p = let fits = p.count_fits in let size = p.size in
+    length-take-le count array (omega arith)
 
-pub array_again : {X : Type 0} (most : ℕ) (unused : X) (array : List X) (count : ℕ) → IsPadded most unused array count → padded most unused (take count array) ≡ array
+pub array_again : {X : Type 0} (most : ℕ) (unused : X) (array : List X) (count : ℕ) → IsPadded most unused array count
+    → padded most unused (take count array) ≡ array
 array_again most unused array count p =
     ap (λ n. take count array ++ replicate (most - n) unused) (count_again most unused array count p)
     ∙ ap (λ ys. take count array ++ ys) (sym p.padding)

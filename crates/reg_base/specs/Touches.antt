@@ -31,4 +31,5 @@ pub record IsLastToucher (directory : DirectoryValue) (is : List Instruction) (a
 
 -- law: the last toucher is one
 abbrev pub LastToucherIsLast : Type 0
-LastToucherIsLast = (directory : DirectoryValue) (is : List Instruction) (a j : ℕ) → IsLastToucher directory is a j (last_toucher directory is a j)
+LastToucherIsLast = (directory : DirectoryValue) (is : List Instruction) (a j : ℕ)
+    → IsLastToucher directory is a j (last_toucher directory is a j)

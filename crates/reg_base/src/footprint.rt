@@ -28,7 +28,10 @@ impl Model for Footprint {
 
     ghost inverse = { λ xs. record { array = padded MOST_TOUCHED 1 xs; count = length xs } };
 
-    ghost inverse_ok = { λ f p i. record { array = array_again MOST_TOUCHED 1 f.array f.count p i; count = count_again MOST_TOUCHED 1 f.array f.count p i } };
+    ghost inverse_ok = { λ f p i. record {
+      array = array_again MOST_TOUCHED 1 f.array f.count p i;
+      count = count_again MOST_TOUCHED 1 f.array f.count p i;
+    } };
 }
 
 impl Footprint {

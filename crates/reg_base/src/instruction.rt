@@ -45,14 +45,16 @@ impl Instruction {
 
 // Whether each account that has to be in the directory is there.
 fn knows_all(directory: &Directory, movement: &Movement) -> bool
-    ensures { result ≡ list_all (is_known directory.now) (parties_of movement.now ++ option_to_list (other_known movement.now.change)) }
+    ensures { result ≡ list_all (is_known directory.now)
+        (parties_of movement.now ++ option_to_list (other_known movement.now.change)) }
 {
     knows_parties(directory, movement) && knows_other(directory, movement.also_known())
 }
 
 // Whether the first account is in the directory, and each that receives.
 fn knows_parties(directory: &Directory, movement: &Movement) -> bool
-    ensures { result ≡ (is_known directory.now movement.now.first && list_all (λ share. is_known directory.now share.to) movement.now.shares) }
+    ensures { result ≡ (is_known directory.now movement.now.first
+        && list_all (λ share. is_known directory.now share.to) movement.now.shares) }
 {
     directory.find(movement.first).is_some() && knows_each(directory, movement.shares.as_slice())
 }

@@ -37,7 +37,10 @@ impl Model for Receivers {
 
     ghost invariant = { λ s. IsPadded MOST_SHARES (record { to = 1; amount = 0 }) s.array s.count };
 
-    ghost inverse = { λ xs. record { array = padded MOST_SHARES (record { to = 1; amount = 0 }) xs; count = length xs } };
+    ghost inverse = { λ xs. record {
+      array = padded MOST_SHARES (record { to = 1; amount = 0 }) xs;
+      count = length xs;
+    } };
 
     ghost inverse_ok = { λ s p i. record {
       array = array_again MOST_SHARES (record { to = 1; amount = 0 }) s.array s.count p i;

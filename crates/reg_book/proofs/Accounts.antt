@@ -17,7 +17,7 @@ low_number low [] rises p d lt = absurd (omega arith)
 low_number low (v ∷ vs) rises zero d lt = rises.0
 low_number low (v ∷ vs) rises (suc p) d lt = let h = low_number (suc v.number) vs rises.1 p d (omega arith) in omega (arith, rises.0)
 
--- the account at a place is the account of its number
+-- the account at an index is the account of its number
 pub account_at : (low : ℕ) (xs : State) → RisesFrom low (numbers xs) → (p a : ℕ) (d : AccountValue) → p < length xs → (get_or xs p d).number ≡ a → account xs a ≡ Some (get_or xs p d)
 account_at low [] rises p a d lt e = absurd (omega arith)
 account_at low (v ∷ vs) rises zero a d lt e = rw (eq-eqb v.number a e) refl
@@ -32,7 +32,7 @@ account_none [] a other = refl
 account_none (v ∷ vs) a other =
     rw (ne_eqb v.number a (other 0 v (omega arith))) (account_none vs a (λ p d lt. other (suc p) d (omega arith)))
 
--- a later place has a later number
+-- a later index has a later number
 pub ascending : (low : ℕ) (xs : State) → RisesFrom low (numbers xs) → (i j : ℕ) (d : AccountValue) → i ≤ j → j < length xs → (get_or xs i d).number ≤ (get_or xs j d).number
 ascending low [] rises i j d le lt = absurd (omega arith)
 ascending low (v ∷ vs) rises zero zero d le lt = omega arith

@@ -22,7 +22,7 @@ among-added xs directory a n added listed same answer =
     opposite None = refl
     opposite (Some x) = refl
 
--- a number that stands before another place is not another one
+-- a number that stands before another index is not another one
 apart : (n : ℕ) (xs ys : State) (v : AccountValue) → AllByRecursion (λ y. eqb n y ≡ false) (numbers (xs ++ v ∷ ys)) → eqb n v.number ≡ false
 apart n [] ys v all = all.0
 apart n (x ∷ xs) ys v all = apart n xs ys v all.1

@@ -36,7 +36,7 @@ pub length-numbers : (xs : State) → length (numbers xs) ≡ length xs
 length-numbers [] = refl
 length-numbers (v ∷ vs) = ap suc (length-numbers vs)
 
--- the number at a place is that of the account there
+-- the number at an index is that of the account there
 pub number_at : (xs : State) (k : ℕ) (d : AccountValue) → k < length xs → get_or (numbers xs) k 0 ≡ (get_or xs k d).number
 number_at xs k d lt = get_or-map (λ (o : AccountValue). o.number) xs k d 0 lt
 
@@ -219,15 +219,15 @@ last_get row (r ∷ rs) = last_get r rs
 pub ahead_by_last : (next : ℕ) (rows : List RetirementRow) (row : RetirementRow) → IsRising (row_numbers rows) → Some row ≡ slice_get rows (length rows - 1) → list_any (λ (r : RetirementRow). leb next r.number) rows ≡ leb next row.number
 ahead_by_last next [] row rising at = absurd cc
 ahead_by_last next (r ∷ rs) row rising at =
-    let place : length (r ∷ rs) - 1 ≡ length rs = omega arith in
-    let same : row ≡ last_of r rs = same_Some row (last_of r rs) (at ∙ ap (slice_get (r ∷ rs)) place ∙ last_get r rs) in
+    let index : length (r ∷ rs) - 1 ≡ length rs = omega arith in
+    let same : row ≡ last_of r rs = same_Some row (last_of r rs) (at ∙ ap (slice_get (r ∷ rs)) index ∙ last_get r rs) in
     last_ahead next 0 r rs (rises_from 0 (row_numbers (r ∷ rs)) rising (λ some. omega arith)) ∙ ap (λ (x : RetirementRow). leb next x.number) (sym same)
 
 pub ahead_of_none : (next : ℕ) (rows : List RetirementRow) → None ≡ slice_get rows (length rows - 1) → list_any (λ (r : RetirementRow). leb next r.number) rows ≡ false
 ahead_of_none next [] at = refl
 ahead_of_none next (r ∷ rs) at =
-    let place : length (r ∷ rs) - 1 ≡ length rs = omega arith in
-    absurd (none-some (last_of r rs) (at ∙ ap (slice_get (r ∷ rs)) place ∙ last_get r rs))
+    let index : length (r ∷ rs) - 1 ≡ length rs = omega arith in
+    absurd (none-some (last_of r rs) (at ∙ ap (slice_get (r ∷ rs)) index ∙ last_get r rs))
 
 -- the numbers of an account without a row ahead are below the next one
 none_ahead : (next : ℕ) (rows : List RetirementRow) → list_any (λ (r : RetirementRow). leb next r.number) rows ≡ false → AreBelow next (row_numbers rows)
@@ -240,11 +240,11 @@ none_ahead next (r ∷ rs) none =
 abbrev pub fault_by : Bool → Bool → Bool → Option BookFault
 fault_by repeated ahead full = cond repeated (Some Repeated) (cond ahead (Some RowAhead) (cond full (Some Full) None))
 
--- an account with which nothing is wrong is new, has no row ahead, and there is room for it
+-- an account with which nothing is wrong is new, has no row ahead, and there is space for it
 pub record CanTake (b : BookValue) (v : AccountValue) : Type 0 where
   pub is_new : is_among (numbers b.accounts) v.number ≡ false
   pub behind : IsBehind b.next v
-  pub room : length b.accounts < MOST_ACCOUNTS
+  pub space : length b.accounts < MOST_ACCOUNTS
 
 pub can_take : (b : BookValue) (v : AccountValue) → first_fault b v ≡ None → CanTake b v
 can_take b v none = by (is_among (numbers b.accounts) v.number) (has_row_ahead b.next v) (nat_le MOST_ACCOUNTS (length b.accounts)) refl refl refl none
@@ -254,7 +254,7 @@ can_take b v none = by (is_among (numbers b.accounts) v.number) (has_row_ahead b
     by true ahead full r a f e = absurd cc
     by false true full r a f e = absurd cc
     by false false true r a f e = absurd cc
-    by false false false r a f e = record { is_new = r; behind = none_ahead b.next v.rows a; room = grind (arith, tests, f) }
+    by false false false r a f e = record { is_new = r; behind = none_ahead b.next v.rows a; space = grind (arith, tests, f) }
 
 -- what a look-up says of whether the account is there
 pub found-at : (xs : State) (directory : DirectoryValue) (a n : ℕ) (r : Option (AccountKind × ℕ)) (b : Bool)
@@ -285,7 +285,7 @@ more_draft xs ys v directory new next draft more listed none fits =
     let can = can_take (record { accounts = xs; next = next }) v none in
     rw more (record {
       distinct = distinct_push xs v draft.distinct can.is_new;
-      few = omega (arith, length-append xs (v ∷ []), can.room);
+      few = omega (arith, length-append xs (v ∷ []), can.space);
       within_limits = All-push IsAccount xs v draft.within_limits fits;
       next_fits = draft.next_fits;
       behind = All-push (IsBehind next) xs v draft.behind can.behind;

@@ -25,7 +25,7 @@ pub count-rows_of : (c : Setting) (s : State) (n : ℕ) (is : List Instruction) 
 count-rows_of c s n [] = refl
 count-rows_of c s n (i ∷ is) = ap (λ ns. n ∷ ns) (count-rows_of c (step c s n i).0 (n + 1) is)
 
--- a number at a place, counting up
+-- a number at an index, counting up
 counted-at : (first more k : ℕ) → k < more → get_or (count_up first more) k 0 ≡ first + k
 counted-at first zero k lt = absurd (omega arith)
 counted-at first (suc more) zero lt = omega arith

@@ -15,7 +15,7 @@ use Rattle.reg_rules.specs.State.{State, numbers}
 use Rattle.reg_base.specs.Touches.{is_touched}
 use Rattle.reg_book.specs.Fold.{touched_of}
 use Rattle.reg_base.specs.Footprints.{footprints}
-use Rattle.reg_book.specs.Places.{AllStandAt, each_at, places_lists}
+use Rattle.reg_book.specs.Indexes.{AllStandAt, each_at, index_lists}
 use Rattle.reg_book.specs.Marks.{marked_at, all_marked_at, picked}
 use Rattle.reg_book.proofs.Directories.{length-numbers}
 use Rattle.reg_book.proofs.Lookups.{written_whole}
@@ -100,7 +100,7 @@ pub size-touched_marks : (directory : DirectoryValue) (is : List Instruction) (s
 size-touched_marks directory is [] = refl
 size-touched_marks directory is (v ∷ vs) = ap suc (size-touched_marks directory is vs)
 
--- the marks at the places of these numbers
+-- the marks at the indexes of these numbers
 marks-set : (ms : List Bool) (s : State) (done ps wanted : List ℕ) → RisesFrom 0 (numbers s) → length ms ≡ length s → AllByRecursion (λ p. p < length (numbers s)) ps → each_at (numbers s) ps ≡ wanted
     → marked_at (marks_after ms s done) ps ≡ marks_after ms s (done ++ wanted)
 marks-set ms s done [] wanted rises size within there = ap (marks_after ms s) (sym (append-nil done) ∙ ap (λ ws. done ++ ws) there)
@@ -120,30 +120,30 @@ touched_marks-push directory done i (v ∷ vs) =
     ∙ ap (λ b. is_touched directory done v.number || b) (or_no (is_among (footprint directory i.act) v.number) false refl)))
     ∙ ap (λ bs. is_touched directory (done ++ i ∷ []) v.number ∷ bs) (touched_marks-push directory done i vs)
 
-all-marks-set : (directory : DirectoryValue) (done is : List Instruction) (s : State) (places : List (List ℕ)) → RisesFrom 0 (numbers s)
-    → AllByRecursion (AllByRecursion (λ p. p < length (numbers s))) places → map (each_at (numbers s)) places ≡ footprints directory is
-    → all_marked_at (touched_marks directory done s) places ≡ touched_marks directory (done ++ is) s
+all-marks-set : (directory : DirectoryValue) (done is : List Instruction) (s : State) (indexes : List (List ℕ)) → RisesFrom 0 (numbers s)
+    → AllByRecursion (AllByRecursion (λ p. p < length (numbers s))) indexes → map (each_at (numbers s)) indexes ≡ footprints directory is
+    → all_marked_at (touched_marks directory done s) indexes ≡ touched_marks directory (done ++ is) s
 all-marks-set directory done [] s [] rises within there = ap (λ is. touched_marks directory is s) (sym (append-nil done))
 all-marks-set directory done (i ∷ is) s [] rises within there = absurd cc
-all-marks-set directory done [] s (ps ∷ places) rises within there = absurd cc
-all-marks-set directory done (i ∷ is) s (ps ∷ places) rises within there =
+all-marks-set directory done [] s (ps ∷ indexes) rises within there = absurd cc
+all-marks-set directory done (i ∷ is) s (ps ∷ indexes) rises within there =
     let ms = touched_marks directory done s in
-    ap (λ bs. all_marked_at bs places)
+    ap (λ bs. all_marked_at bs indexes)
     (ap (λ bs. marked_at bs ps) (sym (marked_none ms s))
     ∙ marks-set ms s [] ps (footprint directory i.act) rises (size-touched_marks directory done s) within.0 (ap (λ (ls : List (List ℕ)). get_or ls 0 []) there)
     ∙ touched_marks-push directory done i s)
-    ∙ all-marks-set directory (done ++ i ∷ []) is s places rises within.1 (ap (λ (ls : List (List ℕ)). drop 1 ls) there)
+    ∙ all-marks-set directory (done ++ i ∷ []) is s indexes rises within.1 (ap (λ (ls : List (List ℕ)). drop 1 ls) there)
     ∙ ap (λ l. touched_marks directory l s) (append_assoc done (i ∷ []) is)
 
--- the marks at the places of all instructions, in a slice that was written as a whole
+-- the marks at the indexes of all instructions, in a slice that was written as a whole
 pub marks-touched : (directory : DirectoryValue) (is : List Instruction) (s : State) (vs seen : List (ArrayVec ℕ)) (made now new : List Bool) (len : ℕ)
-    → IsRising (numbers s) → AllStandAt directory (numbers s) (places_lists vs) is → made ≡ replicate (length s) false → now ≡ made → seen ≡ vs
-    → new ≡ all_marked_at now (places_lists seen) → len ≡ length made → length new ≡ length now → take len (new ++ drop (length new) made) ≡ touched_marks directory is s
+    → IsRising (numbers s) → AllStandAt directory (numbers s) (index_lists vs) is → made ≡ replicate (length s) false → now ≡ made → seen ≡ vs
+    → new ≡ all_marked_at now (index_lists seen) → len ≡ length made → length new ≡ length now → take len (new ++ drop (length new) made) ≡ touched_marks directory is s
 marks-touched directory is s vs seen made now new len rising stand clear read same marked size kept =
     written_whole made new len size (kept ∙ ap length read)
-    ∙ marked ∙ ap (λ ms. all_marked_at ms (places_lists seen)) (read ∙ clear ∙ no_marks directory s)
-    ∙ ap (λ (us : List (ArrayVec ℕ)). all_marked_at (touched_marks directory [] s) (places_lists us)) same
-    ∙ all-marks-set directory [] is s (places_lists vs) (rises_from 0 (numbers s) rising (λ some. omega arith)) stand.within stand.are_there
+    ∙ marked ∙ ap (λ ms. all_marked_at ms (index_lists seen)) (read ∙ clear ∙ no_marks directory s)
+    ∙ ap (λ (us : List (ArrayVec ℕ)). all_marked_at (touched_marks directory [] s) (index_lists us)) same
+    ∙ all-marks-set directory [] is s (index_lists vs) (rises_from 0 (numbers s) rising (λ some. omega arith)) stand.within stand.are_there
 
 pub picked-touched : (directory : DirectoryValue) (is : List Instruction) (s : State) → picked (touched_marks directory is s) s ≡ touched_of directory is s
 picked-touched directory is [] = refl

@@ -81,12 +81,12 @@ pub over_nothing : (xs : State) → overlay xs [] ≡ xs
 over_nothing [] = refl
 over_nothing (v ∷ vs) = ap (λ (ys : State). v ∷ ys) (over_nothing vs)
 
--- an account whose number stands at this place
+-- an account whose number stands at this index
 pub set_at : (xs : State) (w v : AccountValue) (p : ℕ) → IsRising (numbers xs) → p < length xs → v ≡ get_or xs p v → v.number ≡ w.number → slice_set xs p w ≡ overlay xs (w ∷ [])
 set_at xs w v p rising within is same =
     set_over 0 xs (rises_from 0 (numbers xs) rising (λ some. omega arith)) p w v within (ap (λ (o : AccountValue). o.number) (sym is) ∙ same)
 
--- a number that is below those of all later places, and above those of all earlier ones
+-- a number that is below those of all later indexes, and above those of all earlier ones
 pub not_there : (xs : State) (w : AccountValue) (count : ℕ) → IsRising (numbers xs) → count ≤ length xs → AreHigher (numbers xs) count w.number
     → (0 < count → get_or (numbers xs) (count - 1) 0 < w.number) → xs ≡ overlay xs (w ∷ [])
 not_there xs w count rising within higher lower =
@@ -183,7 +183,7 @@ kept_after xs ys others directory next after kept is fit stand fits later settle
       listed = kept.listed ∙ sym (ap (λ es. fin.from_entries es) (ap (map entry_of) is ∙ entries));
     }
 
--- from a place on the numbers are above each of these
+-- from an index on the numbers are above each of these
 abbrev pub HigherThanEach : List ℕ → ℕ → State → Type 0
 HigherThanEach ns until settled = (j : ℕ) → j < length settled → AreHigher ns until (get_or (numbers settled) j 0)
 
@@ -238,7 +238,7 @@ lower-left ns all cur new w until rising front parts higher j lt k le within =
     let above = higher k le within in
     omega (arith, here, last, rise, above)
 
--- the number before a place is not above
+-- the number before an index is not above
 abbrev pub numbers_below : State → ℕ → ℕ → Type 0
 numbers_below s count a = get_or (numbers s) (count - 1) 0 ≤ a
 

@@ -14,7 +14,7 @@ use Rattle.reg_book.proofs.Commits.{account-overlay, left_alone}
 use Rattle.reg_book.proofs.Directories.{length-numbers, number_at}
 use Rattle.reg_book.proofs.Overlays.{climbs, taken_at}
 
--- the account at the place of a number comes out where one with this number is put in
+-- the account at the index of a number comes out where one with this number is put in
 pub comes_out : (xs : State) (w u v : AccountValue) (p : ℕ) → IsRising (numbers xs) → p < length xs → u ≡ get_or xs p u → u.number ≡ w.number → v ≡ get_or xs p v → v ∷ [] ≡ overlay (w ∷ []) xs
 comes_out xs w u v p rising within seen same is =
     let at : (get_or xs p v).number ≡ w.number = sym (number_at xs p v within) ∙ number_at xs p u within ∙ ap (λ (o : AccountValue). o.number) (sym seen) ∙ same in

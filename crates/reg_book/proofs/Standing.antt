@@ -8,10 +8,10 @@ use Rattle.reg_base.specs.declared.kinds.Status.TheVariants.{Opened}
 use Rattle.reg_account.specs.Account.{AccountValue}
 use Rattle.reg_rules.specs.State.{State, numbers}
 
--- the account at this place has this number
-pub record StandsAt (s : State) (place a : ℕ) : Type 0 where
-  pub within : place < length s
-  pub has_number : get_or (numbers s) place 0 ≡ a
+-- the account at this index has this number
+pub record StandsAt (s : State) (index a : ℕ) : Type 0 where
+  pub within : index < length s
+  pub has_number : get_or (numbers s) index 0 ≡ a
 
 -- an account that has this number and nothing else
 abbrev numbered : ℕ → AccountValue

@@ -16,8 +16,8 @@ use Rattle.reg_rules.specs.State.{State, Setting, account, numbers}
 use Rattle.reg_rules.specs.Effect.{IsBehind}
 use Rattle.reg_rules.specs.Step.{step}
 use Rattle.reg_rules.specs.Laws.{StepLaws}
-use Rattle.reg_book.specs.Places.{StandAt, each_at}
-use Rattle.reg_book.specs.Turns.{ArePlacesLeft, IsLeft, renamed}
+use Rattle.reg_book.specs.Indexes.{StandAt, each_at}
+use Rattle.reg_book.specs.Turns.{AreIndexesLeft, IsLeft, renamed}
 use Rattle.reg_book.proofs.Directories.{account-permutation}
 use Rattle.reg_book.proofs.StepFacts.{reply-local, after-local, one-state}
 use Rattle.reg_book.proofs.Lookups.{account-append_left, account-append_right, all_among, not_contained}
@@ -151,7 +151,7 @@ distinct-swap s t a b a_in b_in distinct there =
     IsDistinct-IsPermutation eqb (λ x y. nat_eq_equiv.symm x y) (numbers s) (numbers t)
     (IsPermutation-map (λ (v : AccountValue). v.number) s t (IsPermutation-swap s t a b a_in b_in there)) distinct
 
--- the numbers differ from the one of the first place, and from each other
+-- the numbers differ from the one of the first index, and from each other
 abbrev Others : ℕ → List ℕ → Type 0
 Others p qs = AllByRecursion (λ y. eqb p y ≡ false) qs
 
@@ -162,7 +162,7 @@ apart-of p qs distinct = (distinct.0, distinct.1)
 eqb-flip : (x y : ℕ) → eqb x y ≡ eqb y x
 eqb-flip x y = nat_eq_equiv.symm x y
 
--- what a swap does to the numbers at places
+-- what a swap does to the numbers at indexes
 moved-at : (ns ms : List ℕ) (k p q : ℕ) → k < length ns → p < length ns → ms ≡ swap ns k p → eqb p q ≡ false → get_or ms (renamed k p q) 0 ≡ get_or ns q 0
 moved-at ns ms k p q k_in p_in there other = by (eqb q k) refl
   where
@@ -189,7 +189,7 @@ moved-front ns ms k p le p_in there =
     ∙ ap (λ x. take k ms ++ x ∷ []) ((swapped_from_swap ns ms k p 0 (omega arith) p_in there).0)
     ∙ ap (λ l. l ++ get_or ns p 0 ∷ []) (ap (take k) there ∙ take-swap ns k p le)
 
--- the places that are left after a swap are places of their own, behind the front
+-- the indexes that are left after a swap are indexes of their own, behind the front
 renamed-apart : (k p q y : ℕ) → eqb p q ≡ false → eqb p y ≡ false → eqb q y ≡ false → eqb (renamed k p q) (renamed k p y) ≡ false
 renamed-apart k p q y pq py qy = by (eqb q k) (eqb y k) refl refl
   where
@@ -223,7 +223,7 @@ renamed-left k n p (q ∷ qs) left others all = (by (eqb q k) refl, renamed-left
         record { behind = omega (arith, all.0.behind, not_k); within = all.0.within }
 
 -- one account more is at the front
-pub left-more : (k : ℕ) (ns ms wanted : List ℕ) (p : ℕ) (qs : List ℕ) → ms ≡ swap ns k p → ArePlacesLeft k ns (p ∷ qs) wanted → ArePlacesLeft (k + 1) ms (map (renamed k p) qs) wanted
+pub left-more : (k : ℕ) (ns ms wanted : List ℕ) (p : ℕ) (qs : List ℕ) → ms ≡ swap ns k p → AreIndexesLeft k ns (p ∷ qs) wanted → AreIndexesLeft (k + 1) ms (map (renamed k p) qs) wanted
 left-more k ns ms wanted p qs there left =
     let size : length ms ≡ length ns = ap length there ∙ length-swap ns k p in
     let first = left.are_left.0 in
@@ -238,27 +238,27 @@ left-more k ns ms wanted p qs there left =
           ∙ left.are_there;
     }
 
--- places of different numbers differ
-places-others : (ns : List ℕ) (p : ℕ) (qs : List ℕ) → Others (get_or ns p 0) (each_at ns qs) → Others p qs
-places-others ns p [] others = tt
-places-others ns p (q ∷ qs) others =
-    (ne_eqb p q (λ e. eqb-false (get_or ns p 0) (get_or ns q 0) others.0 (ap (λ m. get_or ns m 0) e)), places-others ns p qs others.1)
+-- indexes of different numbers differ
+indexes-others : (ns : List ℕ) (p : ℕ) (qs : List ℕ) → Others (get_or ns p 0) (each_at ns qs) → Others p qs
+indexes-others ns p [] others = tt
+indexes-others ns p (q ∷ qs) others =
+    (ne_eqb p q (λ e. eqb-false (get_or ns p 0) (get_or ns q 0) others.0 (ap (λ m. get_or ns m 0) e)), indexes-others ns p qs others.1)
 
-places-distinct : (ns places : List ℕ) → IsDistinct eqb (each_at ns places) → IsDistinct eqb places
+indexes-distinct : (ns indexes : List ℕ) → IsDistinct eqb (each_at ns indexes) → IsDistinct eqb indexes
 unfolding IsDistinct
-places-distinct ns [] distinct = tt
-places-distinct ns (p ∷ ps) distinct = (places-others ns p ps distinct.0, places-distinct ns ps distinct.1)
+indexes-distinct ns [] distinct = tt
+indexes-distinct ns (p ∷ ps) distinct = (indexes-others ns p ps distinct.0, indexes-distinct ns ps distinct.1)
 
-all-left : (n : ℕ) (places : List ℕ) → AllByRecursion (λ p. p < n) places → AllByRecursion (IsLeft 0 n) places
+all-left : (n : ℕ) (indexes : List ℕ) → AllByRecursion (λ p. p < n) indexes → AllByRecursion (IsLeft 0 n) indexes
 all-left n [] within = tt
 all-left n (p ∷ ps) within = (record { behind = omega arith; within = within.0 }, all-left n ps within.1)
 
 -- none is at the front yet
-pub left-all : (ns places wanted : List ℕ) → IsDistinct eqb wanted → StandAt ns places wanted → ArePlacesLeft 0 ns places wanted
-left-all ns places wanted distinct there = record {
+pub left-all : (ns indexes wanted : List ℕ) → IsDistinct eqb wanted → StandAt ns indexes wanted → AreIndexesLeft 0 ns indexes wanted
+left-all ns indexes wanted distinct there = record {
   fits = omega arith;
-  are_left = all-left (length ns) places there.within;
-  distinct = places-distinct ns places (subst (IsDistinct eqb) (sym there.are_there) distinct);
+  are_left = all-left (length ns) indexes there.within;
+  distinct = indexes-distinct ns indexes (subst (IsDistinct eqb) (sym there.are_there) distinct);
   are_there = there.are_there;
 }
 
@@ -267,6 +267,6 @@ any_default [] i d e lt = absurd (omega arith)
 any_default (x ∷ xs) zero d e lt = refl
 any_default (x ∷ xs) (suc i) d e lt = any_default xs i d e (omega arith)
 
--- one place more is renamed
+-- one index more is renamed
 pub renamed-more : (f : ℕ → ℕ) (xs ys : List ℕ) (i r : ℕ) → i < length xs → i < length ys → ys ≡ map f (take i xs) ++ drop i xs → r ≡ f (get_or ys i 0) → set ys i r ≡ map f (take (i + 1) xs) ++ drop (i + 1) xs
 renamed-more f xs ys i r lt in_ys so_far is = ap (set ys i) is ∙ map_over_more f xs ys i (get_or ys i 0) lt so_far (any_default ys i 0 (get_or ys i 0) in_ys)

@@ -23,8 +23,8 @@ IsMoveFault accounts RowAhead = ⊥
 IsMoveFault accounts Full = ⊥
 IsMoveFault accounts NoMemory = Unit {0}
 
--- why the accounts of another draft may not stand behind those of a draft: an account number stands twice, the next record
--- numbers differ, they are too many, or memory ran out
+-- why the accounts of another draft may not stand behind those of a draft: an account number stands twice, the next
+-- record numbers differ, they are too many, or memory ran out
 abbrev pub IsAppendFault : BookValue → BookValue → BookFault → Type 0
 IsAppendFault b other Repeated = HaveRepeated (b.accounts ++ other.accounts)
 IsAppendFault b other RowAhead = b.next ≢ other.next

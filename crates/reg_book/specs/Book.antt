@@ -104,6 +104,6 @@ total_retired b way kind = sum_by (λ v. retired_by v way kind) b.accounts
 abbrev pub overlay : List AccountValue → List AccountValue → List AccountValue
 overlay accounts others = map (λ v. unwrap_or (account others v.number) v) accounts
 
--- from this place on each number is higher
+-- from this index on each number is higher
 abbrev pub AreHigher : List ℕ → ℕ → ℕ → Type 0
 AreHigher ns from a = (k : ℕ) → from ≤ k → k < length ns → a < slice_index ns k

@@ -30,8 +30,8 @@ abbrev pub IsChain : BookValue → List Day → Type 0
 IsChain book [] = Unit {0}
 IsChain book (day ∷ days) = IsDay day × (day.book ≡ book) × IsChain (book_after day) days
 
--- what may become of a book by hand, between two days: the next record number stays, each closed account stays as it is,
--- and there are as many allowances of each kind
+-- what may become of a book by hand, between two days: the next record number stays, each closed account stays as it
+-- is, and there are as many allowances of each kind
 pub record MayBecome (left begun : BookValue) : Type 0 where
   pub next : begun.next ≡ left.next
   pub closed : (a : ℕ) → status left.accounts a ≡ Some Closed → account begun.accounts a ≡ account left.accounts a
@@ -64,24 +64,31 @@ undeleted_in days kind = sum_by (λ day. undeleted day kind) days
 
 -- law: what a chain of days leaves is a book, so that it may go on
 abbrev pub ChainLeavesABook : Type 0
-ChainLeavesABook = (book : BookValue) (days : List Day) → IsBook book → IsChain book days → IsBook (book_after_days book days)
+ChainLeavesABook = (book : BookValue) (days : List Day) → IsBook book → IsChain book days
+    → IsBook (book_after_days book days)
 
 -- law: no account is added, removed or moved
 abbrev pub ChainKeepsAccounts : Type 0
-ChainKeepsAccounts = (book : BookValue) (days : List Day) → IsChain book days → numbers (book_after_days book days).accounts ≡ numbers book.accounts
+ChainKeepsAccounts = (book : BookValue) (days : List Day) → IsChain book days
+    → numbers (book_after_days book days).accounts ≡ numbers book.accounts
 
 -- what holds of all chains of one kind
 pub record ChainLaws (Chain : BookValue → List Day → Type 0) : Type 0 where
   -- record numbers go on without a gap: each instruction of all days has one, and they count up
-  pub numbered : (book : BookValue) (days : List Day) → Chain book days → record_numbers (log_of_days days) ≡ count_up book.next (instructions_in days)
+  pub numbered : (book : BookValue) (days : List Day) → Chain book days
+      → record_numbers (log_of_days days) ≡ count_up book.next (instructions_in days)
   -- and the next one after them is that of the last book
-  pub next : (book : BookValue) (days : List Day) → Chain book days → (book_after_days book days).next ≡ book.next + instructions_in days
+  pub next : (book : BookValue) (days : List Day) → Chain book days
+      → (book_after_days book days).next ≡ book.next + instructions_in days
   -- an account that is closed after the first i days is the same after each later day
   pub closed : (book : BookValue) (days : List Day) (a i j : ℕ) → Chain book days → i ≤ j
-      → status (book_at book days i).accounts a ≡ Some Closed → account (book_at book days j).accounts a ≡ account (book_at book days i).accounts a
+      → status (book_at book days i).accounts a ≡ Some Closed
+      → account (book_at book days j).accounts a ≡ account (book_at book days i).accounts a
   -- so is one that is closed after the first i instructions of a day
-  pub closed_within : (book : BookValue) (days : List Day) (k : ℕ) (day : Day) (a i j : ℕ) → Chain book days → slice_get days k ≡ Some day → k < j
+  pub closed_within : (book : BookValue) (days : List Day) (k : ℕ) (day : Day) (a i j : ℕ) → Chain book days
+      → slice_get days k ≡ Some day → k < j
       → status (state_at day i) a ≡ Some Closed → account (book_at book days j).accounts a ≡ value_at day a i
   -- the number of allowances changes by what all days create, delete and bring back, and by nothing else
   pub conserved : (book : BookValue) (days : List Day) → Chain book days → (kind : AllowanceKind)
-      → number_of kind (book_after_days book days).accounts + deleted_in days kind ≡ number_of kind book.accounts + created_in days kind + undeleted_in days kind
+      → number_of kind (book_after_days book days).accounts + deleted_in days kind
+      ≡ number_of kind book.accounts + created_in days kind + undeleted_in days kind

@@ -18,7 +18,8 @@ if_accepted (Some q) amount = 0
 -- what the accepted ones of these instructions add up to, where each adds what it reads in the state before it
 abbrev pub added : (State → Act → ℕ) → Setting → State → ℕ → List Instruction → ℕ
 added amount c s number [] = 0
-added amount c s number (i ∷ is) = if_accepted (refusal c s i) (amount s i.act) + added amount c (step c s number i).0 (number + 1) is
+added amount c s number (i ∷ is) =
+    if_accepted (refusal c s i) (amount s i.act) + added amount c (step c s number i).0 (number + 1) is
 
 -- what the accepted instructions of a day add up to
 abbrev pub added_by : (State → Act → ℕ) → Day → ℕ
@@ -36,8 +37,9 @@ deleted day kind = added_by (λ s act. deleted_by kind act) day
 abbrev pub undeleted : Day → AllowanceKind → ℕ
 undeleted day kind = added_by (undeleted_by kind) day
 
--- law: the number of allowances that all accounts hold or have surrendered changes only by accepted creations, deletions
--- and reversals of deletions
+-- law: the number of allowances that all accounts hold or have surrendered changes only by accepted creations,
+-- deletions and reversals of deletions
 abbrev pub FoldConserves : Type 0
 FoldConserves = (day : Day) → IsDay day → (kind : AllowanceKind)
-    → number_of kind (closing_state day) + deleted day kind ≡ number_of kind day.book.accounts + created day kind + undeleted day kind
+    → number_of kind (closing_state day) + deleted day kind
+    ≡ number_of kind day.book.accounts + created day kind + undeleted day kind

@@ -22,12 +22,13 @@ rows_of c s number (i ∷ is) = row_of c number i (step c s number i).1 ∷ rows
 abbrev pub replies_in : List LogRow → List Reply
 replies_in rows = map (λ row. row.reply) rows
 
--- the log rows of a settlement day's instructions with these replies, up to the end of the shorter list; the first of them
--- has this record number
+-- the log rows of a settlement day's instructions with these replies, up to the end of the shorter list; the first of
+-- them has this record number
 abbrev pub rows_from : ℕ → ℕ → List Instruction → List Reply → List LogRow
 rows_from day number [] replies = []
 rows_from day number (i ∷ is) [] = []
-rows_from day number (i ∷ is) (reply ∷ replies) = record { number = number; day = day; instruction = i; reply = reply } ∷ rows_from day (number + 1) is replies
+rows_from day number (i ∷ is) (reply ∷ replies) =
+    record { number = number; day = day; instruction = i; reply = reply } ∷ rows_from day (number + 1) is replies
 
 -- the accounts that some instruction touches, in their order
 abbrev pub touched_of : DirectoryValue → List Instruction → State → State

@@ -13,7 +13,9 @@ use Rattle.reg_book.specs.Day.{Day, IsDay, setting, state_at, value_at, log_of, 
 -- each instruction is carried out on what the ones before it left, and its record is that of this step
 pub record IsStepOf (day : Day) (k : ℕ) (i : Instruction) : Type 0 where
   pub state : state_at day (suc k) ≡ (step (setting day) (state_at day k) (day.batch.base + suc k) i).0
-  pub row : row_at day (suc k) ≡ Some (row_of (setting day) (day.batch.base + suc k) i (step (setting day) (state_at day k) (day.batch.base + suc k) i).1)
+  pub row : row_at day (suc k)
+      ≡ Some (row_of (setting day) (day.batch.base + suc k) i
+      (step (setting day) (state_at day k) (day.batch.base + suc k) i).1)
 
 abbrev pub EachIsAStep : Type 0
 EachIsAStep = (day : Day) (k : ℕ) (i : Instruction) → slice_get day.batch.instructions k ≡ Some i → IsStepOf day k i
@@ -36,34 +38,39 @@ abbrev pub ValueIsLastTouchers : Type 0
 ValueIsLastTouchers = (day : Day) (a j : ℕ)
     → value_at day a j ≡ value_at day a (last_toucher (directory_of day.book.accounts) day.batch.instructions a j)
 
--- an account that is closed after the first i instructions is the same after each later one: nothing goes in or out, and
--- it keeps what it holds, its lists and everything else
+-- an account that is closed after the first i instructions is the same after each later one: nothing goes in or out,
+-- and it keeps what it holds, its lists and everything else
 abbrev pub ClosedStays : Type 0
-ClosedStays = (day : Day) (a i j : ℕ) → i ≤ j → status (state_at day i) a ≡ Some Closed → value_at day a j ≡ value_at day a i
+ClosedStays = (day : Day) (a i j : ℕ) → i ≤ j → status (state_at day i) a ≡ Some Closed
+    → value_at day a j ≡ value_at day a i
 
 -- so it is closed for the rest of the day
 abbrev pub ClosedIsNeverLeft : Type 0
-ClosedIsNeverLeft = (day : Day) (a i j : ℕ) → i ≤ j → status (state_at day i) a ≡ Some Closed → status (state_at day j) a ≡ Some Closed
+ClosedIsNeverLeft = (day : Day) (a i j : ℕ) → i ≤ j → status (state_at day i) a ≡ Some Closed
+    → status (state_at day j) a ≡ Some Closed
 
 -- after the first j instructions the accounts are ready for the record number of the next one: each is there once and
 -- within its limits, and its surrenders and deletions are recorded under lower numbers
 abbrev pub StaysReady : Type 0
-StaysReady = (day : Day) → IsDay day → (j : ℕ) → j ≤ length day.batch.instructions → IsReady (day.batch.base + 1 + j) (state_at day j)
+StaysReady = (day : Day) → IsDay day → (j : ℕ) → j ≤ length day.batch.instructions
+    → IsReady (day.batch.base + 1 + j) (state_at day j)
 
 -- the settled day has the account of a number as the last instruction left it if one touched it, and no other
 abbrev pub SettledAreTouched : Type 0
 SettledAreTouched = (day : Day) (a : ℕ)
     → account (settled_day day).accounts a
-    ≡ (if is_touched (directory_of day.book.accounts) day.batch.instructions a then value_at day a (length day.batch.instructions) else None)
+    ≡ (if is_touched (directory_of day.book.accounts) day.batch.instructions a
+    then value_at day a (length day.batch.instructions) else None)
 
 -- after a settled day is committed, the book holds the state after all instructions, and its next record number has
 -- risen by the number of instructions
 abbrev pub CommittedIsClosing : Type 0
 CommittedIsClosing = (day : Day) → IsBook day.book → day.batch.base + 1 ≡ day.book.next
-    → committed day.book (settled_day day) ≡ record { accounts = closing_state day; next = day.book.next + length day.batch.instructions }
+    → committed day.book (settled_day day)
+    ≡ record { accounts = closing_state day; next = day.book.next + length day.batch.instructions }
 
--- the state after all instructions is that of a book again, with the directory that the book had, and its next record number
--- has risen by the number of instructions
+-- the state after all instructions is that of a book again, with the directory that the book had, and its next record
+-- number has risen by the number of instructions
 abbrev pub ClosingIsABook : Type 0
 ClosingIsABook = (day : Day) → IsDay day
     → IsBookKept (closing_state day) (directory_of day.book.accounts) (day.book.next + length day.batch.instructions)

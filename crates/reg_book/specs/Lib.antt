@@ -6,7 +6,7 @@ pub mod Settled
 pub mod Day
 pub mod Settling
 pub mod Laws
-pub mod Places
+pub mod Indexes
 pub mod Marks
 pub mod Turns
 pub mod Conservation

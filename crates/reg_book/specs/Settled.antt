@@ -36,8 +36,8 @@ committed book s = record { accounts = overlay book.accounts s.accounts; next = 
 abbrev pub replaced : BookValue → SettledValue → List AccountValue
 replaced book s = overlay s.accounts book.accounts
 
--- each settled account is in the book, with the same kind and holder, and its surrenders and deletions are recorded under
--- numbers up to that of the last log row
+-- each settled account is in the book, with the same kind and holder, and its surrenders and deletions are recorded
+-- under numbers up to that of the last log row
 pub record IsOfBook (book : BookValue) (s : SettledValue) : Type 0 where
   pub listed : AllByRecursion (λ v. fin.get (directory_of book.accounts) v.number ≡ Some (v.kind, v.holder)) s.accounts
   pub behind : AllByRecursion (IsBehind (s.base + length s.rows + 1)) s.accounts

@@ -26,10 +26,17 @@ totals_for both Aviation = both.aviation
 
 -- those of two lists of accounts together
 abbrev pub totals_added : Totals → Totals → Totals
-totals_added one other = record { held = one.held + other.held; surrendered = one.surrendered + other.surrendered; deleted = one.deleted + other.deleted }
+totals_added one other = record {
+  held = one.held + other.held;
+  surrendered = one.surrendered + other.surrendered;
+  deleted = one.deleted + other.deleted;
+}
 
 abbrev pub both_added : BothTotals → BothTotals → BothTotals
-both_added one other = record { general = totals_added one.general other.general; aviation = totals_added one.aviation other.aviation }
+both_added one other = record {
+  general = totals_added one.general other.general;
+  aviation = totals_added one.aviation other.aviation;
+}
 
 -- each of these numbers has 128 bits
 pub record TotalsFit (totals : Totals) : Type 0 where

@@ -55,8 +55,8 @@ impl Book {
     ghost use Rattle.reg_book.specs.Book.{directory_of, IsBook, IsBookKept, total_held, total_retired};
     ghost use Rattle.reg_book.specs.Settled.{IsOfBook, committed, replaced};
 
-    /// The book of these accounts, with their directory and the next record number: what [`Book::into_parts`] took apart, or
-    /// what a day made of it. The accounts stand by rising number. Takes no memory.
+    /// The book of these accounts, with their directory and the next record number: what [`Book::into_parts`] took
+    /// apart, or what a day made of it. The accounts stand by rising number. Takes no memory.
     pub fn from_sorted(accounts: Vec<Account>, directory: Directory, next: u64) -> Self
         requires { IsBookKept accounts.items directory next }
         ensures { result ≡ record { accounts = accounts.items; next = next } }
@@ -115,7 +115,11 @@ impl Book {
 
     /// The sums over all accounts for this kind. Takes no memory.
     pub fn totals(&self, kind: AllowanceKind) -> Totals
-        ensures { result ≡ record { held = total_held self.now kind; surrendered = total_retired self.now Surrendered kind; deleted = total_retired self.now Deleted kind } }
+        ensures { result ≡ record {
+          held = total_held self.now kind;
+          surrendered = total_retired self.now Surrendered kind;
+          deleted = total_retired self.now Deleted kind;
+        } }
     {
         self.both_totals().of_kind(kind)
     }
@@ -138,8 +142,10 @@ impl Book {
     pub fn commit(&mut self, settled: Settled) -> Result<Vec<LogRow>, (Settled, Stale)>
         requires { settled.base + 1 ≡ self.old.next → IsOfBook self.old settled }
         ensures answer { MatchResult result
-            (λ rows. (settled.base + 1 ≡ self.old.next) × (self.new ≡ committed self.old settled) × (rows.items ≡ settled.rows))
-            (λ e. (settled.base + 1 ≢ self.old.next) × (self.new ≡ self.old) × (e.0 ≡ settled) × (e.1.next ≡ self.old.next)) }
+            (λ rows. (settled.base + 1 ≡ self.old.next) × (self.new ≡ committed self.old settled)
+            × (rows.items ≡ settled.rows))
+            (λ e. (settled.base + 1 ≢ self.old.next) × (self.new ≡ self.old) × (e.0 ≡ settled)
+            × (e.1.next ≡ self.old.next)) }
         ensures directory { directory_of self.new.accounts ≡ directory_of self.old.accounts }
     {
         let (rows, _) = self.commit_and_keep(settled)?;
@@ -157,8 +163,10 @@ impl Book {
     ) -> Result<(Vec<LogRow>, Replaced), (Settled, Stale)>
         requires { settled.base + 1 ≡ self.old.next → IsOfBook self.old settled }
         ensures answer { MatchResult result
-            (λ kept. (settled.base + 1 ≡ self.old.next) × (self.new ≡ committed self.old settled) × (kept.0.items ≡ settled.rows))
-            (λ e. (settled.base + 1 ≢ self.old.next) × (self.new ≡ self.old) × (e.0 ≡ settled) × (e.1.next ≡ self.old.next)) }
+            (λ kept. (settled.base + 1 ≡ self.old.next) × (self.new ≡ committed self.old settled)
+            × (kept.0.items ≡ settled.rows))
+            (λ e. (settled.base + 1 ≢ self.old.next) × (self.new ≡ self.old) × (e.0 ≡ settled)
+            × (e.1.next ≡ self.old.next)) }
         ensures replaced { IfOk result (λ kept. kept.1 ≡ replaced self.old settled) }
         ensures directory { directory_of self.new.accounts ≡ directory_of self.old.accounts }
     {
@@ -173,8 +181,8 @@ impl Book {
     }
 }
 
-// Puts each settled account in the place of the one with its number, and that one in its own. Both lists are walked once,
-// from their ends.
+// Puts each settled account in the place of the one with its number, and that one in its own. Both lists are walked
+// once, from their ends.
 fn replace_accounts(accounts: &mut Vec<Account>, settled: &mut Vec<Account>)
     requires rising { IsRising (numbers accounts.old.items) }
     requires settled_rising { IsRising (numbers settled.old.items) }
@@ -191,8 +199,8 @@ fn replace_accounts(accounts: &mut Vec<Account>, settled: &mut Vec<Account>)
     }
 }
 
-// Puts the account in the place of the one with its number, if there is one, and that one in its own. From `until` on all
-// numbers are higher. Answers a place from which on none is lower.
+// Puts the account in the place of the one with its number, if there is one, and that one in its own. From `until` on
+// all numbers are higher. Answers an index from which on none is lower.
 fn replace_account(accounts: &mut Vec<Account>, until: usize, account: &mut Account) -> usize
     requires rising { IsRising (numbers accounts.old.items) }
     requires within_limits { All IsAccount accounts.old.items }
@@ -234,7 +242,7 @@ pub(crate) fn get_account(accounts: &[Account], number: AccountNo) -> Option<&Ac
     ensures { option_copied result ≡ account accounts.now number }
 {
     match accounts.binary_search_by_key(&number, |account| account.number()) {
-        Ok(place) => Some(&accounts[place]),
+        Ok(index) => Some(&accounts[index]),
         Err(_) => None,
     }
 }

@@ -5,7 +5,7 @@ ghost use Rattle.reg_book.specs.Day.{day_of, settled_day, replies_of};
 ghost use Rattle.reg_book.specs.Settled.{committed};
 
 use crate::book::Book;
-use crate::places::all_places;
+use crate::indexes::all_indexes;
 use crate::settle::settle_all;
 use reg_base::{Batch, NoMemory, Rules};
 use reg_rules::{Reply, Setting, step_laws};
@@ -35,20 +35,21 @@ pub fn settle_in_place(
     batch: &Batch,
 ) -> Result<ClosedDay, NoMemory>
     requires { batch.now.base + 1 ≡ book.next }
-    ensures book { IfOk result (λ closed. closed.book ≡ committed book (settled_day (day_of book rules.now batch.now))) }
+    ensures book { IfOk result
+        (λ closed. closed.book ≡ committed book (settled_day (day_of book rules.now batch.now))) }
     ensures replies { IfOk result (λ closed. closed.replies.items ≡ replies_of (day_of book rules.now batch.now)) }
 {
     rules.are_within_limits();
     step_laws();
     batch.base();
     let (mut accounts, directory, next) = book.into_parts();
-    let places = all_places(alloc, &accounts, batch.instructions())?;
+    let indexes = all_indexes(alloc, &accounts, batch.instructions())?;
     let setting = Setting {
         rules,
         day: batch.day(),
         directory: &directory,
     };
-    let replies = settle_all(alloc, &setting, batch, &mut accounts, &places)?;
+    let replies = settle_all(alloc, &setting, batch, &mut accounts, &indexes)?;
     let count = replies.len() as u64;
     Ok(ClosedDay {
         book: Book::from_sorted(accounts, directory, next + count),

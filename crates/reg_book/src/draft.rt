@@ -78,7 +78,7 @@ impl BookDraft {
             (λ _. (self.new ≡ with_account self.old account) × (first_fault self.old account ≡ None))
             (λ e. (self.new ≡ self.old) × (e.0 ≡ account) × IsBookFault self.old account e.1) }
     {
-        match take_place(&mut self.accounts, &mut self.directory, self.next, &account) {
+        match admit(&mut self.accounts, &mut self.directory, self.next, &account) {
             Err(fault) => Err((account, fault)),
             Ok(()) => {
                 self.accounts.push(account).unwrap();
@@ -94,13 +94,13 @@ impl BookDraft {
         BookDraft::new(alloc, self.next)
     }
 
-    /// This draft with the accounts of another one behind its own, in their order. If it has none of its own, nothing is
-    /// moved.
+    /// This draft with the accounts of another one behind its own, in their order. If it has none of its own, nothing
+    /// is moved.
     ///
     /// # Errors
-    /// `RowAhead` if the two have different next record numbers. `Full` if they have more than 100,000 accounts together.
-    /// `Repeated` if both have an account with the same number. `NoMemory` if memory ran out. Both drafts are given up
-    /// then.
+    /// `RowAhead` if the two have different next record numbers. `Full` if they have more than 100,000 accounts
+    /// together. `Repeated` if both have an account with the same number. `NoMemory` if memory ran out. Both drafts are
+    /// given up then.
     pub fn append(self, other: BookDraft) -> Result<BookDraft, BookFault>
         ensures { MatchResult result
             (λ both. both ≡ with_accounts self other.accounts)
@@ -179,8 +179,10 @@ fn enter(
     account: &Account,
 ) -> Result<bool, NoMemory>
     requires listed { directory.old ≡ directory_of accounts.now }
-    ensures added { IfOk result (λ added. is_among (numbers accounts.now) account.now.number ≡ (if added then false else true)) }
-    ensures entered { IfOk result (λ added. IsTrue added → directory.new ≡ directory_of (accounts.now ++ account.now ∷ [])) }
+    ensures added { IfOk result
+        (λ added. is_among (numbers accounts.now) account.now.number ≡ (if added then false else true)) }
+    ensures entered { IfOk result
+        (λ added. IsTrue added → directory.new ≡ directory_of (accounts.now ++ account.now ∷ [])) }
 {
     let added = directory.insert(account.number(), account.kind(), account.holder())?;
     Ok(added)
@@ -211,7 +213,7 @@ fn has_rising_numbers(accounts: &[Account]) -> bool
 }
 
 // Makes room for the account and enters it into the directory, or says why it can't be taken in.
-fn take_place(
+fn admit(
     accounts: &mut Vec<Account>,
     directory: &mut Directory,
     next: u64,

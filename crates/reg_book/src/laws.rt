@@ -86,8 +86,9 @@ pub fn fold_conserves()
 /// Days one after another, each with the book that the day before left: the record numbers of all days go on without a
 /// gap, an account that was closed stays as it was on all later days, and over all days the number of allowances of a
 /// kind changes only by accepted creations, deletions and reversals of deletions. The same is true if each book is
-/// changed by hand before its day, as far as such a change leaves the next record number, closed accounts and the number
-/// of allowances. Without changes by hand no account is added, removed or moved, and each day leaves a book again.
+/// changed by hand before its day, as far as such a change leaves the next record number, closed accounts and the
+/// number of allowances. Without changes by hand no account is added, removed or moved, and each day leaves a book
+/// again.
 pub fn every_chain()
     ensures books { ChainLeavesABook }
     ensures accounts { ChainKeepsAccounts }

@@ -40,8 +40,8 @@
 mod book;
 mod closing;
 mod draft;
+mod indexes;
 mod laws;
-mod places;
 mod settle;
 mod settled;
 mod totals;
@@ -51,12 +51,12 @@ mod turn;
 pub use book::{Book, Replaced};
 pub use closing::{ClosedDay, settle_in_place};
 pub use draft::{BookDraft, BookFault, has_row_ahead};
+pub use indexes::index_of;
 pub use laws::{
     closing_is_a_book, each_is_a_step, every_chain, fold_conserves, fold_keeps_closed,
     log_is_made_again, settled_is_closing, settled_is_of_book, stays_ready, untouched_stay,
     value_is_last_touchers,
 };
-pub use places::place_of;
 pub use settle::{SettleFault, settle_plain};
 pub use settled::{Settled, Stale};
 pub use totals::{BothTotals, Totals, add_up};

@@ -8,10 +8,10 @@ ghost use Rattle.reg_book.specs.Fold.{state_after, rows_of, replies_in};
 ghost use Rattle.reg_book.specs.Settled.{IsOfBook};
 ghost use Rattle.reg_book.specs.Day.{day_of, settled_day, rows_replied};
 ghost use Rattle.reg_book.specs.Settling.{IsSettleFault};
-ghost use Rattle.reg_book.specs.Places.{AllStandAt, places_lists};
+ghost use Rattle.reg_book.specs.Indexes.{AllStandAt, index_lists};
 
 use crate::book::Book;
-use crate::places::{Places, indexes};
+use crate::indexes::{Indexes, widened};
 use crate::settled::Settled;
 use crate::touched::{Touched, find_touched};
 use crate::turn::take_turn;
@@ -38,8 +38,8 @@ pub enum SettleFault {
 /// Settles a batch: executes its instructions one after another, each on the accounts as the instructions before it
 /// left them. The book is not changed.
 ///
-/// The time is linear in the book's accounts and in the batch, except for the look-ups: an account is looked up once for
-/// each instruction that touches it. Each touched account is copied once.
+/// The time is linear in the book's accounts and in the batch, except for the look-ups: an account is looked up once
+/// for each instruction that touches it. Each touched account is copied once.
 ///
 /// # Errors
 /// `WrongBase` if the first record number of the batch is not the book's next record number. Otherwise `NoMemory` if
@@ -83,14 +83,14 @@ fn settle_batch(
     let directory = book.directory();
     let Touched {
         mut accounts,
-        places,
+        indexes,
     } = find_touched(alloc, book.accounts(), batch.instructions())?;
     let setting = Setting {
         rules,
         day: batch.day(),
         directory,
     };
-    let replies = settle_all(alloc, &setting, batch, &mut accounts, &places)?;
+    let replies = settle_all(alloc, &setting, batch, &mut accounts, &indexes)?;
     let rows = make_log(alloc, batch, replies)?;
     Ok(Settled::new(base, rows, accounts))
 }
@@ -104,17 +104,17 @@ fn make_log(alloc: Global, batch: &Batch, replies: Vec<Reply>) -> Result<Vec<Log
     let instructions = batch.instructions();
     let mut rows = Vec::with_capacity(alloc, replies.len())?;
     let mut last = batch.base();
-    let mut place = 0;
+    let mut index = 0;
     for reply in replies {
         last += 1;
         let number = RecordNo::new(last).unwrap();
-        rows.push(log_row(number, day, instructions[place], reply))?;
-        place += 1;
+        rows.push(log_row(number, day, instructions[index], reply))?;
+        index += 1;
     }
     Ok(rows)
 }
 
-/// Carries all instructions of the batch out on accounts, and answers the replies. There is a list of places for each
+/// Carries all instructions of the batch out on accounts, and answers the replies. There is a list of indexes for each
 /// instruction: those of the accounts that it touches.
 ///
 /// # Errors
@@ -124,23 +124,27 @@ pub(crate) fn settle_all(
     setting: &Setting,
     batch: &Batch,
     accounts: &mut [Account],
-    places: &[Places],
+    indexes: &[Indexes],
 ) -> Result<Vec<Reply>, NoMemory>
     requires rules { AreRules setting.now.rules }
     requires ready { IsReady (batch.now.base + 1) accounts.old }
-    requires places { AllStandAt setting.now.directory (numbers accounts.old) (places_lists places.now) batch.now.instructions }
-    ensures replies { IfOk result (λ replies. replies.items ≡ replies_in (rows_of setting.now accounts.old (batch.now.base + 1) batch.now.instructions)) }
-    ensures accounts { OnOk result (accounts.new ≡ state_after setting.now accounts.old (batch.now.base + 1) batch.now.instructions) }
+    requires indexes { AllStandAt setting.now.directory (numbers accounts.old)
+        (index_lists indexes.now) batch.now.instructions }
+    ensures replies { IfOk result
+        (λ replies. replies.items
+        ≡ replies_in (rows_of setting.now accounts.old (batch.now.base + 1) batch.now.instructions)) }
+    ensures accounts { OnOk result
+        (accounts.new ≡ state_after setting.now accounts.old (batch.now.base + 1) batch.now.instructions) }
 {
     step_laws();
     setting.day.get();
     let instructions = batch.instructions();
     let mut replies = Vec::with_capacity(alloc, instructions.len())?;
     let mut last = batch.base();
-    for (place, instruction) in instructions.iter().enumerate() {
+    for (index, instruction) in instructions.iter().enumerate() {
         last += 1;
         let number = RecordNo::new(last).unwrap();
-        let mut own = indexes(&places[place]);
+        let mut own = widened(&indexes[index]);
         let reply = take_turn(
             alloc,
             setting,

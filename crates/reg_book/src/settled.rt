@@ -57,7 +57,11 @@ impl Settled {
 
     /// The settled day with these parts. Takes no memory.
     pub(crate) fn new(base: u64, rows: Vec<LogRow>, accounts: Vec<Account>) -> Self
-        requires { let day : SettledValue = record { base = base; rows = rows.items; accounts = accounts.items } in IsSettled day }
+        requires { let day : SettledValue = record {
+          base = base;
+          rows = rows.items;
+          accounts = accounts.items;
+        } in IsSettled day }
         ensures { result ≡ record { base = base; rows = rows.items; accounts = accounts.items } }
     {
         Settled {
@@ -102,7 +106,8 @@ impl Settled {
 
 // Reads the last record number, so that a proof knows its limit.
 fn know_last(rows: &[LogRow])
-    ensures { (base : ℕ) → record_numbers rows.now ≡ count_up (base + 1) (length rows.now) → 0 < length rows.now → base + length rows.now ≤ MOST_RECORD }
+    ensures { (base : ℕ) → record_numbers rows.now ≡ count_up (base + 1) (length rows.now) → 0 < length rows.now
+        → base + length rows.now ≤ MOST_RECORD }
 {
     if let Some(row) = rows.last() {
         row.number.get();

@@ -7,20 +7,20 @@ ghost use Rattle.reg_base.specs.Rising.{IsRising};
 ghost use Rattle.reg_rules.specs.State.{numbers};
 ghost use Rattle.reg_book.specs.Book.{directory_of};
 ghost use Rattle.reg_book.specs.Fold.{touched_of};
-ghost use Rattle.reg_book.specs.Places.{AllStandAt, places_lists};
+ghost use Rattle.reg_book.specs.Indexes.{AllStandAt, index_lists};
 ghost use Rattle.reg_book.specs.Marks.{marked_at, all_marked_at, picked};
 
-use crate::places::{Places, all_places, rank_all, ranks_of};
+use crate::indexes::{Indexes, all_indexes, rank_all, ranks_of};
 use reg_account::Account;
 use reg_base::{Instruction, NoMemory};
 use std::alloc::Global;
 
-/// The accounts that a batch touches: copies of them in their order, and the places of those of each instruction.
+/// The accounts that a batch touches: copies of them in their order, and the indexes of those of each instruction.
 pub(crate) struct Touched {
     /// Copies of the accounts, in their order.
     pub accounts: Vec<Account>,
-    /// For each instruction the places of its accounts among the copies.
-    pub places: Vec<Places>,
+    /// For each instruction the indexes of its accounts among the copies.
+    pub indexes: Vec<Indexes>,
 }
 
 /// Finds the accounts that some instruction touches, and copies each of them once. An account is looked up once for
@@ -35,38 +35,41 @@ pub(crate) fn find_touched(
 ) -> Result<Touched, NoMemory>
     requires rising { IsRising (numbers accounts.now) }
     requires few { length accounts.now ≤ MOST_ACCOUNTS }
-    ensures accounts { IfOk result (λ t. t.accounts.items ≡ touched_of (directory_of accounts.now) instructions.now accounts.now) }
-    ensures places { IfOk result (λ t. AllStandAt (directory_of accounts.now) (numbers t.accounts.items) (places_lists t.places.items) instructions.now) }
+    ensures accounts { IfOk result
+        (λ t. t.accounts.items ≡ touched_of (directory_of accounts.now) instructions.now accounts.now) }
+    ensures indexes { IfOk result
+        (λ t. AllStandAt (directory_of accounts.now) (numbers t.accounts.items)
+        (index_lists t.indexes.items) instructions.now) }
 {
-    let mut places = all_places(alloc, accounts, instructions)?;
+    let mut indexes = all_indexes(alloc, accounts, instructions)?;
     let mut marks = vec![in alloc; false; accounts.len()]?;
-    mark_all(&mut marks, &places);
+    mark_all(&mut marks, &indexes);
     // A copy stands at the rank of its account.
     let ranks = ranks_of(alloc, &marks)?;
-    rank_all(&mut places, &ranks);
+    rank_all(&mut indexes, &ranks);
     let accounts = copy_marked(alloc, accounts, &marks)?;
-    Ok(Touched { accounts, places })
+    Ok(Touched { accounts, indexes })
 }
 
-// Sets the marks at all these places.
-fn mark_all(marks: &mut [bool], places: &[Places])
-    requires { AllByRecursion (AllByRecursion (λ place. place < length marks.old)) (places_lists places.now) }
-    ensures marks { marks.new ≡ all_marked_at marks.old (places_lists places.now) }
+// Sets the marks at all these indexes.
+fn mark_all(marks: &mut [bool], indexes: &[Indexes])
+    requires { AllByRecursion (AllByRecursion (λ index. index < length marks.old)) (index_lists indexes.now) }
+    ensures marks { marks.new ≡ all_marked_at marks.old (index_lists indexes.now) }
     ensures size { length marks.new ≡ length marks.old }
 {
-    for own in places {
+    for own in indexes {
         mark(marks, own);
     }
 }
 
-// Sets the marks at these places.
-fn mark(marks: &mut [bool], places: &Places)
-    requires { AllByRecursion (λ place. place < length marks.old) places.now.items }
-    ensures marks { marks.new ≡ marked_at marks.old places.now.items }
+// Sets the marks at these indexes.
+fn mark(marks: &mut [bool], indexes: &Indexes)
+    requires { AllByRecursion (λ index. index < length marks.old) indexes.now.items }
+    ensures marks { marks.new ≡ marked_at marks.old indexes.now.items }
     ensures size { length marks.new ≡ length marks.old }
 {
-    for place in places.as_slice() {
-        marks[*place as usize] = true;
+    for index in indexes.as_slice() {
+        marks[*index as usize] = true;
     }
 }
 
@@ -81,8 +84,8 @@ fn copy_marked(
 {
     let count = marks.iter().filter(|mark| **mark).count();
     let mut copies = Vec::with_capacity(alloc, count)?;
-    for (place, account) in accounts.iter().enumerate() {
-        if marks[place] {
+    for (index, account) in accounts.iter().enumerate() {
+        if marks[index] {
             copies.push(account.copy(alloc)?)?;
         }
     }

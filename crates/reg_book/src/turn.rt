@@ -6,8 +6,8 @@ ghost use Rattle.reg_base.specs.Footprint.{footprint};
 ghost use Rattle.reg_rules.specs.State.{numbers};
 ghost use Rattle.reg_rules.specs.Effect.{IsBehind};
 ghost use Rattle.reg_rules.specs.Step.{step};
-ghost use Rattle.reg_book.specs.Places.{StandAt};
-ghost use Rattle.reg_book.specs.Turns.{ArePlacesLeft, renamed};
+ghost use Rattle.reg_book.specs.Indexes.{StandAt};
+ghost use Rattle.reg_book.specs.Turns.{AreIndexesLeft, renamed};
 
 use reg_account::Account;
 use reg_base::laws::each_footprint_is_sound;
@@ -15,8 +15,8 @@ use reg_base::{Instruction, NoMemory, RecordNo};
 use reg_rules::{Reply, Setting, execute, step_laws};
 use std::alloc::Global;
 
-/// Executes the instruction on accounts. Those that it touches are at these places, in its order. Afterwards the
-/// values in `places` have no meaning.
+/// Executes the instruction on accounts. Those that it touches are at these indexes, in its order. Afterwards the
+/// values in `indexes` have no meaning.
 ///
 /// The touched accounts are moved to the front and then back, so none is copied and no memory is needed for them.
 ///
@@ -28,18 +28,18 @@ pub(crate) fn take_turn(
     number: RecordNo,
     instruction: &Instruction,
     accounts: &mut [Account],
-    places: &mut [usize],
+    indexes: &mut [usize],
 ) -> Result<Reply, NoMemory>
     requires distinct { IsDistinct nat_eq (numbers accounts.old) }
     requires behind { All (IsBehind number) accounts.old }
-    requires there { StandAt (numbers accounts.old) places.old (footprint setting.now.directory instruction.now.act) }
+    requires there { StandAt (numbers accounts.old) indexes.old (footprint setting.now.directory instruction.now.act) }
     ensures { IfOk result (λ reply. (accounts.new, reply) ≡ step setting.now accounts.old number instruction.now) }
 {
     each_footprint_is_sound();
-    turn_from(alloc, setting, number, instruction, accounts, places, 0)
+    turn_from(alloc, setting, number, instruction, accounts, indexes, 0)
 }
 
-// Executes the instruction. Its first `count` accounts are at the front already, and the others are at these places.
+// Executes the instruction. Its first `count` accounts are at the front already, and the others are at these indexes.
 // Each of these is swapped to the front, and back after the instruction.
 fn turn_from(
     alloc: Global,
@@ -47,21 +47,22 @@ fn turn_from(
     number: RecordNo,
     instruction: &Instruction,
     accounts: &mut [Account],
-    places: &mut [usize],
+    indexes: &mut [usize],
     count: usize,
 ) -> Result<Reply, NoMemory>
     requires distinct { IsDistinct nat_eq (numbers accounts.old) }
     requires behind { All (IsBehind number) accounts.old }
-    requires left { ArePlacesLeft count (numbers accounts.old) places.old (footprint setting.now.directory instruction.now.act) }
+    requires left { AreIndexesLeft count (numbers accounts.old) indexes.old
+        (footprint setting.now.directory instruction.now.act) }
     ensures { IfOk result (λ reply. (accounts.new, reply) ≡ step setting.now accounts.old number instruction.now) }
 {
     step_laws();
-    match places.split_first_mut() {
+    match indexes.split_first_mut() {
         None => turn_at_front(alloc, setting, number, instruction, accounts, count),
         Some((first, later)) => {
-            let place = *first;
-            accounts.swap(count, place);
-            rename(later, count, place);
+            let index = *first;
+            accounts.swap(count, index);
+            rename(later, count, index);
             let reply = turn_from(
                 alloc,
                 setting,
@@ -71,29 +72,29 @@ fn turn_from(
                 later,
                 count + 1,
             );
-            accounts.swap(count, place);
+            accounts.swap(count, index);
             reply
         }
     }
 }
 
-fn renamed(place: usize, from: usize, to: usize) -> usize
-    ensures { result ≡ renamed from to place }
+fn renamed(index: usize, from: usize, to: usize) -> usize
+    ensures { result ≡ renamed from to index }
 {
-    if place == from { to } else { place }
+    if index == from { to } else { index }
 }
 
-// A swap has moved what stood at the place `from` to the place `to`.
-fn rename(places: &mut [usize], from: usize, to: usize)
-    ensures { places.new ≡ map (renamed from to) places.old }
+// A swap has moved what stood at the index `from` to the index `to`.
+fn rename(indexes: &mut [usize], from: usize, to: usize)
+    ensures { indexes.new ≡ map (renamed from to) indexes.old }
 {
-    for place in places.iter_mut() {
-        *place = renamed(*place, from, to);
+    for index in indexes.iter_mut() {
+        *index = renamed(*index, from, to);
     }
 }
 
-// Executes the instruction. The first `count` accounts are those that it touches, in its order. As a call of its own, it
-// takes the room for its locals once, and not for each account.
+// Executes the instruction. The first `count` accounts are those that it touches, in its order. As a call of its own,
+// it takes the room for its locals once, and not for each account.
 #[inline(never)]
 fn turn_at_front(
     alloc: Global,

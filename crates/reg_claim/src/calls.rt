@@ -9,7 +9,7 @@ ghost use Rattle.reg_claim.specs.Seats.{known, seat_table, places, IsSeatOf};
 
 use crate::claim_table::{ClaimTable, Look, Tally};
 use crate::fault::NoMemory;
-use crate::rule::{Claiming, Finished, Finishing, Joining, Looking, Parting, Stopping};
+use crate::protocol::{Claiming, Finished, Finishing, Joining, Looking, Parting, Stopping};
 use crate::seats::Seat;
 use atomic_table::Table;
 use std::alloc::Global;
@@ -31,8 +31,8 @@ impl ClaimTable {
         Ok((ClaimTable { table }, Seat { seat }))
     }
 
-    /// Hands one part of a seat's share to a new seat, which has seen what the first has. The lists stay with the first.
-    /// The seat must be of this table, and have two parts or more.
+    /// Hands one part of a seat's share to a new seat, which has seen what the first has. The lists stay with the
+    /// first. The seat must be of this table, and have two parts or more.
     pub fn split(&self, seat: Seat) -> (Seat, Seat)
         requires own { IsSeatOf self.now seat }
         requires share { 2 ≤ (known seat).share }
@@ -67,7 +67,8 @@ impl ClaimTable {
         requires place { 1 ≤ place }
         requires within { place ≤ places self.now }
         ensures same { seat_table seat.new ≡ seat_table seat.old }
-        ensures view { MatchBool result (known seat.new ≡ with_claimed place (known seat.old)) (known seat.new ≡ known seat.old) }
+        ensures view { MatchBool result (known seat.new ≡ with_claimed place (known seat.old))
+            (known seat.new ≡ known seat.old) }
         ensures first { result ≡ true → ¬ Contains (known seat.old).claimed place }
         ensures alone { (known seat.old).share ≡ 16 → ¬ Contains (known seat.old).claimed place → result ≡ true }
         ensures claimed { result ≡ true → Contains (known seat.new).claimed place }

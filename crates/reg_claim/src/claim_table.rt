@@ -2,12 +2,13 @@
 
 ghost use Rattle.std.specs.Prelude.{◌≡◌, ◌+◌};
 
-use crate::rule::Claims;
+use crate::protocol::Claims;
 use crate::views::View;
 use atomic_table::Table;
 use std::alloc::Global;
 
-/// A word for each place, and one for the count. It may be shared by any number of threads, each with a seat of its own.
+/// A word for each place, and one for the count. It may be shared by any number of threads, each with a seat of its
+/// own.
 #[derive(Drop)]
 pub struct ClaimTable {
     pub(crate) table: Table<(), View, u32, Claims, Global>,

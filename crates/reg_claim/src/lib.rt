@@ -1,5 +1,5 @@
-//! The claim table of workers that steal: who claimed which place, how many places are finished, and whether the workers
-//! are told to leave.
+//! The claim table of workers that steal: who claimed which place, how many places are finished, and whether the
+//! workers are told to leave.
 //!
 //! A use of it, proved in `registry_uses/src/claim.rt`:
 //!
@@ -25,9 +25,9 @@
 //! }
 //! ```
 //!
-//! A table of `n` places has a word for each place and one word for the count. Each worker has a [`Seat`]. A seat's view
-//! says what it claimed, what it finished and the greatest count that it saw; it exists in proofs alone, and takes no
-//! bytes. The rule of the table (`specs/Claims.antt`) holds between any two steps of any threads, so each place is
+//! A table of `n` places has a word for each place and one word for the count. Each worker has a [`Seat`]. A seat's
+//! view says what it claimed, what it finished and the greatest count that it saw; it exists in proofs alone, and takes
+//! no bytes. The rule of the table (`specs/Claims.antt`) holds between any two steps of any threads, so each place is
 //! claimed once, and the count is that of the finished places.
 //!
 //! Only [`ClaimTable::new`] takes memory. No call here waits.
@@ -36,7 +36,7 @@
 mod calls;
 mod claim_table;
 mod fault;
-mod rule;
+mod protocol;
 mod seats;
 mod views;
 

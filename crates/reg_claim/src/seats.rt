@@ -4,8 +4,8 @@ ghost use Rattle.std.specs.Prelude.{◌≡◌, ◌<◌, []};
 
 use crate::views::View;
 
-/// What a worker steps with. It takes no bytes, and may go to another thread. It fits only the table that it is of: that
-/// is a condition of each call.
+/// What a worker steps with. It takes no bytes, and may go to another thread. It fits only the table that it is of:
+/// that is a condition of each call.
 ///
 /// A seat that is dropped takes its share with it. Then no seat is ever the last, and the table can't be closed.
 #[derive(Drop)]

@@ -1,5 +1,5 @@
-//! Words for counting in lists, for definitions and proofs: the sum of a number over a list, how often a number stands in
-//! one. There is no code here.
+//! Words for counting in lists, for definitions and proofs: the sum of a number over a list, how often a number stands
+//! in one. There is no code here.
 //!
 //! A use of it, proved in `registry_uses/src/counting.rt`:
 //!

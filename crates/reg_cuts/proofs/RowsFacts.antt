@@ -4,7 +4,7 @@ use Rattle.std.specs.Prelude.{unwrap_or, IsSome, IsTrue}
 use Rattle.std.specs.Bool.{MatchBool}
 use Rattle.csv.specs.Machine.{Read, next_record, step, is_end, ends_at_end, fields_after, field_after}
 use Rattle.csv.specs.Reading.{Reached, ReadRecord, ExplainsRead, is_flexible, default_config, records_next, records_from, strip_bom, is_bom}
-use Rattle.reg_cuts.specs.Rows.{Record, known_rest, rest_of, records_in, rows_left, rows_in_text, IsOpen, IsOfMemory}
+use Rattle.reg_cuts.specs.Rows.{Record, known_rest, rest_of, records_in, rows_left, rows_in_text, IsBetweenRows, IsOfMemory}
 use Rattle.csv.specs.declared.error.ErrorKind.{ErrorKind}
 use Rattle.csv.specs.declared.error.ErrorKind.TheVariants as kind
 use Rattle.csv.specs.declared.parser.State.{State}
@@ -99,7 +99,7 @@ pub rest-is : (a : Source) (y : List ℕ) → known_rest a ≡ Some y → rest_o
 rest-is a y e = ap (λ (o : Option (List ℕ)). unwrap_or o []) e
 
 -- a record that was read is the first of those that were left
-pub one-row : (a b : Source) (f : Record) → IsOpen a → ReadRecord known a b true f → b.first ≡ true → is_flexible b ≡ is_flexible a → IsOpen b × (rows_left a ≡ f ∷ rows_left b)
+pub one-row : (a b : Source) (f : Record) → IsBetweenRows a → ReadRecord known a b true f → b.first ≡ true → is_flexible b ≡ is_flexible a → IsBetweenRows b × (rows_left a ≡ f ∷ rows_left b)
 unfolding Reached
 one-row a b f ready read first bends =
     let y = there (known_rest a) ready.known in
@@ -112,15 +112,15 @@ one-row a b f ready read first bends =
     (record { flexible = bends ∙ ready.flexible; trims_nothing = read.3 ∙ ready.trims_nothing; ready = inl first; plain = read.2 ∙ ready.plain; known = rw m.1 refl; between = rw m.2.3.0 at adv.between }, (cc))
 
 -- a read that found no record has left none
-pub no-row : (a b : Source) (f : Record) → IsOpen a → ReadRecord known a b false f → rows_left a ≡ []
+pub no-row : (a b : Source) (f : Record) → IsBetweenRows a → ReadRecord known a b false f → rows_left a ≡ []
 no-row a b f ready read =
     let y = there (known_rest a) ready.known in
     let none = rows-end known a b f default_config y.0 ready.plain y.1 read in
     ap (records_in a.state) (rest-is a y.0 y.1) ∙ records_in-none a.state y.0 none
 
 -- what a read left, whether it found a record or none
-pub row-or-none : (a b : Source) (found : Bool) (f : Record) → IsOpen a → ReadRecord known a b found f → b.first ≡ true → is_flexible b ≡ is_flexible a
-    → (IsTrue found → IsOpen b) × MatchBool found (rows_left a ≡ f ∷ rows_left b) (rows_left a ≡ [])
+pub row-or-none : (a b : Source) (found : Bool) (f : Record) → IsBetweenRows a → ReadRecord known a b found f → b.first ≡ true → is_flexible b ≡ is_flexible a
+    → (IsTrue found → IsBetweenRows b) × MatchBool found (rows_left a ≡ f ∷ rows_left b) (rows_left a ≡ [])
 row-or-none a b true f ready read first bends = let one = one-row a b f ready read first bends in (λ yes. one.0, one.1)
 row-or-none a b false f ready read first bends = (λ yes. absurd cc, no-row a b f ready read)
 

@@ -32,7 +32,8 @@ text_of_parts parts = flat_map (λ part. part.now) parts
 
 -- law: from a state between two records, whatever the bytes behind it
 abbrev pub EachSplitSplits : Type 0
-EachSplitSplits = (s : State) (a b : List ℕ) → ends_at_end s ≡ false → ends_at_end (machine_after s a) ≡ false → records_in s (a ++ b) ≡ records_in s a ++ records default_config b
+EachSplitSplits = (s : State) (a b : List ℕ) → ends_at_end s ≡ false → ends_at_end (machine_after s a) ≡ false
+    → records_in s (a ++ b) ≡ records_in s a ++ records default_config b
 
 -- law: of whole texts, with their byte order marks
 abbrev pub EachCutSplits : Type 0

@@ -33,7 +33,7 @@ abbrev pub rows_left : Reader (Bor (List ℕ)) → List Record
 rows_left reader = records_in (reader_state reader) (rest_of reader)
 
 -- a reader of whole records of any lengths with the defaults of csv, between two records
-pub record IsOpen (reader : Reader (Bor (List ℕ))) : Type 0 where
+pub record IsBetweenRows (reader : Reader (Bor (List ℕ))) : Type 0 where
   pub flexible : is_flexible reader ≡ true
   pub trims_nothing : reader_trim reader ≡ trim.None
   pub ready : Ready reader

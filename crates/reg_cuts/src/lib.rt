@@ -11,7 +11,8 @@
 //!
 //! /// Whether what stands behind a part of a text can be read without it.
 //! pub fn stands_alone(before: &[u8], behind: &[u8]) -> bool
-//!     ensures { result ≡ true → rows_in_text (before.now ++ behind.now) ≡ rows_in_text before.now ++ rows_in_text behind.now }
+//!     ensures { result ≡ true → rows_in_text (before.now ++ behind.now)
+//!         ≡ rows_in_text before.now ++ rows_in_text behind.now }
 //! {
 //!     each_cut_splits();
 //!     is_cut(before) && has_no_mark(behind)
@@ -28,4 +29,4 @@ pub use laws::{
     lines_without_quotes_are_cuts,
 };
 pub use parts::{cut_near, cut_parts, has_no_mark, is_cut};
-pub use rows::{next_row, open_rows};
+pub use rows::{next_row, start_rows};

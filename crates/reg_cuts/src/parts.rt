@@ -20,8 +20,8 @@ fn has_quote(part: &[u8]) -> bool
     memchr(QUOTE, part).is_some()
 }
 
-/// Whether the part has no quote, and ends with a line feed. If so, the text may be cut behind it. A text may also be cut
-/// behind quoted fields, but only one thread that has read all before would know.
+/// Whether the part has no quote, and ends with a line feed. If so, the text may be cut behind it. A text may also be
+/// cut behind quoted fields, but only one thread that has read all before would know.
 #[tactic(auto, using(crate::proofs::Splits::whole))]
 pub fn is_cut(part: &[u8]) -> bool
     ensures { result ≡ true → IsCut part.now }
@@ -64,7 +64,7 @@ pub fn cut_parts<'t>(
     Ok(parts)
 }
 
-/// Cuts a text before the first line that begins at or behind a place with the first of these starts; if there is none,
+/// Cuts a text before the first line that begins at or behind a point with the first of these starts; if there is none,
 /// with the second one, and so on; if there is none at all, at its end. A start begins with a line feed, which stays in
 /// front of the cut.
 pub fn cut_near<'t>(text: &'t [u8], starts: &[&[u8]], near: usize) -> (&'t [u8], &'t [u8])

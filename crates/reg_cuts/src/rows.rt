@@ -4,15 +4,15 @@ ghost use Rattle.std.specs.Prelude.{◌≡◌, ◌∷◌, [], IfOk, IsTrue};
 ghost use Rattle.std.specs.Bool.{MatchBool};
 ghost use Rattle.csv.specs.Records.{fields_of};
 ghost use Rattle.csv.specs.Reading.{error_kind};
-ghost use Rattle.reg_cuts.specs.Rows.{IsOpen, IsOfMemory, rows_left, rows_in_text};
+ghost use Rattle.reg_cuts.specs.Rows.{IsBetweenRows, IsOfMemory, rows_left, rows_in_text};
 
 use csv::{ByteRecord, Error, ErrorKind, Reader, ReaderBuilder};
 use reg_base::NoMemory;
 use std::alloc::Global;
 
 /// A reader at the first record of a text.
-pub fn open_rows(alloc: Global, text: &[u8]) -> Reader<&[u8]>
-    ensures open { IsOpen result }
+pub fn start_rows(alloc: Global, text: &[u8]) -> Reader<&[u8]>
+    ensures between { IsBetweenRows result }
     ensures rows { rows_left result ≡ rows_in_text text.now }
 {
     ReaderBuilder::new()
@@ -26,9 +26,11 @@ pub fn open_rows(alloc: Global, text: &[u8]) -> Reader<&[u8]>
 /// # Errors
 /// `NoMemory` if memory ran out, or if the bytes could not be read. Bytes in memory can always be read.
 pub fn next_row(reader: &mut Reader<&[u8]>, row: &mut ByteRecord) -> Result<bool, NoMemory>
-    requires { IsOpen reader.old }
-    ensures open { IfOk result (λ found. IsTrue found → IsOpen reader.new) }
-    ensures rows { IfOk result (λ found. MatchBool found (rows_left reader.old ≡ fields_of row.new ∷ rows_left reader.new) (rows_left reader.old ≡ [])) }
+    requires { IsBetweenRows reader.old }
+    ensures between { IfOk result (λ found. IsTrue found → IsBetweenRows reader.new) }
+    ensures rows { IfOk result
+        (λ found. MatchBool found (rows_left reader.old ≡ fields_of row.new ∷ rows_left reader.new)
+        (rows_left reader.old ≡ [])) }
 {
     match reader.read_byte_record(row) {
         Ok(found) => Ok(found),

@@ -89,9 +89,9 @@ none_left (t ∷ ts) zero e = absurd cc
 none_left (t ∷ ts) (suc k) e = absurd cc
 
 -- the owner of a new deque is told the table of tickets
-pub tells_rule : (tasks : List Queued) (views : List View) (port : ℕ) (table : TableId) → IsDeque tasks views → get_elem? views port ≡ some fresh_view
+pub telling_keeps : (tasks : List Queued) (views : List View) (port : ℕ) (table : TableId) → IsDeque tasks views → get_elem? views port ≡ some fresh_view
     → IsDeque tasks (set views port (with_table table fresh_view) ++ blank (table ∷ []) ∷ [])
-tells_rule tasks views port table h at =
+telling_keeps tasks views port table h at =
     let mine = h.order.known port fresh_view at in
     let here = single views port fresh_view (h.alone (sym (h.same port fresh_view at))) at in
     let bare : h.put ≡ [] = sym (mine.owned refl).1 in
@@ -114,9 +114,9 @@ tells_rule tasks views port table h at =
     rw (none, here.0, here.1) now
 
 -- the owner makes a pass
-pub splits_rule : (tasks : List Queued) (views : List View) (port : ℕ) (v : View) (table : TableId) → IsDeque tasks views → get_elem? views port ≡ some v → table_of v ≡ table ∷ []
+pub splitting_keeps : (tasks : List Queued) (views : List View) (port : ℕ) (v : View) (table : TableId) → IsDeque tasks views → get_elem? views port ≡ some v → table_of v ≡ table ∷ []
     → IsDeque tasks (set views port v ++ blank (table_of v) ∷ [])
-splits_rule tasks views port v table h at told =
+splitting_keeps tasks views port v table h at told =
     let mine = h.order.known port v at in
     let told_is = h.same port v at in
     let new : View = blank (table_of v) in
@@ -142,9 +142,9 @@ set_length [] k x = refl
 set_length (y ∷ xs) zero x = refl
 set_length (y ∷ xs) (suc k) x = ap suc (set_length xs k x)
 
-pub puts_rule : (tasks : List Queued) (views : List View) (port : ℕ) (v : View) (t : Queued) → IsDeque tasks views → get_elem? views port ≡ some v → v.owns ≡ true
+pub putting_keeps : (tasks : List Queued) (views : List View) (port : ℕ) (v : View) (t : Queued) → IsDeque tasks views → get_elem? views port ≡ some v → v.owns ≡ true
     → t.position ≡ suc (length v.put) → t.table ∷ [] ≡ table_of v → IsDeque (tasks ++ t ∷ []) (set views port (with_put (t.place ∷ []) v))
-puts_rule tasks views port v t h at owns position table =
+putting_keeps tasks views port v t h at owns position table =
     let place : ℕ = t.place in
     let put : List ℕ = h.put ++ place ∷ [] in
     let w : View = with_put (place ∷ []) v in
@@ -187,9 +187,9 @@ counts_more views port v k seen at h p =
 new_position : (k : ℕ) (views : List View) (port : ℕ) (v : View) → get_elem? views port ≡ some v → ((p : ℕ) → total (taken p) views ≡ once k p) → times (suc k) v.took ≡ 0
 new_position k views port v at h = let t = total_has (taken (suc k)) views port v at in let c = h (suc k) in let o = once_past k in omega arith
 
-pub takes_rule : (t : Queued) (rest : List Queued) (views : List View) (port : ℕ) (v : View) → IsDeque (t ∷ rest) views → get_elem? views port ≡ some v → v.owns ≡ true
+pub taking_keeps : (t : Queued) (rest : List Queued) (views : List View) (port : ℕ) (v : View) → IsDeque (t ∷ rest) views → get_elem? views port ≡ some v → v.owns ≡ true
     → (w : View) × IsDeque rest (set views port w) × TakesOwn v t.place w
-takes_rule t rest views port v h at owns =
+taking_keeps t rest views port v h at owns =
     let first = drop_first h.put h.k t.place (places_of rest) h.order.holds in
     let w : View = with_taken (suc h.k) v.seen v in
     let own = (h.order.known port v at).owned owns in (
@@ -214,9 +214,9 @@ takes_rule t rest views port v h at owns =
       (h.k, new_position h.k views port v at h.order.took, refl, rw own.1 first.2),
     )
 
-pub steals_rule : (t : Queued) (rest : List Queued) (views : List View) (port : ℕ) (v : View) → IsDeque (t ∷ rest) views → get_elem? views port ≡ some v → v.owns ≡ false
+pub stealing_keeps : (t : Queued) (rest : List Queued) (views : List View) (port : ℕ) (v : View) → IsDeque (t ∷ rest) views → get_elem? views port ≡ some v → v.owns ≡ false
     → (w : View) × IsDeque rest (set views port w) × StealStep v (t ∷ []) w
-steals_rule t rest views port v h at owns =
+stealing_keeps t rest views port v h at owns =
     let first = drop_first h.put h.k t.place (places_of rest) h.order.holds in
     let w : View = with_taken (suc h.k) h.put v in
     let counts = counts_more views port v h.k h.put at h.order.took in (
@@ -255,27 +255,27 @@ module _ {N : Type 0} {b : Ghosts N} where
   Held items views = IsDeque (queue_of items) views
 
   pub tells_table : (port : ℕ) (v : View) (table : TableId) → v ≡ fresh_view → Forks Held port v (with_table table v) (blank (table ∷ []))
-  tells_table port v table is items views h at = rw is (tells_rule (queue_of items) views port table h (at ∙ ap some is))
+  tells_table port v table is items views h at = rw is (telling_keeps (queue_of items) views port table h (at ∙ ap some is))
 
   pub splits_deque : (port : ℕ) (v : View) (table : TableId) → table_of v ≡ table ∷ [] → Forks Held port v v (blank (table_of v))
-  splits_deque port v table told items views h at = splits_rule (queue_of items) views port v table h at told
+  splits_deque port v table told items views h at = splitting_keeps (queue_of items) views port v table h at told
 
   pub puts_task : (port : ℕ) (v : View) (t : Ticketed N b) → v.owns ≡ true → length t.ticket.me.0.seen ≡ suc (length v.put) → t.ticket.table_id ∷ [] ≡ table_of v
       → Pushes Held port v (t ∷ []) (λ w. PutStep v (queue_of (t ∷ [])) w)
   puts_task port v t owns position table items views h at = (
     with_put (t.task.place ∷ []) v,
-    rw (map-append queued items (t ∷ [])) (puts_rule (queue_of items) views port v (queued t) h at owns position table),
+    rw (map-append queued items (t ∷ [])) (putting_keeps (queue_of items) views port v (queued t) h at owns position table),
     refl,
   )
 
   pub takes_task : (port : ℕ) (v : View) → v.owns ≡ true → Takes Held port v 1 (λ xs w. TakeStep v (queue_of xs) w)
   takes_task port v owns [] items views any few h at = absurd (omega arith)
-  takes_task port v owns (x ∷ []) items views any few h at = takes_rule (queued x) (queue_of items) views port v h at owns
+  takes_task port v owns (x ∷ []) items views any few h at = taking_keeps (queued x) (queue_of items) views port v h at owns
   takes_task port v owns (x ∷ y ∷ xs) items views any few h at = absurd (omega arith)
 
   pub steals_task : (port : ℕ) (v : View) → v.owns ≡ false → Takes Held port v 1 (λ xs w. StealStep v (queue_of xs) w)
   steals_task port v owns [] items views any few h at = absurd (omega arith)
-  steals_task port v owns (x ∷ []) items views any few h at = steals_rule (queued x) (queue_of items) views port v h at owns
+  steals_task port v owns (x ∷ []) items views any few h at = stealing_keeps (queued x) (queue_of items) views port v h at owns
   steals_task port v owns (x ∷ y ∷ xs) items views any few h at = absurd (omega arith)
 
   -- what the owner's view keeps, whether it took a task or not

@@ -75,8 +75,8 @@ begins = record {
 }
 
 -- a seat that holds nothing
-pub seats_rule : (views : List TicketView) (port : ℕ) (v : TicketView) → AreTickets views → get_elem? views port ≡ some v → AreTickets (set views port v ++ empty_ticket_view ∷ [])
-seats_rule views port v h at =
+pub seating_keeps : (views : List TicketView) (port : ℕ) (v : TicketView) → AreTickets views → get_elem? views port ≡ some v → AreTickets (set views port v ++ empty_ticket_view ∷ [])
+seating_keeps views port v h at =
     let vs : List TicketView = set views port v in record {
       owner = h.owner;
       put = h.put;
@@ -103,9 +103,9 @@ ticket_known owner put port = record {
 }
 
 -- the owner makes a ticket
-pub issues_rule : (views : List TicketView) (port : ℕ) (put : List ℕ) (place : ℕ) → AreTickets views → get_elem? views port ≡ some (owner_of put)
+pub issuing_keeps : (views : List TicketView) (port : ℕ) (put : List ℕ) (place : ℕ) → AreTickets views → get_elem? views port ≡ some (owner_of put)
     → AreTickets (set views port (owner_of (put ++ place ∷ [])) ++ ticket_of (put ++ place ∷ []) ∷ [])
-issues_rule views port put place h at =
+issuing_keeps views port put place h at =
     let mine = (h.known port (owner_of put) at).owned refl in
     let all : List ℕ = put ++ place ∷ [] in
     let w : TicketView = owner_of all in
@@ -156,9 +156,9 @@ short_of put place took seen none (inl bare) = λ e. let l = ap length bare in a
 short_of put place took seen none (inr some_p) = λ e. let f = ap (λ n. times n took) e in absurd (omega arith)
 
 -- the owner takes a ticket back
-pub returns_rule : (views : List TicketView) (port other : ℕ) (put : List ℕ) (place : ℕ) → AreTickets views → get_elem? views port ≡ some (owner_of (put ++ place ∷ [])) → other ≢ port
+pub returning_keeps : (views : List TicketView) (port other : ℕ) (put : List ℕ) (place : ℕ) → AreTickets views → get_elem? views port ≡ some (owner_of (put ++ place ∷ [])) → other ≢ port
     → get_elem? views other ≡ some (ticket_of (put ++ place ∷ [])) → AreTickets (set (set views port (owner_of put)) other empty_ticket_view)
-returns_rule views port other put place h at apart to =
+returning_keeps views port other put place h at apart to =
     let all : List ℕ = put ++ place ∷ [] in
     let v : TicketView = owner_of all in
     let w : TicketView = ticket_of all in
@@ -253,9 +253,9 @@ settles_with views port v h at guest list starts tight seen saw one two =
     )
 
 -- two seats become one
-pub joins_rule : (views : List TicketView) (port other : ℕ) (v w : TicketView) → AreTickets views → get_elem? views port ≡ some v → other ≢ port → get_elem? views other ≡ some w
+pub joining_keeps : (views : List TicketView) (port other : ℕ) (v w : TicketView) → AreTickets views → get_elem? views port ≡ some v → other ≢ port → get_elem? views other ≡ some w
     → v.owns ≡ false → w.owns ≡ false → v.also ≡ [] → w.also ≡ [] → AreTickets (set (set views port (joined_ticket_views v w)) other empty_ticket_view)
-joins_rule views port other v w h at apart to guest stranger plain simple =
+joining_keeps views port other v w h at apart to guest stranger plain simple =
     let both : TicketView = joined_ticket_views v w in
     let mid : List TicketView = set views port both in
     let there : get_elem? mid other ≡ some w = set_else views port other both apart ∙ to in
@@ -284,32 +284,32 @@ joins_rule views port other v w h at apart to guest stranger plain simple =
     }
 
 -- both lists become the longer one
-pub settles_rule : (views : List TicketView) (port : ℕ) (v : TicketView) → AreTickets views → get_elem? views port ≡ some v → v.owns ≡ false → (w : TicketView) × AreTickets (set views port w) × Settles v w
-settles_rule views port v h at guest =
+pub settling_keeps : (views : List TicketView) (port : ℕ) (v : TicketView) → AreTickets views → get_elem? views port ≡ some v → v.owns ≡ false → (w : TicketView) × AreTickets (set views port w) × Settles v w
+settling_keeps views port v h at guest =
     let mine = h.known port v at in
     dite (dec_le (length v.also) (length v.seen))
     (λ shorter. settles_with views port v h at guest v.seen (λ put a b. a) (λ t. t.0) ([], sym (append-nil v.seen)) (begins_both h.put v.seen v.also mine.seen mine.also shorter) (omega arith) shorter)
     (λ longer. settles_with views port v h at guest v.also (λ put a b. b) (λ t. t.1) (begins_both h.put v.also v.seen mine.also mine.seen (omega arith)) ([], sym (append-nil v.also)) (omega arith) (omega arith))
 
 pub issues : (port place : ℕ) (v : TicketView) {put : List ℕ} → v ≡ owner_of put → Splits Holds port v (owner_of (v.seen ++ place ∷ [])) (ticket_of (v.seen ++ place ∷ []))
-issues port place v {put} is s h at = rw is (issues_rule s.views port put place h (at ∙ ap some is))
+issues port place v {put} is s h at = rw is (issuing_keeps s.views port put place h (at ∙ ap some is))
 
 pub seats : (port : ℕ) (v : TicketView) → Splits Holds port v v empty_ticket_view
-seats port v s h at = seats_rule s.views port v h at
+seats port v s h at = seating_keeps s.views port v h at
 
 pub returns : (port other place : ℕ) (v w : TicketView) (put : List ℕ) → v ≡ owner_of (put ++ place ∷ []) → w ≡ ticket_of (put ++ place ∷ [])
     → MayJoin Holds port v other w (owner_of (without_last v.seen)) empty_ticket_view
 returns port other place v w put is was s h at apart to =
     let bare : without_last v.seen ≡ put = ap (λ u. without_last u.seen) is ∙ without_last_is put place in
     let there : get_elem? s.views other ≡ some w = sym (set_else s.views port other (owner_of (without_last v.seen)) apart) ∙ to in
-    rw bare (returns_rule s.views port other put place h (at ∙ ap some is) apart (there ∙ ap some was))
+    rw bare (returning_keeps s.views port other put place h (at ∙ ap some is) apart (there ∙ ap some was))
 
 pub joins : (port other : ℕ) (v w : TicketView) → v.owns ≡ false → w.owns ≡ false → v.also ≡ [] → w.also ≡ [] → MayJoin Holds port v other w (joined_ticket_views v w) empty_ticket_view
 joins port other v w guest stranger plain simple s h at apart to =
-    joins_rule s.views port other v w h at apart (sym (set_else s.views port other (joined_ticket_views v w) apart) ∙ to) guest stranger plain simple
+    joining_keeps s.views port other v w h at apart (sym (set_else s.views port other (joined_ticket_views v w) apart) ∙ to) guest stranger plain simple
 
 pub settles : (port slots : ℕ) (me : Me (Unit {0}) TicketView) → me.0.owns ≡ false → Allows Holds slots port me 0 (λ n. n) (λ n m'. SettleStep me m')
-settles port slots me guest s h _ at _ = let r = settles_rule s.views port me.0 h at guest in (r.0, keeps, tt, r.1, (refl, r.2))
+settles port slots me guest s h _ at _ = let r = settling_keeps s.views port me.0 h at guest in (r.0, keeps, tt, r.1, (refl, r.2))
 
 last_stands : (xs rest : List ℕ) (place : ℕ) → slice_get ((xs ++ place ∷ []) ++ rest) (length xs) ≡ Some place
 last_stands [] rest place = refl

@@ -14,25 +14,27 @@ PutStep v tasks w = w ≡ with_put (places_of tasks) v
 
 -- pop: one position more, which the owner did not take before, and the task's place stands there in the put list
 abbrev pub TakesOwn : View → ℕ → View → Type 0
-TakesOwn v place w = (q : ℕ) × (times (suc q) v.took ≡ 0) × (w ≡ with_taken (suc q) v.seen v) × (slice_get v.put q ≡ Some place)
+TakesOwn v place w = (q : ℕ) × (times (suc q) v.took ≡ 0) × (w ≡ with_taken (suc q) v.seen v)
+    × (slice_get v.put q ≡ Some place)
 
 abbrev pub TakeStep : View → List Queued → View → Type 0
 TakeStep v [] w = Unit {0}
 TakeStep v (t ∷ ts) w = TakesOwn v t.place w
 
--- steal: one position more, which the thief did not take before, and the task's place stands there in the list that it has seen. The ticket is that of
--- this position, of the table that the thief knows
+-- steal: one position more, which the thief did not take before, and the task's place stands there in the list that it
+-- has seen. The ticket is that of this position, of the table that the thief knows
 abbrev pub StealStep : View → List Queued → View → Type 0
 StealStep v [] w = Unit {0}
-StealStep v (t ∷ ts) w = (q : ℕ) × (times (suc q) v.took ≡ 0) × (w ≡ with_taken (suc q) w.seen v) × (slice_get w.seen q ≡ Some t.place) × (t.position ≡ suc q) × (t.table ∷ [] ≡ table_of v)
+StealStep v (t ∷ ts) w = (q : ℕ) × (times (suc q) v.took ≡ 0) × (w ≡ with_taken (suc q) w.seen v)
+    × (slice_get w.seen q ≡ Some t.place) × (t.position ≡ suc q) × (t.table ∷ [] ≡ table_of v)
 
 -- no position is there twice, and the list that was seen reaches each
 pub record IsSoundTicketView (w : TicketView) : Type 0 where
   pub single : (p : ℕ) → times p w.took ≤ 1
   pub reached : (p : ℕ) → 0 < times p w.took → (1 ≤ p) × (p ≤ length w.seen)
 
--- a look at the table of tickets after two seats became one: no ticket is there twice, and both have seen beginnings of one list, which reaches each
--- position whose ticket the seat has
+-- a look at the table of tickets after two seats became one: no ticket is there twice, and both have seen beginnings of
+-- one list, which reaches each position whose ticket the seat has
 pub record Settles (v w : TicketView) : Type 0 where
   pub owns : w.owns ≡ v.owns
   pub took : w.took ≡ v.took
@@ -44,7 +46,8 @@ pub record Settles (v w : TicketView) : Type 0 where
 abbrev pub SettleStep : Me (Unit {0}) TicketView → Me (Unit {0}) TicketView → Type 0
 SettleStep m m' = (m'.1 ≡ m.1) × Settles m.0 m'.0
 
--- what a thief knows after it stole a task: it has one position more, which it did not have, and has seen more, where the task's place stands there
+-- what a thief knows after it stole a task: it has one position more, which it did not have, and has seen more, where
+-- the task's place stands there
 pub record Steals (v : TicketView) (place : ℕ) (w : TicketView) : Type 0 where
   pub position : ℕ
   pub from_one : 1 ≤ position

@@ -19,7 +19,8 @@ fn deque_pass_at<N: Naming>(owners: &mut Vec<Owner<N>>, k: usize) -> DequePass<N
     requires within { k < vec_len owners.old }
     ensures of { slice_get (deques_of_owners owners.old.items) k ≡ Some (deque_pass_id result) }
     ensures blank { ticket_view_of result ≡ empty_ticket_view }
-    ensures same { (deques_of_owners owners.new.items ≡ deques_of_owners owners.old.items) × (each_owned owners.new.items ≡ each_owned owners.old.items) }
+    ensures same { (deques_of_owners owners.new.items ≡ deques_of_owners owners.old.items)
+        × (each_owned owners.new.items ≡ each_owned owners.old.items) }
 {
     owners[k].deque_pass()
 }
@@ -33,7 +34,8 @@ fn pass_at<N: Naming>(
     ensures worker { IfOk result (λ p. worker_of p ≡ worker) }
     ensures of { IfOk result (λ p. deques_of_pass p ≡ deques_of_owners owners.old.items) }
     ensures blank { IfOk result IsBlank }
-    ensures same { (deques_of_owners owners.new.items ≡ deques_of_owners owners.old.items) × (each_owned owners.new.items ≡ each_owned owners.old.items) }
+    ensures same { (deques_of_owners owners.new.items ≡ deques_of_owners owners.old.items)
+        × (each_owned owners.new.items ≡ each_owned owners.old.items) }
 {
     let mut deque_passes = Vec::new(alloc);
     for k in 0..owners.len() {
@@ -54,7 +56,8 @@ fn join_deque_passes<N: Naming>(
     requires of { map deque_pass_id deque_passes.old.items ≡ map stealer_id stealers.now.items }
     requires others { map deque_pass_id others.items ≡ map stealer_id stealers.now.items }
     ensures of { map deque_pass_id deque_passes.new.items ≡ map deque_pass_id deque_passes.old.items }
-    ensures joined { AllJoin (map ticket_view_of deque_passes.old.items) (map ticket_view_of others.items) (map ticket_view_of deque_passes.new.items) }
+    ensures joined { AllJoin (map ticket_view_of deque_passes.old.items) (map ticket_view_of others.items)
+        (map ticket_view_of deque_passes.new.items) }
 {
     while let Some(other) = others.pop() {
         let k = others.len();
@@ -74,7 +77,8 @@ impl<N: Naming> Yard<N> {
     ) -> Result<(Yard<N>, Vec<Owner<N>>, Vec<Pass<N>>), NoMemory>
         requires some { 1 ≤ workers }
         requires few { workers ≤ 8 }
-        ensures counts { IfOk result (λ made. (worker_count made.0 ≡ workers) × (vec_len made.1 ≡ workers) × (vec_len made.2 ≡ workers)) }
+        ensures counts { IfOk result
+            (λ made. (worker_count made.0 ≡ workers) × (vec_len made.1 ≡ workers) × (vec_len made.2 ≡ workers)) }
         ensures owners { IfOk result (λ made. deques_of_owners made.1.items ≡ deques made.0) }
         ensures fresh { IfOk result (λ made. All IsNew (each_owned made.1.items)) }
         ensures passes { IfOk result (λ made. All (λ p. IsPassOf made.0 p × IsBlank p) made.2.items) }

@@ -1,4 +1,5 @@
-//! Deques of ready tasks: one for each worker, who puts tasks behind and takes the first, while the others steal the first.
+//! Deques of ready tasks: one for each worker, who puts tasks behind and takes the first, while the others steal the
+//! first.
 //!
 //! A use of it, proved in `registry_uses/src/deques.rt`:
 //!
@@ -14,21 +15,24 @@
 //! /// Puts a task behind those of a worker's deque, and takes the first one, which is this task only if no other is there.
 //! /// `None` if the deque has no room for it.
 //! pub fn put_and_take<N: Naming>(owner: &mut Owner<N>, task: Task<N>) -> Option<Task<N>>
-//!     ensures { IfSome result (λ t. TakesOwn (with_put (task.place ∷ []) (owned owner.old)) t.place (owned owner.new)) }
+//!     ensures { IfSome result (λ t. TakesOwn (with_put (task.place ∷ []) (owned owner.old)) t.place
+//!         (owned owner.new)) }
 //! {
 //!     owner.put(task).ok()?;
 //!     owner.take_own()
 //! }
 //! ```
 //!
-//! A [`Yard`] has a deque for each worker. Its [`Owner`] puts and takes tasks. A worker steals from the others by its [`Pass`],
-//! which says what it knows of each deque: the positions that it took, and the places that it saw to be put. What is known
-//! exists in proofs alone, and takes no bytes. The rule of a deque (`specs/Deques.antt`) holds between any two steps of any
-//! threads, so the tasks come out in the order in which they were put, and each position is taken once.
+//! A [`Yard`] has a deque for each worker. Its [`Owner`] puts and takes tasks. A worker steals from the others by its
+//! [`Pass`], which says what it knows of each deque: the positions that it took, and the places that it saw to be put.
+//! What is known exists in proofs alone, and takes no bytes. The rule of a deque (`specs/Deques.antt`) holds between
+//! any two steps of any threads, so the tasks come out in the order in which they were put, and each position is taken
+//! once.
 //!
-//! The kit's deque joins a pass only with its worker. So each task lies in its deque with a ticket of its position, which who
-//! takes the task gets with it. The tickets of a deque have a table, whose rule (`specs/Tickets.antt`) says that no ticket is
-//! at two seats: so two passes can be joined, and no position is in both. A ticket takes no bytes either.
+//! The kit's deque joins a pass only with its worker. So each task lies in its deque with a ticket of its position,
+//! which who takes the task gets with it. The tickets of a deque have a table, whose rule (`specs/Tickets.antt`) says
+//! that no ticket is at two seats: so two passes can be joined, and no position is in both. A ticket takes no bytes
+//! either.
 //!
 //! Only [`Yard::new`] and [`Owner::put`] take memory. No call here waits.
 #![tactic(auto)]
@@ -37,7 +41,7 @@ mod calls;
 mod owner;
 mod owning;
 mod pass;
-mod rule;
+mod protocol;
 mod stealer;
 mod stealing;
 mod ticket;

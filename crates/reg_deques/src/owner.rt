@@ -5,7 +5,7 @@ ghost use Rattle.crossbeam_deque.specs.Handles.{worker_view, worker_flavor, work
 ghost use Rattle.reg_deques.specs.Views.{table_of};
 ghost use Rattle.reg_deques.specs.Tickets.{owner_of};
 
-use crate::rule::{InOrder, Tickets};
+use crate::protocol::{InOrder, Tickets};
 use crate::ticket::Ticketed;
 use crate::views::{TicketView, View};
 use atomic_table::{Seat, Table};

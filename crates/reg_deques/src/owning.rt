@@ -9,7 +9,7 @@ ghost use Rattle.reg_deques.specs.Passes.{owner_id, deque_pass_id, owned, ticket
 
 use crate::owner::{Deque, Owner, TicketTable};
 use crate::pass::DequePass;
-use crate::rule::{
+use crate::protocol::{
     Issuing, Parting, Placing, Putting, Returning, Seating, Taking, Telling, Ticketing,
 };
 use crate::ticket::Ticketed;
@@ -25,7 +25,8 @@ use std::sync::Arc;
 fn tell<N: Naming, T: Ticketing>(deque: &mut Deque<N>, table: &TicketTable)
     requires table { T.table ≡ table.now.shared.table_id }
     requires fresh { worker_view deque.old ≡ fresh_view }
-    ensures same { (worker_deque deque.new ≡ worker_deque deque.old) × (worker_flavor deque.new ≡ worker_flavor deque.old) }
+    ensures same { (worker_deque deque.new ≡ worker_deque deque.old)
+        × (worker_flavor deque.new ≡ worker_flavor deque.old) }
     ensures room { worker_capacity deque.old ≤ worker_capacity deque.new }
     ensures index { worker_index deque.new ≡ worker_index deque.old }
     ensures view { worker_view deque.new ≡ with_table T.table fresh_view }
@@ -62,7 +63,8 @@ impl<N: Naming> Owner<N> {
     ///
     /// # Errors
     ///
-    /// The task, if the deque has no room for it and cannot grow. Then nothing has changed. The first 16 tasks have room.
+    /// The task, if the deque has no room for it and cannot grow. Then nothing has changed. The first 16 tasks have
+    /// room.
     pub fn put(&mut self, task: Task<N>) -> Result<(), Task<N>>
         ensures put { OnOk result (owned self.new ≡ with_put (task.place ∷ []) (owned self.old)) }
         ensures back { IfErr result (λ t. t ≡ task) }

@@ -4,7 +4,7 @@ ghost use Rattle.std.specs.Prelude.{◌≡◌};
 ghost use Rattle.crossbeam_deque.specs.Handles.{stealer_flavor};
 
 use crate::owner::TicketTable;
-use crate::rule::InOrder;
+use crate::protocol::InOrder;
 use crate::ticket::Ticketed;
 use crate::views::View;
 use reg_tasks::Naming;

@@ -6,7 +6,7 @@ ghost use Rattle.reg_deques.specs.Steps.{Steals, Joins};
 
 use crate::owner::{Owner, TicketTable};
 use crate::pass::DequePass;
-use crate::rule::{Joining, Settling, Stealing};
+use crate::protocol::{Joining, Settling, Stealing};
 use crate::stealer::Stealer;
 use crate::ticket::Ticketed;
 use crate::views::TicketView;
@@ -47,7 +47,8 @@ impl<N: Naming> Stealer<N> {
     pub(crate) fn steal(&self, deque_pass: &mut DequePass<N>) -> Option<Task<N>>
         requires of { deque_pass_id deque_pass.old ≡ stealer_id self.now }
         ensures of { deque_pass_id deque_pass.new ≡ deque_pass_id deque_pass.old }
-        ensures some { IfSome result (λ t. Steals (ticket_view_of deque_pass.old) t.place (ticket_view_of deque_pass.new)) }
+        ensures some { IfSome result
+            (λ t. Steals (ticket_view_of deque_pass.old) t.place (ticket_view_of deque_pass.new)) }
         ensures none { IfNone result (ticket_view_of deque_pass.new ≡ ticket_view_of deque_pass.old) }
     {
         match self.stealer.steal_as::<Stealing>(&mut deque_pass.pass) {

@@ -6,7 +6,10 @@ use Rattle.reg_front.specs.declared.faulty.Faulty.{Faulty}
 
 -- the device as a reader
 abbrev pub source_of : Faulty → Stream
-source_of device = record { bytes = cursor_remaining (λ bytes. Some bytes.items) device.left; failures = device.calls.failures }
+source_of device = record {
+  bytes = cursor_remaining (λ bytes. Some bytes.items) device.left;
+  failures = device.calls.failures;
+}
 
 -- the device as a writer
 abbrev pub sink_of : Faulty → Stream

@@ -32,7 +32,8 @@ command_fault Totals book = None
 
 -- this is the text of the plan of the day's instructions
 abbrev pub IsPlanText : Day → List ℕ → Type 0
-IsPlanText day text = (plan : PlanValue) × IsPlan (directory_of day.book.accounts) day.batch.instructions plan × (text ≡ text_of (plan_rows plan))
+IsPlanText day text = (plan : PlanValue) × IsPlan (directory_of day.book.accounts) day.batch.instructions plan
+    × (text ≡ text_of (plan_rows plan))
 
 -- this is the text that the command writes for a day
 abbrev pub IsTextFor : Command → Day → List ℕ → Type 0
@@ -44,37 +45,43 @@ IsTextFor Totals day text = text ≡ text_of (totals_rows (book_after day))
 
 -- the input is a day text, the command is not refused for that day, and this is the text that it writes
 abbrev pub IsText : Command → List ℕ → List ℕ → Type 0
-IsText command input text = (day : Day) × IsReading (rows_in_text input) day × (command_fault command day.book ≡ None) × IsTextFor command day text
+IsText command input text = (day : Day) × IsReading (rows_in_text input) day × (command_fault command day.book ≡ None)
+    × IsTextFor command day text
 
 -- the input is a day text, and the command is refused for that day for this reason
 abbrev pub IsRefused : Command → List ℕ → FrontFault → Type 0
-IsRefused command input fault = (day : Day) × IsReading (rows_in_text input) day × (command_fault command day.book ≡ Some fault)
+IsRefused command input fault =
+    (day : Day) × IsReading (rows_in_text input) day × (command_fault command day.book ≡ Some fault)
 
 -- the command starts threads
 abbrev pub StartsThreads : Command → Type 0
 StartsThreads command = (workers : ℕ) × (command ≡ Settle workers)
 
--- the command may answer this fault for this input; a lack of threads can occur with every day text that is to be settled by
--- workers, a lack of memory with every input; when an input is not read, the reader tells (`Reads`)
+-- the command may answer this fault for this input; a lack of threads can occur with every day text that is to be
+-- settled by workers, a lack of memory with every input; when an input is not read, the reader tells (`Reads`)
 abbrev pub IsFault : Command → List ℕ → FrontFault → Type 0
 IsFault command input (Row row cause) = day_of_rows (rows_in_text input) ≡ Err (row, cause)
 IsFault command input Workers = IsRefused command input Workers
 IsFault command input NoAccount = IsRefused command input NoAccount
 IsFault command input WriteFailed = (text : List ℕ) × IsText command input text
-IsFault command input NoThread = StartsThreads command × ((day : Day) × IsReading (rows_in_text input) day × (command_fault command day.book ≡ None))
+IsFault command input NoThread =
+    StartsThreads command × ((day : Day) × IsReading (rows_in_text input) day × (command_fault command day.book ≡ None))
 IsFault command input Read = ⊤
 IsFault command input NoMemory = ⊤
 
 -- if the input is known, the command has written its text
 abbrev pub WritesText : Command → Option (List ℕ) → Option (List ℕ) → Option (List ℕ) → Type 0
-WritesText command input old new = IfSome input (λ bytes. (text : List ℕ) × IsText command bytes text × Appends old new text)
+WritesText command input old new =
+    IfSome input (λ bytes. (text : List ℕ) × IsText command bytes text × Appends old new text)
 
 -- if the input is known, the command has written a prefix of its text
 abbrev pub WritesFront : Command → Option (List ℕ) → Option (List ℕ) → Option (List ℕ) → Type 0
-WritesFront command input old new = IfSome input (λ bytes. (text : List ℕ) × IsText command bytes text × AppendsFrontOf text old new)
+WritesFront command input old new =
+    IfSome input (λ bytes. (text : List ℕ) × IsText command bytes text × AppendsFrontOf text old new)
 
--- what became of the writer by the time of a fault: if the fault is that the writer failed, one of its calls failed, and it
--- may have taken a prefix of the text; after all other faults no call of it failed, and it holds what it held before
+-- what became of the writer by the time of a fault: if the fault is that the writer failed, one of its calls failed,
+-- and it may have taken a prefix of the text; after all other faults no call of it failed, and it holds what it held
+-- before
 abbrev pub Leaves : Command → Option (List ℕ) → FrontFault → Stream → Stream → Type 0
 Leaves command input (Row row cause) old new = IsUntouched old new
 Leaves command input Workers old new = IsUntouched old new
@@ -85,8 +92,8 @@ Leaves command input Read old new = IsUntouched old new
 Leaves command input NoMemory old new = IsUntouched old new
 
 -- what became of the reader by the time of a fault: if the fault is that the input was not read, one call of the reader
--- failed, or none failed and the input is too long; before all other faults no call failed, and all of the input was read,
--- or if memory ran out a part of it
+-- failed, or none failed and the input is too long; before all other faults no call failed, and all of the input was
+-- read, or if memory ran out a part of it
 abbrev pub Reads : FrontFault → Stream → Stream → Type 0
 Reads (Row row cause) input rest = IsReadWhole input rest
 Reads Workers input rest = IsReadWhole input rest
@@ -108,8 +115,8 @@ pub record Fails (command : Command) (fault : FrontFault) (input rest old new : 
   pub read : Reads fault input rest
   pub left : Leaves command input.bytes fault old new
 
--- the command is carried out, with a fault or without: the reader was as `input` and is then as `rest`, the writer was as
--- `old` and is then as `new`
+-- the command is carried out, with a fault or without: the reader was as `input` and is then as `rest`, the writer was
+-- as `old` and is then as `new`
 abbrev pub CarriesOut : Command → Option FrontFault → Stream → Stream → Stream → Stream → Type 0
 CarriesOut command None input rest old new = IsDone command input rest old new
 CarriesOut command (Some fault) input rest old new = Fails command fault input rest old new
@@ -124,8 +131,8 @@ IsReadingFault input WriteFailed = ⊥
 IsReadingFault input Read = ⊤
 IsReadingFault input NoMemory = ⊤
 
--- why a command gave no text for a day that was read: it is refused for that day, or if it is not, threads or memory were
--- lacking
+-- why a command gave no text for a day that was read: it is refused for that day, or if it is not, threads or memory
+-- were lacking
 abbrev pub IsCommandFault : Command → BookValue → FrontFault → Type 0
 IsCommandFault command book (Row row cause) = ⊥
 IsCommandFault command book Workers = command_fault command book ≡ Some Workers

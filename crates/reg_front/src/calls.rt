@@ -4,7 +4,8 @@ ghost use Rattle.std.specs.Prelude.{◌≡◌, ◌≢◌, ◌<◌, ◌+◌, ◌-
 
 use crate::stream::CallFailed;
 
-// How many bytes each call may move, which call from here on fails (1 is the next one, 0 none), and how many have failed.
+// How many bytes each call may move, which call from here on fails (1 is the next one, 0 none), and how many have
+// failed.
 #[derive(Drop)]
 pub(crate) struct Calls {
     pub(crate) most: usize,

@@ -66,8 +66,8 @@ pub(crate) fn read_all<R: Source>(alloc: Global, reader: &mut R) -> Result<Vec<u
     unreachable!()
 }
 
-// An empty text. It has room for the expected bytes, and for one more, at which their end is found. If that is too much, it
-// has none, and gets it as the bytes come.
+// An empty text. It has room for the expected bytes, and for one more, at which their end is found. If that is too
+// much, it has none, and gets it as the bytes come.
 fn begin_text(alloc: Global, expected: usize) -> Vec<u8>
     ensures { result.items ≡ [] }
 {
@@ -78,8 +78,8 @@ fn begin_text(alloc: Global, expected: usize) -> Vec<u8>
     text
 }
 
-// Makes room for a call of `read` behind the first `filled` bytes. Each byte of the room is written once, with 0. If the room
-// is used up, the text gets as much again.
+// Makes room for a call of `read` behind the first `filled` bytes. Each byte of the room is written once, with 0. If
+// the room is used up, the text gets as much again.
 fn make_room(text: &mut Vec<u8>, filled: usize) -> Result<(), AllocError>
     requires within { filled ≤ vec_len text.old }
     requires limit { filled ≤ most_input }
@@ -107,7 +107,9 @@ fn read_behind<R: Source>(
     requires room { filled < length text.old }
     ensures front { take filled text.new ≡ take filled text.old }
     ensures fits { IfOk result (λ count. filled + count ≤ length text.new) }
-    ensures given { IfOk result (λ count. Consumes (R.stream reader.old).bytes (R.stream reader.new).bytes (take count (drop filled text.new))) }
+    ensures given { IfOk result
+        (λ count. Consumes (R.stream reader.old).bytes (R.stream reader.new).bytes
+        (take count (drop filled text.new))) }
     ensures kept { OnErr result (Keeps (R.stream reader.old).bytes (R.stream reader.new).bytes) }
     ensures end { IfOk result (λ count. count ≡ 0 → IsAtEnd (R.stream reader.new).bytes) }
     ensures good { OnOk result (IsGood (R.stream reader.old) (R.stream reader.new)) }

@@ -34,7 +34,8 @@ use std::{mem, thread};
 /// - `NoAccount` if the input is a day text and the account of a statement is not in its book.
 /// - `NoThread` if the input is a day text to be settled and a thread could not be started.
 /// - `NoMemory` if memory ran out.
-/// - `WriteFailed` if a call of the writer fails, the last one among them, which flushes it. A prefix of the text has then been
+/// - `WriteFailed` if a call of the writer fails, the last one among them, which flushes it. A prefix of the text has
+/// then been
 ///   written.
 ///
 /// A failed call is not tried again. After all faults except `WriteFailed`, nothing has been written.
@@ -47,7 +48,8 @@ pub fn run<T: Threads + Wait + Sync, R: Source, W: Sink>(
 ) -> Result<(), FrontFault>
     requires reader { CanFail (R.stream reader.old) }
     requires writer { CanFail (W.stream writer.old) }
-    ensures { CarriesOut command (result_err result) (R.stream reader.old) (R.stream reader.new) (W.stream writer.old) (W.stream writer.new) }
+    ensures { CarriesOut command (result_err result) (R.stream reader.old) (R.stream reader.new) (W.stream writer.old)
+        (W.stream writer.new) }
 {
     match command {
         Command::Settle { workers } => run_settle(rt, alloc, reader, writer, workers),
@@ -59,8 +61,8 @@ pub fn run<T: Threads + Wait + Sync, R: Source, W: Sink>(
 }
 
 /// Does what [`run`] does for [`Command::Plan`]. Threads read the text by parts, as many as there are processors, at
-/// most 8, and are joined. None of them waits for another one, so this call returns, if those of the reader and the writer
-/// do. [`run`] may wait for workers.
+/// most 8, and are joined. None of them waits for another one, so this call returns, if those of the reader and the
+/// writer do. [`run`] may wait for workers.
 ///
 /// # Errors
 /// As [`run`], but never `Workers`, `NoAccount` or `NoThread`.
@@ -72,7 +74,8 @@ pub fn run_plan<T: Threads + Sync, R: Source, W: Sink>(
 ) -> Result<(), FrontFault>
     requires reader { CanFail (R.stream reader.old) }
     requires writer { CanFail (W.stream writer.old) }
-    ensures { CarriesOut Plan (result_err result) (R.stream reader.old) (R.stream reader.new) (W.stream writer.old) (W.stream writer.new) }
+    ensures { CarriesOut Plan (result_err result) (R.stream reader.old) (R.stream reader.new) (W.stream writer.old)
+        (W.stream writer.new) }
 {
     answer(rt, alloc, reader, writer, &Question::Plan)?;
     Ok(())
@@ -91,7 +94,8 @@ pub fn run_statement<T: Threads + Sync, R: Source, W: Sink>(
 ) -> Result<(), FrontFault>
     requires reader { CanFail (R.stream reader.old) }
     requires writer { CanFail (W.stream writer.old) }
-    ensures { CarriesOut (Statement account) (result_err result) (R.stream reader.old) (R.stream reader.new) (W.stream writer.old) (W.stream writer.new) }
+    ensures { CarriesOut (Statement account) (result_err result) (R.stream reader.old) (R.stream reader.new)
+        (W.stream writer.old) (W.stream writer.new) }
 {
     answer(rt, alloc, reader, writer, &Question::Statement { account })?;
     Ok(())
@@ -109,7 +113,8 @@ pub fn run_figures<T: Threads + Sync, R: Source, W: Sink>(
 ) -> Result<(), FrontFault>
     requires reader { CanFail (R.stream reader.old) }
     requires writer { CanFail (W.stream writer.old) }
-    ensures { CarriesOut Figures (result_err result) (R.stream reader.old) (R.stream reader.new) (W.stream writer.old) (W.stream writer.new) }
+    ensures { CarriesOut Figures (result_err result) (R.stream reader.old) (R.stream reader.new) (W.stream writer.old)
+        (W.stream writer.new) }
 {
     answer(rt, alloc, reader, writer, &Question::Figures)?;
     Ok(())
@@ -127,14 +132,15 @@ pub fn run_totals<T: Threads + Sync, R: Source, W: Sink>(
 ) -> Result<(), FrontFault>
     requires reader { CanFail (R.stream reader.old) }
     requires writer { CanFail (W.stream writer.old) }
-    ensures { CarriesOut Totals (result_err result) (R.stream reader.old) (R.stream reader.new) (W.stream writer.old) (W.stream writer.new) }
+    ensures { CarriesOut Totals (result_err result) (R.stream reader.old) (R.stream reader.new) (W.stream writer.old)
+        (W.stream writer.new) }
 {
     answer(rt, alloc, reader, writer, &Question::Totals)?;
     Ok(())
 }
 
-/// The same as [`run`], but the memory that the command has used is not freed. A program that ends now need not free the
-/// lists of each account one after another: the system takes all its memory back at once.
+/// The same as [`run`], but the memory that the command has used is not freed. A program that ends now need not free
+/// the lists of each account one after another: the system takes all its memory back at once.
 ///
 /// # Errors
 /// As [`run`].
@@ -147,7 +153,8 @@ pub fn run_without_freeing<T: Threads + Wait + Sync, R: Source, W: Sink>(
 ) -> Result<(), FrontFault>
     requires reader { CanFail (R.stream reader.old) }
     requires writer { CanFail (W.stream writer.old) }
-    ensures { CarriesOut command (result_err result) (R.stream reader.old) (R.stream reader.new) (W.stream writer.old) (W.stream writer.new) }
+    ensures { CarriesOut command (result_err result) (R.stream reader.old) (R.stream reader.new) (W.stream writer.old)
+        (W.stream writer.new) }
 {
     mem::forget(run_and_keep(rt, alloc, reader, writer, command)?);
     Ok(())
@@ -163,7 +170,8 @@ fn run_settle<T: Threads + Wait + Sync, R: Source, W: Sink>(
 ) -> Result<(), FrontFault>
     requires reader { CanFail (R.stream reader.old) }
     requires writer { CanFail (W.stream writer.old) }
-    ensures { CarriesOut (Settle workers) (result_err result) (R.stream reader.old) (R.stream reader.new) (W.stream writer.old) (W.stream writer.new) }
+    ensures { CarriesOut (Settle workers) (result_err result) (R.stream reader.old) (R.stream reader.new)
+        (W.stream writer.old) (W.stream writer.new) }
 {
     settle(rt, alloc, reader, writer, workers)?;
     Ok(())
@@ -179,7 +187,8 @@ fn run_and_keep<T: Threads + Wait + Sync, R: Source, W: Sink>(
 ) -> Result<Used, FrontFault>
     requires reader { CanFail (R.stream reader.old) }
     requires writer { CanFail (W.stream writer.old) }
-    ensures { CarriesOut command (result_err result) (R.stream reader.old) (R.stream reader.new) (W.stream writer.old) (W.stream writer.new) }
+    ensures { CarriesOut command (result_err result) (R.stream reader.old) (R.stream reader.new) (W.stream writer.old)
+        (W.stream writer.new) }
 {
     match command {
         Command::Settle { workers } => settle(rt, alloc, reader, writer, workers),
@@ -202,7 +211,8 @@ fn settle<T: Threads + Wait + Sync, R: Source, W: Sink>(
 ) -> Result<Used, FrontFault>
     requires reader { CanFail (R.stream reader.old) }
     requires writer { CanFail (W.stream writer.old) }
-    ensures { CarriesOut (Settle workers) (result_err result) (R.stream reader.old) (R.stream reader.new) (W.stream writer.old) (W.stream writer.new) }
+    ensures { CarriesOut (Settle workers) (result_err result) (R.stream reader.old) (R.stream reader.new)
+        (W.stream writer.old) (W.stream writer.new) }
 {
     let (day, input) = read_input(rt, alloc, reader, threads_for(workers))?;
     let used = make_report(rt, alloc, day, input, workers)?;
@@ -222,7 +232,8 @@ fn answer<T: Threads + Sync, R: Source, W: Sink>(
 ) -> Result<Used, FrontFault>
     requires reader { CanFail (R.stream reader.old) }
     requires writer { CanFail (W.stream writer.old) }
-    ensures { CarriesOut (command_of question.now) (result_err result) (R.stream reader.old) (R.stream reader.new) (W.stream writer.old) (W.stream writer.new) }
+    ensures { CarriesOut (command_of question.now) (result_err result) (R.stream reader.old) (R.stream reader.new)
+        (W.stream writer.old) (W.stream writer.new) }
 {
     let (day, input) = read_input(rt, alloc, reader, count_readers(rt))?;
     let used = make_answer(alloc, day, input, question)?;
@@ -240,8 +251,8 @@ fn count_readers<T: Threads>(rt: &T) -> usize {
     }
 }
 
-// The day that the whole input describes, read by at most so many threads, and the bytes of the input, whose memory is used
-// again for the output.
+// The day that the whole input describes, read by at most so many threads, and the bytes of the input, whose memory is
+// used again for the output.
 fn read_input<T: Threads + Sync, R: Source>(
     rt: &T,
     alloc: Global,
@@ -249,7 +260,8 @@ fn read_input<T: Threads + Sync, R: Source>(
     threads: usize,
 ) -> Result<(DayInput, Vec<u8>), FrontFault>
     requires { CanFail (R.stream reader.old) }
-    ensures ok { IfOk result (λ read. IfSome (R.stream reader.old).bytes (λ input. IsReading (rows_in_text input) (day_of_input read.0))) }
+    ensures ok { IfOk result
+        (λ read. IfSome (R.stream reader.old).bytes (λ input. IsReading (rows_in_text input) (day_of_input read.0))) }
     ensures whole { OnOk result (IsReadWhole (R.stream reader.old) (R.stream reader.new)) }
     ensures follows { IfOk result (λ read. read.0.batch.base + 1 ≡ read.0.book.next) }
     ensures err { IfErr result (IsReadingFault (R.stream reader.old).bytes) }

@@ -33,8 +33,10 @@ pub(crate) fn write_pieces<W: Sink>(
     end: &[u8],
 ) -> Result<(), CallFailed>
     requires { CanFail (W.stream writer.old) }
-    ensures ok { OnOk result (Writes (text_of_pieces pieces.now ++ end.now) (W.stream writer.old) (W.stream writer.new)) }
-    ensures err { OnErr result (FailsToWrite (text_of_pieces pieces.now ++ end.now) (W.stream writer.old) (W.stream writer.new)) }
+    ensures ok { OnOk result
+        (Writes (text_of_pieces pieces.now ++ end.now) (W.stream writer.old) (W.stream writer.new)) }
+    ensures err { OnErr result
+        (FailsToWrite (text_of_pieces pieces.now ++ end.now) (W.stream writer.old) (W.stream writer.new)) }
 {
     let Ok(()) = put_pieces(writer, pieces) else {
         return Err(CallFailed);

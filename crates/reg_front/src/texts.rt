@@ -27,13 +27,13 @@ use reg_text::{
     DayInput, StatementFault, figures_over, plan_text, statement, totals_text, write_report_over,
     write_report_pieces,
 };
-use reg_work::{OpenGate, WorkFault, close_with};
+use reg_work::{FreeGate, WorkFault, close_with};
 use std::alloc::Global;
 use std::sync::Wait;
 use std::thread::Threads;
 
-/// What a command has used: its text, and the closed day that the text was made from, if the command closed the day. Nothing
-/// is done with it but to free it, or not to.
+/// What a command has used: its text, and the closed day that the text was made from, if the command closed the day.
+/// Nothing is done with it but to free it, or not to.
 #[derive(Drop)]
 pub(crate) struct Used {
     // What comes before `text`: none, unless several workers have spelled it.
@@ -54,7 +54,8 @@ pub(crate) fn make_answer(
 ) -> Result<Used, FrontFault>
     requires { day.batch.base + 1 ≡ day.book.next }
     ensures { MatchResult result
-        (λ used. (command_fault (command_of question.now) day.book ≡ None) × IsTextFor (command_of question.now) (day_of_input day) used.text.items)
+        (λ used. (command_fault (command_of question.now) day.book ≡ None)
+        × IsTextFor (command_of question.now) (day_of_input day) used.text.items)
         (IsCommandFault (command_of question.now) day.book) }
 {
     match *question {
@@ -87,7 +88,8 @@ pub(crate) fn make_report<T: Threads + Wait + Sync>(
 ) -> Result<Used, FrontFault>
     requires { day.batch.base + 1 ≡ day.book.next }
     ensures { MatchResult result
-        (λ used. (are_workers workers ≡ true) × (text_of_pieces used.pieces.items ++ used.text.items ≡ report_of (day_of_input day)))
+        (λ used. (are_workers workers ≡ true)
+        × (text_of_pieces used.pieces.items ++ used.text.items ≡ report_of (day_of_input day)))
         (IsCommandFault (Settle workers) day.book) }
 {
     if workers == 1 {
@@ -110,7 +112,9 @@ pub(crate) fn make_report<T: Threads + Wait + Sync>(
 // The report of the day, settled on its own book, in the place of bytes that are no longer needed.
 fn make_report_in_place(alloc: Global, day: DayInput, bytes: Vec<u8>) -> Result<Used, FrontFault>
     requires { day.batch.base + 1 ≡ day.book.next }
-    ensures { MatchResult result (λ used. text_of_pieces used.pieces.items ++ used.text.items ≡ report_of (day_of_input day)) (λ fault. fault ≡ front.NoMemory) }
+    ensures { MatchResult result
+        (λ used. text_of_pieces used.pieces.items ++ used.text.items ≡ report_of (day_of_input day))
+        (λ fault. fault ≡ front.NoMemory) }
 {
     log_is_made_again();
     let DayInput { book, rules, batch } = day;
@@ -133,7 +137,9 @@ fn used_for(alloc: Global, text: Vec<u8>, closed: Option<ClosedDay>) -> Used
 
 // The plan of the day's instructions.
 fn make_plan(alloc: Global, day: &DayInput) -> Result<Used, FrontFault>
-    ensures { MatchResult result (λ used. IsPlanText (day_of_input day.now) used.text.items) (λ fault. fault ≡ front.NoMemory) }
+    ensures { MatchResult result
+        (λ used. IsPlanText (day_of_input day.now) used.text.items)
+        (λ fault. fault ≡ front.NoMemory) }
 {
     let plan = Plan::of(alloc, &day.batch, day.book.directory())?;
     let text = plan_text(alloc, &plan)?;
@@ -144,7 +150,8 @@ fn make_plan(alloc: Global, day: &DayInput) -> Result<Used, FrontFault>
 fn make_statement(alloc: Global, day: &DayInput, account: AccountNo) -> Result<Used, FrontFault>
     requires { day.now.batch.base + 1 ≡ day.now.book.next }
     ensures { MatchResult result
-        (λ used. (has_account day.now.book account ≡ true) × (used.text.items ≡ text_of (statement_of day.now.book (log_of (day_of_input day.now)) account)))
+        (λ used. (has_account day.now.book account ≡ true)
+        × (used.text.items ≡ text_of (statement_of day.now.book (log_of (day_of_input day.now)) account)))
         (IsCommandFault (Statement account) day.now.book) }
 {
     if day.book.get(account).is_none() {
@@ -161,7 +168,9 @@ fn make_statement(alloc: Global, day: &DayInput, account: AccountNo) -> Result<U
 // The determined figures of all accounts after the day, in the place of bytes that are no longer needed.
 fn make_figures(alloc: Global, day: DayInput, bytes: Vec<u8>) -> Result<Used, FrontFault>
     requires { day.batch.base + 1 ≡ day.book.next }
-    ensures { MatchResult result (λ used. used.text.items ≡ text_of (figures_rows (book_after (day_of_input day)))) (λ fault. fault ≡ front.NoMemory) }
+    ensures { MatchResult result
+        (λ used. used.text.items ≡ text_of (figures_rows (book_after (day_of_input day))))
+        (λ fault. fault ≡ front.NoMemory) }
 {
     let closed = close_day(alloc, day)?;
     let text = figures_over(bytes, &closed.book)?;
@@ -171,7 +180,9 @@ fn make_figures(alloc: Global, day: DayInput, bytes: Vec<u8>) -> Result<Used, Fr
 // The totals after the day.
 fn make_totals(alloc: Global, day: DayInput) -> Result<Used, FrontFault>
     requires { day.batch.base + 1 ≡ day.book.next }
-    ensures { MatchResult result (λ used. used.text.items ≡ text_of (totals_rows (book_after (day_of_input day)))) (λ fault. fault ≡ front.NoMemory) }
+    ensures { MatchResult result
+        (λ used. used.text.items ≡ text_of (totals_rows (book_after (day_of_input day))))
+        (λ fault. fault ≡ front.NoMemory) }
 {
     let closed = close_day(alloc, day)?;
     let text = totals_text(alloc, &closed.book)?;
@@ -209,10 +220,11 @@ fn close_by_workers<T: Threads + Wait + Sync>(
 ) -> Result<ClosedDay, FrontFault>
     requires { batch.now.base + 1 ≡ book.next }
     ensures { MatchResult result
-        (λ closed. (are_workers workers ≡ true) × (closed.book ≡ book_after (day_of book rules.now batch.now)) × (closed.replies.items ≡ replies_of (day_of book rules.now batch.now)))
+        (λ closed. (are_workers workers ≡ true) × (closed.book ≡ book_after (day_of book rules.now batch.now))
+        × (closed.replies.items ≡ replies_of (day_of book rules.now batch.now)))
         (IsCommandFault (Settle workers) book) }
 {
-    match close_with(rt, alloc, book, rules, batch, workers, &OpenGate) {
+    match close_with(rt, alloc, book, rules, batch, workers, &FreeGate) {
         Ok((closed, _)) => Ok(closed),
         Err(WorkFault::Workers) => Err(FrontFault::Workers),
         Err(WorkFault::WrongBase { .. }) => unreachable!(),

@@ -55,10 +55,10 @@ module _ {N : Type 0} {b : Ghosts N} where
       by None e = tt
       by (Some came) e = rooms (suc j) came (ap (slice_get docks) (sym back) ∙ e)
 
-  -- a dock was closed
-  pub room-closed : (day : Day) (docks : List (Option (Vec (Parcel N b) Global))) (k : ℕ) → DocksHaveRoom day docks → DocksHaveRoom day (slice_set docks k None)
-  room-closed day docks k rooms zero came e = absurd cc
-  room-closed day docks k rooms (suc j) came e = by (at-set docks k j None (Some came) e)
+  -- the task of a dock has gone out
+  pub room-gone : (day : Day) (docks : List (Option (Vec (Parcel N b) Global))) (k : ℕ) → DocksHaveRoom day docks → DocksHaveRoom day (slice_set docks k None)
+  room-gone day docks k rooms zero came e = absurd cc
+  room-gone day docks k rooms (suc j) came e = by (at-set docks k j None (Some came) e)
     where
       by : ((None ≡ Some came) × (j ≡ k)) ⊎ (slice_get docks j ≡ Some (Some came)) → vec_capacity came ≡ length (footprint_at day (suc j))
       by (inl (same, here)) = absurd cc

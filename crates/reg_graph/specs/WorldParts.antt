@@ -41,7 +41,8 @@ after_taking world worker from = with_hand world worker (λ hand. with_list worl
 -- the same, if the list must be another worker's
 abbrev pub after_stealing : WorldValue → ℕ → ℕ → Result WorldValue EventFault
 after_stealing world worker from =
-    with_hand world worker (λ hand. with_list world from (λ tasks. if worker == from then Err fault.OwnDeque else moved worker from world hand tasks))
+    with_hand world worker (λ hand. with_list world from
+    (λ tasks. if worker == from then Err fault.OwnDeque else moved worker from world hand tasks))
 
 -- the batch has an instruction at this place
 abbrev pub IsPlace : Day → ℕ → Type 0
@@ -49,12 +50,14 @@ IsPlace day place = (1 ≤ place) × (place ≤ length day.batch.instructions)
 
 -- if a worker holds a task, it is that of a place of the batch
 abbrev pub HeldIsOfBatch : Day → WorldValue → ℕ → Type 0
-HeldIsOfBatch day world worker = (task : TaskValue) → slice_get world.hands worker ≡ Some (Holds task) → IsPlace day task.place
+HeldIsOfBatch day world worker =
+    (task : TaskValue) → slice_get world.hands worker ≡ Some (Holds task) → IsPlace day task.place
 
 -- if a task became complete in a worker's hand, the worker's list has fewer tasks than the batch has places
 abbrev pub ListHasRoom : WorldValue → ℕ → Type 0
 ListHasRoom world worker = (task : TaskValue) (parcels : List ParcelValue) (tasks : List TaskValue)
-    → slice_get world.hands worker ≡ Some (Carries (Some task) parcels) → slice_get world.lists worker ≡ Some tasks → length tasks < length world.rows
+    → slice_get world.hands worker ≡ Some (Carries (Some task) parcels) → slice_get world.lists worker ≡ Some tasks
+    → length tasks < length world.rows
 
 -- the place to which an arrow leads on from the first of these parcels
 abbrev pub first_head : PlanValue → List ParcelValue → Option ℕ
@@ -68,14 +71,17 @@ FirstIsSent day parcels = (p : ParcelValue) (ps : List ParcelValue) → parcels 
 -- if it goes to an open dock, fewer parcels came there than the instruction of the dock touches accounts
 abbrev pub FirstHasRoom : Day → PlanValue → WorldValue → List ParcelValue → Type 0
 FirstHasRoom day plan world parcels = (place : ℕ) (came : List ParcelValue)
-    → first_head plan parcels ≡ Some place → arrived world place ≡ Some came → length came < length (footprint_at day place)
+    → first_head plan parcels ≡ Some place → arrived world place ≡ Some came
+    → length came < length (footprint_at day place)
 
 -- both are so of the parcels that a worker carries and may deliver
 abbrev pub NextIsSent : Day → WorldValue → ℕ → Type 0
-NextIsSent day world worker = (parcels : List ParcelValue) → slice_get world.hands worker ≡ Some (Carries None parcels) → FirstIsSent day parcels
+NextIsSent day world worker =
+    (parcels : List ParcelValue) → slice_get world.hands worker ≡ Some (Carries None parcels) → FirstIsSent day parcels
 
 abbrev pub NextHasRoom : Day → PlanValue → WorldValue → ℕ → Type 0
-NextHasRoom day plan world worker = (parcels : List ParcelValue) → slice_get world.hands worker ≡ Some (Carries None parcels) → FirstHasRoom day plan world parcels
+NextHasRoom day plan world worker = (parcels : List ParcelValue)
+    → slice_get world.hands worker ≡ Some (Carries None parcels) → FirstHasRoom day plan world parcels
 
 -- the task of a place, if it is complete from the first
 abbrev pub task_at_start : Day → PlanValue → ℕ → Option TaskValue
@@ -83,7 +89,8 @@ task_at_start day plan place = complete day plan place (opened_at day plan place
 
 -- this task, if there is one, was dealt to a worker; here are the lists before and after, and the worker who is next
 abbrev pub IsDealt : Option TaskValue → ℕ → List (List TaskValue) → ℕ → List (List TaskValue) → Type 0
-IsDealt task worker before next after = (more : List TaskValue) → dealt next more after ≡ dealt worker (before_some task more) before
+IsDealt task worker before next after =
+    (more : List TaskValue) → dealt next more after ≡ dealt worker (before_some task more) before
 
 module _ {N : Type 0} {b : Ghosts N} where
   -- the hand
@@ -101,7 +108,8 @@ module _ {N : Type 0} {b : Ghosts N} where
 
   -- each dock in which parcels wait has room for the accounts that its instruction touches, and for no more
   abbrev pub DocksHaveRoom : Day → List (Option (Vec (Parcel N b) Global)) → Type 0
-  DocksHaveRoom day docks = (place : ℕ) (came : Vec (Parcel N b) Global) → at_place docks place ≡ Some (Some came) → vec_capacity came ≡ length (footprint_at day place)
+  DocksHaveRoom day docks = (place : ℕ) (came : Vec (Parcel N b) Global) → at_place docks place ≡ Some (Some came)
+      → vec_capacity came ≡ length (footprint_at day place)
 
   -- the lists of tasks
   abbrev pub task_lists : List (VecDeque (Task N b) Global) → List (List TaskValue)

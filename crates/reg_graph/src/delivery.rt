@@ -34,8 +34,10 @@ fn take_dock<N: Naming>(
     docks: &mut Vec<Option<Vec<Parcel<N>>>>,
     place: u32,
 ) -> Option<Vec<Parcel<N>>>
-    ensures came { option_map (λ came. parcels_of came.items) result ≡ option_map_or (λ d. d) (at_place (docks_of docks.old.items) place) None }
-    ensures room { (day : Day) → DocksHaveRoom day docks.old.items → IfSome result (λ came. vec_capacity came ≡ length (footprint_at day place)) }
+    ensures came { option_map (λ came. parcels_of came.items) result
+        ≡ option_map_or (λ d. d) (at_place (docks_of docks.old.items) place) None }
+    ensures room { (day : Day) → DocksHaveRoom day docks.old.items
+        → IfSome result (λ came. vec_capacity came ≡ length (footprint_at day place)) }
     ensures left { docks_of docks.new.items ≡ with_place (docks_of docks.old.items) place None }
     ensures rooms { (day : Day) → DocksHaveRoom day docks.old.items → DocksHaveRoom day docks.new.items }
 {
@@ -53,8 +55,10 @@ fn take_dock<N: Naming>(
 fn put_dock<N: Naming>(docks: &mut Vec<Option<Vec<Parcel<N>>>>, place: u32, came: Vec<Parcel<N>>)
     requires from_one { 1 ≤ place }
     requires within { place ≤ length docks.old.items }
-    ensures there { docks_of docks.new.items ≡ with_place (docks_of docks.old.items) place (Some (parcels_of came.items)) }
-    ensures rooms { (day : Day) → DocksHaveRoom day docks.old.items → vec_capacity came ≡ length (footprint_at day place) → DocksHaveRoom day docks.new.items }
+    ensures there { docks_of docks.new.items
+        ≡ with_place (docks_of docks.old.items) place (Some (parcels_of came.items)) }
+    ensures rooms { (day : Day) → DocksHaveRoom day docks.old.items
+        → vec_capacity came ≡ length (footprint_at day place) → DocksHaveRoom day docks.new.items }
 {
     docks[place as usize - 1] = Some(came);
 }
@@ -72,7 +76,8 @@ fn receive<N: Naming>(
     requires room { vec_len came < vec_capacity came }
     ensures { MatchResult result
         (λ t. task_with (the_day context.now) context.now.plan place came.items parcel ≡ Some (task_of t))
-        (λ ps. (ps.items ≡ came.items ++ parcel ∷ []) × (vec_capacity ps ≡ vec_capacity came) × (task_with (the_day context.now) context.now.plan place came.items parcel ≡ None)) }
+        (λ ps. (ps.items ≡ came.items ++ parcel ∷ []) × (vec_capacity ps ≡ vec_capacity came)
+        × (task_with (the_day context.now) context.now.plan place came.items parcel ≡ None)) }
 {
     came.push_reserved(parcel);
     Task::assemble(context, place, came)
@@ -92,11 +97,20 @@ impl<N: Naming> Parts<N> {
         requires places { length self.old.docks.items ≡ length context.now.batch.now.instructions }
         requires rooms { DocksHaveRoom (the_day context.now) self.old.docks.items }
         requires sent { FirstIsSent (the_day context.now) (parcels_of parcels.items) }
-        requires room { FirstHasRoom (the_day context.now) context.now.plan (world_of self.old) (parcels_of parcels.items) }
+        requires room { FirstHasRoom (the_day context.now) context.now.plan (world_of self.old)
+            (parcels_of parcels.items) }
         ensures rooms { DocksHaveRoom (the_day context.now) self.new.docks.items }
-        ensures ok { OnOk result (delivered_by (the_day context.now) context.now.plan worker (world_of self.old) (Carries None (parcels_of parcels.items)) ≡ Ok (world_of self.new)) }
-        ensures err { IfErr result (λ why. delivered_by (the_day context.now) context.now.plan worker (world_of self.old) (Carries None (parcels_of parcels.items)) ≡ Err why) }
-        ensures back { OnErr result (world_of self.new ≡ record (world_of self.old) { hands = slice_set (world_of self.old).hands worker (Carries None (parcels_of parcels.items)) }) }
+        ensures ok { OnOk result
+            (delivered_by (the_day context.now) context.now.plan worker (world_of self.old)
+            (Carries None (parcels_of parcels.items)) ≡ Ok (world_of self.new)) }
+        ensures err { IfErr result
+            (λ why. delivered_by (the_day context.now) context.now.plan worker (world_of self.old)
+            (Carries None (parcels_of parcels.items)) ≡ Err why) }
+        ensures back { OnErr result
+            (world_of self.new ≡ record (world_of self.old) {
+              hands = slice_set (world_of self.old).hands worker
+                  (Carries None (parcels_of parcels.items));
+            }) }
     {
         let Some(place) = first_head(context, &parcels) else {
             self.hands[worker] = Hand::Carries(None, parcels);
@@ -136,8 +150,11 @@ impl<N: Naming> Parts<N> {
         requires room { NextHasRoom (the_day context.now) context.now.plan (world_of self.old) worker }
         ensures rooms { DocksHaveRoom (the_day context.now) self.new.docks.items }
         ensures answer { MatchResult result
-            (λ _. with_hand (world_of self.old) worker (delivered_by (the_day context.now) context.now.plan worker (world_of self.old)) ≡ Ok (world_of self.new))
-            (λ why. (world_of self.new ≡ world_of self.old) × (with_hand (world_of self.old) worker (delivered_by (the_day context.now) context.now.plan worker (world_of self.old)) ≡ Err why)) }
+            (λ _. with_hand (world_of self.old) worker
+            (delivered_by (the_day context.now) context.now.plan worker (world_of self.old)) ≡ Ok (world_of self.new))
+            (λ why. (world_of self.new ≡ world_of self.old)
+            × (with_hand (world_of self.old) worker
+            (delivered_by (the_day context.now) context.now.plan worker (world_of self.old)) ≡ Err why)) }
     {
         let worker = worker as usize;
         if worker >= self.hands.len() {

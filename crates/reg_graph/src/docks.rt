@@ -19,7 +19,8 @@ pub(crate) fn open_dock<N: Naming>(
 ) -> Result<Vec<Parcel<N>>, NoMemory>
     requires from_one { 1 ≤ place }
     requires within { place ≤ length context.now.batch.now.instructions }
-    ensures came { IfOk result (λ came. parcels_of came.items ≡ opened_at (the_day context.now) context.now.plan place) }
+    ensures came { IfOk result
+        (λ came. parcels_of came.items ≡ opened_at (the_day context.now) context.now.plan place) }
     ensures room { IfOk result (λ came. vec_capacity came ≡ length (footprint_at (the_day context.now) place)) }
 {
     let accounts = context.touched_at(place);

@@ -30,8 +30,11 @@ fn close<N: Naming>(
     requires empty { kept.items ≡ [] }
     requires fits { length parcels.items ≤ vec_capacity kept }
     requires room { vec_len closing.old + length parcels.items ≤ vec_capacity closing.old }
-    ensures kept { parcels_of result.items ≡ filter (λ p. leads_on context.now.plan place p.value.number) (parcels_of parcels.items) }
-    ensures closing { closing.new.items ≡ closing.old.items ++ map (λ p. p.value) (filter (λ p. not (leads_on context.now.plan place p.value.number)) (parcels_of parcels.items)) }
+    ensures kept { parcels_of result.items
+        ≡ filter (λ p. leads_on context.now.plan place p.value.number) (parcels_of parcels.items) }
+    ensures closing { closing.new.items
+        ≡ closing.old.items ++ map (λ p. p.value)
+        (filter (λ p. not (leads_on context.now.plan place p.value.number)) (parcels_of parcels.items)) }
 {
     for parcel in parcels {
         if context.leads_on(place, parcel.account()) {
@@ -60,9 +63,15 @@ impl<N: Naming> Parts<N> {
         requires from_one { 1 ≤ task.place }
         requires within { task.place ≤ length context.now.batch.now.instructions }
         ensures docks { self.new.docks.items ≡ self.old.docks.items }
-        ensures ok { OnOk result (run_by (the_day context.now) context.now.plan worker (world_of self.old) (Holds (task_of task)) ≡ Ok (world_of self.new)) }
+        ensures ok { OnOk result
+            (run_by (the_day context.now) context.now.plan worker (world_of self.old) (Holds (task_of task))
+            ≡ Ok (world_of self.new)) }
         ensures err { IfErr result (λ why. why ≡ NoMemory) }
-        ensures back { OnErr result (world_of self.new ≡ record (world_of self.old) { hands = slice_set (world_of self.old).hands worker (Holds (task_of task)) }) }
+        ensures back { OnErr result
+            (world_of self.new ≡ record (world_of self.old) {
+              hands = slice_set (world_of self.old).hands worker
+                  (Holds (task_of task));
+            }) }
     {
         let count = task.parcel_count();
         let Ok(kept) = Vec::with_capacity(alloc, count) else {
@@ -103,8 +112,11 @@ impl<N: Naming> Parts<N> {
         requires within { HeldIsOfBatch (the_day context.now) (world_of self.old) worker }
         ensures docks { self.new.docks.items ≡ self.old.docks.items }
         ensures answer { MatchResult result
-            (λ _. with_hand (world_of self.old) worker (run_by (the_day context.now) context.now.plan worker (world_of self.old)) ≡ Ok (world_of self.new))
-            (λ why. (world_of self.new ≡ world_of self.old) × IsWhy (with_hand (world_of self.old) worker (run_by (the_day context.now) context.now.plan worker (world_of self.old))) why) }
+            (λ _. with_hand (world_of self.old) worker
+            (run_by (the_day context.now) context.now.plan worker (world_of self.old)) ≡ Ok (world_of self.new))
+            (λ why. (world_of self.new ≡ world_of self.old)
+            × IsWhy (with_hand (world_of self.old) worker
+            (run_by (the_day context.now) context.now.plan worker (world_of self.old))) why) }
     {
         let worker = worker as usize;
         if worker >= self.hands.len() {

@@ -1,5 +1,5 @@
-//! The workers' world: lists of tasks, docks in which parcels wait for each other, and the events that move them. All of
-//! `reg_tasks` is passed on.
+//! The workers' world: lists of tasks, docks in which parcels wait for each other, and the events that move them. All
+//! of `reg_tasks` is passed on.
 //!
 //! A use of it, proved in `registry_uses/src/graph.rt`:
 //!

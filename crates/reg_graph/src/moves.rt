@@ -18,7 +18,8 @@ impl<N: Naming> Parts<N> {
         ensures docks { self.new.docks.items ≡ self.old.docks.items }
         ensures answer { MatchResult result
             (λ _. after_taking (world_of self.old) worker from ≡ Ok (world_of self.new))
-            (λ why. (world_of self.new ≡ world_of self.old) × (after_taking (world_of self.old) worker from ≡ Err why)) }
+            (λ why. (world_of self.new ≡ world_of self.old)
+            × (after_taking (world_of self.old) worker from ≡ Err why)) }
     {
         let worker = worker as usize;
         let from = from as usize;
@@ -45,7 +46,8 @@ impl<N: Naming> Parts<N> {
         ensures docks { self.new.docks.items ≡ self.old.docks.items }
         ensures answer { MatchResult result
             (λ _. after_stealing (world_of self.old) worker from ≡ Ok (world_of self.new))
-            (λ why. (world_of self.new ≡ world_of self.old) × (after_stealing (world_of self.old) worker from ≡ Err why)) }
+            (λ why. (world_of self.new ≡ world_of self.old)
+            × (after_stealing (world_of self.old) worker from ≡ Err why)) }
     {
         if worker != from {
             return self.take_task(worker, from);
@@ -65,7 +67,8 @@ impl<N: Naming> Parts<N> {
         ensures docks { self.new.docks.items ≡ self.old.docks.items }
         ensures answer { MatchResult result
             (λ _. with_hand (world_of self.old) worker (pushed_by worker (world_of self.old)) ≡ Ok (world_of self.new))
-            (λ why. (world_of self.new ≡ world_of self.old) × (with_hand (world_of self.old) worker (pushed_by worker (world_of self.old)) ≡ Err why)) }
+            (λ why. (world_of self.new ≡ world_of self.old)
+            × (with_hand (world_of self.old) worker (pushed_by worker (world_of self.old)) ≡ Err why)) }
     {
         let worker = worker as usize;
         if worker >= self.hands.len() {

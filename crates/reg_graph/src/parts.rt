@@ -10,8 +10,8 @@ use reg_tasks::{Naming, Parcel, Task};
 use std::collections::VecDeque;
 
 /// The parts of a world: for each place the parcels that came to its dock, until its task goes out; for each worker its
-/// list of tasks and its hand; for each place its row, once it was run; the accounts that no instruction needs any more;
-/// and an empty log with room for all rows.
+/// list of tasks and its hand; for each place its row, once it was run; the accounts that no instruction needs any
+/// more; and an empty log with room for all rows.
 #[derive(Drop)]
 pub(crate) struct Parts<N: Naming> {
     pub(crate) docks: Vec<Option<Vec<Parcel<N>>>>,

@@ -62,7 +62,15 @@ impl<N: Naming> Parts<N> {
     // No dock yet. Each list is without tasks, each hand is empty, and no place has a row.
     fn without_docks(alloc: Global, places: u32, workers: u32) -> Result<Parts<N>, NoMemory>
         ensures none { IfOk result (λ parts. parts.docks.items ≡ []) }
-        ensures world { IfOk result (λ parts. world_of parts ≡ record { docks = []; lists = replicate workers []; hands = replicate workers empty; rows = replicate places None; closing = [] }) }
+        ensures world { IfOk result
+            (λ parts. world_of parts
+            ≡ record {
+              docks = [];
+              lists = replicate workers [];
+              hands = replicate workers empty;
+              rows = replicate places None;
+              closing = [];
+            }) }
     {
         let count = places as usize;
         Ok(Parts {
@@ -92,9 +100,18 @@ impl<N: Naming> Parts<N> {
         ensures there { IfOk result (λ next. next < length self.new.lists.items) }
         ensures count { IfOk result (λ next. length self.new.docks.items ≡ length self.old.docks.items + 1) }
         ensures rooms { IfOk result (λ next. DocksHaveRoom (the_day context.now) self.new.docks.items) }
-        ensures docks { IfOk result (λ next. docks_of self.new.docks.items ≡ docks_of self.old.docks.items ++ dock_at (the_day context.now) context.now.plan place ∷ []) }
-        ensures lists { IfOk result (λ next. IsDealt (task_at_start (the_day context.now) context.now.plan place) worker (task_lists self.old.lists.items) next (task_lists self.new.lists.items)) }
-        ensures others { IfOk result (λ next. world_of self.new ≡ record (world_of self.old) { docks = docks_of self.new.docks.items; lists = task_lists self.new.lists.items }) }
+        ensures docks { IfOk result
+            (λ next. docks_of self.new.docks.items
+            ≡ docks_of self.old.docks.items ++ dock_at (the_day context.now) context.now.plan place ∷ []) }
+        ensures lists { IfOk result
+            (λ next. IsDealt (task_at_start (the_day context.now) context.now.plan place) worker
+            (task_lists self.old.lists.items) next (task_lists self.new.lists.items)) }
+        ensures others { IfOk result
+            (λ next. world_of self.new
+            ≡ record (world_of self.old) {
+              docks = docks_of self.new.docks.items;
+              lists = task_lists self.new.lists.items;
+            }) }
     {
         let came = open_dock(alloc, context, place)?;
         match Task::assemble(context, place, came) {
@@ -122,7 +139,8 @@ impl<N: Naming> Parts<N> {
         workers: u32,
     ) -> Result<Parts<N>, NoMemory>
         requires some { 1 ≤ workers }
-        ensures start { IfOk result (λ parts. world_of parts ≡ at_start (the_day context.now) context.now.plan workers) }
+        ensures start { IfOk result
+            (λ parts. world_of parts ≡ at_start (the_day context.now) context.now.plan workers) }
         ensures rooms { IfOk result (λ parts. DocksHaveRoom (the_day context.now) parts.docks.items) }
     {
         let places = context.batch().len();

@@ -20,11 +20,13 @@ impl<N: Naming> World<'_, '_, N> {
         ensures rows { length self.now.parts.rows.items ≡ length self.now.context.now.batch.now.instructions }
         ensures docks { length self.now.parts.docks.items ≡ length self.now.context.now.batch.now.instructions }
         ensures few { length self.now.parts.hands.items ≤ MOST_WORKERS }
-        ensures once { (place : ℕ) → 1 ≤ place → place ≤ length self.now.context.now.batch.now.instructions → times_found (world_of self.now.parts) place ≡ 1 }
+        ensures once { (place : ℕ) → 1 ≤ place → place ≤ length self.now.context.now.batch.now.instructions
+            → times_found (world_of self.now.parts) place ≡ 1 }
         ensures list_room { (worker : ℕ) → ListHasRoom (world_of self.now.parts) worker }
         ensures held { (worker : ℕ) → HeldIsOfBatch (the_day self.now.context.now) (world_of self.now.parts) worker }
         ensures sent { (worker : ℕ) → NextIsSent (the_day self.now.context.now) (world_of self.now.parts) worker }
-        ensures dock_room { (worker : ℕ) → NextHasRoom (the_day self.now.context.now) self.now.context.now.plan (world_of self.now.parts) worker }
+        ensures dock_room { (worker : ℕ)
+            → NextHasRoom (the_day self.now.context.now) self.now.context.now.plan (world_of self.now.parts) worker }
     {
         self.context.is_day();
         each_footprint_is_sound();
@@ -48,8 +50,11 @@ impl<N: Naming> World<'_, '_, N> {
     pub fn event(&mut self, event: Event) -> Result<(), EventFault>
         ensures context { self.new.context.now ≡ self.old.context.now }
         ensures answer { MatchResult result
-            (λ _. after_event (the_day self.old.context.now) self.old.context.now.plan (world_of self.old.parts) event ≡ Ok (world_of self.new.parts))
-            (λ why. (world_of self.new.parts ≡ world_of self.old.parts) × IsWhyOf event (after_event (the_day self.old.context.now) self.old.context.now.plan (world_of self.old.parts) event) why) }
+            (λ _. after_event (the_day self.old.context.now) self.old.context.now.plan (world_of self.old.parts) event
+            ≡ Ok (world_of self.new.parts))
+            (λ why. (world_of self.new.parts ≡ world_of self.old.parts)
+            × IsWhyOf event (after_event (the_day self.old.context.now) self.old.context.now.plan
+            (world_of self.old.parts) event) why) }
     {
         self.knows();
         match event {

@@ -14,8 +14,8 @@ use reg_tasks::{Context, Naming};
 use std::alloc::Global;
 
 /// Workers with their lists of tasks, the docks in which parcels wait for each other, and what was done. Some schedule
-/// of the workers' events leads to it from the start. A dock has room for the accounts that its instruction touches, and
-/// for no more.
+/// of the workers' events leads to it from the start. A dock has room for the accounts that its instruction touches,
+/// and for no more.
 #[derive(Drop)]
 pub struct World<'c, 'a, N: Naming> {
     pub(crate) context: &'c Context<'a, N>,

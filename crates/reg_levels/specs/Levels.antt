@@ -17,16 +17,17 @@ use Rattle.reg_tasks.specs.Slots.{last_of}
 abbrev pub touched_by : Day → List ℕ → ℕ → Bool
 touched_by day places a = list_any (λ place. touches_place (directory day) day.batch.instructions a place) places
 
--- while the instructions at some places run, after those at others are done: the slots of the accounts that they touch are
--- empty, and in each other one stands what the last of those that are done left, or the opening value
+-- while the instructions at some places run, after those at others are done: the slots of the accounts that they touch
+-- are empty, and in each other one stands what the last of those that are done left, or the opening value
 abbrev pub StandsBetween : Day → List ℕ → List ℕ → (ℕ → Option (ℕ × ℕ)) → Type 0
-StandsBetween day done running standing = (a : ℕ) → is_touched (directory day) day.batch.instructions a ≡ true → standing a ≡ (if touched_by day running a then None else Some (a, last_of day a 0 done))
+StandsBetween day done running standing = (a : ℕ) → is_touched (directory day) day.batch.instructions a ≡ true
+    → standing a ≡ (if touched_by day running a then None else Some (a, last_of day a 0 done))
 
 -- if a day is named, that stands in them
 abbrev pub AreBetween : Option Day → Day → List ℕ → List ℕ → (ℕ → Option (ℕ × ℕ)) → Type 0
 AreBetween name day done running standing = (d : Day) → name ≡ Some d → StandsBetween day done running standing
 
--- the places of an order from one position up to another one, counted from 0
+-- the places of an order from one index up to another one, counted from 0
 abbrev pub places_between : List ℕ → ℕ → ℕ → List ℕ
 places_between order from to = take (to - from) (drop from order)
 
@@ -37,15 +38,18 @@ with_level_of levels place places = filter (λ other. level_at levels other == l
 -- the places of the plan stand by rising level, and those of one level by rising place
 pub record IsByLevel (plan : PlanValue) (order : List ℕ) : Type 0 where
   pub rising : IsNonDecreasingBy (λ place. level_at plan.levels place) order
-  pub within : (place : ℕ) → with_level_of plan.levels place order ≡ with_level_of plan.levels place (count_up 1 (length plan.levels))
+  pub within : (place : ℕ)
+      → with_level_of plan.levels place order ≡ with_level_of plan.levels place (count_up 1 (length plan.levels))
 
 -- these places have the same level
 abbrev pub IsOneLevel : PlanValue → List ℕ → ℕ → ℕ → Type 0
-IsOneLevel plan order from to = (k : ℕ) → from ≤ k → k < to → level_at plan.levels (slice_index order k) ≡ level_at plan.levels (slice_index order from)
+IsOneLevel plan order from to = (k : ℕ) → from ≤ k → k < to
+    → level_at plan.levels (slice_index order k) ≡ level_at plan.levels (slice_index order from)
 
 -- the instruction after these, if there is one, has another level
 abbrev pub EndsLevel : PlanValue → List ℕ → ℕ → ℕ → Type 0
-EndsLevel plan order from to = to < length order → level_at plan.levels (slice_index order to) ≢ level_at plan.levels (slice_index order from)
+EndsLevel plan order from to =
+    to < length order → level_at plan.levels (slice_index order to) ≢ level_at plan.levels (slice_index order from)
 
 -- these are so many, or they are the rest of a level
 abbrev pub AreRestOrMost : PlanValue → List ℕ → ℕ → ℕ → ℕ → Type 0

@@ -17,8 +17,8 @@ use reg_plan::laws::{
 use reg_tasks::{Context, Done, Lack, Naming, Outcome, Slots, Task};
 use std::alloc::Global;
 
-/// The instructions of a day, level by level. The tasks of a level are taken together. When they were run, their outcomes are
-/// laid, and then the tasks of the next level are complete.
+/// The instructions of a day, level by level. The tasks of a level are taken together. When they were run, their
+/// outcomes are laid, and then the tasks of the next level are complete.
 #[derive(Drop)]
 pub struct Levels<'c, 'a, N: Naming> {
     slots: Slots<'c, 'a, N>,
@@ -31,7 +31,8 @@ pub struct Levels<'c, 'a, N: Naming> {
     pub ghost ahead: { laid ≤ taken },
     pub ghost within: { taken ≤ length order.items },
     pub ghost level: { IsOneLevel slots.context.now.plan order.items laid taken },
-    pub ghost standing: { AreBetween N.day (the_day slots.context.now) (take laid order.items) (places_between order.items laid taken) (stands slots) },
+    pub ghost standing: { AreBetween N.day (the_day slots.context.now) (take laid order.items)
+        (places_between order.items laid taken) (stands slots) },
     pub ghost rows: { places_done done.items ≡ take laid order.items },
     pub ghost room: { vec_len done + length order.items ≤ vec_capacity done + laid },
 }
@@ -76,7 +77,8 @@ impl<'c, 'a, N: Naming> Levels<'c, 'a, N> {
     // Takes the next task.
     fn take_one(&mut self, alloc: Global) -> Result<Task<N>, Lack>
         requires left { self.old.taken < length self.old.order.items }
-        requires level { IsOneLevel self.old.slots.context.now.plan self.old.order.items self.old.laid (self.old.taken + 1) }
+        requires level { IsOneLevel self.old.slots.context.now.plan self.old.order.items self.old.laid
+            (self.old.taken + 1) }
         ensures context { self.new.slots.context.now ≡ self.old.slots.context.now }
         ensures order { self.new.order ≡ self.old.order }
         ensures laid { self.new.laid ≡ self.old.laid }
@@ -93,8 +95,8 @@ impl<'c, 'a, N: Naming> Levels<'c, 'a, N> {
         Ok(task)
     }
 
-    /// Takes the tasks of the next level, by rising place, or the first `most` of them that are left. What was taken before
-    /// was laid.
+    /// Takes the tasks of the next level, by rising place, or the first `most` of them that are left. What was taken
+    /// before was laid.
     ///
     /// # Errors
     /// `Memory` if memory ran out. If no day is named, `Foreign` if a value of another context was laid.
@@ -105,17 +107,17 @@ impl<'c, 'a, N: Naming> Levels<'c, 'a, N> {
         ensures context { self.new.slots.context.now ≡ self.old.slots.context.now }
         ensures order { self.new.order ≡ self.old.order }
         ensures laid { self.new.laid ≡ self.old.laid }
-        ensures tasks { IfOk result (λ tasks. places_of tasks.items ≡ places_between self.new.order.items self.new.laid self.new.taken) }
+        ensures tasks { IfOk result
+            (λ tasks. places_of tasks.items ≡ places_between self.new.order.items self.new.laid self.new.taken) }
         ensures some { OnOk result (self.old.taken < self.new.taken) }
         ensures few { OnOk result (self.new.taken ≤ self.old.taken + most) }
-        ensures whole { OnOk result (AreRestOrMost self.new.slots.context.now.plan self.new.order.items most self.new.laid self.new.taken) }
+        ensures whole { OnOk result
+            (AreRestOrMost self.new.slots.context.now.plan self.new.order.items most self.new.laid self.new.taken) }
         ensures lack { IfErr result (IsLack N.day) }
     {
         let context = self.slots.context();
         let end = level_end(context.plan(), &self.order, self.taken, most);
-        let Ok(mut tasks) = Vec::with_capacity(alloc, end - self.taken) else {
-            return Err(Lack::Memory);
-        };
+        let mut tasks = Vec::with_capacity(alloc, end - self.taken)?;
         for _ in self.taken..end {
             let task = self.take_one(alloc)?;
             tasks.push_reserved(task);
@@ -149,7 +151,8 @@ impl<'c, 'a, N: Naming> Levels<'c, 'a, N> {
     /// # Errors
     /// `Foreign` if a value of another context comes. If a day is named, this does not occur.
     pub fn lay(&mut self, outcomes: Vec<Outcome<N>>) -> Result<(), Lack>
-        requires outcomes { places_run outcomes.items ≡ places_between self.old.order.items self.old.laid self.old.taken }
+        requires outcomes { places_run outcomes.items
+            ≡ places_between self.old.order.items self.old.laid self.old.taken }
         ensures context { self.new.slots.context.now ≡ self.old.slots.context.now }
         ensures order { self.new.order ≡ self.old.order }
         ensures taken { self.new.taken ≡ self.old.taken }

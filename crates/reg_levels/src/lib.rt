@@ -1,4 +1,5 @@
-//! A day's instructions level by level: those of one level touch no account in common, so they may run at the same time.
+//! A day's instructions level by level: those of one level touch no account in common, so they may run at the same
+//! time.
 //!
 //! A use of it, proved in `registry_uses/src/levels.rt`:
 //!

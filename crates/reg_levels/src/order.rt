@@ -38,7 +38,9 @@ fn places(alloc: Global, count: u32) -> Result<Vec<u32>, NoMemory>
 fn sort_by_level(levels: &[u32], places: &mut Vec<u32>) -> Result<(), NoMemory>
     ensures same { IsPermutation places.old.items places.new.items }
     ensures sorted { OnOk result (IsNonDecreasingBy (λ place. level_at levels.now place) places.new.items) }
-    ensures kept { OnOk result ((place : ℕ) → with_level_of levels.now place places.new.items ≡ with_level_of levels.now place places.old.items) }
+    ensures kept { OnOk result
+        ((place : ℕ) → with_level_of levels.now place places.new.items
+        ≡ with_level_of levels.now place places.old.items) }
 {
     places.sort_by_key(|place| level_of(levels, *place))?;
     Ok(())
@@ -60,7 +62,7 @@ pub(crate) fn order_by_level<N: Naming>(
     Ok(order)
 }
 
-/// How far the places of an order from this position on, counted from 0, have its level. At most so many are looked at.
+/// How far the places of an order from this index on, counted from 0, have its level. At most so many are looked at.
 pub(crate) fn level_end(plan: &Plan, order: &[u32], from: usize, most: usize) -> usize
     requires there { from < length order.now }
     requires most { 1 ≤ most }
@@ -73,9 +75,9 @@ pub(crate) fn level_end(plan: &Plan, order: &[u32], from: usize, most: usize) ->
     let levels = plan.levels();
     let level = level_of(levels, order[from]);
     let end = from + most.min(order.len() - from);
-    for position in from + 1..end {
-        if level_of(levels, order[position]) != level {
-            return position;
+    for index in from + 1..end {
+        if level_of(levels, order[index]) != level {
+            return index;
         }
     }
     end

@@ -80,11 +80,11 @@ module _ (plan : PlanValue) where
 
   -- the first of these numbers that has a fault, after others
   record FirstAt (before xs : List ℕ) (fault : OrderFault) : Type 0 where
-    pub place : ℕ
-    pub within : place < length xs
-    pub none_before : first_fault_after plan.arrows (length plan.levels) before (take place xs) ≡ None
-    pub with_it : first_fault_after plan.arrows (length plan.levels) before (take (suc place) xs) ≡ Some fault
-    pub here : fault_at plan.arrows (length plan.levels) (is_among (before ++ take place xs)) (suc (length before + place)) (get_or xs place 0) ≡ Some fault
+    pub index : ℕ
+    pub within : index < length xs
+    pub none_before : first_fault_after plan.arrows (length plan.levels) before (take index xs) ≡ None
+    pub with_it : first_fault_after plan.arrows (length plan.levels) before (take (suc index) xs) ≡ Some fault
+    pub here : fault_at plan.arrows (length plan.levels) (is_among (before ++ take index xs)) (suc (length before + index)) (get_or xs index 0) ≡ Some fault
 
   first_at : (before xs : List ℕ) (fault : OrderFault) → first_fault_after plan.arrows (length plan.levels) before xs ≡ Some fault → FirstAt before xs fault
   first_at before [] fault e = absurd cc
@@ -93,7 +93,7 @@ module _ (plan : PlanValue) where
         → option_or o (first_fault_after plan.arrows (length plan.levels) (before ++ x ∷ []) xs) ≡ Some fault
         → (first_fault_after plan.arrows (length plan.levels) (before ++ x ∷ []) xs ≡ Some fault → FirstAt (before ++ x ∷ []) xs fault) → FirstAt before (x ∷ xs) fault
     by (Some f) at h more = record {
-      place = 0;
+      index = 0;
       within = omega arith;
       none_before = refl;
       with_it = ap (λ o. option_or o None) at ∙ h;
@@ -106,14 +106,14 @@ module _ (plan : PlanValue) where
     by None at h more =
         let r : FirstAt (before ++ x ∷ []) xs fault = more h in
         record {
-          place = suc r.place;
+          index = suc r.index;
           within = omega (arith, r.within);
-          none_before = ap (λ o. option_or o (first_fault_after plan.arrows (length plan.levels) (before ++ x ∷ []) (take r.place xs))) at ∙ r.none_before;
-          with_it = ap (λ o. option_or o (first_fault_after plan.arrows (length plan.levels) (before ++ x ∷ []) (take (suc r.place) xs))) at ∙ r.with_it;
+          none_before = ap (λ o. option_or o (first_fault_after plan.arrows (length plan.levels) (before ++ x ∷ []) (take r.index xs))) at ∙ r.none_before;
+          with_it = ap (λ o. option_or o (first_fault_after plan.arrows (length plan.levels) (before ++ x ∷ []) (take (suc r.index) xs))) at ∙ r.with_it;
           here =
-              let same : suc (length before + suc r.place) ≡ suc (length (before ++ x ∷ []) + r.place) = omega (arith, length_push before x) in
-              ap (λ ns. fault_at plan.arrows (length plan.levels) (is_among ns) (suc (length before + suc r.place)) (get_or xs r.place 0)) (sym (append_assoc before (x ∷ []) (take r.place xs)))
-              ∙ ap (λ p. fault_at plan.arrows (length plan.levels) (is_among ((before ++ x ∷ []) ++ take r.place xs)) p (get_or xs r.place 0)) same
+              let same : suc (length before + suc r.index) ≡ suc (length (before ++ x ∷ []) + r.index) = omega (arith, length_push before x) in
+              ap (λ ns. fault_at plan.arrows (length plan.levels) (is_among ns) (suc (length before + suc r.index)) (get_or xs r.index 0)) (sym (append_assoc before (x ∷ []) (take r.index xs)))
+              ∙ ap (λ p. fault_at plan.arrows (length plan.levels) (is_among ((before ++ x ∷ []) ++ take r.index xs)) p (get_or xs r.index 0)) same
               ∙ r.here;
         }
 
@@ -123,16 +123,16 @@ fault_position plan order fault e other = by (eqb (length order) (length plan.le
   by false h = absurd (other (cc))
   by true h =
       let r : FirstAt plan [] order fault = first_at plan [] order fault h in
-      let k : r.place ≡ suc r.place - 1 = omega arith in
-      let same : suc r.place ≡ suc (0 + r.place) = omega arith in
-      let here : fault_at plan.arrows (length plan.levels) (is_among (take r.place order)) (suc r.place) (get_or order r.place 0) ≡ Some fault =
-      ap (λ p. fault_at plan.arrows (length plan.levels) (is_among (take r.place order)) p (get_or order r.place 0)) same ∙ r.here in (
-        suc r.place,
+      let k : r.index ≡ suc r.index - 1 = omega arith in
+      let same : suc r.index ≡ suc (0 + r.index) = omega arith in
+      let here : fault_at plan.arrows (length plan.levels) (is_among (take r.index order)) (suc r.index) (get_or order r.index 0) ≡ Some fault =
+      ap (λ p. fault_at plan.arrows (length plan.levels) (is_among (take r.index order)) p (get_or order r.index 0)) same ∙ r.here in (
+        suc r.index,
         record {
           from_one = omega arith;
           within = omega (arith, r.within);
           none_before = subst (λ j. first_fault_after plan.arrows (length plan.levels) [] (take j order) ≡ None) k r.none_before;
           with_it = r.with_it;
-          says = subst (λ j. Says plan (take j order) (suc r.place) (get_or order j 0) fault) k (says plan (take r.place order) (suc r.place) (get_or order r.place 0) fault here);
+          says = subst (λ j. Says plan (take j order) (suc r.index) (get_or order j 0) fault) k (says plan (take r.index order) (suc r.index) (get_or order r.index 0) fault here);
         },
       )

@@ -18,3 +18,11 @@ pub few_at : (lists : List (List ℕ)) → EachFew lists → AreFew lists
 few_at [] few k = omega arith
 few_at (xs ∷ lists) few zero = few.0
 few_at (xs ∷ lists) few (suc k) = few_at lists few.1 k
+
+-- lists that are few, and others behind them
+pub few_both : (front back : List (List ℕ)) → AreFew front → AreFew back → AreFew (front ++ back)
+few_both [] back few more = more
+few_both (xs ∷ front) back few more = at (few_both front back (λ k. few (suc k)) more) where
+  at : AreFew (front ++ back) → AreFew (xs ∷ (front ++ back))
+  at rest zero = few 0
+  at rest (suc k) = rest k

@@ -4,7 +4,7 @@ use Rattle.std.specs.List.{concat}
 use Rattle.std.proofs.lemmas.List.{append-nil, length-append}
 use Rattle.std.proofs.lemmas.List.Folds.{concat-append}
 use Rattle.std.proofs.Math.Seq.{drop-append_seam, take-append_seam}
-use Rattle.reg_plan.specs.Touched.{AreFlat, ends_from, parts_from}
+use Rattle.reg_plan.specs.Touched.{AreFlat, ends_from, parts_from, moved_by}
 
 -- the parts are the lists
 parts_after : (before : List ℕ) (lists : List (List ℕ)) → parts_from (before ++ concat lists) (length before) (ends_from (length before) lists) ≡ lists
@@ -43,6 +43,30 @@ flat_more lists flat ends xs are =
       flat_is = flat_now ∙ sym (concat-append lists (xs ∷ []) ∙ ap (λ ys. concat lists ++ ys) (append-nil xs));
       ends_are = ap (λ es. es ++ length (flat ++ xs) ∷ []) are.ends_are ∙ ap (λ ys. ends_from 0 lists ++ length ys ∷ []) flat_now
           ∙ ap (λ n. ends_from 0 lists ++ n ∷ []) none ∙ sym (ends_more 0 lists xs);
+    }
+
+-- lists, and others behind them
+ends_both : (start : ℕ) (front back : List (List ℕ)) → ends_from start (front ++ back) ≡ ends_from start front ++ ends_from (start + length (concat front)) back
+ends_both start [] back = let none : start ≡ start + 0 = omega arith in ap (λ n. ends_from n back) none
+ends_both start (xs ∷ front) back =
+    let size : start + length xs + length (concat front) ≡ start + length (xs ++ concat front) = omega (arith, length-append xs (concat front)) in
+    ap (λ ends. (start + length xs) ∷ ends) (ends_both (start + length xs) front back ∙ ap (λ n. ends_from (start + length xs) front ++ ends_from n back) size)
+
+ends_moved : (later start : ℕ) (lists : List (List ℕ)) → ends_from (later + start) lists ≡ moved_by later (ends_from start lists)
+ends_moved later start [] = refl
+ends_moved later start (xs ∷ lists) =
+    let place : later + start + length xs ≡ later + (start + length xs) = omega arith in
+    ap (λ n. n ∷ ends_from n lists) place ∙ ap (λ ends. (later + (start + length xs)) ∷ ends) (ends_moved later (start + length xs) lists)
+
+pub flat_both : (front back : List (List ℕ)) (flat ends further places both all : List ℕ) → AreFlat front flat ends → AreFlat back further places
+    → both ≡ flat ++ further → all ≡ ends ++ moved_by (length flat) places → AreFlat (front ++ back) both all
+flat_both front back flat ends further places both all are behind flat_now ends_now =
+    let size : length flat + 0 ≡ 0 + length (concat front) = omega (arith, ap length are.flat_is) in
+    record {
+      flat_is = flat_now ∙ (λ i. are.flat_is i ++ behind.flat_is i) ∙ sym (concat-append front back);
+      ends_are = ends_now ∙ (λ i. are.ends_are i ++ moved_by (length flat) (behind.ends_are i))
+          ∙ ap (λ es. ends_from 0 front ++ es) (sym (ends_moved (length flat) 0 back) ∙ ap (λ n. ends_from n back) size)
+          ∙ sym (ends_both 0 front back);
     }
 
 -- where a list lies

@@ -153,17 +153,17 @@ module _ (arrows : List Arrow) (places : ℕ) where
       omega (arith, lt)
 
   -- the other way round: by each place of the list
-  by_places : (before xs : List ℕ) → ((k x : ℕ) → slice_get xs k ≡ Some x → MayCome arrows places (before ++ take k xs) x) → MayFollow arrows places before xs
-  by_places before [] h = tt
-  by_places before (x ∷ xs) h = (
+  by_indexes : (before xs : List ℕ) → ((k x : ℕ) → slice_get xs k ≡ Some x → MayCome arrows places (before ++ take k xs) x) → MayFollow arrows places before xs
+  by_indexes before [] h = tt
+  by_indexes before (x ∷ xs) h = (
     subst (λ b. MayCome arrows places b x) (append-nil before) (h 0 x refl),
-    by_places (before ++ x ∷ []) xs (λ k y e. subst (λ b. MayCome arrows places b y) (sym (append_assoc before (x ∷ []) (take k xs))) (h (suc k) y e)),
+    by_indexes (before ++ x ∷ []) xs (λ k y e. subst (λ b. MayCome arrows places b y) (sym (append_assoc before (x ∷ []) (take k xs))) (h (suc k) y e)),
   )
 
-  place_of : (xs : List ℕ) (y : ℕ) → In y xs → (p : ℕ) × (slice_get xs p ≡ Some y)
-  place_of [] y m = absurd m
-  place_of (x ∷ xs) y (inl e) = (0, ap (λ z. Some z) e)
-  place_of (x ∷ xs) y (inr m) = let r : (p : ℕ) × (slice_get xs p ≡ Some y) = place_of xs y m in (suc r.0, r.1)
+  index_of : (xs : List ℕ) (y : ℕ) → In y xs → (p : ℕ) × (slice_get xs p ≡ Some y)
+  index_of [] y m = absurd m
+  index_of (x ∷ xs) y (inl e) = (0, ap (λ z. Some z) e)
+  index_of (x ∷ xs) y (inr m) = let r : (p : ℕ) × (slice_get xs p ≡ Some y) = index_of xs y m in (suc r.0, r.1)
 
   among_before : (xs : List ℕ) (p k y : ℕ) → slice_get xs p ≡ Some y → p < k → is_among (take k xs) y ≡ true
   among_before [] p k y e lt = absurd cc
@@ -192,7 +192,7 @@ legal_orders d is plan order made = (
       }),
   (λ legal.
       ap (λ b. cond b (first_fault_after plan.arrows (length plan.levels) [] order) (Some Length)) (eq-eqb (length order) (length plan.levels) (length_permutation (count_up 1 (length plan.levels)) order legal.permutation ∙ length_count 1 (length plan.levels)))
-      ∙ none_after plan.arrows (length plan.levels) [] order (by_places plan.arrows (length plan.levels) [] order (λ k x at. comes legal k x at))),
+      ∙ none_after plan.arrows (length plan.levels) [] order (by_indexes plan.arrows (length plan.levels) [] order (λ k x at. comes legal k x at))),
 ) where
   right_length : (b : Bool) → eqb (length order) (length plan.levels) ≡ b → cond b (first_fault_after plan.arrows (length plan.levels) [] order) (Some Length) ≡ None
       → (length order ≡ length plan.levels) × (first_fault_after plan.arrows (length plan.levels) [] order ≡ None)
@@ -210,6 +210,6 @@ legal_orders d is plan order made = (
     tails = λ w m e.
         let b : IsBetween (length is) w = arrow_between_places d is w ((made.arrows.exactly w).0 (contains_from plan.arrows w m)) in
         let there : In w.from order = in_moved (count_up 1 (length plan.levels)) order w.from legal.permutation (in_count 1 (length plan.levels) w.from b.from_one (omega (arith, b.forward, b.within, made.places))) in
-        let p : (i : ℕ) × (slice_get order i ≡ Some w.from) = place_of plan.arrows (length plan.levels) order w.from there in
+        let p : (i : ℕ) × (slice_get order i ≡ Some w.from) = index_of plan.arrows (length plan.levels) order w.from there in
         among_before plan.arrows (length plan.levels) order p.0 k w.from p.1 (legal.tails_first w (contains_from plan.arrows w m) p.0 k p.1 (at ∙ ap (λ y. Some y) (sym e)));
   }

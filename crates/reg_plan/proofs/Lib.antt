@@ -14,3 +14,4 @@ pub mod PlanLaws
 pub mod FaultPositions
 pub mod Flat
 pub mod Fewness
+pub mod Behind

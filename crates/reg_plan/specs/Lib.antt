@@ -5,3 +5,4 @@ pub mod Orders
 pub mod Laws
 pub mod Ends
 pub mod Touched
+pub mod Runs

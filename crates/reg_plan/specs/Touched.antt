@@ -13,6 +13,11 @@ abbrev pub parts_from : List ℕ → ℕ → List ℕ → List (List ℕ)
 parts_from flat start [] = []
 parts_from flat start (end ∷ ends) = take (end - start) (drop start flat) ∷ parts_from flat end ends
 
+-- places, each so much later
+abbrev pub moved_by : ℕ → List ℕ → List ℕ
+moved_by later [] = []
+moved_by later (place ∷ places) = (later + place) ∷ moved_by later places
+
 -- these are the lists one after another, and the place behind each
 pub record AreFlat (lists : List (List ℕ)) (flat : List ℕ) (ends : List ℕ) : Type 0 where
   pub flat_is : flat ≡ concat lists

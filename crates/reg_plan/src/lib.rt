@@ -17,7 +17,8 @@
 //! /// # Errors
 //! /// `NoMemory` if memory ran out.
 //! pub fn needs_no_order(alloc: Global, batch: &Batch, directory: &Directory) -> Result<bool, NoMemory>
-//!     ensures { IfOk result (λ free. IsTrue free ↔ ((arrow : Arrow) → ¬ IsArrow directory.now batch.now.instructions arrow)) }
+//!     ensures { IfOk result (λ free. IsTrue free
+//!         ↔ ((arrow : Arrow) → ¬ IsArrow directory.now batch.now.instructions arrow)) }
 //! {
 //!     let plan = Plan::of(alloc, batch, directory)?;
 //!     Ok(plan.arrows().is_empty())
@@ -36,6 +37,7 @@ mod levels;
 mod likely;
 mod order;
 mod plan;
+mod runs;
 mod touched;
 mod touches;
 

@@ -9,12 +9,14 @@ use crate::index::{End, likely_counts, with_end};
 use crate::levels::find_levels;
 use crate::likely::{LikelySlots, find_slots};
 use crate::order::{OrderFault, check_numbers};
+use crate::runs::{Found, count_runs, find_by_runs, find_run};
 use crate::touched::Touched;
-use crate::touches::sorted_touches;
+use crate::touches::in_order;
 use reg_base::laws::each_footprint_is_sound;
 use reg_base::{AccountNo, Batch, Directory, NoMemory};
 use std::alloc::Global;
 use std::marker::Model;
+use std::thread::Threads;
 
 /// Which instructions of a batch have to wait for which others, and which accounts each of them touches. A clause sees the
 /// plan as plain data.
@@ -43,6 +45,7 @@ impl Model for Plan {
 impl Plan {
     ghost use Rattle.reg_plan.specs.Plans.{IsPlan, inward, outward};
     ghost use Rattle.reg_plan.specs.Orders.{first_order_fault, IsOrderFault};
+    ghost use Rattle.reg_plan.specs.Runs.{IsFound};
 
     /// The plan of these instructions over the accounts of this directory.
     ///
@@ -53,11 +56,50 @@ impl Plan {
     pub fn of(alloc: Global, batch: &Batch, directory: &Directory) -> Result<Plan, NoMemory>
         ensures { IfOk result (λ plan. IsPlan directory.now batch.now.instructions plan) }
     {
+        batch.len();
+        let found = find_run(alloc, directory, 1, batch.instructions())?;
+        Plan::of_found(alloc, batch, directory, found)
+    }
+
+    /// The same as [`Plan::of`], by at most so many threads: each looks up the accounts of a run of `least` instructions or
+    /// more. If a thread can't be started, the calling thread does its work.
+    ///
+    /// # Errors
+    /// `NoMemory` where a growth was refused.
+    pub fn of_with<R: Threads + Sync>(
+        rt: &R,
+        alloc: Global,
+        batch: &Batch,
+        directory: &Directory,
+        threads: u32,
+        least: u32,
+    ) -> Result<Plan, NoMemory>
+        ensures { IfOk result (λ plan. IsPlan directory.now batch.now.instructions plan) }
+    {
+        let runs = count_runs(batch.len(), threads, least);
+        let found = find_by_runs(rt, alloc, directory, 1, batch.instructions(), runs)?;
+        Plan::of_found(alloc, batch, directory, found)
+    }
+
+    // The plan of these instructions, of which this was found.
+    fn of_found(
+        alloc: Global,
+        batch: &Batch,
+        directory: &Directory,
+        found: Found,
+    ) -> Result<Plan, NoMemory>
+        requires { IsFound directory.now 1 batch.now.instructions found }
+        ensures { IfOk result (λ plan. IsPlan directory.now batch.now.instructions plan) }
+    {
+        let _directory = directory;
         // No instruction touches an account twice, so no arrow stands twice.
         each_footprint_is_sound();
         let places = batch.len() as usize;
-        let touched = Touched::of(alloc, directory, batch.instructions())?;
-        let touches = sorted_touches(alloc, &touched)?;
+        let Found {
+            touched,
+            touches: unordered,
+        } = found;
+        let touches = in_order(unordered)?;
         let openings = find_openings(alloc, &touches)?;
         let arrows = sorted_arrows(alloc, &touches)?;
         let by_tail = sorted_by_tail(alloc, &arrows)?;

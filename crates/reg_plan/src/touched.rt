@@ -1,6 +1,7 @@
 //! The accounts that each instruction of a batch touches.
 
-ghost use Rattle.std.specs.Prelude.{◌≡◌, ℕ, ◌-◌, ◌<◌, ◌≤◌, [], ◌∷◌, length, take, drop, slice_index_or, IfOk};
+ghost use Rattle.std.specs.Prelude.{◌≡◌, ℕ, ◌-◌, ◌<◌, ◌≤◌, [], ◌∷◌, ◌++◌, length, take, drop, slice_index_or, IfOk, OnOk};
+ghost use Rattle.reg_plan.specs.Touched.{moved_by};
 
 use crate::arrow::Touch;
 use reg_base::{AccountNo, Directory, Instruction, NoMemory};
@@ -53,6 +54,26 @@ impl Touched {
         Ok(Touched { accounts, ends })
     }
 
+    /// These, and behind them the accounts of further instructions.
+    ///
+    /// # Errors
+    /// `NoMemory` if memory ran out. All are dropped then.
+    pub(crate) fn append(self, more: Touched) -> Result<Touched, NoMemory>
+        ensures { IfOk result (λ both. both ≡ self ++ more) }
+    {
+        let Touched {
+            mut accounts,
+            mut ends,
+        } = self;
+        let Touched {
+            accounts: mut further,
+            ends: places,
+        } = more;
+        push_moved(&mut ends, accounts.len(), &places)?;
+        accounts.append(&mut further)?;
+        Ok(Touched { accounts, ends })
+    }
+
     /// The accounts that the instruction at a place touches. The place is counted from 1.
     pub(crate) fn at(&self, place: u32) -> &[AccountNo]
         requires from_one { 1 ≤ place }
@@ -97,6 +118,19 @@ impl Touched {
         let ahead = own.iter().position(|account| *account == touch.account);
         begin.saturating_add(ahead.unwrap_or(0))
     }
+}
+
+// Puts places behind others, each so much later.
+fn push_moved(ends: &mut Vec<usize>, later: usize, places: &[usize]) -> Result<(), NoMemory>
+    ensures { OnOk result (ends.new.items ≡ ends.old.items ++ moved_by later places.now) }
+{
+    for place in places {
+        let Some(moved) = later.checked_add(*place) else {
+            return Err(NoMemory);
+        };
+        ends.push(moved)?;
+    }
+    Ok(())
 }
 
 // The place at which a list begins, which is the one behind the list before it.

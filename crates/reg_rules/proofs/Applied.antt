@@ -40,15 +40,15 @@ footprint-passed c s i none =
     ap (λ b. cond b (each_once (parties i.act)) []) (not-false (all_known c.directory i.act) (passed c s i UnknownAccount none refl))
     ∙ once-distinct (parties i.act) (repeats-none (parties i.act) (option_to_list (also_known i.act)) (passed c s i SameAccount none refl))
 
--- each account that receives has room for its share
-room-found : (s : State) (kind : AllowanceKind) (v : AccountValue) → account s v.number ≡ Some v → (shared : List Share)
+-- each account that receives has space for its share
+space-found : (s : State) (kind : AllowanceKind) (v : AccountValue) → account s v.number ≡ Some v → (shared : List Share)
     → list_any (overfills kind) (map (λ share. record { account = account s share.to; amount = share.amount }) shared) ≡ false → CanReceive kind shared v
-room-found s kind v found [] room = tt
-room-found s kind v found (x ∷ xs) room =
+space-found s kind v found [] room = tt
+space-found s kind v found (x ∷ xs) room =
     let at : Receiver = record { account = account s x.to; amount = x.amount } in
     let here = or-left (overfills kind at) (list_any (overfills kind) (map (λ share. record { account = account s share.to; amount = share.amount }) xs)) room in
     go (eqb x.to v.number) refl here
-    (room-found s kind v found xs (or-right (overfills kind at) (list_any (overfills kind) (map (λ share. record { account = account s share.to; amount = share.amount }) xs)) room)) where
+    (space-found s kind v found xs (or-right (overfills kind at) (list_any (overfills kind) (map (λ share. record { account = account s share.to; amount = share.amount }) xs)) room)) where
       go : (b : Bool) → eqb x.to v.number ≡ b → nat_lt MOST_HELD (option_map_or (λ w. held_by w kind) (account s x.to) 0 + x.amount) ≡ false
           → MatchOption (find (λ share. eqb share.to v.number) xs) (Unit {0}) (λ share. held_by v kind + share.amount ≤ MOST_HELD)
           → MatchOption (cond b (Some x) (find (λ share. eqb share.to v.number) xs)) (Unit {0}) (λ share. held_by v kind + share.amount ≤ MOST_HELD)
@@ -57,17 +57,17 @@ room-found s kind v found (x ∷ xs) room =
           ltb-false MOST_HELD (held_by v kind + x.amount) (ap (λ o. nat_lt MOST_HELD (option_map_or (λ w. held_by w kind) o 0 + x.amount)) (sym at) ∙ here)
       go false other here more = more
 
--- each account that receives has room for its share
+-- each account that receives has space for its share
 pub can-receive : (c : Setting) (s : State) (i : Instruction) (v : AccountValue) → refusal c s i ≡ None → account s v.number ≡ Some v → CanReceive (movement_of i.act).kind (shares i.act) v
 can-receive c s i v none found =
-    room-found s (movement_of i.act).kind v found (shares i.act)
+    space-found s (movement_of i.act).kind v found (shares i.act)
     (or-right (overfills_first (change_of i.act) (seen s i.act)) (overfills_some (movement_of i.act) (seen s i.act)) (passed c s i HoldingTooLarge none refl))
 
 -- an account of a state in which nothing refuses has what the act needs of it
 pub can-change : (c : Setting) (s : State) (n : ℕ) (i : Instruction) (v : AccountValue) → refusal c s i ≡ None → account s v.number ≡ Some v → IsBehind n v → CanChange c n i.act v
 can-change c s n i v none found behind = record {
   as_first = λ is_first. can-first c s n i v none (ap (account s) (sym is_first) ∙ found) behind;
-  room = can-receive c s i v none found;
+  space = can-receive c s i v none found;
 }
 
 pub can-change-each : (c : Setting) (s : State) (n : ℕ) (i : Instruction) → refusal c s i ≡ None → IsDistinct eqb (numbers s) → AllByRecursion (IsBehind n) s → AllByRecursion (CanChange c n i.act) s
@@ -117,7 +117,7 @@ module _ (c : Setting) (n : ℕ) (act : Act) (x : AccountValue) (xs : State) (ow
       ∙ sym (ap (λ b. with_changes x (cond b (first_after c n act x) (given (movement_of act).kind (shares act) x)) ∷ map (given (movement_of act).kind (shares act)) xs) (eq-eqb x.number (first act) is-first))
       ∙ ap (λ vs. changed_by c n act x ∷ vs) (rest-given xs others)
 
-  -- once the first is changed, each has room for its share
+  -- once the first is changed, each has space for its share
   pub all-receive : (w : AccountValue) → w ≡ with_changes x (first_after c n act x) → AllByRecursion (CanChange c n act) (x ∷ xs) → AllByRecursion (CanReceive (movement_of act).kind (shares act)) (w ∷ xs)
   all-receive w is can = (
     subst (λ o. MatchOption o (Unit {0}) (λ share. held_by w (movement_of act).kind + share.amount ≤ MOST_HELD)) (sym (ap (λ (v : AccountValue). share_of (shares act) v.number) is ∙ none-for-first)) tt,
@@ -125,7 +125,7 @@ module _ (c : Setting) (n : ℕ) (act : Act) (x : AccountValue) (xs : State) (ow
   ) where
     go : (ys : State) → AllByRecursion (CanChange c n act) ys → AllByRecursion (CanReceive (movement_of act).kind (shares act)) ys
     go [] all = tt
-    go (y ∷ ys) all = (all.0.room, go ys all.1)
+    go (y ∷ ys) all = (all.0.space, go ys all.1)
 
 -- the same, of accounts that are not taken apart
 pub first-can : (c : Setting) (n : ℕ) (act : Act) (xs : State) (d : AccountValue) → numbers xs ≡ parties act → AllByRecursion (CanChange c n act) xs → CanFirst c n act (get_or xs 0 d)

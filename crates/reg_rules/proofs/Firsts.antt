@@ -52,7 +52,7 @@ record HasPassed (made : Change) (e : Seen) : Type 0 where
   known : is_unknown_transaction made e ≡ false
   stands : is_already_reversed made e ≡ false
   enough : short_by made e ≡ false
-  room : overfills_first made e ≡ false
+  fits : overfills_first made e ≡ false
   retired : is_retired_too_large made e ≡ false
   rows : are_rows_full made e ≡ false
   space : is_list_full made e ≡ false
@@ -80,16 +80,16 @@ retirement-of rules Deleted = refl
 first-can : (c : Setting) (n : ℕ) (made : Change) (v : AccountValue) (rs : List Receiver) → HasPassed made (record { first = Some v; receivers = rs }) → IsBehind n v → CanMake c n made v
 unfolding short_by
 first-can c n (Debit kind amount) v rs p behind = ltb-false (held_by v kind) amount p.enough
-first-can c n (Credit kind amount) v rs p behind = ltb-false MOST_HELD (held_by v kind + amount) p.room
+first-can c n (Credit kind amount) v rs p behind = ltb-false MOST_HELD (held_by v kind + amount) p.fits
 first-can c n (Retire way kind amount) v rs p behind = record {
   fresh = refl;
   some = above-zero amount p.some;
   later = behind;
-  room = below-full MOST_ROWS (length v.rows) p.rows;
+  space = below-full MOST_ROWS (length v.rows) p.rows;
   enough = ltb-false (held_by v kind) amount p.enough;
   fits = subst (λ w. retired_by v w kind + amount ≤ MOST_RETIRED) (sym (retirement-of c.rules way)) (ltb-false MOST_RETIRED (retired_by v way kind + amount) p.retired);
 }
-first-can c n (Unretire number) v rs p behind = can-reverse v (row_in v.rows number) p.known p.stands p.room
+first-can c n (Unretire number) v rs p behind = can-reverse v (row_in v.rows number) p.known p.stands p.fits
 first-can c n (Trust other) v rs p behind = below-full MOST_TRUSTED (length v.trusted) p.space
 first-can c n (Untrust other) v rs p behind = tt
 first-can c n (SetStatus status) v rs p behind = tt
@@ -104,7 +104,7 @@ can-first c s n i v none found behind = first-can c n (change_of i.act) v (seen 
   known = at (λ e. is_unknown_transaction (change_of i.act) e) (passed c s i UnknownTransaction none refl);
   stands = at (λ e. is_already_reversed (change_of i.act) e) (passed c s i AlreadyReversed none refl);
   enough = short-made i.act _ (at (λ e. is_short (movement_of i.act) e) (passed c s i NotEnough none refl));
-  room = at (λ e. overfills_first (change_of i.act) e) (or-left (overfills_first (change_of i.act) (seen s i.act)) (overfills_some (movement_of i.act) (seen s i.act)) (passed c s i HoldingTooLarge none refl));
+  fits = at (λ e. overfills_first (change_of i.act) e) (or-left (overfills_first (change_of i.act) (seen s i.act)) (overfills_some (movement_of i.act) (seen s i.act)) (passed c s i HoldingTooLarge none refl));
   retired = at (λ e. is_retired_too_large (change_of i.act) e) (passed c s i RetiredTooLarge none refl);
   rows = at (λ e. are_rows_full (change_of i.act) e) (passed c s i RowsFull none refl);
   space = at (λ e. is_list_full (change_of i.act) e) (passed c s i ListFull none refl);

@@ -88,7 +88,7 @@ module _ (laws : ChangesKeepLimits) where
   fit-by_part c n act v rules day numbered in_range can is = go (eqb v.number (first act)) refl where
     go : (b : Bool) → eqb v.number (first act) ≡ b → IsAccount (cond b (first_after c n act v) (given (movement_of act).kind (shares act) v))
     go true same = first-fits c n (change_of act) v rules day numbered in_range (can.as_first (eqb-true v.number (first act) same)) is
-    go false other = fit-given v (movement_of act).kind (share_of (shares act) v.number) can.room is
+    go false other = fit-given v (movement_of act).kind (share_of (shares act) v.number) can.space is
 
   -- a state in which nothing refuses stays within its limits
   limits-after : (c : Setting) (s : State) (n : ℕ) (i : Instruction) → AreRules c.rules → IsDayNo c.day → IsRecordNo n → InRange (change_of i.act) → refusal c s i ≡ None → (ys : State)

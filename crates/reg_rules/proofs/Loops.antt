@@ -10,10 +10,10 @@ pub changed_more : {X : Type 0} (f : X → X) (xs ys zs : List X) (i : ℕ) (x y
 changed_more f xs ys zs i x y lt so_far read changed now =
     now ∙ ap (set ys i) (changed ∙ ap f (sym read)) ∙ map_over_more f xs ys i x lt so_far read
 
-open_some : {X : Type 0} (P : X → Type 0) (o : Option X) (x : X) → o ≡ Some x → MatchOption o (Unit {0}) P → P x
-open_some P None x e said = absurd (none-some x e)
-open_some P (Some y) x e said = subst P (same_Some y x e) said
+of_some : {X : Type 0} (P : X → Type 0) (o : Option X) (x : X) → o ≡ Some x → MatchOption o (Unit {0}) P → P x
+of_some P None x e said = absurd (none-some x e)
+of_some P (Some y) x e said = subst P (same_Some y x e) said
 
 -- what is said where there is something
 pub said_of : {X : Type 0} (P : X → Type 0) (o : Option X) (x : X) → o ≡ Some x → MatchOption o (Unit {0}) P → P x
-said_of P o x e said = open_some P o x e said
+said_of P o x e said = of_some P o x e said

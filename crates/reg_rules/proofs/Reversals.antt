@@ -9,7 +9,7 @@ use Rattle.reg_account.specs.Rows.{row_in}
 use Rattle.reg_account.specs.Account.{AccountValue, IsAccount, unretired, unretired_row}
 use Rattle.reg_account.specs.Figure.{figure_of}
 use Rattle.reg_account.specs.Laws.{FigureLaws, lowered_by}
-use Rattle.reg_rules.specs.Checks.{counted_amount, turns_negative, is_compliant, is_negative}
+use Rattle.reg_rules.specs.Checks.{counted_amount, becomes_negative, is_compliant, is_negative}
 
 minus-zero : (figure : ℤ) → figure -ℤ pos 0 ≡ figure
 minus-zero figure = omega (arith, ints)
@@ -30,9 +30,9 @@ module _ (laws : FigureLaws) (rules : RulesValue) (v : AccountValue) (number yea
     go None found = sym (lowered-by-none (figure_of rules v year))
     go (Some row) found = ap (λ o. figure_of rules (option_map_or (unretired_row number v) o v) year) (sym found) ∙ laws.unretire rules v number row year is found
 
-  pub turns-answer : (row : RetirementRow) (figure : Result ℤ FigureFault) (lost : ℕ) (r : Bool) → row_in v.rows number ≡ Some row → figure ≡ figure_of rules v year → lost ≡ counted_amount rules year row
-      → r ≡ (is_compliant figure && is_negative (lowered_by lost figure)) → r ≡ turns_negative rules number v year
-  turns-answer row figure lost r there found falls answer =
+  pub becomes-answer : (row : RetirementRow) (figure : Result ℤ FigureFault) (lost : ℕ) (r : Bool) → row_in v.rows number ≡ Some row → figure ≡ figure_of rules v year → lost ≡ counted_amount rules year row
+      → r ≡ (is_compliant figure && is_negative (lowered_by lost figure)) → r ≡ becomes_negative rules number v year
+  becomes-answer row figure lost r there found falls answer =
       answer
       ∙ ap (λ n. is_compliant figure && is_negative (lowered_by n figure)) (falls ∙ ap (lost_by rules year) (sym there))
       ∙ ap (λ f. is_compliant f && is_negative (lowered_by (lost_by rules year (row_in v.rows number)) f)) found

@@ -68,13 +68,15 @@ abbrev pub Moves : (ℕ → ℕ → AllowanceKind → ℕ → Act) → Type 0
 Moves act = (c : Setting) (s : State) (number : ℕ) (i : Instruction) (from to : ℕ) (kind : AllowanceKind) (amount : ℕ)
     → i.act ≡ act from to kind amount → refusal c s i ≡ None → IsMoved s (after_step c s number i) from to kind amount
 
--- the second state is the first, except that each of these accounts has received its share from the first one: all of them
+-- the second state is the first, except that each of these accounts has received its share from the first one: all of
+-- them
 pub record IsDistributed (s t : State) (from : ℕ) (kind : AllowanceKind) (shares : List Share) : Type 0 where
   pub enough : total_of shares ≤ held s from kind
   pub lowered : held t from kind ≡ held s from kind - total_of shares
   pub raised : All (λ share. held t share.to kind ≡ held s share.to kind + share.amount) shares
   pub other_kinds : (a : ℕ) (other : AllowanceKind) → other ≢ kind → held t a other ≡ held s a other
-  pub other_accounts : (a : ℕ) → a ≢ from → is_among (map (λ share. share.to) shares) a ≡ false → account t a ≡ account s a
+  pub other_accounts : (a : ℕ) → a ≢ from → is_among (map (λ share. share.to) shares) a ≡ false
+      → account t a ≡ account s a
   pub rows_stay : RowsStay s t
   pub emissions_stay : EmissionsStay s t
   pub figures_stay : FiguresStay s t
@@ -84,8 +86,10 @@ pub record IsDistributed (s t : State) (from : ℕ) (kind : AllowanceKind) (shar
 
 -- an accepted distribution gives each account its share, and does nothing else
 abbrev pub Distributes : Type 0
-Distributes = (c : Setting) (s : State) (number : ℕ) (i : Instruction) (from : ℕ) (kind : AllowanceKind) (shares : List Share)
-    → i.act ≡ Distribute from kind shares → refusal c s i ≡ None → IsDistributed s (after_step c s number i) from kind shares
+Distributes = (c : Setting) (s : State) (number : ℕ) (i : Instruction) (from : ℕ) (kind : AllowanceKind)
+    (shares : List Share)
+    → i.act ≡ Distribute from kind shares → refusal c s i ≡ None
+    → IsDistributed s (after_step c s number i) from kind shares
 
 -- the second state is the first, except that this amount was created on the account
 pub record IsCreated (s t : State) (to : ℕ) (kind : AllowanceKind) (amount : ℕ) : Type 0 where
@@ -103,14 +107,16 @@ abbrev pub Creates : Type 0
 Creates = (c : Setting) (s : State) (number : ℕ) (i : Instruction) (to : ℕ) (kind : AllowanceKind) (amount : ℕ)
     → i.act ≡ Create to kind amount → refusal c s i ≡ None → IsCreated s (after_step c s number i) to kind amount
 
--- the second state is the first, except that the allowances of this row have left the account, and the row says where they went
+-- the second state is the first, except that the allowances of this row have left the account, and the row says where
+-- they went
 pub record IsRetired (s t : State) (from : ℕ) (new : RetirementRow) : Type 0 where
   pub enough : new.amount ≤ held s from new.kind
   pub lowered : held t from new.kind ≡ held s from new.kind - new.amount
   pub other_kinds : (other : AllowanceKind) → other ≢ new.kind → held t from other ≡ held s from other
   pub recorded : retirement_row t from new.number ≡ Some new
   pub other_rows : (number : ℕ) → number ≢ new.number → retirement_row t from number ≡ retirement_row s from number
-  pub sums : (way : Retirement) (kind : AllowanceKind) → retired_at t from way kind ≡ retired_at s from way kind + amount_in way kind new
+  pub sums : (way : Retirement) (kind : AllowanceKind)
+      → retired_at t from way kind ≡ retired_at s from way kind + amount_in way kind new
   pub other_accounts : (a : ℕ) → a ≢ from → account t a ≡ account s a
   pub emissions_stay : EmissionsStay s t
   pub figures_stay : FiguresStay s t
@@ -118,11 +124,14 @@ pub record IsRetired (s t : State) (from : ℕ) (new : RetirementRow) : Type 0 w
   pub statuses_stay : StatusesStay s t
   pub rest_stays : RestStays s t
 
--- an accepted surrender (or deletion) records its amount as surrendered for the current period (or deleted) today, under its record number, and does nothing else
+-- an accepted surrender (or deletion) records its amount as surrendered for the current period (or deleted) today,
+-- under its record number, and does nothing else
 abbrev pub Retires : (Setting → Fate) → (ℕ → AllowanceKind → ℕ → Act) → Type 0
-Retires fate_in act = (c : Setting) (s : State) (number : ℕ) (i : Instruction) (from : ℕ) (kind : AllowanceKind) (amount : ℕ)
+Retires fate_in act = (c : Setting) (s : State) (number : ℕ) (i : Instruction) (from : ℕ) (kind : AllowanceKind)
+    (amount : ℕ)
     → i.act ≡ act from kind amount → IsReady number s → refusal c s i ≡ None
-    → IsRetired s (after_step c s number i) from (record { number = number; fate = fate_in c; kind = kind; amount = amount; day = c.day; reversed = false })
+    → IsRetired s (after_step c s number i) from
+    (record { number = number; fate = fate_in c; kind = kind; amount = amount; day = c.day; reversed = false })
 
 -- the second state is the first, except that the allowances of this row are back, and the row is marked as reversed
 pub record IsReversed (s t : State) (a : ℕ) (old : RetirementRow) : Type 0 where
@@ -132,7 +141,8 @@ pub record IsReversed (s t : State) (a : ℕ) (old : RetirementRow) : Type 0 whe
   pub other_kinds : (other : AllowanceKind) → other ≢ old.kind → held t a other ≡ held s a other
   pub marked : retirement_row t a old.number ≡ Some (record old { reversed = true })
   pub other_rows : (number : ℕ) → number ≢ old.number → retirement_row t a number ≡ retirement_row s a number
-  pub sums : (way : Retirement) (kind : AllowanceKind) → retired_at t a way kind + amount_in way kind old ≡ retired_at s a way kind
+  pub sums : (way : Retirement) (kind : AllowanceKind)
+      → retired_at t a way kind + amount_in way kind old ≡ retired_at s a way kind
   pub other_accounts : (b : ℕ) → b ≢ a → account t b ≡ account s b
   pub emissions_stay : EmissionsStay s t
   pub figures_stay : FiguresStay s t
@@ -161,7 +171,8 @@ pub record IsEntered (s t : State) (a year tonnes : ℕ) : Type 0 where
 -- an accepted entry of emissions sets them for its year, and does nothing else
 abbrev pub Enters : Type 0
 Enters = (c : Setting) (s : State) (number : ℕ) (i : Instruction) (a year tonnes : ℕ)
-    → i.act ≡ EnterEmissions a year tonnes → IsReady number s → refusal c s i ≡ None → IsEntered s (after_step c s number i) a year tonnes
+    → i.act ≡ EnterEmissions a year tonnes → IsReady number s → refusal c s i ≡ None
+    → IsEntered s (after_step c s number i) a year tonnes
 
 -- the second state is the first, except that this figure was determined for the year
 pub record IsAssessed (s t : State) (a year : ℕ) (figure : ℤ) : Type 0 where
@@ -179,7 +190,9 @@ pub record IsAssessed (s t : State) (a year : ℕ) (figure : ℤ) : Type 0 where
 abbrev pub Assesses : Type 0
 Assesses = (c : Setting) (s : State) (number : ℕ) (i : Instruction) (a year : ℕ)
     → i.act ≡ Assess a year → IsReady number s → refusal c s i ≡ None
-    → (v : AccountValue) × ((figure : ℤ) × ((account s a ≡ Some v) × ((figure_of c.rules v year ≡ Ok figure) × IsAssessed s (after_step c s number i) a year figure)))
+    → (v : AccountValue) × ((figure : ℤ)
+    × ((account s a ≡ Some v)
+    × ((figure_of c.rules v year ≡ Ok figure) × IsAssessed s (after_step c s number i) a year figure)))
 
 -- the second state is the first, except that the account's trusted list has the other one from this day on
 pub record IsListed (s t : State) (a other day : ℕ) : Type 0 where
@@ -194,11 +207,13 @@ pub record IsListed (s t : State) (a other day : ℕ) : Type 0 where
   pub statuses_stay : StatusesStay s t
   pub rest_stays : RestStays s t
 
--- an accepted addition puts the other account on the list from the day that is the list's lag after the settlement day, and does nothing else
+-- an accepted addition puts the other account on the list from the day that is the list's lag after the settlement day,
+-- and does nothing else
 abbrev pub Trusts : Type 0
 Trusts = (c : Setting) (s : State) (number : ℕ) (i : Instruction) (a other : ℕ)
     → i.act ≡ Trust a other → IsReady number s → refusal c s i ≡ None
-    → (day : ℕ) × ((due c.rules.calendar c.day c.rules.list_lag ≡ Some day) × IsListed s (after_step c s number i) a other day)
+    → (day : ℕ) × ((due c.rules.calendar c.day c.rules.list_lag ≡ Some day)
+    × IsListed s (after_step c s number i) a other day)
 
 -- the second state is the first, except that the account's trusted list does not have the other one any more
 pub record IsUnlisted (s t : State) (a other : ℕ) : Type 0 where

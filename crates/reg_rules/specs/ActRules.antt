@@ -74,7 +74,8 @@ is_central_kind Operator = false
 is_central_kind Aircraft = false
 is_central_kind Trading = false
 
--- where allowances may go from a central account: from the total quantity account to an allocation account, and from that back, or to those to whom they are allocated
+-- where allowances may go from a central account: from the total quantity account to an allocation account, and from
+-- that back, or to those to whom they are allocated
 abbrev pub may_go_central : AccountKind → AccountKind → Bool
 may_go_central Total to = is_allocation_kind to
 may_go_central Allocation to = is_total_kind to || is_operator_kind to

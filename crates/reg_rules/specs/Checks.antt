@@ -56,11 +56,13 @@ source_allows rule e = passes (λ v. fits_source rule.status v.status) e.first
 -- no account that receives is closed; the first receives what is created
 abbrev pub destination_allows : ActRule → Seen → Bool
 destination_allows rule e =
-    passes (λ v. fits_first_receiver rule.status v.status) e.first && list_all (λ r. passes (λ v. is_not_closed v.status) r.account) e.receivers
+    passes (λ v. fits_first_receiver rule.status v.status) e.first
+    && list_all (λ r. passes (λ v. is_not_closed v.status) r.account) e.receivers
 
 -- the table of surrenders lacks the first account's kind together with the kind of the allowances
 abbrev pub is_kind_not_allowed : RulesValue → Change → Seen → Bool
-is_kind_not_allowed rules (Retire Surrendered kind amount) e = passes (λ v. not (may_surrender rules v.kind kind)) e.first
+is_kind_not_allowed rules (Retire Surrendered kind amount) e =
+    passes (λ v. not (may_surrender rules v.kind kind)) e.first
 is_kind_not_allowed rules made e = false
 
 -- a surrender or a deletion is to be reversed
@@ -83,11 +85,12 @@ is_already_reversed made e = option_map_or (λ row. row.reversed) (row_to_revers
 
 -- the last day on which the row could be reversed is over; without such a day in the calendar, the window stays open
 abbrev pub is_past_window : Setting → RetirementRow → Bool
-is_past_window c row = option_map_or (λ last. nat_lt last c.day) (due c.rules.calendar row.day c.rules.reversal_window) false
+is_past_window c row = option_map_or (λ last. nat_lt last c.day)
+    (due c.rules.calendar row.day c.rules.reversal_window) false
 
--- the window for the reversal is closed
-abbrev pub is_window_closed : Setting → Change → Seen → Bool
-is_window_closed c made e = option_map_or (is_past_window c) (row_to_reverse made e) false
+-- the window for the reversal is over
+abbrev pub is_window_over : Setting → Change → Seen → Bool
+is_window_over c made e = option_map_or (is_past_window c) (row_to_reverse made e) false
 
 -- the first account holds fewer allowances of the kind than leave it
 abbrev pub is_short : Movement → Seen → Bool
@@ -101,7 +104,8 @@ overfills kind r = nat_lt MOST_HELD (option_map_or (λ v. held_by v kind) r.acco
 abbrev pub overfills_first : Change → Seen → Bool
 overfills_first (Credit kind amount) e = overfills kind (record { account = e.first; amount = amount })
 overfills_first (Unretire number) e =
-    option_map_or (λ row. overfills row.kind (record { account = e.first; amount = row.amount })) (row_to_reverse (Unretire number) e) false
+    option_map_or (λ row. overfills row.kind (record { account = e.first; amount = row.amount }))
+    (row_to_reverse (Unretire number) e) false
 overfills_first made e = false
 
 -- some account that receives would hold more than it may
@@ -130,16 +134,20 @@ are_rows_full made e = false
 abbrev pub latest_determined : RulesValue → ℕ → AccountValue → Option Figure
 latest_determined rules period v = find (λ f. is_year_of rules period f.year) (reverse v.figures)
 
--- the figure is one of the account's determined ones, of a year of this period, and no other such figure is of a later year
+-- the figure is one of the account's determined ones, of a year of this period, and no other such figure is of a later
+-- year
 pub record IsLatestDetermined (rules : RulesValue) (period : ℕ) (v : AccountValue) (latest : Figure) : Type 0 where
   pub determined : Contains v.figures latest
   pub of_period : IsTrue (is_year_of rules period latest.year)
   pub last : (f : Figure) → Contains v.figures f → IsTrue (is_year_of rules period f.year) → f.year ≤ latest.year
 
--- law: if the figures rise by year, the one that is found is that of the latest year of the period; if none is found, none is of the period
+-- law: if the figures rise by year, the one that is found is that of the latest year of the period; if none is found,
+-- none is of the period
 abbrev pub LatestIsOfTheLatestYear : Type 0
 LatestIsOfTheLatestYear = (rules : RulesValue) (period : ℕ) (v : AccountValue) → IsRising (figure_years v.figures)
-    → MatchOption (latest_determined rules period v) ((f : Figure) → Contains v.figures f → ¬ (IsTrue (is_year_of rules period f.year))) (IsLatestDetermined rules period v)
+    → MatchOption (latest_determined rules period v)
+    ((f : Figure) → Contains v.figures f → ¬ (IsTrue (is_year_of rules period f.year)))
+    (IsLatestDetermined rules period v)
 
 -- there is a figure, and it is below 0
 abbrev pub is_negative : Result ℤ FigureFault → Bool
@@ -156,21 +164,24 @@ abbrev pub counted_amount : RulesValue → ℕ → RetirementRow → ℕ
 counted_amount rules year row = if is_row_counted rules year row then row.amount else 0
 
 -- the figure of the year is 0 or more, and would be below 0 after the reversal
-abbrev pub turns_negative : RulesValue → ℕ → AccountValue → ℕ → Bool
-turns_negative rules number v year = is_compliant (figure_of rules v year) && is_negative (figure_of rules (unretired v number) year)
+abbrev pub becomes_negative : RulesValue → ℕ → AccountValue → ℕ → Bool
+becomes_negative rules number v year =
+    is_compliant (figure_of rules v year) && is_negative (figure_of rules (unretired v number) year)
 
 -- so it is for the latest year of this period that has a determined figure
-abbrev pub turns_in : RulesValue → ℕ → AccountValue → ℕ → Bool
-turns_in rules number v period = option_map_or (λ latest. turns_negative rules number v latest.year) (latest_determined rules period v) false
+abbrev pub becomes_negative_in : RulesValue → ℕ → AccountValue → ℕ → Bool
+becomes_negative_in rules number v period =
+    option_map_or (λ latest. becomes_negative rules number v latest.year) (latest_determined rules period v) false
 
 -- so it is for the period that allowances with this fate were surrendered for; deleted ones count for no figure
-abbrev pub turns_by : RulesValue → ℕ → AccountValue → Fate → Bool
-turns_by rules number v (fate.Surrendered period) = turns_in rules number v period
-turns_by rules number v fate.Deleted = false
+abbrev pub becomes_negative_by : RulesValue → ℕ → AccountValue → Fate → Bool
+becomes_negative_by rules number v (fate.Surrendered period) = becomes_negative_in rules number v period
+becomes_negative_by rules number v fate.Deleted = false
 
 -- the reversal of the row with this number would make the account non-compliant
 abbrev pub loses_compliance : RulesValue → ℕ → AccountValue → Bool
-loses_compliance rules number v = option_map_or (λ row. turns_by rules number v row.fate) (row_in v.rows number) false
+loses_compliance rules number v =
+    option_map_or (λ row. becomes_negative_by rules number v row.fate) (row_in v.rows number) false
 
 -- the reversal would make the first account non-compliant
 abbrev pub would_become_non_compliant : RulesValue → Change → Seen → Bool
@@ -214,7 +225,7 @@ fails c e i check.KindNotAllowed = is_kind_not_allowed c.rules (change_of i.act)
 fails c e i check.ZeroAmount = list_any (λ n. n == 0) (amounts i.act)
 fails c e i check.UnknownTransaction = is_unknown_transaction (change_of i.act) e
 fails c e i check.AlreadyReversed = is_already_reversed (change_of i.act) e
-fails c e i check.WindowClosed = is_window_closed c (change_of i.act) e
+fails c e i check.WindowClosed = is_window_over c (change_of i.act) e
 fails c e i check.NotEnough = is_short (movement_of i.act) e
 fails c e i check.HoldingTooLarge = overfills_first (change_of i.act) e || overfills_some (movement_of i.act) e
 fails c e i check.RetiredTooLarge = is_retired_too_large (change_of i.act) e

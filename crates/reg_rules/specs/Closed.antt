@@ -13,8 +13,8 @@ abbrev pub NothingIsDoneOnClosed : Type 0
 NothingIsDoneOnClosed = (c : Setting) (s : State) (i : Instruction) (a : ℕ)
     → refusal c s i ≡ None → Contains (footprint c.directory i.act) a → status s a ≢ Some Closed
 
--- law: an account that is closed before a step is the same after it: nothing goes in or out, and it keeps what it holds,
--- its lists and everything else
+-- law: an account that is closed before a step is the same after it: nothing goes in or out, and it keeps what it
+-- holds, its lists and everything else
 abbrev pub ClosedStaysInStep : Type 0
 ClosedStaysInStep = (c : Setting) (s : State) (number : ℕ) (i : Instruction) (a : ℕ)
     → status s a ≡ Some Closed → account (after_step c s number i) a ≡ account s a

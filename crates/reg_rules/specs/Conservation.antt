@@ -37,7 +37,8 @@ deletes kind made = 0
 abbrev pub deleted_by : AllowanceKind → Act → ℕ
 deleted_by kind act = deletes kind (change_of act)
 
--- how many deleted allowances of the kind the change of this account brings back: the amount of the deletion that it reverses
+-- how many deleted allowances of the kind the change of this account brings back: the amount of the deletion that it
+-- reverses
 abbrev pub undeletes : AllowanceKind → State → ℕ → Change → ℕ
 undeletes kind s a (Unretire number) = option_map_or (amount_in Deleted kind) (retirement_row s a number) 0
 undeletes kind s a made = 0
@@ -46,8 +47,10 @@ undeletes kind s a made = 0
 abbrev pub undeleted_by : AllowanceKind → State → Act → ℕ
 undeleted_by kind s act = undeletes kind s (first act) (change_of act)
 
--- law: an accepted instruction changes the number of allowances by what it creates, deletes and brings back, and by nothing else
+-- law: an accepted instruction changes the number of allowances by what it creates, deletes and brings back, and by
+-- nothing else
 abbrev pub StepConserves : Type 0
 StepConserves = (c : Setting) (s : State) (number : ℕ) (i : Instruction) (kind : AllowanceKind)
     → IsReady number s → refusal c s i ≡ None
-    → number_of kind (after_step c s number i) + deleted_by kind i.act ≡ number_of kind s + created_by kind i.act + undeleted_by kind s i.act
+    → number_of kind (after_step c s number i) + deleted_by kind i.act
+    ≡ number_of kind s + created_by kind i.act + undeleted_by kind s i.act

@@ -29,7 +29,8 @@ fate_of rules Deleted = fate.Deleted
 
 -- the row of a surrender or deletion that is carried out today under this record number
 abbrev pub new_row : Setting → ℕ → Retirement → AllowanceKind → ℕ → RetirementRow
-new_row c number way kind amount = record { number = number; fate = fate_of c.rules way; kind = kind; amount = amount; day = c.day; reversed = false }
+new_row c number way kind amount =
+    record { number = number; fate = fate_of c.rules way; kind = kind; amount = amount; day = c.day; reversed = false }
 
 -- an account with this figure as the determined one of the year, if there is a figure
 abbrev pub assessed : AccountValue → ℕ → Result ℤ FigureFault → AccountValue
@@ -67,11 +68,19 @@ given kind shares v = option_map_or (λ share. credited v kind share.amount) (sh
 
 -- an account after the act: the first after its own change, and each other one with its share
 abbrev pub by_part : Setting → ℕ → Act → AccountValue → AccountValue
-by_part c number act v = if v.number == first act then first_after c number act v else given (movement_of act).kind (shares act) v
+by_part c number act v =
+    if v.number == first act then first_after c number act v else given (movement_of act).kind (shares act) v
 
 -- the first account, with all that acts change taken from the second: no act changes more of an account than this
 abbrev pub with_changes : AccountValue → AccountValue → AccountValue
-with_changes v w = record v { status = w.status; held = w.held; trusted = w.trusted; rows = w.rows; emissions = w.emissions; figures = w.figures }
+with_changes v w = record v {
+  status = w.status;
+  held = w.held;
+  trusted = w.trusted;
+  rows = w.rows;
+  emissions = w.emissions;
+  figures = w.figures;
+}
 
 -- an account after the act, which is carried out under this record number
 abbrev pub changed_by : Setting → ℕ → Act → AccountValue → AccountValue
@@ -97,14 +106,15 @@ CanMake c number (Determine year) v = Unit {0}
 abbrev pub CanFirst : Setting → ℕ → Act → AccountValue → Type 0
 CanFirst c number act v = CanMake c number (change_of act) v
 
--- the account has room for its share
+-- the account has space for its share
 abbrev pub CanReceive : AllowanceKind → List Share → AccountValue → Type 0
-CanReceive kind shares v = MatchOption (share_of shares v.number) (Unit {0}) (λ share. held_by v kind + share.amount ≤ MOST_HELD)
+CanReceive kind shares v =
+    MatchOption (share_of shares v.number) (Unit {0}) (λ share. held_by v kind + share.amount ≤ MOST_HELD)
 
 -- what the act needs of an account
 pub record CanChange (c : Setting) (number : ℕ) (act : Act) (v : AccountValue) : Type 0 where
   pub as_first : v.number ≡ first act → CanFirst c number act v
-  pub room : CanReceive (movement_of act).kind (shares act) v
+  pub space : CanReceive (movement_of act).kind (shares act) v
 
 -- the record number is above those of the account's surrenders and deletions
 abbrev pub IsBehind : ℕ → AccountValue → Type 0

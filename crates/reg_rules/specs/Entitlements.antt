@@ -26,7 +26,8 @@ includes Both Approver = true
 
 -- the user may take the role: as a representative of this account whose right includes it, or as an administrator
 abbrev pub is_entitled : RulesValue → Who → Role → Option AccountValue → ℕ → Bool
-is_entitled rules Representatives role found user = passes (λ v. option_map_or (λ right. includes right role) (right_in v.users user) false) found
+is_entitled rules Representatives role found user =
+    passes (λ v. option_map_or (λ right. includes right role) (right_in v.users user) false) found
 is_entitled rules Administrators role found user = is_among rules.admins user
 
 -- the proposer may not propose the act
@@ -39,4 +40,5 @@ is_same_representative i = option_map_or (λ user. user == i.proposer) i.approve
 
 -- the approver, if there is one, may not approve the act
 abbrev pub is_not_approver : RulesValue → Instruction → Seen → Bool
-is_not_approver rules i e = option_map_or (λ user. not (is_entitled rules (rule_of i.act).who Approver e.first user)) i.approver false
+is_not_approver rules i e =
+    option_map_or (λ user. not (is_entitled rules (rule_of i.act).who Approver e.first user)) i.approver false

@@ -44,11 +44,27 @@ pub record Constants : Type 0 where
   pub users : List Representative
 
 abbrev pub constants_of : AccountValue → Constants
-constants_of v = record { number = v.number; kind = v.kind; holder = v.holder; outside = v.outside; waiver = v.waiver; correction = v.correction; corrections = v.corrections; users = v.users }
+constants_of v = record {
+  number = v.number;
+  kind = v.kind;
+  holder = v.holder;
+  outside = v.outside;
+  waiver = v.waiver;
+  correction = v.correction;
+  corrections = v.corrections;
+  users = v.users;
+}
 
 -- an account with all that acts change left out
 abbrev pub set_aside : AccountValue → AccountValue
-set_aside v = record v { status = Opened; held = record { general = 0; aviation = 0 }; trusted = []; rows = []; emissions = []; figures = [] }
+set_aside v = record v {
+  status = Opened;
+  held = record { general = 0; aviation = 0 };
+  trusted = [];
+  rows = [];
+  emissions = [];
+  figures = [];
+}
 
 -- the account of this number, with all that acts change left out
 abbrev pub account_aside : State → ℕ → Option AccountValue
@@ -56,9 +72,11 @@ account_aside s a = option_map set_aside (account s a)
 
 -- the accounts that an instruction touches decide its refusal
 abbrev pub RefusalIsLocal : Type 0
-RefusalIsLocal = (c : Setting) (s t : State) (i : Instruction) → AgreeOn (footprint c.directory i.act) s t → refusal c s i ≡ refusal c t i
+RefusalIsLocal = (c : Setting) (s t : State) (i : Instruction) → AgreeOn (footprint c.directory i.act) s t
+    → refusal c s i ≡ refusal c t i
 
--- if two states agree on the accounts that the instruction touches, it gets the same reply in both, and they agree afterwards wherever they agreed before
+-- if two states agree on the accounts that the instruction touches, it gets the same reply in both, and they agree
+-- afterwards wherever they agreed before
 abbrev pub StepIsLocal : Type 0
 StepIsLocal = (c : Setting) (s t : State) (number : ℕ) (i : Instruction) → AgreeOn (footprint c.directory i.act) s t
     → (reply_to c s number i ≡ reply_to c t number i)
@@ -71,7 +89,8 @@ OthersStay = (c : Setting) (s : State) (number : ℕ) (i : Instruction) (a : ℕ
 
 -- no account is added, removed or moved in the list
 abbrev pub NumbersStayInStep : Type 0
-NumbersStayInStep = (c : Setting) (s : State) (number : ℕ) (i : Instruction) → numbers (after_step c s number i) ≡ numbers s
+NumbersStayInStep = (c : Setting) (s : State) (number : ℕ) (i : Instruction)
+    → numbers (after_step c s number i) ≡ numbers s
 
 -- an account keeps its kind, its holder, its two switches, its correction factors and its representatives
 abbrev pub ConstantsStay : Type 0
@@ -87,17 +106,19 @@ RefusedChangesNothing = (c : Setting) (s : State) (number : ℕ) (i : Instructio
 abbrev pub SameState : Type 0
 SameState = (s t : State) → IsDistinct nat_eq (numbers s) → numbers s ≡ numbers t → AgreeOn (numbers s) s t → s ≡ t
 
--- what a step needs of a state: each account once and within its limits, and its surrenders and deletions recorded under lower numbers
+-- what a step needs of a state: each account once and within its limits, and its surrenders and deletions recorded
+-- under lower numbers
 pub record IsReady (number : ℕ) (s : State) : Type 0 where
   pub once : IsDistinct nat_eq (numbers s)
   pub fit : All IsAccount s
   pub behind : All (IsBehind number) s
 
--- a state that is ready for a record number is after the step ready for the next one: limits are kept (if the rules, the
--- settlement day and the record number are within theirs)
+-- a state that is ready for a record number is after the step ready for the next one: limits are kept (if the rules,
+-- the settlement day and the record number are within theirs)
 abbrev pub StaysReadyInStep : Type 0
 StaysReadyInStep = (c : Setting) (s : State) (number : ℕ) (i : Instruction)
-    → AreRules c.rules → IsDayNo c.day → IsRecordNo number → IsInstruction i → IsReady number s → IsReady (number + 1) (after_step c s number i)
+    → AreRules c.rules → IsDayNo c.day → IsRecordNo number → IsInstruction i → IsReady number s
+    → IsReady (number + 1) (after_step c s number i)
 
 -- what holds of every step, whatever its act
 pub record StepLaws : Type 0 where

@@ -76,7 +76,10 @@ pub record Seen : Type 0 where
 
 -- the accounts of a movement in a state
 abbrev pub seen_by : Movement → State → Seen
-seen_by m s = record { first = account s m.first; receivers = map (λ share. record { account = account s share.to; amount = share.amount }) m.shares }
+seen_by m s = record {
+  first = account s m.first;
+  receivers = map (λ share. record { account = account s share.to; amount = share.amount }) m.shares;
+}
 
 -- what an act sees of a state
 abbrev pub seen : State → Act → Seen

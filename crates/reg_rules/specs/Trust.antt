@@ -16,7 +16,8 @@ use Rattle.reg_rules.specs.State.{Setting, Seen, passes}
 
 -- on this day the first account trusts each that receives
 abbrev pub trusts_receivers : ℕ → Seen → Bool
-trusts_receivers day e = passes (λ v. list_all (λ r. passes (λ w. trusts v w.number w.holder day) r.account) e.receivers) e.first
+trusts_receivers day e =
+    passes (λ v. list_all (λ r. passes (λ w. trusts v w.number w.holder day) r.account) e.receivers) e.first
 
 -- how many working days lie between the proposal and the due day, by whether the accounts that receive are trusted
 abbrev pub lag_by : RulesValue → LagRule → Bool → ℕ
@@ -36,7 +37,8 @@ is_waived c NoLag e = false
 abbrev pub lacks_approval : Setting → Instruction → Seen → Bool
 lacks_approval c i e = is_none i.approver && not (is_waived c (rule_of i.act).lag e)
 
--- an act that depends on trust, to an account that is not trusted, from an account that allows transfers only to those that are
+-- an act that depends on trust, to an account that is not trusted, from an account that allows transfers only to those
+-- that are
 abbrev pub is_not_trusted : Setting → LagRule → Seen → Bool
 is_not_trusted c ByTrust e = not (trusts_receivers c.day e) && not (passes (λ v. v.outside) e.first)
 is_not_trusted c NoLag e = false

@@ -38,7 +38,9 @@ pub(crate) fn overfills_some(movement: &Movement, accounts: &[Account]) -> bool
 }
 
 fn overfills_one(kind: AllowanceKind, shares: &[Share], accounts: &[Account]) -> bool
-    ensures { result ≡ list_any (λ share. overfills kind (record { account = account accounts.now share.to; amount = share.amount })) shares.now }
+    ensures { result ≡ list_any
+        (λ share. overfills kind
+        (record { account = account accounts.now share.to; amount = share.amount })) shares.now }
 {
     shares.iter().any(|share| overfills(kind, share, accounts))
 }
@@ -71,7 +73,8 @@ fn overfills_by(kind: AllowanceKind, to: AccountNo, amount: u64, accounts: &[Acc
 
 // Whether the account would hold more allowances than it may with its share.
 fn overfills(kind: AllowanceKind, share: &Share, accounts: &[Account]) -> bool
-    ensures { result ≡ overfills kind (record { account = account accounts.now share.now.to; amount = share.now.amount }) }
+    ensures { result ≡ overfills kind
+        (record { account = account accounts.now share.now.to; amount = share.now.amount }) }
 {
     MOST_HELD - held_at(accounts, share.to, kind) < share.amount
 }

@@ -17,7 +17,7 @@ use crate::compliance::{enters_too_much, lacks_emissions, names_year_outside};
 use crate::entitlement::{is_not_approver, is_not_proposer, is_same_representative};
 use crate::parties::{destination_allows, has_right_kinds, names_one_twice, source_allows};
 use crate::reversal::{
-    is_reversal, is_reversed, is_window_closed, row_to_reverse, would_become_non_compliant,
+    is_reversal, is_reversed, is_window_over, row_to_reverse, would_become_non_compliant,
 };
 use crate::rule::rule_of;
 use crate::setting::Setting;
@@ -40,7 +40,8 @@ pub fn decide(
     accounts: &[Account],
 ) -> Option<Refusal>
     requires { numbers accounts.now ≡ footprint directory.now instruction.now.act }
-    ensures { result ≡ refusal (record { rules = rules.now; day = day; directory = directory.now }) accounts.now instruction.now }
+    ensures { result ≡ refusal
+        (record { rules = rules.now; day = day; directory = directory.now }) accounts.now instruction.now }
 {
     // No check asks for the record number yet.
     let _unused_yet = number;
@@ -124,7 +125,7 @@ fn refuses(
         ZeroAmount => movement.names_zero(),
         UnknownTransaction => is_reversal(&movement.change) && row.is_none(),
         AlreadyReversed => is_reversed(row),
-        WindowClosed => is_window_closed(setting, row),
+        WindowClosed => is_window_over(setting, row),
         NotEnough => is_short(movement, accounts),
         HoldingTooLarge => {
             overfills_first(movement, row, accounts) || overfills_some(movement, accounts)

@@ -11,9 +11,9 @@ use reg_account::laws::{changes_keep_limits, number_laws, trust_laws, year_laws}
 
 /// The laws of every step, whatever its act. The accounts that an instruction touches decide its refusal, its reply
 /// and the new value of each account. An account that it does not touch stays as it is. No account is added, removed
-/// or moved. None changes its kind, holder, permissions, correction factors or representatives, and each stays within its limits. A
-/// refused instruction changes nothing. Two states are equal if they have the same numbers, each once, and the same
-/// account at each of them.
+/// or moved. None changes its kind, holder, permissions, correction factors or representatives, and each stays within
+/// its limits. A refused instruction changes nothing. Two states are equal if they have the same numbers, each once,
+/// and the same account at each of them.
 pub fn step_laws()
     ensures { StepLaws }
 {
@@ -45,8 +45,8 @@ pub fn step_keeps_closed()
     ensures status { ClosedIsNeverLeftInStep }
 {}
 
-/// The determined figure that check 22 looks at is that of the latest year of the period, since an account's figures rise
-/// by year.
+/// The determined figure that check 22 looks at is that of the latest year of the period, since an account's figures
+/// rise by year.
 pub fn latest_is_of_the_latest_year()
     ensures { LatestIsOfTheLatestYear }
 {}

@@ -24,7 +24,9 @@ pub(crate) fn find_account(accounts: &[Account], number: AccountNo) -> Option<&A
 
 // Whether the act names an account twice.
 pub(crate) fn names_one_twice(movement: &Movement) -> bool
-    ensures { result ≡ has_repeat ((movement.now.first ∷ map (λ share. share.to) movement.now.shares) ++ option_to_list (other_known movement.now.change)) }
+    ensures { result ≡ has_repeat
+        ((movement.now.first ∷ map (λ share. share.to) movement.now.shares)
+        ++ option_to_list (other_known movement.now.change)) }
 {
     has_repeat(
         movement.first,
@@ -85,7 +87,8 @@ pub(crate) fn has_right_kinds(rule: ActRule, movement: &Movement, accounts: &[Ac
 }
 
 fn receivers_fit(rule: KindRule, first: AccountKind, shares: &[Share], accounts: &[Account]) -> bool
-    ensures { result ≡ list_all (λ share. passes (λ v. fits_receiver rule first v.kind) (account accounts.now share.to)) shares.now }
+    ensures { result ≡ list_all
+        (λ share. passes (λ v. fits_receiver rule first v.kind) (account accounts.now share.to)) shares.now }
 {
     shares
         .iter()
@@ -121,7 +124,8 @@ fn first_may_receive(rule: StatusRule, first: AccountNo, accounts: &[Account]) -
 }
 
 fn none_is_closed(shares: &[Share], accounts: &[Account]) -> bool
-    ensures { result ≡ list_all (λ share. passes (λ v. is_not_closed v.status) (account accounts.now share.to)) shares.now }
+    ensures { result ≡ list_all
+        (λ share. passes (λ v. is_not_closed v.status) (account accounts.now share.to)) shares.now }
 {
     shares.iter().all(|share| may_receive(share.to, accounts))
 }

@@ -7,7 +7,7 @@ ghost use Rattle.reg_account.specs.Rows.{row_in};
 ghost use Rattle.reg_account.specs.Figure.{is_for_year};
 ghost use Rattle.reg_account.specs.Laws.{lowered_by};
 ghost use Rattle.reg_rules.specs.State.{seen_by};
-ghost use Rattle.reg_rules.specs.Checks.{is_reversal, row_to_reverse, is_past_window, counted_amount, is_compliant, is_negative, turns_negative, turns_in, turns_by, loses_compliance, would_become_non_compliant};
+ghost use Rattle.reg_rules.specs.Checks.{is_reversal, row_to_reverse, is_past_window, counted_amount, is_compliant, is_negative, becomes_negative, becomes_negative_in, becomes_negative_by, loses_compliance, would_become_non_compliant};
 
 use crate::parties::find_account;
 use crate::setting::Setting;
@@ -46,7 +46,7 @@ pub(crate) fn is_reversed(row: Option<RetirementRow>) -> bool
 }
 
 /// Whether the last day for the reversal of the row is over.
-pub(crate) fn is_window_closed(setting: &Setting, row: Option<RetirementRow>) -> bool
+pub(crate) fn is_window_over(setting: &Setting, row: Option<RetirementRow>) -> bool
     ensures { result ≡ option_map_or (is_past_window setting.now) row false }
 {
     match row {
@@ -101,24 +101,29 @@ fn loses_compliance(
     ensures { result ≡ loses_compliance rules.now number account.now }
 {
     match row {
-        Some(row) => turns_by(rules, number, row, account),
+        Some(row) => becomes_negative_by(rules, number, row, account),
         None => false,
     }
 }
 
-// Whether the figure that the row's allowances count for turns negative. Deleted ones count for none.
-fn turns_by(rules: &Rules, number: RecordNo, row: RetirementRow, account: &Account) -> bool
+// Whether the figure that the row's allowances count for becomes negative. Deleted ones count for none.
+fn becomes_negative_by(
+    rules: &Rules,
+    number: RecordNo,
+    row: RetirementRow,
+    account: &Account,
+) -> bool
     requires { row_in account.now.rows number ≡ Some row }
-    ensures { result ≡ turns_by rules.now number account.now row.fate }
+    ensures { result ≡ becomes_negative_by rules.now number account.now row.fate }
 {
     match row.fate {
-        Fate::Surrendered { period } => turns_in(rules, number, row, account, period),
+        Fate::Surrendered { period } => becomes_negative_in(rules, number, row, account, period),
         Fate::Deleted => false,
     }
 }
 
-// Whether the figure of the latest year of the period turns negative that has a determined one.
-fn turns_in(
+// Whether the figure of the latest year of the period becomes negative that has a determined one.
+fn becomes_negative_in(
     rules: &Rules,
     number: RecordNo,
     row: RetirementRow,
@@ -126,10 +131,10 @@ fn turns_in(
     period: u8,
 ) -> bool
     requires { row_in account.now.rows number ≡ Some row }
-    ensures { result ≡ turns_in rules.now number account.now period }
+    ensures { result ≡ becomes_negative_in rules.now number account.now period }
 {
     match latest_determined(rules, period, account.all_figures()) {
-        Some(latest) => turns_negative(rules, number, row, account, latest.year),
+        Some(latest) => becomes_negative(rules, number, row, account, latest.year),
         None => false,
     }
 }
@@ -146,7 +151,7 @@ fn latest_determined(rules: &Rules, period: u8, figures: &[Figure]) -> Option<Fi
 }
 
 // Whether the figure of the year is 0 or more, and would be below 0 after the reversal.
-fn turns_negative(
+fn becomes_negative(
     rules: &Rules,
     _number: RecordNo,
     row: RetirementRow,
@@ -154,7 +159,7 @@ fn turns_negative(
     year: Year,
 ) -> bool
     requires { row_in account.now.rows _number ≡ Some row }
-    ensures { result ≡ turns_negative rules.now _number account.now year }
+    ensures { result ≡ becomes_negative rules.now _number account.now year }
 {
     figure_laws();
     account.is_within_limits();

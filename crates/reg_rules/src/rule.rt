@@ -59,8 +59,8 @@ pub enum Role {
 /// The lag between the day of the proposal and the due day, and with it whether trust decides on the approval.
 #[derive(Clone, Copy, Debug, PartialEq, Eq)]
 pub enum LagRule {
-    /// The lag of transfers: one if the account that receives is trusted on the settlement day, another if it is not. The
-    /// first account may need no approval if it is, and may forbid the act if it is not.
+    /// The lag of transfers: one if the account that receives is trusted on the settlement day, another if it is not.
+    /// The first account may need no approval if it is, and may forbid the act if it is not.
     ByTrust,
     /// None.
     NoLag,

@@ -24,7 +24,13 @@ impl<'a> Model for Setting<'a> {
 
     ghost Value = { SettingValue };
 
-    ghost coded = { Prim.hlevel (codes, account_kind.the_row.coded, allowance_kind.the_row.coded, map.code {R = nat_cmp} coded_ℕ (coded× account_kind.the_row.coded coded_ℕ)) };
+    ghost coded = { Prim.hlevel (
+      codes,
+      account_kind.the_row.coded,
+      allowance_kind.the_row.coded,
+      map.code {R = nat_cmp} coded_ℕ
+          (coded× account_kind.the_row.coded coded_ℕ),
+    ) };
 
     ghost view = { λ s. record { rules = s.rules.now; day = s.day; directory = s.directory.now } };
 }

@@ -45,8 +45,14 @@ pub fn execute(
 ) -> Result<Reply, NoMemory>
     requires own { numbers accounts.old ≡ footprint directory.now instruction.now.act }
     requires behind { All (IsBehind number) accounts.old }
-    ensures ok { IfOk result (λ reply. (accounts.new, reply) ≡ step (record { rules = rules.now; day = day; directory = directory.now }) accounts.old number instruction.now) }
-    ensures err { OnErr result ((accounts.new ≡ accounts.old) × (refusal (record { rules = rules.now; day = day; directory = directory.now }) accounts.old instruction.now ≡ None)) }
+    ensures ok { IfOk result
+        (λ reply. (accounts.new, reply)
+        ≡ step (record { rules = rules.now; day = day; directory = directory.now }) accounts.old number
+        instruction.now) }
+    ensures err { OnErr result
+        ((accounts.new ≡ accounts.old)
+        × (refusal (record { rules = rules.now; day = day; directory = directory.now }) accounts.old instruction.now
+        ≡ None)) }
 {
     let setting = Setting {
         rules,
@@ -109,7 +115,8 @@ fn change_first(
     account: &mut Account,
 ) -> Result<(), NoMemory>
     requires { CanMake setting.now number change.now account.old }
-    ensures ok { OnOk result (account.new ≡ with_changes account.old (made_by setting.now number change.now account.old)) }
+    ensures ok { OnOk result
+        (account.new ≡ with_changes account.old (made_by setting.now number change.now account.old)) }
     ensures err { OnErr result (account.new ≡ account.old) }
 {
     match *change {

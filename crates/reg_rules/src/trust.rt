@@ -26,7 +26,8 @@ pub(crate) fn trusts_receivers(day: Day, movement: &Movement, accounts: &[Accoun
 }
 
 fn trusts_each(day: Day, first: &Account, shares: &[Share], accounts: &[Account]) -> bool
-    ensures { result ≡ list_all (λ share. passes (λ w. trusts first.now w.number w.holder day) (account accounts.now share.to)) shares.now }
+    ensures { result ≡ list_all
+        (λ share. passes (λ w. trusts first.now w.number w.holder day) (account accounts.now share.to)) shares.now }
 {
     shares
         .iter()
@@ -45,7 +46,8 @@ fn trusts_one(day: Day, first: &Account, to: AccountNo, accounts: &[Account]) ->
 /// The day on which the instruction falls due, if the calendar has it, given whether each account that receives is
 /// trusted.
 pub(crate) fn due_day(setting: &Setting, instruction: &Instruction, trusted: bool) -> Option<Day>
-    ensures { result ≡ due setting.now.rules.calendar instruction.now.proposed (lag_by setting.now.rules (rule_of instruction.now.act).lag trusted) }
+    ensures { result ≡ due setting.now.rules.calendar instruction.now.proposed
+        (lag_by setting.now.rules (rule_of instruction.now.act).lag trusted) }
 {
     let lag = lag_by(setting.rules, rule_of(&instruction.act).lag, trusted);
     setting.rules.calendar().due(instruction.proposed, lag)

@@ -17,7 +17,7 @@ use Rattle.reg_plan.specs.Plans.{PlanValue, IsPlan}
 use Rattle.reg_plan.specs.Laws.{TailsAreLastTouchers}
 use Rattle.reg_book.specs.Day.{Day, setting, state_at, value_at, row_at}
 use Rattle.reg_book.specs.Laws.{EachIsAStep, NumbersStay, ValueIsLastTouchers}
-use Rattle.reg_schedules.specs.Pool.{directory, footprint_at, run_at, tail_of, leads_on, Progress, at_first, needed, removed, laid, closed, with_log_row, after_place, executed_on, executed}
+use Rattle.reg_schedules.specs.Pool.{directory, footprint_at, run_at, tail_of, leads_on, Progress, at_first, needed, removed, laid, with_closing, with_log_row, after_place, executed_on, executed}
 use Rattle.reg_schedules.proofs.Members.{among_push}
 use Rattle.reg_schedules.proofs.Tails as tails
 use Rattle.reg_schedules.proofs.Tails.{clash}
@@ -251,7 +251,7 @@ module _ (k : Known) (day : Day) (plan : PlanValue) (made : IsPlan (directory da
         ]
       ]
 
-    closing_after : (a : ℕ) → closed plan place (footprint_at day place) m.results p.closing a
+    closing_after : (a : ℕ) → with_closing plan place (footprint_at day place) m.results p.closing a
         ≡ cond (is_among (done ++ place ∷ []) (last_at a)) (value_at day a (length day.batch.instructions)) None
     closing_after a = by (is_among (footprint_at day place) a) refl (leads_on plan place a) refl where
       stays : (place ≡ last_at a → ⊥) → p.closing a ≡ cond (is_among (done ++ place ∷ []) (last_at a)) (value_at day a (length day.batch.instructions)) None

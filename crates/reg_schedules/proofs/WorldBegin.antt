@@ -24,7 +24,7 @@ use Rattle.reg_schedules.proofs.Tails.{is_place, is_within}
 use Rattle.reg_counting.proofs.Totals.{total-replicate}
 use Rattle.reg_schedules.proofs.WorldSums.{get-within, at_within}
 use Rattle.reg_schedules.proofs.WorldCounts.{complete-place}
-use Rattle.reg_schedules.proofs.WorldStart.{turn, length-docks}
+use Rattle.reg_schedules.proofs.WorldStart.{next_worker, length-docks}
 use Rattle.reg_schedules.proofs.WorldFits.{Fits, IsTask, IsHand, IsDock, Awaits, On, all-set, all-get, all-append, complete_names}
 use Rattle.reg_schedules.proofs.WorldReach.{times, carried, sent, lying, come_in, count, count-once, name_differs, complete-has}
 use Rattle.reg_schedules.proofs.WorldSent.{Reaches}
@@ -36,7 +36,7 @@ all-dealt P worker (t ∷ ts) lists lt all there =
     let l = get-within lists worker lt in
     let more : pushed_to worker t lists ≡ slice_set lists worker (l.0 ++ t ∷ []) = rw l.1 refl in
     let long = length-set lists worker (l.0 ++ t ∷ []) in
-    rw more (all-dealt P (if eqb (suc worker) (length lists) then 0 else suc worker) ts (slice_set lists worker (l.0 ++ t ∷ [])) (rw long (turn worker (length lists) lt)) all.1
+    rw more (all-dealt P (if eqb (suc worker) (length lists) then 0 else suc worker) ts (slice_set lists worker (l.0 ++ t ∷ [])) (rw long (next_worker worker (length lists) lt)) all.1
     (all-set (AllByRecursion P) lists worker (l.0 ++ t ∷ []) there (all-append P l.0 (t ∷ []) (all-get (AllByRecursion P) lists worker l.0 there l.1) (all.0, tt))))
 
 pub all-replicate : {X : Type 0} (P : X → Type 0) (n : ℕ) (x : X) → P x → AllByRecursion P (replicate n x)

@@ -13,7 +13,7 @@ use Rattle.reg_rules.specs.State.{State, account, numbers}
 use Rattle.reg_plan.specs.Plans.{PlanValue, IsPlan, inward}
 use Rattle.reg_book.specs.Day.{Day, value_at}
 use Rattle.reg_schedules.specs.declared.event.Event.{Event}
-use Rattle.reg_schedules.specs.Pool.{directory, footprint_at, run_at, tail_of, leads_on, Progress, at_first, and_more, needed, closed, with_log_row, after_place, executed, executed_all}
+use Rattle.reg_schedules.specs.Pool.{directory, footprint_at, run_at, tail_of, leads_on, Progress, at_first, and_more, needed, with_closing, with_log_row, after_place, executed, executed_all}
 use Rattle.reg_schedules.specs.Docks.{ParcelValue, TaskValue, names_needed, complete}
 use Rattle.reg_schedules.specs.World.{Holds, WorldValue, at_place, with_place, left_by, goes_on, after_run, after_delivery, at_start, is_in_dock, is_done, world_after}
 use Rattle.reg_schedules.specs.Schedules.{IsRight, AreRight, in_hand, world_row_in, IsEachParcel, IsMadeBy}
@@ -267,7 +267,7 @@ module _ (k : Known) (day : Day) (plan : PlanValue) (made : IsPlan (directory da
         by None f = refl
         by (Some v) f = absurd cc
 
-    closing-then : (a : ℕ) → closed plan task.place (footprint_at day task.place) out.0 h.progress.closing a ≡ account (w.closing ++ closing_of plan task.place out.0) a
+    closing-then : (a : ℕ) → with_closing plan task.place (footprint_at day task.place) out.0 h.progress.closing a ≡ account (w.closing ++ closing_of plan task.place out.0) a
     closing-then a = by (is_among (footprint_at day task.place) a) refl (leads_on plan task.place a) refl ∙ sym (account-append w.closing (closing_of plan task.place out.0) a)
       where
         by : (b : Bool) → is_among (footprint_at day task.place) a ≡ b → (c : Bool) → leads_on plan task.place a ≡ c

@@ -21,8 +21,8 @@ length-dealt : (worker : ℕ) (tasks : List TaskValue) (lists : List (List TaskV
 length-dealt worker [] lists = refl
 length-dealt worker (t ∷ ts) lists = length-dealt (if eqb (suc worker) (length lists) then 0 else suc worker) ts (pushed_to worker t lists) ∙ length-set lists worker _
 
-pub turn : (worker many : ℕ) → worker < many → (if eqb (suc worker) many then 0 else suc worker) < many
-turn worker many lt = by (eqb (suc worker) many) refl
+pub next_worker : (worker many : ℕ) → worker < many → (if eqb (suc worker) many then 0 else suc worker) < many
+next_worker worker many lt = by (eqb (suc worker) many) refl
   where
     by : (b : Bool) → eqb (suc worker) many ≡ b → (if b then 0 else suc worker) < many
     by true e = omega (arith, lt)
@@ -37,7 +37,7 @@ total-dealt f worker (t ∷ ts) lists lt =
     let l = get-within lists worker lt in
     let more : pushed_to worker t lists ≡ slice_set lists worker (l.0 ++ t ∷ []) = rw l.1 refl in
     let long = length-set lists worker (l.0 ++ t ∷ []) in
-    let next = total-dealt f (if eqb (suc worker) (length lists) then 0 else suc worker) ts (slice_set lists worker (l.0 ++ t ∷ [])) (rw long (turn worker (length lists) lt)) in
+    let next = total-dealt f (if eqb (suc worker) (length lists) then 0 else suc worker) ts (slice_set lists worker (l.0 ++ t ∷ [])) (rw long (next_worker worker (length lists) lt)) in
     rw more (omega (arith, next, total-set (total f) lists worker l.0 (l.0 ++ t ∷ []) l.1, total-append f l.0 (t ∷ [])))
 
 module _ (day : Day) (plan : PlanValue) where

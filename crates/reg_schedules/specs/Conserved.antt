@@ -1,5 +1,5 @@
--- The number of allowances after a day's instructions: one after another, in every legal order and by every schedule that
--- ends.
+-- The number of allowances after a day's instructions: one after another, in every legal order and by every schedule
+-- that ends.
 use Rattle.std.specs.Prelude.{◌≡◌, ℕ, ◌+◌, ◌≤◌, true, List, length, map, unwrap_or, Option, Some}
 use Rattle.reg_base.specs.declared.kinds.AllowanceKind.{AllowanceKind}
 use Rattle.reg_account.specs.Account.{AccountValue}
@@ -18,17 +18,20 @@ use Rattle.reg_schedules.specs.World.{WorldValue, world_after, is_over}
 abbrev pub closing_book : Day → (ℕ → Option AccountValue) → State
 closing_book day closing = map (λ v. unwrap_or (closing v.number) v) day.book.accounts
 
--- the number of allowances that these accounts hold or have surrendered differs from the opening number only by accepted
--- creations, deletions and reversals of deletions
+-- the number of allowances that these accounts hold or have surrendered differs from the opening number only by
+-- accepted creations, deletions and reversals of deletions
 abbrev pub IsConserved : Day → State → Type 0
-IsConserved day after = (kind : AllowanceKind) → number_of kind after + deleted day kind ≡ number_of kind day.book.accounts + created day kind + undeleted day kind
+IsConserved day after = (kind : AllowanceKind)
+    → number_of kind after + deleted day kind ≡ number_of kind day.book.accounts + created day kind + undeleted day kind
 
--- law: no allowance appears or vanishes otherwise, whether the instructions are executed one after another, in any legal
--- order, or by any schedule that ends
+-- law: no allowance appears or vanishes otherwise, whether the instructions are executed one after another, in any
+-- legal order, or by any schedule that ends
 pub record ConservedByAll (day : Day) (plan : PlanValue) : Type 0 where
   pub one_by_one : IsConserved day (state_at day (length day.batch.instructions))
-  pub orders : (order : List ℕ) (end : Progress) → IsLegalOrder plan order → meaning_of day plan order ≡ Some end → IsConserved day (closing_book day end.closing)
-  pub schedules : (workers : ℕ) (events : List Event) (world : WorldValue) → 1 ≤ workers → world_after day plan workers events ≡ Some world → is_over world ≡ true
+  pub orders : (order : List ℕ) (end : Progress) → IsLegalOrder plan order → meaning_of day plan order ≡ Some end
+      → IsConserved day (closing_book day end.closing)
+  pub schedules : (workers : ℕ) (events : List Event) (world : WorldValue) → 1 ≤ workers
+      → world_after day plan workers events ≡ Some world → is_over world ≡ true
       → IsConserved day (closing_book day (account world.closing))
 
 abbrev pub Conserved : Type 0

@@ -1,5 +1,5 @@
--- What an order of the instructions means. Each instruction takes the values that it needs from a pool, is carried out on
--- them alone, and puts back what it made of them.
+-- What an order of the instructions means. Each instruction takes the values that it needs from a pool, is carried out
+-- on them alone, and puts back what it made of them.
 use Rattle.std.specs.Prelude.{◌≡◌, ℕ, zero, suc, ◌+◌, ◌≤◌, ◌==◌, Bool, ◌&&◌, true, not, List, [], ◌∷◌, length, slice_get, find, Option, Some, None, is_some, if◌then◌else◌}
 use Rattle.std.specs.Option.{option_map, option_map_or}
 use Rattle.std.specs.List.{list_any}
@@ -28,7 +28,9 @@ footprint_at day (suc k) = option_map_or (λ i. footprint (directory day) i.act)
 abbrev pub run_at : Day → ℕ → State → Option (State × LogRow)
 run_at day zero own = None
 run_at day (suc k) own =
-    option_map (λ i. let one = step (setting day) own (day.batch.base + suc k) i in (one.0, row_of (setting day) (day.batch.base + suc k) i one.1)) (slice_get day.batch.instructions k)
+    option_map (λ i. let one = step (setting day) own
+    (day.batch.base + suc k) i in (one.0, row_of (setting day) (day.batch.base + suc k) i one.1))
+    (slice_get day.batch.instructions k)
 
 -- of these arrows to a place, the tail of the one at the account, or 0 if there is none
 abbrev pub tail_in : List Arrow → ℕ → ℕ
@@ -56,7 +58,8 @@ pub record Progress : Type 0 where
 -- before the first instruction: the pool has the opening value of each touched account, under its number and 0
 abbrev pub at_first : Day → Progress
 at_first day = record {
-  pool = λ a place. if (place == 0) && is_touched (directory day) day.batch.instructions a then account day.book.accounts a else None;
+  pool = λ a place. if (place == 0)
+      && is_touched (directory day) day.batch.instructions a then account day.book.accounts a else None;
   closing = λ a. None;
   rows = λ place. None;
 }
@@ -74,15 +77,18 @@ needed plan pool place (a ∷ more) = and_more (pool a (tail_of plan place a)) (
 
 -- the pool without them
 abbrev pub removed : PlanValue → ℕ → List ℕ → Pool → Pool
-removed plan place accounts pool = λ a named. if is_among accounts a && (named == tail_of plan place a) then None else pool a named
+removed plan place accounts pool =
+    λ a named. if is_among accounts a && (named == tail_of plan place a) then None else pool a named
 
 -- the pool with each result from which an arrow leads on, named by its account and the place
 abbrev pub laid : PlanValue → ℕ → List ℕ → State → Pool → Pool
-laid plan place accounts results pool = λ a named. if is_among accounts a && ((named == place) && leads_on plan place a) then account results a else pool a named
+laid plan place accounts results pool = λ a named. if is_among accounts a
+    && ((named == place) && leads_on plan place a) then account results a else pool a named
 
 -- the closing values with each result from which no arrow leads on
-abbrev pub closed : PlanValue → ℕ → List ℕ → State → (ℕ → Option AccountValue) → ℕ → Option AccountValue
-closed plan place accounts results closing = λ a. if is_among accounts a && not (leads_on plan place a) then account results a else closing a
+abbrev pub with_closing : PlanValue → ℕ → List ℕ → State → (ℕ → Option AccountValue) → ℕ → Option AccountValue
+with_closing plan place accounts results closing =
+    λ a. if is_among accounts a && not (leads_on plan place a) then account results a else closing a
 
 -- the rows with that of this place
 abbrev pub with_log_row : ℕ → LogRow → (ℕ → Option LogRow) → ℕ → Option LogRow
@@ -92,7 +98,7 @@ with_log_row place row rows = λ other. if other == place then Some row else row
 abbrev pub after_place : Day → PlanValue → Progress → ℕ → State × LogRow → Progress
 after_place day plan p place made = record {
   pool = laid plan place (footprint_at day place) made.0 (removed plan place (footprint_at day place) p.pool);
-  closing = closed plan place (footprint_at day place) made.0 p.closing;
+  closing = with_closing plan place (footprint_at day place) made.0 p.closing;
   rows = with_log_row place made.1 p.rows;
 }
 
@@ -103,7 +109,8 @@ executed_on day plan p place (Some own) = option_map (after_place day plan p pla
 
 -- it is also undefined if the instruction was executed already
 abbrev pub executed : Day → PlanValue → Progress → ℕ → Option Progress
-executed day plan p place = if is_some (p.rows place) then None else executed_on day plan p place (needed plan p.pool place (footprint_at day place))
+executed day plan p place = if is_some (p.rows place) then None
+    else executed_on day plan p place (needed plan p.pool place (footprint_at day place))
 
 -- executing the instructions at these places, one after another, as far as all are defined
 abbrev pub executed_all : Day → PlanValue → Option Progress → List ℕ → Option Progress
@@ -117,5 +124,6 @@ meaning_of day plan order = executed_all day plan (Some (at_first day)) order
 
 -- all instructions are executed; their rows are those of the day, and the closing values are the settled accounts
 pub record IsSettledDay (day : Day) (p : Progress) : Type 0 where
-  pub rows : (place : ℕ) → 1 ≤ place → place ≤ length day.batch.instructions → (is_some (p.rows place) ≡ true) × (p.rows place ≡ row_at day place)
+  pub rows : (place : ℕ) → 1 ≤ place → place ≤ length day.batch.instructions
+      → (is_some (p.rows place) ≡ true) × (p.rows place ≡ row_at day place)
   pub closing : (a : ℕ) → p.closing a ≡ account (settled_day day).accounts a

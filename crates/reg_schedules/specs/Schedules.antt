@@ -36,8 +36,8 @@ IsRight day p = value_at day p.value.number p.after ≡ Some p.value
 abbrev pub AreRight : Day → List ParcelValue → Type 0
 AreRight day parcels = AllByRecursion (IsRight day) parcels
 
--- each value and each row is the one that the instructions give one after another; the accounts that no instruction needs
--- any more are as they are at the end
+-- each value and each row is the one that the instructions give one after another; the accounts that no instruction
+-- needs any more are as they are at the end
 pub record HasRightValues (day : Day) (world : WorldValue) : Type 0 where
   pub docks : AllByRecursion (λ d. AreRight day (in_dock d)) world.docks
   pub lists : AllByRecursion (AllByRecursion (λ t. AreRight day t.parcels)) world.lists
@@ -56,8 +56,8 @@ pub record IsWorldSettled (day : Day) (world : WorldValue) : Type 0 where
   pub rows : world.rows ≡ map Some (log_of day)
   pub accounts : AreLastValues day world.closing
 
--- law: after every schedule each value is the one of its name and each row the one of its instruction; a world that is over
--- has the settled day
+-- law: after every schedule each value is the one of its name and each row the one of its instruction; a world that is
+-- over has the settled day
 pub record ScheduleDecides (day : Day) (world : WorldValue) : Type 0 where
   pub right : HasRightValues day world
   pub settled : is_over world ≡ true → IsWorldSettled day world
@@ -72,7 +72,9 @@ times_among name parcels = total (λ p. one_if (is_name (name_of p) name)) parce
 
 abbrev pub times_named : WorldValue → ℕ × ℕ → ℕ
 times_named world name =
-    total (λ d. times_among name (in_dock d)) world.docks + (total (total (λ t. times_among name t.parcels)) world.lists + total (λ h. times_among name (in_hand h)) world.hands)
+    total (λ d. times_among name (in_dock d)) world.docks
+    + (total (total (λ t. times_among name t.parcels)) world.lists
+    + total (λ h. times_among name (in_hand h)) world.hands)
 
 -- the row of a place, if it is done
 abbrev pub world_row_in : WorldValue → ℕ → Option LogRow
@@ -84,29 +86,33 @@ pub record IsEachParcel (is_so : ParcelValue → Type 0) (world : WorldValue) : 
   pub lists : AllByRecursion (AllByRecursion (λ t. AllByRecursion is_so t.parcels)) world.lists
   pub hands : AllByRecursion (λ h. AllByRecursion is_so (in_hand h)) world.hands
 
--- this order of the places that are done has made what a world has: its rows, and the accounts that no instruction needs any
--- more
-pub record IsMadeBy (day : Day) (plan : PlanValue) (order : List ℕ) (progress : Progress) (world : WorldValue) : Type 0 where
+-- this order of the places that are done has made what a world has: its rows, and the accounts that no instruction
+-- needs any more
+pub record IsMadeBy (day : Day) (plan : PlanValue) (order : List ℕ) (progress : Progress)
+    (world : WorldValue) : Type 0 where
   pub meaning : meaning_of day plan order ≡ Some progress
   pub done : (place : ℕ) → is_among order place ≡ is_done world place
   pub rows : (place : ℕ) → progress.rows place ≡ world_row_in world place
   pub closing : (a : ℕ) → progress.closing a ≡ account world.closing a
 
--- some order has made what a world has. Each parcel is in its pool under the parcel's name, and each value in its pool that a
--- place needs lies in one dock, list or hand. It is the beginning of a legal order, or, if all is done, a legal order
+-- some order has made what a world has. Each parcel is in its pool under the parcel's name, and each value in its pool
+-- that a place needs lies in one dock, list or hand. It is the beginning of a legal order, or, if all is done, a legal
+-- order
 pub record CarriesOutAnOrder (day : Day) (plan : PlanValue) (world : WorldValue) : Type 0 where
   pub order : List ℕ
   pub progress : Progress
   pub made : IsMadeBy day plan order progress world
   pub pool : IsEachParcel (λ p. progress.pool p.value.number p.after ≡ Some p.value) world
-  pub lies : (place a : ℕ) → touches_place (directory day) day.batch.instructions a place ≡ true → times_named world (a, tail_of plan place a) ≡ one_if (is_some (progress.pool a (tail_of plan place a)))
+  pub lies : (place a : ℕ) → touches_place (directory day) day.batch.instructions a place ≡ true
+      → times_named world (a, tail_of plan place a) ≡ one_if (is_some (progress.pool a (tail_of plan place a)))
   pub legal : (rest : List ℕ) × IsLegalOrder plan (order ++ rest)
   pub complete : is_over world ≡ true → IsLegalOrder plan order
 
 -- law: so it is after every schedule
 abbrev pub EachScheduleIsAnOrder : Type 0
 EachScheduleIsAnOrder = (day : Day) (plan : PlanValue) (workers : ℕ) (events : List Event) (world : WorldValue)
-    → IsPlanOf day plan → 1 ≤ workers → world_after day plan workers events ≡ Some world → CarriesOutAnOrder day plan world
+    → IsPlanOf day plan → 1 ≤ workers → world_after day plan workers events ≡ Some world
+    → CarriesOutAnOrder day plan world
 
 -- how often a place stands among the docks, the tasks of the lists and of the hands, and the rows
 abbrev pub times_found : WorldValue → ℕ → ℕ
@@ -147,23 +153,24 @@ pub record FindsDock (day : Day) (plan : PlanValue) (world : WorldValue) (p : Pa
   pub waits : arrived world place ≡ Some came
   pub is_awaited : is_not_awaited day plan place came p ≡ false
 
--- a worker can run exactly if a task is in its hand, deliver exactly if a parcel is, and push exactly if a task that became
--- complete is; and the parcel that it would deliver finds its dock
+-- a worker can run exactly if a task is in its hand, deliver exactly if a parcel is, and push exactly if a task that
+-- became complete is; and the parcel that it would deliver finds its dock
 pub record HandsGoOn (day : Day) (plan : PlanValue) (world : WorldValue) : Type 0 where
   pub run : (worker : ℕ) → is_ok (after_event day plan world (Run worker)) ≡ has_hand world worker is_to_run
   pub deliver : (worker : ℕ) → is_ok (after_event day plan world (Deliver worker)) ≡ has_hand world worker is_to_deliver
   pub push : (worker : ℕ) → is_ok (after_event day plan world (Push worker)) ≡ has_hand world worker is_to_push
-  pub finds_dock : (worker : ℕ) (p : ParcelValue) (ps : List ParcelValue) → slice_get world.hands worker ≡ Some (Carries None (p ∷ ps)) → FindsDock day plan world p
+  pub finds_dock : (worker : ℕ) (p : ParcelValue) (ps : List ParcelValue)
+      → slice_get world.hands worker ≡ Some (Carries None (p ∷ ps)) → FindsDock day plan world p
 
 -- a place is done; or it is 0, after which the opening values stand
 abbrev pub has_come : WorldValue → ℕ → Bool
 has_come world zero = true
 has_come world (suc k) = is_done world (suc k)
 
--- law: after every schedule each place is found exactly once; if no list and no hand has anything, all is done; if not all is
--- done, some event is possible; no schedule has more events than three for each place and one for each arrow; whatever a
--- worker has in hand, it can go on with it; no account is closing twice; and the value that a place needs of an account lies in
--- one dock, list or hand from when it is made until the place is done
+-- law: after every schedule each place is found exactly once; if no list and no hand has anything, all is done; if not
+-- all is done, some event is possible; no schedule has more events than three for each place and one for each arrow;
+-- whatever a worker has in hand, it can go on with it; no account is closing twice; and the value that a place needs of
+-- an account lies in one dock, list or hand from when it is made until the place is done
 pub record IsNothingLost (day : Day) (plan : PlanValue) (events : List Event) (world : WorldValue) : Type 0 where
   pub once : (place : ℕ) → 1 ≤ place → place ≤ length day.batch.instructions → times_found world place ≡ 1
   pub over : HasNoTask world → is_over world ≡ true
@@ -172,11 +179,13 @@ pub record IsNothingLost (day : Day) (plan : PlanValue) (events : List Event) (w
   pub hands : HandsGoOn day plan world
   pub closing_once : IsDistinct nat_eq (numbers world.closing)
   pub value_once : (place a : ℕ) → touches_place (directory day) day.batch.instructions a place ≡ true
-      → times_named world (a, tail_of plan place a) ≡ one_if (has_come world (tail_of plan place a) && not (is_done world place))
+      → times_named world (a, tail_of plan place a)
+      ≡ one_if (has_come world (tail_of plan place a) && not (is_done world place))
 
 abbrev pub NothingLost : Type 0
 NothingLost = (day : Day) (plan : PlanValue) (workers : ℕ) (events : List Event) (world : WorldValue)
-    → IsPlanOf day plan → 1 ≤ workers → world_after day plan workers events ≡ Some world → IsNothingLost day plan events world
+    → IsPlanOf day plan → 1 ≤ workers → world_after day plan workers events ≡ Some world
+    → IsNothingLost day plan events world
 
 -- some schedule of one to eight workers leads to this world
 pub record IsReached (day : Day) (plan : PlanValue) (world : WorldValue) : Type 0 where

@@ -36,7 +36,8 @@ pub record WorldValue : Type 0 where
 
 -- ---- docks
 
--- what stands at a place in a list that has one item for each place, counted from 1; and the list with another item there
+-- what stands at a place in a list that has one item for each place, counted from 1; and the list with another item
+-- there
 abbrev pub at_place : {X : Type 0} → List X → ℕ → Option X
 at_place xs zero = None
 at_place xs (suc k) = slice_get xs k
@@ -66,11 +67,13 @@ known_of (Some x ∷ more) = x ∷ known_of more
 
 -- the opening values that lie in the dock of a place: those of the accounts of its footprint that no arrow leads to
 abbrev pub opened_at : Day → PlanValue → ℕ → List ParcelValue
-opened_at day plan place = known_of (map (opening_of day) (filter (λ a. tail_of plan place a == 0) (footprint_at day place)))
+opened_at day plan place =
+    known_of (map (opening_of day) (filter (λ a. tail_of plan place a == 0) (footprint_at day place)))
 
 -- the dock of a place: nothing is there if its task is complete from the first
 abbrev pub dock_at : Day → PlanValue → ℕ → Option (List ParcelValue)
-dock_at day plan place = if is_some (complete day plan place (opened_at day plan place)) then None else Some (opened_at day plan place)
+dock_at day plan place =
+    if is_some (complete day plan place (opened_at day plan place)) then None else Some (opened_at day plan place)
 
 -- the docks of so many places from this one on, and the tasks that are complete from the first
 abbrev pub docks_from : Day → PlanValue → ℕ → ℕ → List (Option (List ParcelValue))
@@ -83,7 +86,8 @@ before_some (Some x) more = x ∷ more
 
 abbrev pub ready_from : Day → PlanValue → ℕ → ℕ → List TaskValue
 ready_from day plan place zero = []
-ready_from day plan place (suc more) = before_some (complete day plan place (opened_at day plan place)) (ready_from day plan (suc place) more)
+ready_from day plan place (suc more) =
+    before_some (complete day plan place (opened_at day plan place)) (ready_from day plan (suc place) more)
 
 -- each task in turn goes to the end of the list of the next worker, the last is followed by worker 0
 abbrev pub pushed_to : ℕ → TaskValue → List (List TaskValue) → List (List TaskValue)
@@ -91,7 +95,8 @@ pushed_to worker task lists = slice_set lists worker (option_map_or (λ l. l) (s
 
 abbrev pub dealt : ℕ → List TaskValue → List (List TaskValue) → List (List TaskValue)
 dealt worker [] lists = lists
-dealt worker (task ∷ tasks) lists = dealt (if suc worker == length lists then 0 else suc worker) tasks (pushed_to worker task lists)
+dealt worker (task ∷ tasks) lists =
+    dealt (if suc worker == length lists then 0 else suc worker) tasks (pushed_to worker task lists)
 
 abbrev pub at_start : Day → PlanValue → ℕ → WorldValue
 at_start day plan workers = let n = length day.batch.instructions in record {
@@ -132,7 +137,8 @@ after_run plan worker world place made = record world {
 
 abbrev pub run_by : Day → PlanValue → ℕ → WorldValue → HandValue → Result WorldValue EventFault
 run_by day plan worker world (Holds task) =
-    option_map_or (λ made. Ok (after_run plan worker world task.place made)) (run_at day task.place (map (λ p. p.value) task.parcels)) (Err fault.NothingToRun)
+    option_map_or (λ made. Ok (after_run plan worker world task.place made))
+    (run_at day task.place (map (λ p. p.value) task.parcels)) (Err fault.NothingToRun)
 run_by day plan worker world (Carries task ps) = Err fault.NothingToRun
 
 -- a parcel came to a dock: the task of the place goes out if it is complete now
@@ -146,14 +152,17 @@ after_delivery worker world ps place came (Some task) = record world {
   hands = slice_set world.hands worker (Carries (Some task) ps);
 }
 
-abbrev pub delivered_to : Day → PlanValue → ℕ → WorldValue → ParcelValue → List ParcelValue → ℕ → Option (List ParcelValue) → Result WorldValue EventFault
+abbrev pub delivered_to : Day → PlanValue → ℕ → WorldValue → ParcelValue → List ParcelValue → ℕ
+    → Option (List ParcelValue) → Result WorldValue EventFault
 delivered_to day plan worker world p ps place None = Err fault.NothingToDeliver
-delivered_to day plan worker world p ps place (Some came) = let now = received day plan place came p in Ok (after_delivery worker world ps place now.0 now.1)
+delivered_to day plan worker world p ps place (Some came) = let now = received day plan place came p in
+    Ok (after_delivery worker world ps place now.0 now.1)
 
 -- (there is always an arrow that leads on from a parcel in hand, and its head still waits)
 abbrev pub delivered_by : Day → PlanValue → ℕ → WorldValue → HandValue → Result WorldValue EventFault
 delivered_by day plan worker world (Carries None (p ∷ ps)) =
-    option_map_or (λ place. delivered_to day plan worker world p ps place (arrived world place)) (head_of plan p.after p.value.number) (Err fault.NothingToDeliver)
+    option_map_or (λ place. delivered_to day plan worker world p ps place (arrived world place))
+    (head_of plan p.after p.value.number) (Err fault.NothingToDeliver)
 delivered_by day plan worker world (Carries None []) = Err fault.NothingToDeliver
 delivered_by day plan worker world (Carries (Some task) ps) = Err fault.NothingToDeliver
 delivered_by day plan worker world (Holds task) = Err fault.NothingToDeliver
@@ -161,7 +170,10 @@ delivered_by day plan worker world (Holds task) = Err fault.NothingToDeliver
 -- the task that became complete goes to the end of the worker's list
 abbrev pub pushed_by : ℕ → WorldValue → HandValue → Result WorldValue EventFault
 pushed_by worker world (Carries (Some task) ps) =
-    Ok (record world { lists = pushed_to worker task world.lists; hands = slice_set world.hands worker (Carries None ps) })
+    Ok (record world {
+      lists = pushed_to worker task world.lists;
+      hands = slice_set world.hands worker (Carries None ps);
+    })
 pushed_by worker world (Carries None ps) = Err fault.NothingToPush
 pushed_by worker world (Holds task) = Err fault.NothingToPush
 
@@ -174,9 +186,11 @@ with_list world worker f = option_map_or f (slice_get world.lists worker) (Err f
 
 -- the world after an event, or the first reason why it is not possible
 unfoldable pub after_event : Day → PlanValue → WorldValue → Event → Result WorldValue EventFault
-after_event day plan world (Pop worker) = with_hand world worker (λ hand. with_list world worker (moved worker worker world hand))
+after_event day plan world (Pop worker) =
+    with_hand world worker (λ hand. with_list world worker (moved worker worker world hand))
 after_event day plan world (Steal worker from) =
-    with_hand world worker (λ hand. with_list world from (λ tasks. if worker == from then Err fault.OwnDeque else moved worker from world hand tasks))
+    with_hand world worker (λ hand. with_list world from
+    (λ tasks. if worker == from then Err fault.OwnDeque else moved worker from world hand tasks))
 after_event day plan world (Run worker) = with_hand world worker (run_by day plan worker world)
 after_event day plan world (Deliver worker) = with_hand world worker (delivered_by day plan worker world)
 after_event day plan world (Push worker) = with_hand world worker (pushed_by worker world)
@@ -190,7 +204,8 @@ after_result next (Err why) = None
 
 abbrev pub after_events : Day → PlanValue → WorldValue → List Event → Option WorldValue
 after_events day plan world [] = Some world
-after_events day plan world (event ∷ events) = after_result (λ w. after_events day plan w events) (after_event day plan world event)
+after_events day plan world (event ∷ events) =
+    after_result (λ w. after_events day plan w events) (after_event day plan world event)
 
 abbrev pub world_after : Day → PlanValue → ℕ → List Event → Option WorldValue
 world_after day plan workers events = after_events day plan (at_start day plan workers) events

@@ -22,7 +22,8 @@ pub fn each_day_has_a_plan()
     each_batch_has_a_plan();
 }
 
-/// Every legal order of a day's instructions gives the settled day, and every other list of as many numbers is undefined.
+/// Every legal order of a day's instructions gives the settled day, and every other list of as many numbers is
+/// undefined.
 pub fn every_order()
     ensures { EveryOrder }
 {
@@ -58,8 +59,8 @@ pub fn fault_is_first_undefined()
     fault_is_at_first_position();
 }
 
-/// After every schedule of workers' steps each value is the one of its name, and each row is the one of its instruction.
-/// If all instructions are done, the rows and the closing values are those of the settled day.
+/// After every schedule of workers' steps each value is the one of its name, and each row is the one of its
+/// instruction. If all instructions are done, the rows and the closing values are those of the settled day.
 pub fn every_schedule()
     ensures { EverySchedule }
 {
@@ -72,9 +73,9 @@ pub fn every_schedule()
     tails_are_last_touchers();
 }
 
-/// Every schedule carries out an order: the beginning of a legal one, or, if all instructions are done, a legal one. The
-/// rows and the accounts that no instruction needs any more are those that the order has made, and each parcel is in its
-/// pool under the parcel's name.
+/// Every schedule carries out an order: the beginning of a legal one, or, if all instructions are done, a legal one.
+/// The rows and the accounts that no instruction needs any more are those that the order has made, and each parcel is
+/// in its pool under the parcel's name.
 pub fn each_schedule_is_an_order()
     ensures { EachScheduleIsAnOrder }
 {
@@ -88,11 +89,12 @@ pub fn each_schedule_is_an_order()
     no_fault_is_a_legal_order();
 }
 
-/// After every schedule each instruction is in exactly one place: in its dock, in a list, in a hand, or done. If no list
-/// and no hand has anything, all are done; otherwise some event is possible. No schedule has more events than three for
-/// each instruction and one for each arrow. Whatever a worker has in hand, it can go on with it: it can run a task, push
-/// one that became complete, and deliver a parcel, whose dock waits for it. No account is closing twice. The value
-/// that an instruction needs of an account lies in one dock, list or hand from when it is made until that instruction is done.
+/// After every schedule each instruction is in exactly one place: in its dock, in a list, in a hand, or done. If no
+/// list and no hand has anything, all are done; otherwise some event is possible. No schedule has more events than
+/// three for each instruction and one for each arrow. Whatever a worker has in hand, it can go on with it: it can run a
+/// task, push one that became complete, and deliver a parcel, whose dock waits for it. No account is closing twice. The
+/// value that an instruction needs of an account lies in one dock, list or hand from when it is made until that
+/// instruction is done.
 pub fn nothing_lost()
     ensures { NothingLost }
 {
@@ -106,8 +108,8 @@ pub fn nothing_lost()
 }
 
 /// After a day's instructions one after another, after every legal order, and after every schedule in which all
-/// instructions are done, the number of allowances of a kind that all accounts hold or have surrendered has changed only
-/// by accepted creations, deletions and reversals of deletions.
+/// instructions are done, the number of allowances of a kind that all accounts hold or have surrendered has changed
+/// only by accepted creations, deletions and reversals of deletions.
 pub fn conserved()
     ensures { Conserved }
 {

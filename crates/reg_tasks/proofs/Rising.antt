@@ -86,15 +86,15 @@ up_sorted {X} key (x ∷ xs) sorted distinct = (
       let ne : key x ≡ key y → ⊥ = eqb-false (key x) (key y) (all_in (λ n. eqb (key x) n ≡ false) (map key xs) (key y) distinct.0 (in_map key xs y m)) in
       omega (arith, le, ap key c.2, ne)
 
-place_of : {X : Type 0} (key : X → ℕ) (xs : List X) (x : X) → In x xs → (k : ℕ) × (k < length (map key xs)) × (get_or (map key xs) k 0 ≡ key x)
-place_of key [] x m = absurd m
-place_of key (y ∷ ys) x (inl e) = (0, omega arith, ap key e)
-place_of key (y ∷ ys) x (inr m) = let r = place_of key ys x m in (suc r.0, omega (arith, r.1), r.2)
+index_of : {X : Type 0} (key : X → ℕ) (xs : List X) (x : X) → In x xs → (k : ℕ) × (k < length (map key xs)) × (get_or (map key xs) k 0 ≡ key x)
+index_of key [] x m = absurd m
+index_of key (y ∷ ys) x (inl e) = (0, omega arith, ap key e)
+index_of key (y ∷ ys) x (inr m) = let r = index_of key ys x m in (suc r.0, omega (arith, r.1), r.2)
 
 up_pairs : {X : Type 0} (key : X → ℕ) (xs : List X) → AllPairs (λ x y. x < y) (map key xs) → Up key xs
 up_pairs key [] pairs = tt
 up_pairs key (x ∷ xs) pairs = (
-  (λ y m. let r = place_of key xs y m in let lt : key x < get_or (map key xs) r.0 0 = pairs 0 (suc r.0) 0 (omega arith) (omega (arith, r.1)) in omega (arith, lt, r.2)),
+  (λ y m. let r = index_of key xs y m in let lt : key x < get_or (map key xs) r.0 0 = pairs 0 (suc r.0) 0 (omega arith) (omega (arith, r.1)) in omega (arith, lt, r.2)),
   up_pairs key xs (λ i j d lt within. pairs (suc i) (suc j) d (omega (arith, lt)) (omega (arith, within))),
 )
 

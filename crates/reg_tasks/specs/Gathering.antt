@@ -40,7 +40,8 @@ named_accounts names = map (λ n. n.0) names
 pub record AreLast (day : Day) (names : List (ℕ × ℕ)) : Type 0 where
   pub once : IsDistinct nat_eq (named_accounts names)
   pub touched : (a : ℕ) → is_among (named_accounts names) a ≡ is_touched (directory day) day.batch.instructions a
-  pub last : AllByRecursion (λ n. n.1 ≡ last_toucher (directory day) day.batch.instructions n.0 (length day.batch.instructions)) names
+  pub last : AllByRecursion
+      (λ n. n.1 ≡ last_toucher (directory day) day.batch.instructions n.0 (length day.batch.instructions)) names
 
 -- if a day is named, the names are those
 abbrev pub AreClosing : Option Day → List (ℕ × ℕ) → Type 0
@@ -53,7 +54,8 @@ AreClosingValues name accounts = (day : Day) → name ≡ Some day → AreLastVa
 -- the row of the instruction at place j, counted from 1, if this is its reply; none if it is no place
 abbrev pub row_replied : Day → ℕ → Reply → Option LogRow
 row_replied day zero reply = None
-row_replied day (suc k) reply = option_map (λ i. row_of (setting day) (day.batch.base + suc k) i reply) (slice_get day.batch.instructions k)
+row_replied day (suc k) reply =
+    option_map (λ i. row_of (setting day) (day.batch.base + suc k) i reply) (slice_get day.batch.instructions k)
 
 -- the record numbers and the replies of rows
 abbrev pub replies_by_number : List LogRow → List (ℕ × Reply)
@@ -87,7 +89,8 @@ pub record AreOutcomes (day : Day) (places : List ℕ) (names : List (ℕ × ℕ
 
 -- if a day is named, the places are not each of its places once
 abbrev pub AreNotEach : Option Day → List ℕ → Type 0
-AreNotEach name places = (day : Day) → name ≡ Some day → ¬ (IsPermutation (count_up 1 (length day.batch.instructions)) places)
+AreNotEach name places =
+    (day : Day) → name ≡ Some day → ¬ (IsPermutation (count_up 1 (length day.batch.instructions)) places)
 
 -- if a day is named, they are not its
 abbrev pub AreNotAll : Option Day → List ℕ → List (ℕ × ℕ) → Type 0
@@ -105,6 +108,11 @@ are_each day places = (length places == length day.batch.instructions) && counts
 -- the instruction at the place of this name touches its account, and no later one does: no arrow leads on from there
 abbrev pub is_last : Day → PlanValue → ℕ × ℕ → Bool
 is_last day plan name = is_among (footprint_at day name.1) name.0 && not (leads_on plan name.1 name.0)
+
+-- something stands there, and no later instruction touches its account
+abbrev pub is_last_there : Day → PlanValue → Option (ℕ × ℕ) → Bool
+is_last_there day plan None = false
+is_last_there day plan (Some name) = is_last day plan name
 
 -- the names are of these accounts, in this order, and each is the last one
 abbrev pub are_last : Day → PlanValue → List ℕ → List (ℕ × ℕ) → Bool
@@ -137,7 +145,8 @@ abbrev pub are_counted : ℕ → List LogRow → Bool
 are_counted first [] = true
 are_counted first (row ∷ rows) = (row.number == first) && are_counted (first + 1) rows
 
--- the directory has the account with its kind and its holder, and its surrenders and deletions have lower record numbers
+-- the directory has the account with its kind and its holder, and its surrenders and deletions have lower record
+-- numbers
 pub record IsCommittable (directory : DirectoryValue) (next : ℕ) (v : AccountValue) : Type 0 where
   pub listed : fin.get directory v.number ≡ Some (v.kind, v.holder)
   pub behind : IsBehind next v

@@ -47,7 +47,8 @@ AreHere name accounts lots = (day : Day) → name ≡ Some day
 -- if a day is named, some instruction touches each account that was taken out
 abbrev pub AreTouched : Option Day → State → List Lot → Type 0
 AreTouched name accounts lots = (day : Day) → name ≡ Some day
-    → (k : ℕ) → was_taken (slice_get lots k) ≡ true → is_touched (directory day) day.batch.instructions (slice_index_or (numbers accounts) k 0) ≡ true
+    → (k : ℕ) → was_taken (slice_get lots k) ≡ true
+    → is_touched (directory day) day.batch.instructions (slice_index_or (numbers accounts) k 0) ≡ true
 
 -- if a day is named, an account that is back is as its last instruction left it
 abbrev pub AreBack : Option Day → State → List Lot → Type 0

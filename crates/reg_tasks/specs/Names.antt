@@ -36,7 +36,8 @@ IsRowOfDay name place row = (day : Day) → name ≡ Some day → row_at day pla
 
 -- if a day is named, this is the reply in the row of that place
 abbrev pub IsReplyOfDay : Option Day → ℕ → Reply → Type 0
-IsReplyOfDay name place reply = (day : Day) → name ≡ Some day → option_map (λ row. row.reply) (row_at day place) ≡ Some reply
+IsReplyOfDay name place reply =
+    (day : Day) → name ≡ Some day → option_map (λ row. row.reply) (row_at day place) ≡ Some reply
 
 -- there are as many names as those that are needed, and each of these is among them
 abbrev pub has_names : List (ℕ × ℕ) → List (ℕ × ℕ) → Bool
@@ -51,7 +52,8 @@ FindsFrom names first name found = MatchOption found
 -- accounts, each with the last place before this one that touches it, or 0
 abbrev pub before_place : Day → ℕ → List ℕ → List (ℕ × ℕ)
 before_place day place [] = []
-before_place day place (a ∷ more) = (a, last_toucher (directory day) day.batch.instructions a (place - 1)) ∷ before_place day place more
+before_place day place (a ∷ more) =
+    (a, last_toucher (directory day) day.batch.instructions a (place - 1)) ∷ before_place day place more
 
 -- these are the names of the values that the instruction at this place needs, in the order of its footprint
 pub record AreNeeded (day : Day) (place : ℕ) (names : List (ℕ × ℕ)) : Type 0 where
@@ -67,8 +69,8 @@ AreComplete name place names = (day : Day) → name ≡ Some day → AreNeeded d
 abbrev pub AreLeft : Option Day → ℕ → List (ℕ × ℕ) → Type 0
 AreLeft name place names = (day : Day) → name ≡ Some day → names ≡ map (λ a. (a, place)) (footprint_at day place)
 
--- the place is one of the day's, these are the values of the accounts that its instruction touches, and their surrenders
--- and deletions have lower record numbers
+-- the place is one of the day's, these are the values of the accounts that its instruction touches, and their
+-- surrenders and deletions have lower record numbers
 pub record IsFor (day : Day) (place : ℕ) (own : List AccountValue) : Type 0 where
   pub low : 1 ≤ place
   pub high : place ≤ length day.batch.instructions

@@ -33,17 +33,20 @@ module _ {N : Type 0} {b : Ghosts N} where
   abbrev pub standing_in : List Opening → List (Option (Parcel N b)) → ℕ → Option (ℕ × ℕ)
   standing_in [] slots a = None
   standing_in (opening ∷ openings) [] a = None
-  standing_in (opening ∷ openings) (slot ∷ slots) a = if opening.account == a then option_map name_of slot else standing_in openings slots a
+  standing_in (opening ∷ openings) (slot ∷ slots) a =
+      if opening.account == a then option_map name_of slot else standing_in openings slots a
 
 -- the last of these places that touches the account, or the one before them if none does
 abbrev pub last_of : Day → ℕ → ℕ → List ℕ → ℕ
 last_of day a before [] = before
-last_of day a before (place ∷ places) = last_of day a (if touches_place (directory day) day.batch.instructions a place then place else before) places
+last_of day a before (place ∷ places) =
+    last_of day a (if touches_place (directory day) day.batch.instructions a place then place else before) places
 
--- after the instructions at these places, the slot of each touched account has the parcel that the last of them left, or
--- the opening value
+-- after the instructions at these places, the slot of each touched account has the parcel that the last of them left,
+-- or the opening value
 abbrev pub StandAfter : Day → List ℕ → (ℕ → Option (ℕ × ℕ)) → Type 0
-StandAfter day places standing = (a : ℕ) → is_touched (directory day) day.batch.instructions a ≡ true → standing a ≡ Some (a, last_of day a 0 places)
+StandAfter day places standing =
+    (a : ℕ) → is_touched (directory day) day.batch.instructions a ≡ true → standing a ≡ Some (a, last_of day a 0 places)
 
 -- the names, each in place of what stood at its account
 abbrev pub laid_at : List (ℕ × ℕ) → Option (ℕ × ℕ) → ℕ → Option (ℕ × ℕ)
@@ -70,11 +73,13 @@ is_there standing name = is_that name (standing name.0)
 
 -- whether the parcels that the instruction at this place needs are in the slots of the accounts that it touches
 abbrev pub is_ready : Day → PlanValue → ℕ → (ℕ → Option (ℕ × ℕ)) → Bool
-is_ready day plan place standing = list_all (λ name. is_there standing name) (names_needed (inward plan.arrows place) (footprint_at day place))
+is_ready day plan place standing =
+    list_all (λ name. is_there standing name) (names_needed (inward plan.arrows place) (footprint_at day place))
 
 -- before the first instruction the opening value stands for each account that one touches
 abbrev pub AreOpened : Day → (ℕ → Option (ℕ × ℕ)) → Type 0
-AreOpened day standing = (a : ℕ) → standing a ≡ (if is_touched (directory day) day.batch.instructions a then Some (a, 0) else None)
+AreOpened day standing =
+    (a : ℕ) → standing a ≡ (if is_touched (directory day) day.batch.instructions a then Some (a, 0) else None)
 
 -- the slots of the accounts that the instruction at this place touches are empty now, the others as they were
 abbrev pub AreTaken : Day → ℕ → (ℕ → Option (ℕ × ℕ)) → (ℕ → Option (ℕ × ℕ)) → Type 0
@@ -95,7 +100,8 @@ have_slots day names = list_all (λ n. is_touched (directory day) day.batch.inst
 -- each place once, and what stands for each touched account is what its last instruction left
 pub record IsAtEnd (day : Day) (places : List ℕ) (standing : ℕ → Option (ℕ × ℕ)) : Type 0 where
   pub each : IsPermutation (count_up 1 (length day.batch.instructions)) places
-  pub last_left : (a : ℕ) → is_touched (directory day) day.batch.instructions a ≡ true → standing a ≡ Some (a, last_toucher (directory day) day.batch.instructions a (length day.batch.instructions))
+  pub last_left : (a : ℕ) → is_touched (directory day) day.batch.instructions a ≡ true
+      → standing a ≡ Some (a, last_toucher (directory day) day.batch.instructions a (length day.batch.instructions))
 
 -- if a day is named, the parcels that the instruction at this place needs are there
 abbrev pub AreReady : Option Day → Day → PlanValue → ℕ → (ℕ → Option (ℕ × ℕ)) → Type 0
@@ -103,7 +109,8 @@ AreReady name day plan place standing = (d : Day) → name ≡ Some d → is_rea
 
 -- if a day is named, they have the parcels that it left, and the other slots are as they were
 abbrev pub IsLaidBack : Option Day → Day → ℕ → (ℕ → Option (ℕ × ℕ)) → (ℕ → Option (ℕ × ℕ)) → Type 0
-IsLaidBack name day place before after = (d : Day) → name ≡ Some d → (a : ℕ) → after a ≡ (if is_among (footprint_at day place) a then Some (a, place) else before a)
+IsLaidBack name day place before after = (d : Day) → name ≡ Some d → (a : ℕ)
+    → after a ≡ (if is_among (footprint_at day place) a then Some (a, place) else before a)
 
 -- if a day is named, this is what stands after the instructions at these places
 abbrev pub AreStanding : Option Day → Day → List ℕ → (ℕ → Option (ℕ × ℕ)) → Type 0

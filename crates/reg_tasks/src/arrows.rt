@@ -13,8 +13,8 @@ use crate::parcel::Parcel;
 use reg_base::AccountNo;
 use reg_plan::Opening;
 
-// The place of the first instruction that touches an account, if one of these openings is the account's. If it is the likely
-// one, one comparison shows it.
+// The place of the first instruction that touches an account, if one of these openings is the account's. If it is the
+// likely one, one comparison shows it.
 fn first_in(openings: &[Opening], account: AccountNo, likely: u32) -> Option<u32>
     requires { IsRising (opened_accounts openings.now) }
     ensures { result ≡ first_in openings.now account }
@@ -30,8 +30,8 @@ impl<N: Naming> Context<'_, N> {
     ghost use Rattle.reg_schedules.specs.World.{head_of};
     ghost use Rattle.reg_tasks.specs.Openings.{first_at};
 
-    /// The place of the instruction from which the instruction at this place has the value of an account, or 0 if that is
-    /// the opening value. Places are counted from 1.
+    /// The place of the instruction from which the instruction at this place has the value of an account, or 0 if that
+    /// is the opening value. Places are counted from 1.
     pub fn tail_of(&self, place: u32, account: AccountNo) -> u32
         requires from_one { 1 ≤ place }
         requires within { place ≤ length self.now.batch.now.instructions }

@@ -7,9 +7,9 @@ use reg_base::Directory;
 use reg_book::Book;
 use std::marker::{Model, PhantomData};
 
-/// The book of a context: the book itself, or its directory and its next record number alone, while the day is settled on
-/// accounts that were given away. A contract sees the whole book either way: if its accounts were given away, it is that of
-/// the named day.
+/// The book of a context: the book itself, or its directory and its next record number alone, while the day is settled
+/// on accounts that were given away. A contract sees the whole book either way: if its accounts were given away, it is
+/// that of the named day.
 #[derive(Drop)]
 pub struct BookOf<'a, N: Naming> {
     kept: Option<&'a Book>,

@@ -56,8 +56,8 @@ pub(crate) fn are_each<N: Naming>(context: &Context<N>, rows: &[Done<N>]) -> boo
     rows.len() == context.batch().len() as usize && count_up(rows)
 }
 
-/// Whether no later instruction touches the account of a parcel: the instruction after which it stands does, and no arrow
-/// leads on from there.
+/// Whether no later instruction touches the account of a parcel: the instruction after which it stands does, and no
+/// arrow leads on from there.
 pub(crate) fn is_last<N: Naming>(context: &Context<N>, parcel: &Parcel<N>) -> bool
     ensures { result ≡ is_last (the_day context.now) context.now.plan (name_of parcel.now) }
 {
@@ -71,7 +71,8 @@ pub(crate) fn is_last<N: Naming>(context: &Context<N>, parcel: &Parcel<N>) -> bo
 
 /// Whether these are the last parcels of all touched accounts, by rising account.
 pub(crate) fn are_last<N: Naming>(context: &Context<N>, parcels: &[Parcel<N>]) -> bool
-    ensures { result ≡ are_last (the_day context.now) context.now.plan (opened_accounts context.now.plan.openings) (names_of parcels.now) }
+    ensures { result ≡ are_last (the_day context.now) context.now.plan (opened_accounts context.now.plan.openings)
+        (names_of parcels.now) }
 {
     let openings = context.openings();
     if parcels.len() != openings.len() {
@@ -86,13 +87,15 @@ pub(crate) fn are_last<N: Naming>(context: &Context<N>, parcels: &[Parcel<N>]) -
     true
 }
 
-/// Whether there is a reply at each place, by rising place, and the last parcel of each touched account, by rising account.
+/// Whether there is a reply at each place, by rising place, and the last parcel of each touched account, by rising
+/// account.
 pub(crate) fn are_outcomes<N: Naming>(
     context: &Context<N>,
     rows: &[Done<N>],
     parcels: &[Parcel<N>],
 ) -> bool
-    ensures { result ≡ are_outcomes (the_day context.now) context.now.plan (opened_accounts context.now.plan.openings) (places_of rows.now) (names_of parcels.now) }
+    ensures { result ≡ are_outcomes (the_day context.now) context.now.plan (opened_accounts context.now.plan.openings)
+        (places_of rows.now) (names_of parcels.now) }
 {
     are_each(context, rows) && are_last(context, parcels)
 }

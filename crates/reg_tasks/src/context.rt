@@ -23,6 +23,10 @@ use reg_book::{Book, SettleFault};
 use reg_plan::{Arrow, LikelySlots, Opening, Plan};
 use std::alloc::Global;
 use std::marker::PhantomData;
+use std::thread::Threads;
+
+// The accounts of so few instructions are looked up by one thread: to start another one would take longer.
+const FEW: u32 = 1_024;
 
 /// The book, the rules and the batch of a day, and the plan of its instructions.
 #[derive(Drop)]
@@ -58,23 +62,28 @@ impl<'a, N: Naming> Context<'a, N> {
             (λ c. (batch.now.base + 1 ≡ book.now.next) × (c.book ≡ book.now) × (c.rules.now ≡ rules.now) × (c.batch.now ≡ batch.now))
             (IsSettleFault book.now batch.now) }
     {
-        Context::over(alloc, BookOf::kept(book), rules, batch)
+        let book = BookOf::kept(book);
+        let plan = Plan::of(alloc, batch, book.directory());
+        Context::over(book, rules, batch, plan)
     }
 
     /// The context of the named day while its instructions are settled on the accounts of its book, which were given away:
-    /// the directory and the next record number are those of the book. It opens no account: a [`Vault`](crate::Vault) does.
+    /// the directory and the next record number are those of the book. It opens no account: a [`Vault`](crate::Vault) does. At
+    /// most so many threads make the plan of a large batch.
     ///
     /// The time is linear in the instructions, sorting apart.
     ///
     /// # Errors
     /// `WrongBase` if the first record number of the batch is not the book's next record number. Otherwise `NoMemory` if
     /// memory ran out.
-    pub fn of_lent(
+    pub fn of_lent<R: Threads + Sync>(
+        rt: &R,
         alloc: Global,
         directory: &'a Directory,
         next: u64,
         rules: &'a Rules,
         batch: &'a Batch,
+        threads: u32,
     ) -> Result<Context<'a, N>, SettleFault>
         requires lent { AreOfBook (lent_book N.day) directory.now next }
         requires day { IsNamed N.day (lent_book N.day) rules.now batch.now }
@@ -82,17 +91,20 @@ impl<'a, N: Naming> Context<'a, N> {
             (λ c. (batch.now.base + 1 ≡ next) × (c.book ≡ lent_book N.day) × (c.rules.now ≡ rules.now) × (c.batch.now ≡ batch.now))
             (IsSettleFault (lent_book N.day) batch.now) }
     {
-        Context::over(alloc, BookOf::lent(directory, next), rules, batch)
+        let book = BookOf::lent(directory, next);
+        let plan = Plan::of_with(rt, alloc, batch, book.directory(), threads, FEW);
+        Context::over(book, rules, batch, plan)
     }
 
-    // The context of a day of this book.
+    // The context of a day of this book, with the plan of its instructions, for which there may have been no memory.
     fn over(
-        alloc: Global,
         book: BookOf<'a, N>,
         rules: &'a Rules,
         batch: &'a Batch,
+        plan: Result<Plan, NoMemory>,
     ) -> Result<Context<'a, N>, SettleFault>
         requires day { IsNamed N.day book rules.now batch.now }
+        requires planned { IfOk plan (IsPlan (directory_of book.accounts) batch.now.instructions) }
         ensures answer { MatchResult result
             (λ c. (batch.now.base + 1 ≡ book.entry.next) × (c.book ≡ book.entry) × (c.rules.now ≡ rules.now) × (c.batch.now ≡ batch.now))
             (IsSettleFault book.entry batch.now) }
@@ -101,7 +113,7 @@ impl<'a, N: Naming> Context<'a, N> {
         if batch.base() + 1 != next {
             return Err(SettleFault::WrongBase { next });
         }
-        let Ok(plan) = Plan::of(alloc, batch, book.directory()) else {
+        let Ok(plan) = plan else {
             return Err(SettleFault::NoMemory);
         };
         Ok(Context {

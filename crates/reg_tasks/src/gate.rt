@@ -11,8 +11,8 @@ pub trait Gate: Sync {
 
 /// A gate that does nothing.
 #[derive(Clone, Copy)]
-pub struct OpenGate;
+pub struct FreeGate;
 
-impl Gate for OpenGate {
+impl Gate for FreeGate {
     fn enter<N: Naming>(&self, _worker: u32, _task: &Task<N>) {}
 }

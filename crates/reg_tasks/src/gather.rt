@@ -90,7 +90,8 @@ fn are_rising(accounts: &[Account]) -> bool
     true
 }
 
-// Whether rows and accounts, each in order, make a settled day of the context's batch that may be committed to its book.
+// Whether rows and accounts, each in order, make a settled day of the context's batch that may be committed to its
+// book.
 fn are_whole<N: Naming>(context: &Context<N>, rows: &[LogRow], accounts: &[Account]) -> bool
     ensures { IsTrue result ↔ IsWhole context.now.book context.now.batch.now rows.now accounts.now }
 {
@@ -159,7 +160,10 @@ pub(crate) fn settle_log<N: Naming>(
     requires log { AreFirstRows N.day (length context.now.batch.now.instructions) log.items }
     ensures settled { IfOk result (λ s. IfSome N.day (λ d. s ≡ settled_day d)) }
     ensures of_book { IfOk result (λ s. IsOfBook context.now.book s) }
-    ensures lack { IfErr result (LacksFor ((d : Day) → N.day ≡ Some d → are_last (the_day context.now) context.now.plan (opened_accounts context.now.plan.openings) (names_of parcels.items) ≡ false)) }
+    ensures lack { IfErr result
+        (LacksFor ((d : Day) → N.day ≡ Some d
+        → are_last (the_day context.now) context.now.plan (opened_accounts context.now.plan.openings)
+        (names_of parcels.items) ≡ false)) }
 {
     context.is_day();
     value_is_last_touchers();
@@ -170,14 +174,12 @@ pub(crate) fn settle_log<N: Naming>(
     if !are_last(context, &parcels) {
         return Err(Lack::Foreign);
     }
-    let Ok(closing) = values(alloc, parcels) else {
-        return Err(Lack::Memory);
-    };
+    let closing = values(alloc, parcels)?;
     settle(context, log, closing).ok_or(Lack::Foreign)
 }
 
-// The settled day of replies by rising place and parcels by rising account, if they are those of all places and the last
-// ones of all touched accounts.
+// The settled day of replies by rising place and parcels by rising account, if they are those of all places and the
+// last ones of all touched accounts.
 fn settle_sorted<N: Naming>(
     alloc: Global,
     context: &Context<N>,
@@ -187,7 +189,8 @@ fn settle_sorted<N: Naming>(
     ensures settled { IfOk result (λ s. IfSome N.day (λ d. s ≡ settled_day d)) }
     ensures of_book { IfOk result (λ s. IsOfBook context.now.book s) }
     ensures lack { IfErr result (LacksFor ((d : Day) → N.day ≡ Some d
-        → are_outcomes (the_day context.now) context.now.plan (opened_accounts context.now.plan.openings) (places_of rows.items) (names_of parcels.items) ≡ false)) }
+        → are_outcomes (the_day context.now) context.now.plan (opened_accounts context.now.plan.openings)
+        (places_of rows.items) (names_of parcels.items) ≡ false)) }
 {
     context.is_day();
     value_is_last_touchers();
@@ -198,12 +201,8 @@ fn settle_sorted<N: Naming>(
     if !are_outcomes(context, &rows, &parcels) {
         return Err(Lack::Foreign);
     }
-    let Ok(log) = into_rows(alloc, context, rows) else {
-        return Err(Lack::Memory);
-    };
-    let Ok(accounts) = values(alloc, parcels) else {
-        return Err(Lack::Memory);
-    };
+    let log = into_rows(alloc, context, rows)?;
+    let accounts = values(alloc, parcels)?;
     settle(context, log, accounts).ok_or(Lack::Foreign)
 }
 
@@ -224,7 +223,8 @@ fn with_places<N: Naming>(
     rows: Vec<LogRow>,
 ) -> Result<Vec<Done<N>>, NoMemory>
     requires rows { AreRows N.day rows.items }
-    ensures rows { IfOk result (λ done. replies_from context.now.batch.now.base done.items ≡ replies_by_number rows.items) }
+    ensures rows { IfOk result
+        (λ done. replies_from context.now.batch.now.base done.items ≡ replies_by_number rows.items) }
 {
     context.is_day();
     let mut done = Vec::with_capacity(alloc, rows.len())?;
@@ -238,7 +238,8 @@ fn with_places<N: Naming>(
 }
 
 impl<N: Naming> Context<'_, N> {
-    /// The settled day, from its log and the touched accounts after the last instruction, in any order. Takes no memory.
+    /// The settled day, from its log and the touched accounts after the last instruction, in any order. Takes no
+    /// memory.
     pub fn settle_day(&self, log: Vec<LogRow>, mut accounts: Vec<Account>) -> Settled
         requires log { log.items ≡ log_of (the_day self.now) }
         requires accounts { AreLastValues (the_day self.now) accounts.items }
@@ -258,8 +259,8 @@ impl<N: Naming> Context<'_, N> {
     /// The time is linear in the replies and the parcels, sorting and look-ups apart.
     ///
     /// # Errors
-    /// `Memory` if memory ran out. `Foreign` if there is not exactly one reply for each place, or not exactly one parcel,
-    /// the last, for each touched account. If no day is named, also if they are of another context.
+    /// `Memory` if memory ran out. `Foreign` if there is not exactly one reply for each place, or not exactly one
+    /// parcel, the last, for each touched account. If no day is named, also if they are of another context.
     pub fn gather_done(
         &self,
         alloc: Global,

@@ -9,41 +9,41 @@ ghost use Rattle.reg_tasks.specs.Lots.{back_count};
 use crate::lot::Lot;
 use reg_account::Account;
 use reg_base::AccountNo;
-use reg_book::place_of;
+use reg_book::index_of;
 
-/// The place of the account with this number, counted from 0.
+/// The index of the account with this number, counted from 0.
 pub(crate) fn stand_at(accounts: &[Account], number: AccountNo) -> Option<usize>
     requires { IsRising (numbers accounts.now) }
     ensures { IfSome result (λ k. (k < length accounts.now) × (slice_index (numbers accounts.now) k ≡ number)) }
 {
-    let place = place_of(accounts, number)?;
-    let account = accounts.get(place)?;
-    (account.number() == number).then_some(place)
+    let index = index_of(accounts, number)?;
+    let account = accounts.get(index)?;
+    (account.number() == number).then_some(index)
 }
 
-/// Moves the account at a place out.
-pub(crate) fn vacate_at(accounts: &mut Vec<Account>, place: usize) -> Account
-    requires { place < length accounts.old.items }
-    ensures value { slice_get accounts.old.items place ≡ Some result }
-    ensures left { accounts.new.items ≡ slice_set accounts.old.items place (vacated result) }
+/// Moves the account at an index out.
+pub(crate) fn vacate_at(accounts: &mut Vec<Account>, index: usize) -> Account
+    requires { index < length accounts.old.items }
+    ensures value { slice_get accounts.old.items index ≡ Some result }
+    ensures left { accounts.new.items ≡ slice_set accounts.old.items index (vacated result) }
 {
-    accounts[place].vacate()
+    accounts[index].vacate()
 }
 
 /// Puts an account in the place of the one that stands there.
-pub(crate) fn put_at(accounts: &mut Vec<Account>, place: usize, account: Account)
-    requires { place < length accounts.old.items }
-    ensures { accounts.new.items ≡ slice_set accounts.old.items place account }
+pub(crate) fn put_at(accounts: &mut Vec<Account>, index: usize, account: Account)
+    requires { index < length accounts.old.items }
+    ensures { accounts.new.items ≡ slice_set accounts.old.items index account }
 {
-    accounts[place] = account;
+    accounts[index] = account;
 }
 
-/// Writes down what became of the account at a place.
-pub(crate) fn mark(lots: &mut Vec<Lot>, place: usize, lot: Lot)
-    requires { place < length lots.old.items }
-    ensures { lots.new.items ≡ slice_set lots.old.items place lot }
+/// Writes down what became of the account at an index.
+pub(crate) fn mark(lots: &mut Vec<Lot>, index: usize, lot: Lot)
+    requires { index < length lots.old.items }
+    ensures { lots.new.items ≡ slice_set lots.old.items index lot }
 {
-    lots[place] = lot;
+    lots[index] = lot;
 }
 
 /// How many accounts are back.

@@ -25,7 +25,9 @@
 //! ) -> Option<Outcome<N>>
 //!     requires from_one { 1 ≤ place }
 //!     requires within { place ≤ length context.now.batch.now.instructions }
-//!     ensures needed { IfSome result (λ _. has_names (names_of parcels.items) (names_needed (inward context.now.plan.arrows place) (footprint_at (the_day context.now) place)) ≡ true) }
+//!     ensures needed { IfSome result
+//!         (λ _. has_names (names_of parcels.items)
+//!         (names_needed (inward context.now.plan.arrows place) (footprint_at (the_day context.now) place)) ≡ true) }
 //!     ensures row { IfSome result (λ o. IsRowOfDay N.day place o.row) }
 //!     ensures left { IfSome result (λ o. AreLeft N.day place (names_of o.parcels.items)) }
 //! {
@@ -65,7 +67,7 @@ mod vault;
 pub use book_of::BookOf;
 pub use context::Context;
 pub use done::Done;
-pub use gate::{Gate, OpenGate};
+pub use gate::{FreeGate, Gate};
 pub use lack::Lack;
 pub use naming::{Naming, Unnamed};
 pub use order::{RunFault, run_order};

@@ -2,8 +2,8 @@
 
 ghost use Rattle.std.specs.Prelude.{IsPermutation};
 
-// Exchanges the item at a position with the one at its own index, if that one does not belong there. Answers the position
-// that is looked at next.
+// Exchanges the item at a position with the one at its own index, if that one does not belong there. Answers the
+// position that is looked at next.
 fn bring_one<T, F: Fn(&T) -> usize>(items: &mut [T], index_of: &F, at: usize) -> usize
     requires { F.IsAlwaysCallable index_of.now }
     ensures { IsPermutation items.old items.new }
@@ -19,8 +19,8 @@ fn bring_one<T, F: Fn(&T) -> usize>(items: &mut [T], index_of: &F, at: usize) ->
     at
 }
 
-/// Brings each item to its likely index, counted from 0, if it has one of its own. Nothing is promised of the order. No item
-/// is moved more often than once to an index that is its own, so the time is linear.
+/// Brings each item to its likely index, counted from 0, if it has one of its own. Nothing is promised of the order. No
+/// item is moved more often than once to an index that is its own, so the time is linear.
 pub(crate) fn bring_near<T, F: Fn(&T) -> usize>(items: &mut [T], index_of: F)
     requires { F.IsAlwaysCallable index_of }
     ensures { IsPermutation items.old items.new }

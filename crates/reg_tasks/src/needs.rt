@@ -53,7 +53,8 @@ fn has_name<N: Naming>(parcels: &[Parcel<N>], account: AccountNo, after: u32) ->
 }
 
 fn has_each<N: Naming>(parcels: &[Parcel<N>], accounts: &[AccountNo], arrows: &[Arrow]) -> bool
-    ensures { result ≡ list_all (λ w. list_any (λ n. is_name n w) (names_of parcels.now)) (names_needed arrows.now accounts.now) }
+    ensures { result ≡ list_all (λ w. list_any (λ n. is_name n w) (names_of parcels.now))
+        (names_needed arrows.now accounts.now) }
 {
     for account in accounts {
         if !has_name(parcels, *account, tail_in(arrows, *account)) {
@@ -74,7 +75,7 @@ pub(crate) fn are_needed<N: Naming>(
     parcels.len() == accounts.len() && has_each(parcels, accounts, arrows)
 }
 
-// A place from this one on, counted from 0, at which a parcel has this name.
+// An index from this one on, counted from 0, at which a parcel has this name.
 fn find_from<N: Naming>(
     parcels: &[Parcel<N>],
     from: usize,

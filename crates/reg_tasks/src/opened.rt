@@ -21,7 +21,8 @@ pub(crate) fn open_all<N: Naming>(
 ) -> Result<Vec<Parcel<N>>, NoMemory>
     requires known { All (λ a. is_some (account context.now.book.accounts a) ≡ true) accounts.now }
     ensures names { IfOk result (λ ps. names_of ps.items ≡ map (λ a. (a, 0)) accounts.now) }
-    ensures values { IfOk result (λ ps. map (λ p. Some p.value) ps.items ≡ map (λ a. account context.now.book.accounts a) accounts.now) }
+    ensures values { IfOk result
+        (λ ps. map (λ p. Some p.value) ps.items ≡ map (λ a. account context.now.book.accounts a) accounts.now) }
 {
     let mut parcels = Vec::with_capacity(alloc, accounts.len())?;
     for account in accounts {
@@ -45,8 +46,8 @@ impl<N: Naming> Context<'_, N> {
         !self.arrows_to(place).is_empty()
     }
 
-    /// The opening value of the account that stands at this position of the footprint of a place, exactly if no arrow leads
-    /// to the place at that account. The place is counted from 1, the position from 0.
+    /// The opening value of the account that stands at this index of the footprint of a place, exactly if no arrow
+    /// leads to the place at that account. The place is counted from 1, the index from 0.
     ///
     /// # Errors
     /// `NoMemory` if memory ran out.
@@ -54,21 +55,25 @@ impl<N: Naming> Context<'_, N> {
         &self,
         alloc: Global,
         place: u32,
-        position: usize,
+        index: usize,
     ) -> Result<Option<Parcel<N>>, NoMemory>
         requires from_one { 1 ≤ place }
         requires within { place ≤ length self.now.batch.now.instructions }
-        requires there { position < length (footprint_at (the_day self.now) place) }
-        ensures first { IfOk result (λ p. is_some p ≡ (tail_of self.now.plan place (slice_index (footprint_at (the_day self.now) place) position) == 0)) }
-        ensures value { IfOk result (λ p. IfSome p (λ p. account self.now.book.accounts (slice_index (footprint_at (the_day self.now) place) position) ≡ Some p.value)) }
+        requires there { index < length (footprint_at (the_day self.now) place) }
+        ensures first { IfOk result
+            (λ p. is_some p ≡ (tail_of self.now.plan place
+            (slice_index (footprint_at (the_day self.now) place) index) == 0)) }
+        ensures value { IfOk result
+            (λ p. IfSome p (λ p. account self.now.book.accounts
+            (slice_index (footprint_at (the_day self.now) place) index) ≡ Some p.value)) }
         ensures after { IfOk result (λ p. IfSome p (λ p. p.after ≡ 0)) }
     {
         each_footprint_is_sound();
-        let account = self.touched_at(place)[position];
+        let account = self.touched_at(place)[index];
         if self.tail_of(place, account) != 0 {
             return Ok(None);
         }
-        let slot = self.likely_slots(place).at(position);
+        let slot = self.likely_slots(place).at(index);
         Ok(Some(self.open(alloc, account, slot)?))
     }
 }

@@ -11,7 +11,7 @@ ghost use Rattle.reg_tasks.specs.Standing.{stands};
 
 use crate::context::Context;
 use crate::done::Done;
-use crate::gate::OpenGate;
+use crate::gate::FreeGate;
 use crate::lack::Lack;
 use crate::naming::Naming;
 use crate::slots::Slots;
@@ -54,13 +54,15 @@ fn run_place<N: Naming>(
 ) -> Result<Done<N>, Lack>
     requires from_one { 1 ≤ place }
     requires within { place ≤ length slots.old.context.now.batch.now.instructions }
-    requires ready { AreReady N.day (the_day slots.old.context.now) slots.old.context.now.plan place (stands slots.old) }
+    requires ready { AreReady N.day (the_day slots.old.context.now) slots.old.context.now.plan place
+        (stands slots.old) }
     ensures context { slots.new.context.now ≡ slots.old.context.now }
     ensures place { IfOk result (λ done. done.place ≡ place) }
-    ensures laid { OnOk result (IsLaidBack N.day (the_day slots.old.context.now) place (stands slots.old) (stands slots.new)) }
+    ensures laid { OnOk result
+        (IsLaidBack N.day (the_day slots.old.context.now) place (stands slots.old) (stands slots.new)) }
     ensures lack { IfErr result (IsLack N.day) }
 {
-    let (ran, row) = run_at(alloc, slots, &OpenGate, place)?;
+    let (ran, row) = run_at(alloc, slots, &FreeGate, place)?;
     Ok(Done::new(ran.place(), row))
 }
 
@@ -79,9 +81,7 @@ fn run_places<N: Naming>(
 {
     last_toucher_is_last();
     tails_are_last_touchers();
-    let Ok(mut done) = Vec::with_capacity(alloc, order.len()) else {
-        return Err(Lack::Memory);
-    };
+    let mut done = Vec::with_capacity(alloc, order.len())?;
     for place in order {
         let one = run_place(alloc, slots, *place)?;
         done.push_reserved(one);
@@ -99,9 +99,7 @@ fn run_legal<N: Naming>(alloc: Global, context: &Context<N>, order: &[u32]) -> R
     last_toucher_is_last();
     tails_are_last_touchers();
     no_fault_is_a_legal_order();
-    let Ok(mut slots) = Slots::open(alloc, context) else {
-        return Err(Lack::Memory);
-    };
+    let mut slots = Slots::open(alloc, context)?;
     let done = run_places(alloc, &mut slots, order)?;
     slots.close(alloc, done)
 }

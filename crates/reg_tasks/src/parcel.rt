@@ -48,7 +48,8 @@ impl<N: Naming> Parcel<N> {
         self.after
     }
 
-    // Which slot its account is likely to have. Nothing is promised of it: whoever takes it tests whether it is the account's.
+    // Which slot its account is likely to have. Nothing is promised of it: whoever takes it tests whether it is the
+    // account's.
     pub(crate) fn likely_slot(&self) -> u32 {
         self.likely_slot
     }

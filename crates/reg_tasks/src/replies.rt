@@ -33,20 +33,19 @@ fn take_sorted<N: Naming>(
     done: Vec<Done<N>>,
 ) -> Result<Vec<Reply>, Lack>
     ensures replies { IfOk result (λ replies. IfSome N.day (λ d. replies.items ≡ replies_of d)) }
-    ensures lack { IfErr result (LacksFor ((d : Day) → N.day ≡ Some d → are_each (the_day context.now) (places_of done.items) ≡ false)) }
+    ensures lack { IfErr result
+        (LacksFor ((d : Day) → N.day ≡ Some d → are_each (the_day context.now) (places_of done.items) ≡ false)) }
 {
     if !are_each(context, &done) {
         return Err(Lack::Foreign);
     }
-    let Ok(replies) = into_replies(alloc, done) else {
-        return Err(Lack::Memory);
-    };
+    let replies = into_replies(alloc, done)?;
     Ok(replies)
 }
 
 impl<N: Naming> Context<'_, N> {
-    /// The replies of the day, in the order of its instructions, from what is known of each instruction that was run, in
-    /// any order. What they are is known by their types; that none is missing and none stands twice is tested.
+    /// The replies of the day, in the order of its instructions, from what is known of each instruction that was run,
+    /// in any order. What they are is known by their types; that none is missing and none stands twice is tested.
     ///
     /// The time is linear in the replies, sorting apart.
     ///

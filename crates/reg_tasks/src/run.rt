@@ -96,8 +96,8 @@ pub(crate) fn unpack<N: Naming>(
     (own, afters)
 }
 
-// The parcels of these accounts, each after a place of its own, in the room that was made for them. The likely slots are
-// those of the accounts.
+// The parcels of these accounts, each after a place of its own, in the room that was made for them. The likely slots
+// are those of the accounts.
 pub(crate) fn pack<N: Naming>(
     own: Vec<Account>,
     afters: &[u32],

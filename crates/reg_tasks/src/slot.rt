@@ -29,7 +29,8 @@ fn take_parcel<N: Naming>(
     requires rising { IsRising (opened_accounts openings.now) }
     requires size { length slots.old ≡ length openings.now }
     ensures value { option_map name_of result ≡ standing_in openings.now slots.old account }
-    ensures left { (b : ℕ) → standing_in openings.now slots.new b ≡ (if account == b then None else standing_in openings.now slots.old b) }
+    ensures left { (b : ℕ) → standing_in openings.now slots.new b
+        ≡ (if account == b then None else standing_in openings.now slots.old b) }
 {
     let Some(slot) = find_slot(openings, account, likely) else {
         return None;
@@ -46,7 +47,9 @@ fn lay_parcel<N: Naming>(
     requires rising { IsRising (opened_accounts openings.now) }
     requires size { length slots.old ≡ length openings.now }
     ensures there { result ≡ is_among (opened_accounts openings.now) parcel.value.number }
-    ensures laid { result ≡ true → (b : ℕ) → standing_in openings.now slots.new b ≡ (if parcel.value.number == b then Some (name_of parcel) else standing_in openings.now slots.old b) }
+    ensures laid { result ≡ true → (b : ℕ)
+        → standing_in openings.now slots.new b
+        ≡ (if parcel.value.number == b then Some (name_of parcel) else standing_in openings.now slots.old b) }
 {
     let Some(slot) = find_slot(openings, parcel.account(), parcel.likely_slot()) else {
         return false;
@@ -60,7 +63,8 @@ pub(crate) fn open_slots<N: Naming>(
     alloc: Global,
     context: &Context<N>,
 ) -> Result<Vec<Option<Parcel<N>>>, NoMemory>
-    ensures { IfOk result (λ slots. map (option_map name_of) slots.items ≡ map (λ opening. Some (opening.account, 0)) context.now.plan.openings) }
+    ensures { IfOk result (λ slots. map (option_map name_of) slots.items
+        ≡ map (λ opening. Some (opening.account, 0)) context.now.plan.openings) }
 {
     let openings = context.openings();
     let mut slots = Vec::with_capacity(alloc, openings.len())?;
@@ -94,8 +98,8 @@ fn stands<N: Naming>(
     }
 }
 
-/// Whether the parcels that an instruction needs, by the accounts that it touches and the arrows that lead to it, are in
-/// the slots of their accounts. The likely slots are those of the accounts.
+/// Whether the parcels that an instruction needs, by the accounts that it touches and the arrows that lead to it, are
+/// in the slots of their accounts. The likely slots are those of the accounts.
 pub(crate) fn are_ready<N: Naming>(
     openings: &[Opening],
     slots: &[Option<Parcel<N>>],
@@ -105,7 +109,8 @@ pub(crate) fn are_ready<N: Naming>(
 ) -> bool
     requires rising { IsRising (opened_accounts openings.now) }
     requires size { length slots.now ≡ length openings.now }
-    ensures { result ≡ list_all (λ name. is_there (standing_in openings.now slots.now) name) (names_needed arrows.now accounts.now) }
+    ensures { result ≡ list_all (λ name. is_there (standing_in openings.now slots.now) name)
+        (names_needed arrows.now accounts.now) }
 {
     for account in accounts {
         let slot = likely.next();
@@ -131,8 +136,11 @@ pub(crate) fn take_parcels<N: Naming>(
     requires size { length slots.old ≡ length openings.now }
     requires distinct { IsDistinct nat_eq accounts.now }
     requires there { list_all (λ a. is_some (standing_in openings.now slots.old a)) accounts.now ≡ true }
-    ensures names { IfOk result (λ parcels. map Some (names_of parcels.items) ≡ map (standing_in openings.now slots.old) accounts.now) }
-    ensures left { OnOk result ((b : ℕ) → standing_in openings.now slots.new b ≡ (if is_among accounts.now b then None else standing_in openings.now slots.old b)) }
+    ensures names { IfOk result
+        (λ parcels. map Some (names_of parcels.items) ≡ map (standing_in openings.now slots.old) accounts.now) }
+    ensures left { OnOk result
+        ((b : ℕ) → standing_in openings.now slots.new b
+        ≡ (if is_among accounts.now b then None else standing_in openings.now slots.old b)) }
     ensures back { OnErr result (slots.new ≡ slots.old) }
 {
     let mut parcels = Vec::with_capacity(alloc, accounts.len())?;
@@ -165,7 +173,9 @@ pub(crate) fn lay_parcels<N: Naming>(
     requires rising { IsRising (opened_accounts openings.now) }
     requires size { length slots.old ≡ length openings.now }
     ensures there { result ≡ list_all (λ n. is_among (opened_accounts openings.now) n.0) (names_of parcels.items) }
-    ensures laid { result ≡ true → (b : ℕ) → standing_in openings.now slots.new b ≡ laid_at (names_of parcels.items) (standing_in openings.now slots.old b) b }
+    ensures laid { result ≡ true → (b : ℕ)
+        → standing_in openings.now slots.new b
+        ≡ laid_at (names_of parcels.items) (standing_in openings.now slots.old b) b }
 {
     for parcel in parcels {
         if !lay_parcel(openings, slots, parcel) {
@@ -183,16 +193,12 @@ pub(crate) fn empty_slots<N: Naming>(
     ensures names { IfOk result (λ parcels. map Some (names_of parcels.items) ≡ map (option_map name_of) slots.items) }
     ensures lack { IfErr result (LacksFor (list_all is_some (map (option_map name_of) slots.items) ≡ false)) }
 {
-    let Ok(mut parcels) = Vec::with_capacity(alloc, slots.len()) else {
-        return Err(Lack::Memory);
-    };
+    let mut parcels = Vec::with_capacity(alloc, slots.len())?;
     for slot in slots {
         let Some(parcel) = slot else {
             return Err(Lack::Foreign);
         };
-        if parcels.push(parcel).is_err() {
-            return Err(Lack::Memory);
-        }
+        parcels.push(parcel)?;
     }
     Ok(parcels)
 }

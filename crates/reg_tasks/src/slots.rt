@@ -20,8 +20,8 @@ use reg_plan::laws::tails_are_last_touchers;
 use reg_rules::LogRow;
 use std::alloc::Global;
 
-/// A slot for each account that an instruction of the day touches. The parcel that the last instruction so far left stands
-/// in it, or the opening value, until the next instruction takes it.
+/// A slot for each account that an instruction of the day touches. The parcel that the last instruction so far left
+/// stands in it, or the opening value, until the next instruction takes it.
 #[derive(Drop)]
 pub struct Slots<'c, 'a, N: Naming> {
     context: &'c Context<'a, N>,
@@ -30,15 +30,17 @@ pub struct Slots<'c, 'a, N: Naming> {
 }
 
 impl<'c, 'a, N: Naming> Slots<'c, 'a, N> {
-    ghost use Rattle.std.specs.Prelude.{ℕ, ◌≤◌, Some, None, true, false, IfOk, IfErr, IfSome, OnOk, OnErr};
+    ghost use Rattle.std.specs.Prelude.{ℕ, ◌≤◌, Some, None, true, false, map, IfOk, IfErr, IfSome, OnOk, OnErr};
+    ghost use Rattle.std.specs.List.{list_all};
+    ghost use Rattle.std.specs.Option.{option_map};
     ghost use Rattle.reg_book.specs.Day.{Day, settled_day};
     ghost use Rattle.reg_book.specs.Settled.{IsOfBook};
     ghost use Rattle.reg_tasks.specs.Contexts.{the_day};
     ghost use Rattle.reg_base.specs.Rising.{count_up};
-    ghost use Rattle.reg_tasks.specs.Gathering.{places_of, AreFirstRows};
+    ghost use Rattle.reg_tasks.specs.Gathering.{places_of, is_last_there, AreFirstRows};
     ghost use Rattle.reg_tasks.specs.Names.{IsRowOfDay};
     ghost use Rattle.reg_tasks.specs.Parcels.{names_of};
-    ghost use Rattle.reg_tasks.specs.Slots.{AreOpened, AreTaken, AreLaid, StandAsBefore, IsAtEnd, LacksFor, have_slots, is_ready};
+    ghost use Rattle.reg_tasks.specs.Slots.{AreOpened, AreTaken, AreLaid, StandAsBefore, IsAtEnd, LacksFor, have_slots, is_ready, name_of};
     ghost use Rattle.reg_tasks.specs.Standing.{stands};
     ghost use Rattle.reg_tasks.specs.declared.lack.Lack.TheVariants.{Foreign};
 
@@ -61,12 +63,12 @@ impl<'c, 'a, N: Naming> Slots<'c, 'a, N> {
     /// The same as [`Slots::open`], but the accounts are taken out of a vault and not copied.
     ///
     /// # Errors
-    /// `NoMemory` if memory ran out, or if one of the accounts was taken out before.
+    /// `Memory` if memory ran out. `Foreign` if one of the accounts was taken out before.
     pub fn open_from(
         alloc: Global,
         context: &'c Context<'a, N>,
         vault: &mut Vault<N>,
-    ) -> Result<Slots<'c, 'a, N>, NoMemory>
+    ) -> Result<Slots<'c, 'a, N>, Lack>
         ensures context { IfOk result (λ s. s.context.now ≡ context.now) }
         ensures opened { IfOk result (λ s. AreOpened (the_day context.now) (stands s)) }
     {
@@ -86,8 +88,8 @@ impl<'c, 'a, N: Naming> Slots<'c, 'a, N> {
         self.context
     }
 
-    /// Takes the parcels that the instruction at a place needs out of their slots, and makes its task. The place is counted
-    /// from 1.
+    /// Takes the parcels that the instruction at a place needs out of their slots, and makes its task. The place is
+    /// counted from 1.
     ///
     /// # Errors
     /// `Foreign` if one of them is not there. Otherwise `Memory` if memory ran out. Nothing is taken then.
@@ -96,9 +98,13 @@ impl<'c, 'a, N: Naming> Slots<'c, 'a, N> {
         requires within { place ≤ length self.old.context.now.batch.now.instructions }
         ensures context { self.new.context.now ≡ self.old.context.now }
         ensures place { IfOk result (λ t. t.place ≡ place) }
-        ensures ready { OnOk result (is_ready (the_day self.old.context.now) self.old.context.now.plan place (stands self.old) ≡ true) }
-        ensures taken { OnOk result (AreTaken (the_day self.old.context.now) place (stands self.old) (stands self.new)) }
-        ensures lack { IfErr result (LacksFor (is_ready (the_day self.old.context.now) self.old.context.now.plan place (stands self.old) ≡ false)) }
+        ensures ready { OnOk result
+            (is_ready (the_day self.old.context.now) self.old.context.now.plan place (stands self.old) ≡ true) }
+        ensures taken { OnOk result
+            (AreTaken (the_day self.old.context.now) place (stands self.old) (stands self.new)) }
+        ensures lack { IfErr result
+            (LacksFor (is_ready (the_day self.old.context.now) self.old.context.now.plan place (stands self.old)
+            ≡ false)) }
         ensures back { OnErr result (StandAsBefore (stands self.old) (stands self.new)) }
     {
         each_footprint_is_sound();
@@ -114,16 +120,13 @@ impl<'c, 'a, N: Naming> Slots<'c, 'a, N> {
         ) {
             return Err(Lack::Foreign);
         }
-        let Ok(parcels) = take_parcels(alloc, context.openings(), &mut self.slots, accounts, likely)
-        else {
-            return Err(Lack::Memory);
-        };
+        let parcels = take_parcels(alloc, context.openings(), &mut self.slots, accounts, likely)?;
         let task = Task::of_needed(context, place, parcels);
         Ok(task)
     }
 
-    /// Lays what an instruction left into the slots of its accounts, in place of what stood there, and answers its run and its
-    /// row in the log.
+    /// Lays what an instruction left into the slots of its accounts, in place of what stood there, and answers its run
+    /// and its row in the log.
     ///
     /// # Errors
     /// The outcome as it was, if one of its accounts has no slot. If a day is named, this does not occur.
@@ -132,7 +135,8 @@ impl<'c, 'a, N: Naming> Slots<'c, 'a, N> {
         ensures ran { IfOk result (λ r. r.0.place ≡ outcome.place) }
         ensures row { IfOk result (λ r. (r.1 ≡ outcome.row) × IsRowOfDay N.day outcome.place r.1) }
         ensures laid { OnOk result (AreLaid (names_of outcome.parcels.items) (stands self.old) (stands self.new)) }
-        ensures there { IfErr result (λ o. have_slots (the_day self.old.context.now) (names_of outcome.parcels.items) ≡ false) }
+        ensures there { IfErr result
+            (λ o. have_slots (the_day self.old.context.now) (names_of outcome.parcels.items) ≡ false) }
         ensures named { IfErr result (λ o. N.day ≡ None) }
         ensures back { IfErr result (λ o. o ≡ outcome) }
         ensures unchanged { OnErr result (self.new ≡ self.old) }
@@ -148,8 +152,8 @@ impl<'c, 'a, N: Naming> Slots<'c, 'a, N> {
         Ok((ran, row))
     }
 
-    /// Lays what an instruction left into the slots of its accounts, in place of what stood there, and answers what is kept
-    /// of the instruction itself.
+    /// Lays what an instruction left into the slots of its accounts, in place of what stood there, and answers what is
+    /// kept of the instruction itself.
     ///
     /// # Errors
     /// The outcome as it was, if one of its accounts has no slot. If a day is named, this does not occur.
@@ -158,7 +162,8 @@ impl<'c, 'a, N: Naming> Slots<'c, 'a, N> {
         ensures ran { IfOk result (λ r. r.0.place ≡ outcome.place) }
         ensures done { IfOk result (λ r. (r.1.place ≡ outcome.place) × (r.1.reply ≡ outcome.row.reply)) }
         ensures laid { OnOk result (AreLaid (names_of outcome.parcels.items) (stands self.old) (stands self.new)) }
-        ensures there { IfErr result (λ o. have_slots (the_day self.old.context.now) (names_of outcome.parcels.items) ≡ false) }
+        ensures there { IfErr result
+            (λ o. have_slots (the_day self.old.context.now) (names_of outcome.parcels.items) ≡ false) }
         ensures named { IfErr result (λ o. N.day ≡ None) }
         ensures back { IfErr result (λ o. o ≡ outcome) }
         ensures unchanged { OnErr result (self.new ≡ self.old) }
@@ -173,7 +178,8 @@ impl<'c, 'a, N: Naming> Slots<'c, 'a, N> {
     /// # Errors
     /// `Foreign` if a slot is empty, or if what stands in it is not what the last instruction left.
     pub fn lay_back(self, vault: &mut Vault<N>) -> Result<(), Lack>
-        ensures { IfErr result (λ lack. lack ≡ Foreign) }
+        ensures last { OnOk result (list_all (is_last_there (the_day self.entry.context.now) self.entry.context.now.plan) (map (option_map name_of) self.entry.slots.items) ≡ true) }
+        ensures lack { IfErr result (λ lack. lack ≡ Foreign) }
     {
         let Slots { context, slots, .. } = self;
         lay_slots(context, vault, slots)
@@ -182,13 +188,15 @@ impl<'c, 'a, N: Naming> Slots<'c, 'a, N> {
     /// The settled day, from its log and what stands in the slots.
     ///
     /// # Errors
-    /// `Memory` if memory ran out. `Foreign` if what stands for some account is not what its last instruction left. If no day
-    /// is named, also if the log is that of another context.
+    /// `Memory` if memory ran out. `Foreign` if what stands for some account is not what its last instruction left. If
+    /// no day is named, also if the log is that of another context.
     pub fn close_log(self, alloc: Global, log: Vec<LogRow>) -> Result<Settled, Lack>
         requires log { AreFirstRows N.day (length self.context.now.batch.now.instructions) log.items }
         ensures settled { IfOk result (λ s. IfSome N.day (λ d. s ≡ settled_day d)) }
         ensures of_book { IfOk result (λ s. IsOfBook self.entry.context.now.book s) }
-        ensures lack { IfErr result (LacksFor ((d : Day) → N.day ≡ Some d → ¬ (IsAtEnd d (count_up 1 (length d.batch.instructions)) (stands self.entry)))) }
+        ensures lack { IfErr result
+            (LacksFor ((d : Day) → N.day ≡ Some d
+            → ¬ (IsAtEnd d (count_up 1 (length d.batch.instructions)) (stands self.entry)))) }
     {
         last_toucher_is_last();
         tails_are_last_touchers();
@@ -200,12 +208,13 @@ impl<'c, 'a, N: Naming> Slots<'c, 'a, N> {
     /// The settled day, from what is kept of each instruction, in any order, and what stands in the slots.
     ///
     /// # Errors
-    /// `Memory` if memory ran out. `Foreign` if there is not exactly one reply for each place, or if what stands for some
-    /// account is not what its last instruction left. If no day is named, also if they are of another context.
+    /// `Memory` if memory ran out. `Foreign` if there is not exactly one reply for each place, or if what stands for
+    /// some account is not what its last instruction left. If no day is named, also if they are of another context.
     pub fn close(self, alloc: Global, done: Vec<Done<N>>) -> Result<Settled, Lack>
         ensures settled { IfOk result (λ s. IfSome N.day (λ d. s ≡ settled_day d)) }
         ensures of_book { IfOk result (λ s. IsOfBook self.entry.context.now.book s) }
-        ensures lack { IfErr result (LacksFor ((d : Day) → N.day ≡ Some d → ¬ (IsAtEnd d (places_of done.items) (stands self.entry)))) }
+        ensures lack { IfErr result
+            (LacksFor ((d : Day) → N.day ≡ Some d → ¬ (IsAtEnd d (places_of done.items) (stands self.entry)))) }
     {
         last_toucher_is_last();
         tails_are_last_touchers();

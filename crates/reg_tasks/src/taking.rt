@@ -1,9 +1,12 @@
 //! Opening values that are taken out of a vault, and last values that are laid back.
 
-ghost use Rattle.std.specs.Prelude.{◌≡◌, ◌==◌, ◌<◌, ◌≤◌, All, Some, is_some, map, length, slice_index, IfOk, IfErr, IfSome, IsTrue};
+ghost use Rattle.std.specs.Prelude.{◌≡◌, ◌==◌, ◌<◌, ◌≤◌, true, All, Some, is_some, map, length, slice_index, IfOk, IfErr, IfSome, OnOk, IsTrue};
+ghost use Rattle.std.specs.List.{list_all};
 ghost use Rattle.std.specs.Option.{option_map};
 ghost use Rattle.reg_base.specs.Touches.{is_touched};
 ghost use Rattle.reg_book.specs.Book.{directory_of};
+ghost use Rattle.reg_tasks.specs.Contexts.{the_day};
+ghost use Rattle.reg_tasks.specs.Gathering.{is_last_there};
 ghost use Rattle.reg_tasks.specs.Parcels.{names_of};
 ghost use Rattle.reg_tasks.specs.Slots.{name_of};
 ghost use Rattle.reg_tasks.specs.declared.lack.Lack.TheVariants.{Foreign};
@@ -14,7 +17,7 @@ use crate::naming::Naming;
 use crate::parcel::Parcel;
 use crate::task::Task;
 use crate::vault::Vault;
-use reg_base::{AccountNo, NoMemory};
+use reg_base::AccountNo;
 use std::alloc::Global;
 
 // The opening values of accounts that instructions touch, in their order.
@@ -23,14 +26,16 @@ fn take_all<N: Naming>(
     context: &Context<N>,
     vault: &mut Vault<N>,
     accounts: &[AccountNo],
-) -> Result<Vec<Parcel<N>>, NoMemory>
-    requires touched { All (λ a. IsTrue (is_touched (directory_of context.now.book.accounts) context.now.batch.now.instructions a)) accounts.now }
+) -> Result<Vec<Parcel<N>>, Lack>
+    requires touched { All (λ a. IsTrue
+        (is_touched (directory_of context.now.book.accounts) context.now.batch.now.instructions a)) accounts.now }
     ensures names { IfOk result (λ ps. names_of ps.items ≡ map (λ a. (a, 0)) accounts.now) }
 {
     let mut parcels = Vec::with_capacity(alloc, accounts.len())?;
     for account in accounts {
-        let Some(parcel) = vault.take(context, *account) else {
-            return Err(NoMemory);
+        // (a task needs no slot of its parcels)
+        let Some(parcel) = vault.take(context, *account, 0) else {
+            return Err(Lack::Foreign);
         };
         parcels.push(parcel)?;
     }
@@ -40,19 +45,21 @@ fn take_all<N: Naming>(
 /// A slot for each touched account, with its opening value.
 ///
 /// # Errors
-/// `NoMemory` if memory ran out, or if one of them was taken out before.
+/// `Memory` if memory ran out. `Foreign` if one of them was taken out before.
 pub(crate) fn take_slots<N: Naming>(
     alloc: Global,
     context: &Context<N>,
     vault: &mut Vault<N>,
-) -> Result<Vec<Option<Parcel<N>>>, NoMemory>
-    ensures { IfOk result (λ slots. map (option_map name_of) slots.items ≡ map (λ opening. Some (opening.account, 0)) context.now.plan.openings) }
+) -> Result<Vec<Option<Parcel<N>>>, Lack>
+    ensures { IfOk result (λ slots. map (option_map name_of) slots.items
+        ≡ map (λ opening. Some (opening.account, 0)) context.now.plan.openings) }
 {
     let openings = context.openings();
     let mut slots = Vec::with_capacity(alloc, openings.len())?;
     for opening in openings {
-        let Some(parcel) = vault.take(context, opening.account) else {
-            return Err(NoMemory);
+        // (nor does one that stands in its slot)
+        let Some(parcel) = vault.take(context, opening.account, 0) else {
+            return Err(Lack::Foreign);
         };
         slots.push(Some(parcel))?;
     }
@@ -68,7 +75,8 @@ pub(crate) fn lay_slots<N: Naming>(
     vault: &mut Vault<N>,
     slots: Vec<Option<Parcel<N>>>,
 ) -> Result<(), Lack>
-    ensures { IfErr result (λ lack. lack ≡ Foreign) }
+    ensures last { OnOk result (list_all (is_last_there (the_day context.now) context.now.plan) (map (option_map name_of) slots.items) ≡ true) }
+    ensures lack { IfErr result (λ lack. lack ≡ Foreign) }
 {
     for slot in slots {
         let Some(parcel) = slot else {
@@ -83,33 +91,37 @@ pub(crate) fn lay_slots<N: Naming>(
 
 impl<N: Naming> Vault<N> {
     ghost use Rattle.reg_schedules.specs.Pool.{footprint_at, tail_of};
-    ghost use Rattle.reg_tasks.specs.Contexts.{the_day};
 
-    /// The opening value of the account that stands at this position of the footprint of a place, exactly if no arrow leads
-    /// to the place at that account. The account is taken out. The place is counted from 1, the position from 0. Takes no
-    /// memory.
+    /// The opening value of the account that stands at this index of the footprint of a place, exactly if no arrow
+    /// leads to the place at that account. The account is taken out. The place is counted from 1, the index from 0.
+    /// Takes no memory.
     ///
     /// # Errors
-    /// `NoMemory` if the account was taken out before.
+    /// `Foreign` if the account was taken out before.
     pub fn opening_at(
         &mut self,
         context: &Context<N>,
         place: u32,
-        position: usize,
-    ) -> Result<Option<Parcel<N>>, NoMemory>
+        index: usize,
+    ) -> Result<Option<Parcel<N>>, Lack>
         requires from_one { 1 ≤ place }
         requires within { place ≤ length context.now.batch.now.instructions }
-        requires there { position < length (footprint_at (the_day context.now) place) }
-        ensures first { IfOk result (λ p. is_some p ≡ (tail_of context.now.plan place (slice_index (footprint_at (the_day context.now) place) position) == 0)) }
-        ensures number { IfOk result (λ p. IfSome p (λ p. p.value.number ≡ slice_index (footprint_at (the_day context.now) place) position)) }
+        requires there { index < length (footprint_at (the_day context.now) place) }
+        ensures first { IfOk result
+            (λ p. is_some p ≡ (tail_of context.now.plan place
+            (slice_index (footprint_at (the_day context.now) place) index) == 0)) }
+        ensures number { IfOk result
+            (λ p. IfSome p (λ p. p.value.number ≡ slice_index (footprint_at (the_day context.now) place) index)) }
         ensures after { IfOk result (λ p. IfSome p (λ p. p.after ≡ 0)) }
+        ensures lack { IfErr result (λ lack. lack ≡ Foreign) }
     {
-        let account = context.touched_at(place)[position];
+        let account = context.touched_at(place)[index];
         if context.tail_of(place, account) != 0 {
             return Ok(None);
         }
-        let Some(parcel) = self.take(context, account) else {
-            return Err(NoMemory);
+        let slot = context.likely_slots(place).at(index);
+        let Some(parcel) = self.take(context, account, slot) else {
+            return Err(Lack::Foreign);
         };
         Ok(Some(parcel))
     }
@@ -118,23 +130,24 @@ impl<N: Naming> Vault<N> {
 impl<N: Naming> Task<N> {
     ghost use Rattle.reg_plan.specs.Plans.{inward};
     ghost use Rattle.reg_schedules.specs.Pool.{footprint_at};
-    ghost use Rattle.reg_tasks.specs.Contexts.{the_day};
 
     /// The same as [`Task::open`], but the accounts are taken out of a vault and not copied.
     ///
     /// # Errors
-    /// `NoMemory` if memory ran out, or if one of the accounts was taken out before.
+    /// `Memory` if memory ran out. `Foreign` if one of the accounts was taken out before.
     pub fn open_from(
         alloc: Global,
         context: &Context<N>,
         place: u32,
         vault: &mut Vault<N>,
-    ) -> Result<Option<Task<N>>, NoMemory>
+    ) -> Result<Option<Task<N>>, Lack>
         requires from_one { 1 ≤ place }
         requires within { place ≤ length context.now.batch.now.instructions }
         ensures waits { IfOk result (λ t. is_some t ≡ (length (inward context.now.plan.arrows place) == 0)) }
         ensures place { IfOk result (λ t. IfSome t (λ t. t.place ≡ place)) }
-        ensures names { IfOk result (λ t. IfSome t (λ t. names_of t.parcels.items ≡ map (λ a. (a, 0)) (footprint_at (the_day context.now) place))) }
+        ensures names { IfOk result
+            (λ t. IfSome t (λ t. names_of t.parcels.items
+            ≡ map (λ a. (a, 0)) (footprint_at (the_day context.now) place))) }
     {
         if !context.arrows_to(place).is_empty() {
             return Ok(None);

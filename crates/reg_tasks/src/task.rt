@@ -54,7 +54,9 @@ impl<N: Naming> Task<N> {
     ) -> Result<Task<N>, Vec<Parcel<N>>>
         requires from_one { 1 ≤ place }
         requires within { place ≤ length context.now.batch.now.instructions }
-        ensures fits { is_ok result ≡ has_names (names_of parcels.items) (names_needed (inward context.now.plan.arrows place) (footprint_at (the_day context.now) place)) }
+        ensures fits { is_ok result
+            ≡ has_names (names_of parcels.items)
+            (names_needed (inward context.now.plan.arrows place) (footprint_at (the_day context.now) place)) }
         ensures place { IfOk result (λ t. t.place ≡ place) }
         ensures parcels { IfOk result (λ t. IsPermutation parcels.items t.parcels.items) }
         ensures back { IfErr result (λ ps. ps ≡ parcels) }
@@ -70,15 +72,17 @@ impl<N: Naming> Task<N> {
         Ok(Task::of_unordered(context, place, parcels))
     }
 
-    /// The task of a place with just the parcels that its instruction needs, in any order. Tests nothing: for a dock, which
-    /// has tested each of them when it came. The place is counted from 1. Takes no memory.
+    /// The task of a place with just the parcels that its instruction needs, in any order. Tests nothing: for a dock,
+    /// which has tested each of them when it came. The place is counted from 1. Takes no memory.
     pub fn of_unordered(context: &Context<N>, place: u32, mut parcels: Vec<Parcel<N>>) -> Task<N>
         requires from_one { 1 ≤ place }
         requires within { place ≤ length context.now.batch.now.instructions }
-        requires needed { has_names (names_of parcels.items) (names_needed (inward context.now.plan.arrows place) (footprint_at (the_day context.now) place)) ≡ true }
+        requires needed { has_names (names_of parcels.items)
+            (names_needed (inward context.now.plan.arrows place) (footprint_at (the_day context.now) place)) ≡ true }
         ensures place { result.place ≡ place }
         ensures parcels { IsPermutation parcels.items result.parcels.items }
-        ensures complete { complete (the_day context.now) context.now.plan place (parcels_of parcels.items) ≡ Some (task_of result) }
+        ensures complete { complete (the_day context.now) context.now.plan place (parcels_of parcels.items)
+            ≡ Some (task_of result) }
     {
         each_footprint_is_sound();
         last_toucher_is_last();
@@ -91,12 +95,13 @@ impl<N: Naming> Task<N> {
         Task { place, parcels }
     }
 
-    /// The task of a place with just the parcels that its instruction needs, in the order of its footprint. Tests nothing:
-    /// for the slots, which have tested what they take.
+    /// The task of a place with just the parcels that its instruction needs, in the order of its footprint. Tests
+    /// nothing: for the slots, which have tested what they take.
     pub(crate) fn of_needed(context: &Context<N>, place: u32, parcels: Vec<Parcel<N>>) -> Task<N>
         requires from_one { 1 ≤ place }
         requires within { place ≤ length context.now.batch.now.instructions }
-        requires needed { names_of parcels.items ≡ names_needed (inward context.now.plan.arrows place) (footprint_at (the_day context.now) place) }
+        requires needed { names_of parcels.items
+            ≡ names_needed (inward context.now.plan.arrows place) (footprint_at (the_day context.now) place) }
         ensures place { result.place ≡ place }
         ensures parcels { result.parcels ≡ parcels }
     {
@@ -120,8 +125,12 @@ impl<N: Naming> Task<N> {
         requires within { place ≤ length context.now.batch.now.instructions }
         ensures waits { IfOk result (λ t. is_some t ≡ (length (inward context.now.plan.arrows place) == 0)) }
         ensures place { IfOk result (λ t. IfSome t (λ t. t.place ≡ place)) }
-        ensures names { IfOk result (λ t. IfSome t (λ t. names_of t.parcels.items ≡ map (λ a. (a, 0)) (footprint_at (the_day context.now) place))) }
-        ensures values { IfOk result (λ t. IfSome t (λ t. map (λ p. Some p.value) t.parcels.items ≡ map (λ a. account context.now.book.accounts a) (footprint_at (the_day context.now) place))) }
+        ensures names { IfOk result
+            (λ t. IfSome t (λ t. names_of t.parcels.items
+            ≡ map (λ a. (a, 0)) (footprint_at (the_day context.now) place))) }
+        ensures values { IfOk result
+            (λ t. IfSome t (λ t. map (λ p. Some p.value) t.parcels.items
+            ≡ map (λ a. account context.now.book.accounts a) (footprint_at (the_day context.now) place))) }
     {
         if !context.arrows_to(place).is_empty() {
             return Ok(None);
@@ -173,10 +182,14 @@ impl<N: Naming> Task<N> {
     /// The task as it was, if memory ran out. If no day is named, also if the task is of another context.
     pub fn run(self, alloc: Global, context: &Context<N>) -> Result<Outcome<N>, Task<N>>
         ensures place { IfOk result (λ o. o.place ≡ self.place) }
-        ensures made { IfOk result (λ o. run_at (the_day context.now) self.place (values_of self.parcels.items) ≡ Some (values_of o.parcels.items, o.row)) }
+        ensures made { IfOk result
+            (λ o. run_at (the_day context.now) self.place (values_of self.parcels.items)
+            ≡ Some (values_of o.parcels.items, o.row)) }
         ensures left { IfOk result (λ o. parcels_of o.parcels.items ≡ left_by self.place (values_of o.parcels.items)) }
         ensures few { IfOk result (λ o. length o.parcels.items ≤ MOST_TOUCHED) }
-        ensures back { IfErr result (λ t. (t.place ≡ self.place) × (values_of t.parcels.items ≡ values_of self.parcels.items) × (afters_of t.parcels.items ≡ afters_of self.parcels.items)) }
+        ensures back { IfErr result
+            (λ t. (t.place ≡ self.place) × (values_of t.parcels.items ≡ values_of self.parcels.items)
+            × (afters_of t.parcels.items ≡ afters_of self.parcels.items)) }
     {
         each_footprint_is_sound();
         step_laws();

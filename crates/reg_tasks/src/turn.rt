@@ -15,12 +15,12 @@ use crate::slots::Slots;
 use reg_rules::LogRow;
 use std::alloc::Global;
 
-/// Runs the instruction at a place on what stands in the slots: takes its task, passes the gate as the only worker, runs the
-/// task, and lays what it leaves. Answers its run and its row in the log. The place is counted from 1.
+/// Runs the instruction at a place on what stands in the slots: takes its task, passes the gate as the only worker,
+/// runs the task, and lays what it leaves. Answers its run and its row in the log. The place is counted from 1.
 ///
 /// # Errors
-/// `Memory` if memory ran out. `Foreign` if a parcel that the instruction needs is not there. If no day is named, also if what
-/// it leaves has no slot.
+/// `Memory` if memory ran out. `Foreign` if a parcel that the instruction needs is not there. If no day is named, also
+/// if what it leaves has no slot.
 pub fn run_at<N: Naming, G: Gate>(
     alloc: Global,
     slots: &mut Slots<'_, '_, N>,
@@ -32,8 +32,11 @@ pub fn run_at<N: Naming, G: Gate>(
     ensures context { slots.new.context.now ≡ slots.old.context.now }
     ensures place { IfOk result (λ kept. kept.0.place ≡ place) }
     ensures row { IfOk result (λ kept. IsRowOfDay N.day place kept.1) }
-    ensures laid { OnOk result (IsLaidBack N.day (the_day slots.old.context.now) place (stands slots.old) (stands slots.new)) }
-    ensures lack { IfErr result (LacksFor ((d : Day) → N.day ≡ Some d → is_ready (the_day slots.old.context.now) slots.old.context.now.plan place (stands slots.old) ≡ false)) }
+    ensures laid { OnOk result
+        (IsLaidBack N.day (the_day slots.old.context.now) place (stands slots.old) (stands slots.new)) }
+    ensures lack { IfErr result
+        (LacksFor ((d : Day) → N.day ≡ Some d
+        → is_ready (the_day slots.old.context.now) slots.old.context.now.plan place (stands slots.old) ≡ false)) }
 {
     let task = slots.take(alloc, place)?;
     gate.enter(0, &task);

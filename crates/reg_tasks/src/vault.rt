@@ -19,9 +19,9 @@ use reg_plan::laws::tails_are_last_touchers;
 use std::alloc::Global;
 use std::marker::PhantomData;
 
-/// The accounts of a book that was given away, by rising number, while its day is settled on them. An account that is taken
+/// The accounts of a book that was given away, by rising number, while its day is settled on them. One that is taken
 /// out leaves a vacant one in its place, with the same number, until it is laid back as its last instruction left it. So
-/// places never change, and no account is copied.
+/// indexes never change, and no account is copied.
 #[derive(Drop)]
 pub struct Vault<N: Naming> {
     accounts: Vec<Account>,
@@ -36,7 +36,7 @@ pub struct Vault<N: Naming> {
 }
 
 impl<N: Naming> Vault<N> {
-    ghost use Rattle.std.specs.Prelude.{◌==◌, ◌<◌, true, Some, is_some, slice_get, slice_index, IfErr, IfSome, OnOk, IsTrue};
+    ghost use Rattle.std.specs.Prelude.{◌==◌, ◌<◌, true, All, Some, is_some, slice_get, slice_index, IfErr, IfOk, IfSome, OnOk, IsTrue};
     ghost use Rattle.reg_base.specs.Touches.{is_touched};
     ghost use Rattle.reg_book.specs.Book.{directory_of};
     ghost use Rattle.reg_book.specs.Day.{closing_state};
@@ -53,6 +53,8 @@ impl<N: Naming> Vault<N> {
     pub fn of(alloc: Global, accounts: Vec<Account>) -> Result<Vault<N>, NoMemory>
         requires rising { IsRising (numbers accounts.items) }
         requires of_day { AreOfDay N.day accounts.items }
+        ensures accounts { IfOk result (λ vault. vault.accounts.items ≡ accounts.items) }
+        ensures here { IfOk result (λ vault. All (λ lot. lot ≡ Here) vault.lots.items) }
     {
         let lots = vec![in alloc; Lot::Here; accounts.len()]?;
         Ok(Vault {
@@ -62,35 +64,42 @@ impl<N: Naming> Vault<N> {
         })
     }
 
-    /// Takes out an account that some instruction touches, and answers its opening value. `None` if it was taken out before.
-    /// Takes no memory.
+    /// Takes out an account that some instruction touches, and answers its opening value, which is likely to have this
+    /// slot. `None` if it was taken out before. Takes no memory.
     ///
     /// The time is logarithmic in the accounts, and constant where their numbers rise evenly.
-    pub fn take(&mut self, context: &Context<N>, number: AccountNo) -> Option<Parcel<N>>
-        requires touched { IsTrue (is_touched (directory_of context.now.book.accounts) context.now.batch.now.instructions number) }
+    pub fn take(
+        &mut self,
+        context: &Context<N>,
+        number: AccountNo,
+        likely_slot: u32,
+    ) -> Option<Parcel<N>>
+        requires touched { IsTrue
+            (is_touched (directory_of context.now.book.accounts) context.now.batch.now.instructions number) }
         ensures number { IfSome result (λ p. p.value.number ≡ number) }
         ensures after { IfSome result (λ p. p.after ≡ 0) }
     {
-        let place = stand_at(&self.accounts, number)?;
-        if !self.lots[place].is_here() {
+        let index = stand_at(&self.accounts, number)?;
+        if !self.lots[index].is_here() {
             return None;
         }
-        Some(self.take_at(context, place))
+        Some(self.take_at(context, index, likely_slot))
     }
 
-    // Takes out the account at a place, which an instruction touches and which was not taken out.
-    fn take_at(&mut self, context: &Context<N>, place: usize) -> Parcel<N>
-        requires within { place < length self.old.accounts.items }
-        requires here { slice_get self.old.lots.items place ≡ Some Here }
-        requires touched { IsTrue (is_touched (directory_of context.now.book.accounts) context.now.batch.now.instructions (slice_index (numbers self.old.accounts.items) place)) }
-        ensures number { result.value.number ≡ slice_index (numbers self.old.accounts.items) place }
+    // Takes out the account at an index, which an instruction touches and which was not taken out.
+    fn take_at(&mut self, context: &Context<N>, index: usize, likely_slot: u32) -> Parcel<N>
+        requires within { index < length self.old.accounts.items }
+        requires here { slice_get self.old.lots.items index ≡ Some Here }
+        requires touched { IsTrue
+            (is_touched (directory_of context.now.book.accounts) context.now.batch.now.instructions
+            (slice_index (numbers self.old.accounts.items) index)) }
+        ensures number { result.value.number ≡ slice_index (numbers self.old.accounts.items) index }
         ensures after { result.after ≡ 0 }
     {
         let _context = context;
-        mark(&mut self.lots, place, Lot::Out);
-        let value = vacate_at(&mut self.accounts, place);
-        // (whoever needs its slot searches for it)
-        Parcel::new(value, 0, 0)
+        mark(&mut self.lots, index, Lot::Out);
+        let value = vacate_at(&mut self.accounts, index);
+        Parcel::new(value, 0, likely_slot)
     }
 
     /// Lays an account back in its place, as its last instruction left it. Takes no memory.
@@ -101,20 +110,20 @@ impl<N: Naming> Vault<N> {
         ensures last { OnOk result (is_last (the_day context.now) context.now.plan (name_of parcel) ≡ true) }
         ensures back { IfErr result (λ p. p ≡ parcel) }
     {
-        let Some(place) = stand_at(&self.accounts, parcel.account()) else {
+        let Some(index) = stand_at(&self.accounts, parcel.account()) else {
             return Err(parcel);
         };
         if !is_last(context, &parcel) {
             return Err(parcel);
         }
-        self.lay_at(context, place, parcel);
+        self.lay_at(context, index, parcel);
         Ok(())
     }
 
-    // Lays a last value back at the place of its account.
-    fn lay_at(&mut self, context: &Context<N>, place: usize, parcel: Parcel<N>)
-        requires within { place < length self.old.accounts.items }
-        requires number { slice_index (numbers self.old.accounts.items) place ≡ parcel.value.number }
+    // Lays a last value back at the index of its account.
+    fn lay_at(&mut self, context: &Context<N>, index: usize, parcel: Parcel<N>)
+        requires within { index < length self.old.accounts.items }
+        requires number { slice_index (numbers self.old.accounts.items) index ≡ parcel.value.number }
         requires last { is_last (the_day context.now) context.now.plan (name_of parcel) ≡ true }
     {
         let _context = context;
@@ -123,8 +132,8 @@ impl<N: Naming> Vault<N> {
         last_toucher_is_last();
         tails_are_last_touchers();
         let (value, _) = parcel.into_parts();
-        mark(&mut self.lots, place, Lot::Back);
-        put_at(&mut self.accounts, place, value);
+        mark(&mut self.lots, index, Lot::Back);
+        put_at(&mut self.accounts, index, value);
     }
 
     /// The accounts after the day, exactly if every account that an instruction touches is back. Takes no memory.

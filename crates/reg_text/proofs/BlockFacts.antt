@@ -80,9 +80,9 @@ held-most : (kind : AllowanceKind) (v : AccountValue) → IsAccount v → held_b
 held-most General v fits = fits.holdings_fit.general
 held-most Aviation v fits = fits.holdings_fit.aviation
 
-have-room : (totals : BothTotals) (blocks : Blocks) (all : List AccountValue) (size first : ℕ) (others : List AccountValue) → All IsAccount all → length all ≤ MOST_ACCOUNTS
+have-space : (totals : BothTotals) (blocks : Blocks) (all : List AccountValue) (size first : ℕ) (others : List AccountValue) → All IsAccount all → length all ≤ MOST_ACCOUNTS
     → AreBlocksOf first (take size others) blocks → AddUpWith totals all others → BothTotalsFit (both_added totals blocks.totals)
-have-room totals blocks all size first others fit few is so_far =
+have-space totals blocks all size first others fit few is so_far =
     let whole = add-run totals blocks all size first others is so_far in
     let each = recursion_from_All IsAccount all fit in
     let held : (kind : AllowanceKind) → sum_by (λ v. held_by v kind) all ≤ 1_000_000_000_000_000 * length all = λ kind. most-of (λ v. held_by v kind) (held-most kind) all each in
@@ -100,8 +100,8 @@ have-room totals blocks all size first others fit few is so_far =
       };
     }
 
--- so there is room for the totals of one run more
-pub run-has_room : (totals : BothTotals) (blocks : Blocks) (all : List AccountValue) (whole : List ℕ) (size : ℕ) (pieces : List (Vec ℕ Global)) (runs : List (Result Blocks NoMemory)) → All IsAccount all → length all ≤ MOST_ACCOUNTS
+-- so there is space for the totals of one run more
+pub run-has_space : (totals : BothTotals) (blocks : Blocks) (all : List AccountValue) (whole : List ℕ) (size : ℕ) (pieces : List (Vec ℕ Global)) (runs : List (Result Blocks NoMemory)) → All IsAccount all → length all ≤ MOST_ACCOUNTS
     → IsSpelled AreBlocksOf (λ first accounts. blocks_text accounts) (λ (b : Blocks). b.text) (AddUpWith totals all) whole size pieces (Ok blocks ∷ runs) → BothTotalsFit (both_added totals blocks.totals)
 unfolding RunsOf
-run-has_room totals blocks all whole size pieces runs fit few s = have-room totals blocks all size s.first s.others fit few s.left.0 s.holds
+run-has_space totals blocks all whole size pieces runs fit few s = have-space totals blocks all size s.first s.others fit few s.left.0 s.holds

@@ -1,7 +1,7 @@
 -- The row that a fault names is the first with which no day text begins, and its cause is the first of the table's.
 use Rattle.std.proofs.Common.{◌≡◌, ◌⊎◌, inl, inr, ℕ, suc, ◌+◌, ◌-◌, ◌<◌, ◌≤◌, Bool, false, not, true, List, [], ◌∷◌, ◌++◌, length, take, get_or, Option, Some, None, Result, Ok, Err, refl, sym, ap, subst, ◌∙◌, arith, append_assoc}
 use Rattle.std.proofs.lemmas.List.{append-nil}
-use Rattle.reg_text.proofs.Names.{MOST_LAG, FIRST_DAY, FIRST_YEAR, Cause, Tag, Version, One, Two, SectionStandsAt, place, scope_of, Record, Said, row, DraftValue, nothing_read, Day, is_text_over, day_said, IsDraft, IsReading, Begins, IsFirstFaulty, fault_of, with, in_order, has_room, next_draft, drafted, at_row, at_end, after_rows, day_of_rows, IsCauseOf}
+use Rattle.reg_text.proofs.Names.{MOST_LAG, FIRST_DAY, FIRST_YEAR, Cause, Tag, Version, One, Two, SectionStandsAt, stage, scope_of, Record, Said, row, DraftValue, nothing_read, Day, is_text_over, day_said, IsDraft, IsReading, Begins, IsFirstFaulty, fault_of, with, in_order, has_space, next_draft, drafted, at_row, at_end, after_rows, day_of_rows, IsCauseOf}
 use Rattle.reg_text.specs.declared.cause.Cause.TheVariants as cause
 use Rattle.reg_text.specs.declared.reading.tag.Tag.TheVariants as tag
 use Rattle.reg_text.specs.Grammar.{row_text}
@@ -16,17 +16,17 @@ use Rattle.reg_text.proofs.Names.{field, named, all_tags, tag_word, may_follow, 
 
 -- ---- the cause against a row is the first of the table's that applies
 
-placed-fault : {A : Type 0} (ordered room : Bool) (x : A) → fault_of (placed ordered room x) ≡ first_cause (when (not ordered) cause.Order ∷ when (not room) cause.Limit ∷ [])
+placed-fault : {A : Type 0} (ordered space : Bool) (x : A) → fault_of (placed ordered space x) ≡ first_cause (when (not ordered) cause.Order ∷ when (not space) cause.Limit ∷ [])
 placed-fault true true x = refl
 placed-fault true false x = refl
-placed-fault false room x = refl
+placed-fault false space x = refl
 
 row-fault : (t : Tag) (d : DraftValue) (r : Record) → fault_of (with_row t d r) ≡ first_cause (tagged_tests (Ok t) d r)
 unfolding with_row
 row-fault t d r =
     let c = row (scope_of d) t in
     next (c.read r) _ (c.tests r) (said_tests t d (c.read r)) ((each-row (scope_of d) t).fault r) (λ x e.
-    placed-fault (in_order t d x) (has_room t d x) (with t d x) ∙ ap (λ (y : Result (Said t) Cause). first_cause (said_tests t d y)) (sym e))
+    placed-fault (in_order t d x) (has_space t d x) (with t d x) ∙ ap (λ (y : Result (Said t) Cause). first_cause (said_tests t d y)) (sym e))
 
 tag-once : (version : Version) (last : Option Tag) (f : List ℕ) → fault_of (tag_after version last f) ≡ first_cause (when (not (is_ok (tag_after version last f))) cause.Tag ∷ [])
 tag-once version last f = once cause.Tag (tag_after version last f) (only-bind cause.Tag (named cause.Tag tag_word all_tags f) _ (only-named cause.Tag tag_word all_tags f) (λ t. only-test (may_follow version last t) cause.Tag t))
@@ -42,10 +42,10 @@ first-fault d r =
 -- ---- the rows of a draft begin a day text
 
 -- one row more
-with-one : (t : Tag) (d : DraftValue) (x : Said t) → IsDraft d → MayFollow (scope_of d).version d.last t → (row (scope_of d) t).Fits x → in_order t d x ≡ true → has_room t d x ≡ true
+with-one : (t : Tag) (d : DraftValue) (x : Said t) → IsDraft d → MayFollow (scope_of d).version d.last t → (row (scope_of d) t).Fits x → in_order t d x ≡ true → has_space t d x ≡ true
     → (IsDraft (with t d x) → Begins (rows_so_far (with t d x))) → Begins (rows_so_far d)
-with-one t d x h may fits order room more =
-    let g = grows-with t d x h may fits order room in
+with-one t d x h may fits order space more =
+    let g = grows-with t d x h may fits order space in
     let begins = more g.draft in
     let same = ap (λ (rows : List Record). rows ++ begins.0) g.rows ∙ append_assoc (rows_so_far d) (row_text t x ∷ []) begins.0 in
     (row_text t x ∷ begins.0, begins.1, subst (λ (text : List Record). IsReading text begins.1) same begins.2)
@@ -67,14 +67,14 @@ from-current Two d is at h = before-lags d h (rw (is, at) refl)
 from-period : (version : Version) (d : DraftValue) → (scope_of d).version ≡ version → d.last ≡ Some tag.Period → IsDraft d → Begins (rows_so_far d)
 from-period One d is at h = before-lags d h (rw (is, at) refl)
 from-period Two d is at h =
-    let here : place d.last ≡ 30 = ap place at in
-    let some = (at-tag (SectionStandsAt (scope_of d).version (place d.last)) d tag.Period h.fits.stand).come (omega (arith, here)) refl in
+    let here : stage d.last ≡ 30 = ap stage at in
+    let some = (at-tag (SectionStandsAt (scope_of d).version (stage d.last)) d tag.Period h.fits.stand).come (omega (arith, here)) refl in
     with-one tag.Current d 1 h (rw (is, at) refl) (record { low = omega arith; high = some }, omega arith) refl refl (λ k. from-current Two (with tag.Current d 1) is refl k)
 
 from-day : (d : DraftValue) → IsDraft d → d.last ≡ Some tag.Day → Begins (rows_so_far d)
 from-day d h at =
-    let here : place d.last ≡ 20 = ap place at in
-    let none = (at-tag (SectionStandsAt (scope_of d).version (place d.last)) d tag.Period h.fits.stand).begun (omega (arith, here)) in
+    let here : stage d.last ≡ 20 = ap stage at in
+    let none = (at-tag (SectionStandsAt (scope_of d).version (stage d.last)) d tag.Period h.fits.stand).begun (omega (arith, here)) in
     with-one tag.Period d (FIRST_YEAR, FIRST_YEAR) h (may-come (scope_of d).version d.last at) ((ranged _ _ FIRST_YEAR refl, ranged _ _ FIRST_YEAR refl), refl) (rw none refl) (rw none refl) (λ k. from-period (scope_of d).version _ refl refl k) where
       may-come : (version : Version) (last : Option Tag) → last ≡ Some tag.Day → MayFollow version last tag.Period
       may-come One last e = rw e refl

@@ -14,29 +14,29 @@ use Rattle.reg_text.proofs.CodecLaws.{field-drop}
 use Rattle.reg_text.proofs.PairLaws.{either}
 
 -- the record ends here, or it has one more field where that is allowed
-ends : (allowed : Bool) (place : ℕ) (r : Record) → (eqb (length r) place || (allowed && eqb (length r) (suc place))) ≡ true → (length r ≡ place) ⊎ ((allowed ≡ true) × (length r ≡ suc place))
-ends allowed place r e = elim (either (eqb (length r) place) (allowed && eqb (length r) (suc place)) e) [
+ends : (allowed : Bool) (column : ℕ) (r : Record) → (eqb (length r) column || (allowed && eqb (length r) (suc column))) ≡ true → (length r ≡ column) ⊎ ((allowed ≡ true) × (length r ≡ suc column))
+ends allowed column r e = elim (either (eqb (length r) column) (allowed && eqb (length r) (suc column)) e) [
   | inl here ↦ inl (eqb-true _ _ here)
-  | inr more ↦ let both = and_parts allowed (eqb (length r) (suc place)) more in inr (both.0, eqb-true _ _ both.1)
+  | inr more ↦ let both = and_parts allowed (eqb (length r) (suc column)) more in inr (both.0, eqb-true _ _ both.1)
 ]
 
-within-so : (allowed : Bool) (place : ℕ) (r : Record) → (length r ≡ place) ⊎ ((allowed ≡ true) × (length r ≡ suc place)) → place ≤ length r
-within-so allowed place r (inl here) = omega arith
-within-so allowed place r (inr more) = omega (arith, more.1)
+within-so : (allowed : Bool) (column : ℕ) (r : Record) → (length r ≡ column) ⊎ ((allowed ≡ true) × (length r ≡ suc column)) → column ≤ length r
+within-so allowed column r (inl here) = omega arith
+within-so allowed column r (inr more) = omega (arith, more.1)
 
 module _ {A : Type 0} (allowed : Bool) (c : Codec A) (h : IsCodec c) where
   abbrev Fit : Option A → Type 0
   Fit o = IfSome o (λ x. (allowed ≡ true) × c.Fits x)
 
-  spelled-so : (place : ℕ) (r : Record) (o : Option A) (here : Bool) → eqb (length r) place ≡ here → (length r ≡ place) ⊎ ((allowed ≡ true) × (length r ≡ suc place))
-      → cond here (Ok None) (c.read (field r place) >>= λ x. Ok (Some x)) ≡ Ok o → (drop place r ≡ maybe_spelled c o) × Fit o
-  spelled-so place r o true is e read = let size = eqb-true _ _ is in subst (λ (p : Option A). (drop place r ≡ maybe_spelled c p) × Fit p) (ok_is None o read) (drop_all place r (omega (arith, size)), tt)
-  spelled-so place r o false is (inl size) read = let same = eq-eqb _ _ size in absurd cc
-  spelled-so place r o false is (inr more) read =
-      let x = bind_ok (c.read (field r place)) _ o read in
-      let s = h.spelled (field r place) x.0 x.1 in
-      let rest = drop_all (suc place) r (omega (arith, more.1)) in
-      subst (λ (p : Option A). (drop place r ≡ maybe_spelled c p) × Fit p) (ok_is (Some x.0) o x.2) (field-drop r place (omega (arith, more.1)) ∙ cons s.0 rest, (more.0, s.1))
+  spelled-so : (column : ℕ) (r : Record) (o : Option A) (here : Bool) → eqb (length r) column ≡ here → (length r ≡ column) ⊎ ((allowed ≡ true) × (length r ≡ suc column))
+      → cond here (Ok None) (c.read (field r column) >>= λ x. Ok (Some x)) ≡ Ok o → (drop column r ≡ maybe_spelled c o) × Fit o
+  spelled-so column r o true is e read = let size = eqb-true _ _ is in subst (λ (p : Option A). (drop column r ≡ maybe_spelled c p) × Fit p) (ok_is None o read) (drop_all column r (omega (arith, size)), tt)
+  spelled-so column r o false is (inl size) read = let same = eq-eqb _ _ size in absurd cc
+  spelled-so column r o false is (inr more) read =
+      let x = bind_ok (c.read (field r column)) _ o read in
+      let s = h.spelled (field r column) x.0 x.1 in
+      let rest = drop_all (suc column) r (omega (arith, more.1)) in
+      subst (λ (p : Option A). (drop column r ≡ maybe_spelled c p) × Fit p) (ok_is (Some x.0) o x.2) (field-drop r column (omega (arith, more.1)) ∙ cons s.0 rest, (more.0, s.1))
 
   again-so : (before : Record) (o : Option A) → Fit o → ((maybe allowed c).ends (length before) (before ++ maybe_spelled c o) ≡ true) × ((maybe allowed c).read (length before) (before ++ maybe_spelled c o) ≡ Ok o)
   again-so before None fits = let same = eq-eqb (length (before ++ [])) (length before) (ap length (append-nil before)) in (rw same refl, rw same refl)
@@ -56,9 +56,9 @@ module _ {A : Type 0} (allowed : Bool) (c : Codec A) (h : IsCodec c) where
 
   pub are_maybe : AreFields (maybe allowed c)
   are_maybe = record {
-    within = λ place r e. within-so allowed place r (ends allowed place r e);
-    spelled = λ place r o e read. spelled-so place r o (eqb (length r) place) refl (ends allowed place r e) read;
+    within = λ column r e. within-so allowed column r (ends allowed column r e);
+    spelled = λ column r o e read. spelled-so column r o (eqb (length r) column) refl (ends allowed column r e) read;
     again = again-so;
-    fault = λ place r. fault-so (eqb (length r) place) (c.read (field r place)) (c.tests (field r place)) (h.fault (field r place));
+    fault = λ column r. fault-so (eqb (length r) column) (c.read (field r column)) (c.tests (field r column)) (h.fault (field r column));
     plain = plain-so;
   }

@@ -17,19 +17,19 @@ pub either : (a b : Bool) → (a || b) ≡ true → (a ≡ true) ⊎ (b ≡ true
 either true b e = inl refl
 either false b e = inr e
 
--- the record ends after so many pairs behind the place
+-- the record ends after so many pairs behind the column
 abbrev EndsAfter : ℕ → Record → ℕ → Type 0
-EndsAfter place r n = length r ≡ place + 2 * n
+EndsAfter column r n = length r ≡ column + 2 * n
 
 abbrev ends_after : ℕ → Record → ℕ → Bool
-ends_after place r n = length r == place + 2 * n
+ends_after column r n = length r == column + 2 * n
 
-ends-some : (from more place : ℕ) (r : Record) → list_any (ends_after place r) (count_up from more) ≡ true → (n : ℕ) × (from ≤ n) × (n < from + more) × EndsAfter place r n
-ends-some from zero place r e = absurd cc
-ends-some from (suc more) place r e = ⊎_elim
+ends-some : (from more column : ℕ) (r : Record) → list_any (ends_after column r) (count_up from more) ≡ true → (n : ℕ) × (from ≤ n) × (n < from + more) × EndsAfter column r n
+ends-some from zero column r e = absurd cc
+ends-some from (suc more) column r e = ⊎_elim
     (λ here. (from, omega arith, omega arith, eqb-true _ _ here))
-    (λ later. let n = ends-some (from + 1) more place r later in (n.0, omega (arith, n.1), omega (arith, n.2), n.3))
-    (either (ends_after place r from) (list_any (ends_after place r) (count_up (from + 1) more)) e)
+    (λ later. let n = ends-some (from + 1) more column r later in (n.0, omega (arith, n.1), omega (arith, n.2), n.3))
+    (either (ends_after column r from) (list_any (ends_after column r) (count_up (from + 1) more)) e)
 
 either-of : (a b : Bool) → (a ≡ true) ⊎ (b ≡ true) → (a || b) ≡ true
 either-of true b e = refl
@@ -37,11 +37,11 @@ either-of false true e = refl
 either-of false false (inl e) = e
 either-of false false (inr e) = e
 
-ends-so : (from more n place : ℕ) (r : Record) → from ≤ n → n < from + more → EndsAfter place r n → list_any (ends_after place r) (count_up from more) ≡ true
-ends-so from zero n place r low high e = absurd (omega arith)
-ends-so from (suc more) n place r low high e = dite (ℕ_discrete from n)
-    (λ same. either-of (ends_after place r from) _ (inl (eq-eqb (length r) (place + 2 * from) (omega arith))))
-    (λ apart. either-of (ends_after place r from) _ (inr (ends-so (from + 1) more n place r (omega arith) (omega arith) e)))
+ends-so : (from more n column : ℕ) (r : Record) → from ≤ n → n < from + more → EndsAfter column r n → list_any (ends_after column r) (count_up from more) ≡ true
+ends-so from zero n column r low high e = absurd (omega arith)
+ends-so from (suc more) n column r low high e = dite (ℕ_discrete from n)
+    (λ same. either-of (ends_after column r from) _ (inl (eq-eqb (length r) (column + 2 * from) (omega arith))))
+    (λ apart. either-of (ends_after column r from) _ (inr (ends-so (from + 1) more n column r (omega arith) (omega arith) e)))
 
 module _ {A B : Type 0} (c : Codec A) (d : Codec B) (h : IsCodec c) (k : IsCodec d) where
   abbrev EachFits : List (A × B) → Type 0
@@ -82,15 +82,15 @@ module _ {A B : Type 0} (c : Codec A) (d : Codec B) (h : IsCodec c) (k : IsCodec
 
   pub are_pairs : (most : ℕ) → AreFields (pairs most c d)
   are_pairs most = record {
-    within = λ place r e. let n = ends-some 1 most place r e in let end = n.3 in omega arith;
-    spelled = λ place r ps e read.
-        let n = ends-some 1 most place r e in
-        let size : length (drop place r) ≡ 2 * n.0 = omega (arith, length-drop place r, n.3) in
-        let s = list-spelled n.0 (drop place r) ps size read in
+    within = λ column r e. let n = ends-some 1 most column r e in let end = n.3 in omega arith;
+    spelled = λ column r ps e read.
+        let n = ends-some 1 most column r e in
+        let size : length (drop column r) ≡ 2 * n.0 = omega (arith, length-drop column r, n.3) in
+        let s = list-spelled n.0 (drop column r) ps size read in
         (s.0, (omega (arith, n.1, s.1), omega (arith, n.2, s.1), s.2));
     again = λ before ps fits.
         let size : EndsAfter (length before) (before ++ pairs_spelled c d ps) (length ps) = omega (arith, length-append before (pairs_spelled c d ps), length-spelled ps) in
         (ends-so 1 most (length ps) (length before) _ fits.0 (omega (arith, fits.1)) size, rw (drop-append_seam before (pairs_spelled c d ps)) (list-again ps fits.2));
-    fault = λ place r. list-fault (drop place r);
+    fault = λ column r. list-fault (drop column r);
     plain = list-plain;
   }

@@ -6,16 +6,16 @@ use mathlib.Core.List.{map-id}
 use Rattle.std.specs.Prelude.{All, unwrap_or, if◌then◌else◌}
 use Rattle.std.proofs.lemmas.List.Elements.{All-from_recursion}
 use Rattle.std.specs.List.{AllByRecursion}
-use Rattle.reg_text.proofs.Names.{IsRising, IsWithin, IsSection, SectionStandsAt, Instruction, IsShared, Cause, Tag, Version, One, Two, Record, place, is_in_version, Said, row, option_to_list, items_said, scope_of, version_in, current_said, current_rows, Fits, IsOfPeriods, IsYearNo, IsVersionOf, DraftValue, accounts_in, block_closed, nothing_read, Day, day_with, is_text_over, day_said, day_text, IsUserNo, IsDayNo, IsInstruction, AccountValue, IsAccount, IsBehind, IsPair, CanBeSaid, IsReading, FitsSoFar, IsDraft, next_draft, at_row, at_end, after_rows}
+use Rattle.reg_text.proofs.Names.{IsRising, IsWithin, IsSection, SectionStandsAt, Instruction, IsShared, Cause, Tag, Version, One, Two, Record, stage, is_in_version, Said, row, option_to_list, items_said, scope_of, version_in, current_said, current_rows, Fits, IsOfPeriods, IsYearNo, IsVersionOf, DraftValue, accounts_in, with_block_over, nothing_read, Day, day_with, is_text_over, day_said, day_text, IsUserNo, IsDayNo, IsInstruction, AccountValue, IsAccount, IsBehind, IsPair, CanBeSaid, IsReading, FitsSoFar, IsDraft, next_draft, at_row, at_end, after_rows}
 use Rattle.reg_text.proofs.Names.{day_of_rows}
 use Rattle.reg_text.specs.Day.{day_headed}
 use Rattle.reg_text.specs.declared.reading.tag.Tag.TheVariants as tag
 use Rattle.reg_text.proofs.ListFacts.{all-weaker}
 use Rattle.reg_text.proofs.RowLaws.{lags-fit, instruction-fits, instruction-shared}
-use Rattle.reg_text.proofs.DraftSteps.{rows_so_far, at-tag, at-blocks, closed-rows, closed-fits, grows, nothing-fits}
+use Rattle.reg_text.proofs.DraftSteps.{rows_so_far, at-tag, at-blocks, over-rows, over-fits, grows, nothing-fits}
 use Rattle.reg_text.proofs.Taken.{text-taken}
 
--- ---- what a closed draft says
+-- ---- what a draft that is over says
 
 pub over-last : (last : Option Tag) → is_text_over last ≡ true → last ≡ Some tag.End
 over-last (Some tag.End) e = refl
@@ -32,7 +32,7 @@ current-came : (version : Version) (current : List ℕ) → (is_in_version versi
 current-came One current come none = (1, refl, none refl)
 current-came Two current come none = let one = come refl in (one.0, rw one.1 refl, one.1)
 
--- the rows of the heading of a closed draft, each of which has come once, and those of the periods
+-- the rows of the heading of a draft that is over, each of which has come once, and those of the periods
 pub record IsHeaded (d : DraftValue) : Type 0 where
   pub version : Version
   pub day : ℕ × ℕ
@@ -48,8 +48,8 @@ pub record IsHeaded (d : DraftValue) : Type 0 where
 
 pub headed : (d : DraftValue) → FitsSoFar d → is_text_over d.last ≡ true → IsHeaded d
 headed d h over =
-    let at : place d.last ≡ 100 = ap place (over-last d.last over) in
-    let of : (t : Tag) → SectionStandsAt (scope_of d).version (place d.last) (Some t, items_said t d) = λ t. at-tag (SectionStandsAt (scope_of d).version (place d.last)) d t h.stand in
+    let at : stage d.last ≡ 100 = ap stage (over-last d.last over) in
+    let of : (t : Tag) → SectionStandsAt (scope_of d).version (stage d.last) (Some t, items_said t d) = λ t. at-tag (SectionStandsAt (scope_of d).version (stage d.last)) d t h.stand in
     let f = the-one d.versions ((of tag.Format).come (omega (arith, at)) refl) ((of tag.Format).once refl) in
     let a = the-one d.days ((of tag.Day).come (omega (arith, at)) refl) ((of tag.Day).once refl) in
     let p = (of tag.Period).come (omega (arith, at)) refl in
@@ -69,15 +69,15 @@ headed d h over =
       said = rw (sym same) c.1;
       current_is = rw (sym same) c.2;
     } where
-      once-lags : (version : Version) (d : DraftValue) → SectionStandsAt version (place d.last) (Some tag.Lags, d.lags) → length d.lags ≤ 1
+      once-lags : (version : Version) (d : DraftValue) → SectionStandsAt version (stage d.last) (Some tag.Lags, d.lags) → length d.lags ≤ 1
       once-lags One d s = s.once refl
       once-lags Two d s = s.once refl
 
-      once-current : (version : Version) (d : DraftValue) → is_in_version version tag.Current ≡ true → SectionStandsAt version (place d.last) (Some tag.Current, d.current) → length d.current ≤ 1
+      once-current : (version : Version) (d : DraftValue) → is_in_version version tag.Current ≡ true → SectionStandsAt version (stage d.last) (Some tag.Current, d.current) → length d.current ≤ 1
       once-current One d known s = absurd cc
       once-current Two d known s = s.once refl
 
-      once-period : (version : Version) (d : DraftValue) → version ≡ One → SectionStandsAt version (place d.last) (Some tag.Period, d.periods) → length d.periods ≤ 1
+      once-period : (version : Version) (d : DraftValue) → version ≡ One → SectionStandsAt version (stage d.last) (Some tag.Period, d.periods) → length d.periods ≤ 1
       once-period One d is s = s.once refl
       once-period Two d is s = absurd cc
 
@@ -102,14 +102,14 @@ says-a-day d h k =
     let lags = lags-fit k.lags ((rw k.one_lags at (of tag.Lags).fits).0) in
     let work = of tag.Work in
     let due = of tag.Do in
-    let over = closed-fits d h in
-    let blocks = (at-blocks (IsSection scope) (block_closed d) over.within).fits in
+    let over = over-fits d h in
+    let blocks = (at-blocks (IsSection scope) (with_block_over d) over.within).fits in
     let numbered = rw k.one_day at h.numbered in
     let from = day.1.low in
     let recorded = rw k.one_day at over.recorded in
     record {
       day = record {
-        book = record { rising = h.rising; few = omega (arith, over.few); within_limits = each-one (Fits scope None) IsAccount (λ a f. f.0) (accounts_in d) blocks; next = record { from_one = day.1.low; to_the_end = day.1.high }; behind = All-from_recursion (IsBehind k.day.1) (accounts_in d) recorded.closed };
+        book = record { rising = h.rising; few = omega (arith, over.few); within_limits = each-one (Fits scope None) IsAccount (λ a f. f.0) (accounts_in d) blocks; next = record { from_one = day.1.low; to_the_end = day.1.high }; behind = All-from_recursion (IsBehind k.day.1) (accounts_in d) recorded.whole };
         rules = record {
           working_days = record { rising = subst IsRising (map-id d.work) work.listed.ordered; each_day = All-from_recursion IsDayNo d.work work.fits };
           each_admin = All-from_recursion IsUserNo d.admins (of tag.Admin).fits;
@@ -136,7 +136,7 @@ says-a-day d h k =
       pairs_rise = (of tag.Surrender).listed.ordered;
     }
 
--- a closed draft says a day, and stands for the day's rows
+-- a draft that is over says a day, and stands for the day's rows
 pub record Closes (d : DraftValue) : Type 0 where
   pub day : Day
   pub said : day_said d ≡ Some day
@@ -150,16 +150,16 @@ said-in d accounts last versions days current lags version day n one over v a l 
 said-by : (d : DraftValue) (k : IsHeaded d) → d.last ≡ Some tag.End → day_said d ≡ Some (day_with k.day d.periods k.current k.lags (accounts_in d) d)
 said-by d k over = said-in d (accounts_in d) d.last d.versions d.days d.current d.lags k.version k.day k.current k.lags over k.one_version k.one_day k.one_lags k.said
 
-stands-by : (d : DraftValue) (k : IsHeaded d) → d.last ≡ Some tag.End → rows_so_far (block_closed d) ≡ day_text k.version (day_with k.day d.periods k.current k.lags (accounts_in d) d)
+stands-by : (d : DraftValue) (k : IsHeaded d) → d.last ≡ Some tag.End → rows_so_far (with_block_over d) ≡ day_text k.version (day_with k.day d.periods k.current k.lags (accounts_in d) d)
 stands-by d k over = rw (over, k.one_version, k.one_day, k.current_is, k.one_lags) refl
 
 -- the draft with all blocks over says the same
-pub closed-says : (d : DraftValue) → FitsSoFar d → is_text_over d.last ≡ true → day_said (block_closed d) ≡ day_said d
-closed-says d h over =
+pub over-says : (d : DraftValue) → FitsSoFar d → is_text_over d.last ≡ true → day_said (with_block_over d) ≡ day_said d
+over-says d h over =
     let k = headed d h over in
     let last = over-last d.last over in
     let all = ap (λ (l : List AccountValue). Some (day_with k.day d.periods k.current k.lags l d)) (append-nil (accounts_in d)) in
-    said-in (block_closed d) (accounts_in (block_closed d)) d.last d.versions d.days d.current d.lags k.version k.day k.current k.lags last k.one_version k.one_day k.one_lags k.said ∙ all ∙ sym (said-by d k last)
+    said-in (with_block_over d) (accounts_in (with_block_over d)) d.last d.versions d.days d.current d.lags k.version k.day k.current k.lags last k.one_version k.one_day k.one_lags k.said ∙ all ∙ sym (said-by d k last)
 
 version-of : (version : Version) (v : Day) → (version ≡ One → length v.rules.periods ≡ 1) → IsVersionOf v version
 version-of One v one = one refl
@@ -173,10 +173,10 @@ closes d h over =
     record {
       day = v;
       said = said-by d k last;
-      reading = record { version = k.version; is_known = version-of k.version v k.one_period; spelled = sym (closed-rows d h) ∙ stands-by d k last; fits = says-a-day d h k };
+      reading = record { version = k.version; is_known = version-of k.version v k.one_period; spelled = sym (over-rows d h) ∙ stands-by d k last; fits = says-a-day d h k };
     }
 
--- ---- the parts of a closed draft
+-- ---- the parts of a draft that is over
 
 pub some-of : {X : Type 0} (o : Option X) (x : X) → option_to_list o ≡ x ∷ [] → o ≡ Some x
 some-of None x e = absurd cc

@@ -51,31 +51,31 @@ below-push next (y ∷ rows) x h lt = (h.0, below-push next rows x h.1 lt)
 
 pub recorded-push : (o : Option ℕ) (accounts : List AccountValue) (rows : List RetirementRow) (x : RetirementRow) → IfSome o (AreRecorded accounts rows) → is_recorded o x ≡ true → IfSome o (AreRecorded accounts (rows ++ x ∷ []))
 recorded-push None accounts rows x h e = tt
-recorded-push (Some next) accounts rows x h e = record { closed = h.closed; opened = below-push next rows x h.opened (ltb-true _ _ e) }
+recorded-push (Some next) accounts rows x h e = record { whole = h.whole; begun = below-push next rows x h.begun (ltb-true _ _ e) }
 
 all-behind : (next : ℕ) (accounts : List AccountValue) (l : ListsValue) (head : Option AccountHead) → AllByRecursion (IsBehind next) accounts → AreBelow next (row_numbers l.rows) → AllByRecursion (IsBehind next) (accounts ++ map (account_with l) (option_to_list head))
 all-behind next accounts l None h below = rw append-nil h
 all-behind next accounts l (Some a) h below = all-push (IsBehind next) accounts (account_with l a) h below
 
 -- with all blocks over
-pub recorded-closed : (o : Option ℕ) (accounts : List AccountValue) (l : ListsValue) (head : Option AccountHead) → IfSome o (AreRecorded accounts l.rows) → IfSome o (AreRecorded (accounts ++ map (account_with l) (option_to_list head)) [])
-recorded-closed None accounts l head h = tt
-recorded-closed (Some next) accounts l head h = record { closed = all-behind next accounts l head h.closed h.opened; opened = tt }
+pub recorded-over : (o : Option ℕ) (accounts : List AccountValue) (l : ListsValue) (head : Option AccountHead) → IfSome o (AreRecorded accounts l.rows) → IfSome o (AreRecorded (accounts ++ map (account_with l) (option_to_list head)) [])
+recorded-over None accounts l head h = tt
+recorded-over (Some next) accounts l head h = record { whole = all-behind next accounts l head h.whole h.begun; begun = tt }
 
 -- before all blocks
 pub none-recorded : (o : Option ℕ) (accounts : List AccountValue) (rows : List RetirementRow) → accounts ≡ [] → rows ≡ [] → IfSome o (AreRecorded accounts rows)
 none-recorded None accounts rows e f = tt
-none-recorded (Some next) accounts rows e f = rw (e, f) (record { closed = tt; opened = tt })
+none-recorded (Some next) accounts rows e f = rw (e, f) (record { whole = tt; begun = tt })
 
 -- one of rows below the next number
 pub below-at : (next : ℕ) (rows : List RetirementRow) (x : RetirementRow) (others : List RetirementRow) → AreBelow next (row_numbers (rows ++ x ∷ others)) → is_recorded (Some next) x ≡ true
 below-at next [] x others h = lt-ltb _ _ h.0
 below-at next (y ∷ rows) x others h = below-at next rows x others h.1
 
--- the rows of the open account, once the next number is known
-pub opened-below : (day : Option (ℕ × ℕ)) (next : ℕ) (accounts : List AccountValue) (rows : List RetirementRow) → 1 ≤ length (option_to_list day) → IfSome day (λ d. next ≡ d.1) → IfSome (next_in (option_to_list day)) (AreRecorded accounts rows) → AreBelow next (row_numbers rows)
-opened-below None next accounts rows some same recorded = absurd (omega arith)
-opened-below (Some day) next accounts rows some same recorded = rw same recorded.opened
+-- the rows of the begun account, once the next number is known
+pub begun-below : (day : Option (ℕ × ℕ)) (next : ℕ) (accounts : List AccountValue) (rows : List RetirementRow) → 1 ≤ length (option_to_list day) → IfSome day (λ d. next ≡ d.1) → IfSome (next_in (option_to_list day)) (AreRecorded accounts rows) → AreBelow next (row_numbers rows)
+begun-below None next accounts rows some same recorded = absurd (omega arith)
+begun-below (Some day) next accounts rows some same recorded = rw same recorded.begun
 
 pub not-ahead : (next : ℕ) (rows : List RetirementRow) → AreBelow next (row_numbers rows) → list_any (λ (row : RetirementRow). nat_le next row.number) rows ≡ false
 not-ahead next [] h = refl

@@ -8,7 +8,7 @@ use Rattle.std.proofs.lemmas.Grind.{flat_map-append}
 use Rattle.reg_base.specs.declared.directory.NoMemory.{NoMemory}
 use Rattle.reg_text.specs.Pieces.{text_of_pieces, MadeAt}
 
--- each of these is made of a run of the values, one run behind the other; the first value has this place
+-- each of these is made of a run of the values, one run behind the other; the first value has this index
 unfoldable pub RunsOf : {X Y : Type 0} → (ℕ → List X → Y → Type 0) → ℕ → List X → ℕ → List (Result Y NoMemory) → Type 0
 RunsOf IsOf first xs size [] = xs ≡ []
 RunsOf IsOf first xs size (r ∷ runs) = IfOk r (IsOf first (take size xs)) × RunsOf IsOf (first + size) (drop size xs) size runs
@@ -28,9 +28,9 @@ runs-from {X} {Y} IsOf size (r ∷ runs) first xs each few =
     let less : length (drop size xs) ≤ length runs * size = omega (arith, length-drop size xs, suc-mul (length runs) size, few) in
     let behind : MadeFrom IsOf (first + size) (drop size xs) size runs = λ n q lt.
     let values : drop (suc n * size) xs ≡ drop (n * size) (drop size xs) = ap (λ (k : ℕ). drop k xs) (omega (arith, suc-mul n size)) ∙ sym (drop-drop (n * size) size xs) in
-    let place : first + suc n * size ≡ first + size + n * size = omega (arith, suc-mul n size) in
+    let index : first + suc n * size ≡ first + size + n * size = omega (arith, suc-mul n size) in
     let later : IfOk (get_or runs n q) (IsOf (first + suc n * size) (take size (drop (suc n * size) xs))) = each (suc n) q (omega arith) in
-    subst (λ (k : ℕ). IfOk (get_or runs n q) (IsOf k (take size (drop (n * size) (drop size xs))))) place
+    subst (λ (k : ℕ). IfOk (get_or runs n q) (IsOf k (take size (drop (n * size) (drop size xs))))) index
     (subst (λ (ys : List X). IfOk (get_or runs n q) (IsOf (first + suc n * size) (take size ys))) values later) in
     (one, runs-from IsOf size runs (first + size) (drop size xs) behind less)
 
@@ -44,7 +44,7 @@ reach count len size some is = reach-by (len / size) (len % size) size len count
 
 pub runs-of : {X Y : Type 0} (IsOf : ℕ → List X → Y → Type 0) (size : ℕ) (runs : List (Result Y NoMemory)) (xs : List X) → 0 < size → length runs ≡ length xs / size + min 1 (length xs % size) → MadeAt IsOf xs size runs → RunsOf IsOf 0 xs size runs
 runs-of IsOf size runs xs some len each =
-    runs-from IsOf size runs 0 xs (λ n r lt. let place : n * size ≡ 0 + n * size = omega arith in subst (λ (k : ℕ). IfOk (get_or runs n r) (IsOf k (take size (drop (n * size) xs)))) place (each n r lt))
+    runs-from IsOf size runs 0 xs (λ n r lt. let index : n * size ≡ 0 + n * size = omega arith in subst (λ (k : ℕ). IfOk (get_or runs n r) (IsOf k (take size (drop (n * size) xs)))) index (each n r lt))
     (reach (length runs) (length xs) size some len)
 
 module _ {X Y : Type 0} (IsOf : ℕ → List X → Y → Type 0) (spelled : ℕ → List X → List ℕ) (piece : Y → Vec ℕ Global) where

@@ -52,20 +52,20 @@ by-share (Ok x) (Ok y) (Err e) = refl
 by-share (Ok x) (Ok y) (Ok ps) = refl
 
 -- one share, and then the others
-pub read-share : (place : ℕ) (r : Record) → suc place < length r → share_fields.read place r ≡ (share_pair.read place r >>= λ share. share_fields.read (suc (suc place)) r >>= λ shares. Ok (share ∷ shares))
-read-share place r h =
-    rw (field-drop r place (omega arith), field-drop r (suc place) h) (by-share (a_no.read (field r place)) (any_number.read (field r (suc place))) (pairs_read a_no any_number (drop (suc (suc place)) r)))
+pub read-share : (column : ℕ) (r : Record) → suc column < length r → share_fields.read column r ≡ (share_pair.read column r >>= λ share. share_fields.read (suc (suc column)) r >>= λ shares. Ok (share ∷ shares))
+read-share column r h =
+    rw (field-drop r column (omega arith), field-drop r (suc column) h) (by-share (a_no.read (field r column)) (any_number.read (field r (suc column))) (pairs_read a_no any_number (drop (suc (suc column)) r)))
 
-pub first-fault : (place : ℕ) (r : Record) (e : Cause) → suc place < length r → share_pair.read place r ≡ Err e → share_fields.read place r ≡ Err e
-first-fault place r e h first = rw (read-share place r h, first) refl
+pub first-fault : (column : ℕ) (r : Record) (e : Cause) → suc column < length r → share_pair.read column r ≡ Err e → share_fields.read column r ≡ Err e
+first-fault column r e h first = rw (read-share column r h, first) refl
 
 -- what comes of the others after a share
-pub after-share : (place : ℕ) (r : Record) (share : Share) (rest all : List Share) (result : Result (Unit {0}) Cause) → suc place < length r → share_pair.read place r ≡ Ok share → all ≡ share ∷ rest
-    → MatchResult result (λ u. share_fields.read (place + 2) r ≡ Ok rest) (λ e. share_fields.read (place + 2) r ≡ Err e)
-    → MatchResult result (λ u. share_fields.read place r ≡ Ok all) (λ e. share_fields.read place r ≡ Err e)
-after-share place r share rest all (Ok u) h first is more =
-    let two : suc (suc place) ≡ place + 2 = omega arith in
-    rw (read-share place r h, first, two, more, is) refl
-after-share place r share rest all (Err e) h first is more =
-    let two : suc (suc place) ≡ place + 2 = omega arith in
-    rw (read-share place r h, first, two, more) refl
+pub after-share : (column : ℕ) (r : Record) (share : Share) (rest all : List Share) (result : Result (Unit {0}) Cause) → suc column < length r → share_pair.read column r ≡ Ok share → all ≡ share ∷ rest
+    → MatchResult result (λ u. share_fields.read (column + 2) r ≡ Ok rest) (λ e. share_fields.read (column + 2) r ≡ Err e)
+    → MatchResult result (λ u. share_fields.read column r ≡ Ok all) (λ e. share_fields.read column r ≡ Err e)
+after-share column r share rest all (Ok u) h first is more =
+    let two : suc (suc column) ≡ column + 2 = omega arith in
+    rw (read-share column r h, first, two, more, is) refl
+after-share column r share rest all (Err e) h first is more =
+    let two : suc (suc column) ≡ column + 2 = omega arith in
+    rw (read-share column r h, first, two, more) refl

@@ -1,8 +1,8 @@
--- Tags by their words, and by the places at which they may stand.
+-- Tags by their words, and by the stages at which they may stand.
 use Rattle.std.proofs.Common.{◌≡◌, ℕ, ◌≤◌, true, false, nat_le, Option, Some, List, Ok, refl, subst, arith}
 use Rattle.std.proofs.lemmas.Bool.{and_parts, leb-true, le-leb}
 use Rattle.reg_text.specs.declared.cause.Cause.TheVariants as cause
-use Rattle.reg_text.proofs.Names.{Tag, Version, One, Two, IsWithin, named, all_tags, tag_word, rule, place, may_follow, tag_after, is_in_version, is_text_over}
+use Rattle.reg_text.proofs.Names.{Tag, Version, One, Two, IsWithin, named, all_tags, tag_word, stages, stage, may_follow, tag_after, is_in_version, is_text_over}
 use Rattle.reg_text.specs.declared.reading.tag.Tag.TheVariants as tag
 use Rattle.reg_text.proofs.Binds.{bind_ok, test_ok}
 use Rattle.reg_text.proofs.WordLaws.{named-spelled, own-tag}
@@ -23,17 +23,17 @@ tag-spelled version last f t e =
 pub tag-again : (version : Version) (last : Option Tag) (t : Tag) → MayFollow version last t → tag_after version last (tag_word t) ≡ Ok t
 tag-again version last t h = rw ((own-tag t).0 cause.Tag, h) refl
 
--- a tag may stand after a row at these places, and at no others
-pub place-of : (version : Version) (last : Option Tag) (t : Tag) → MayFollow version last t → IsWithin (rule version t).from (rule version t).to (place last)
-place-of version last t h = let both = and_parts (nat_le (rule version t).from (place last)) (nat_le (place last) (rule version t).to) h in record { low = leb-true _ _ both.0; high = leb-true _ _ both.1 }
+-- a tag may stand after a row at these stages, and at no others
+pub stage-of : (version : Version) (last : Option Tag) (t : Tag) → MayFollow version last t → IsWithin (stages version t).from (stages version t).to (stage last)
+stage-of version last t h = let both = and_parts (nat_le (stages version t).from (stage last)) (nat_le (stage last) (stages version t).to) h in record { low = leb-true _ _ both.0; high = leb-true _ _ both.1 }
 
 -- so its version knows it
 pub known-there : (version : Version) (last : Option Tag) (t : Tag) → MayFollow version last t → is_in_version version t ≡ true
-known-there version last t h = let p = place-of version last t h in le-leb (rule version t).from (rule version t).to (omega (arith, p.low, p.high))
+known-there version last t h = let p = stage-of version last t h in le-leb (stages version t).from (stages version t).to (omega (arith, p.low, p.high))
 
 -- behind one section the next
-pub later : (version : Version) (last : Option Tag) (t u : Tag) → (rule version u).from ≤ (rule version t).from → (rule version t).to ≤ (rule version u).to → MayFollow version last t → MayFollow version last u
-later version last t u low high may = let p = place-of version last t may in rw (le-leb (rule version u).from (place last) (omega (arith, p.low)), le-leb (place last) (rule version u).to (omega (arith, p.high))) refl
+pub later : (version : Version) (last : Option Tag) (t u : Tag) → (stages version u).from ≤ (stages version t).from → (stages version t).to ≤ (stages version u).to → MayFollow version last t → MayFollow version last u
+later version last t u low high may = let p = stage-of version last t may in rw (le-leb (stages version u).from (stage last) (omega (arith, p.low)), le-leb (stage last) (stages version u).to (omega (arith, p.high))) refl
 
 -- nothing may stand after the closing row
 pub goes_on : (version : Version) (last : Option Tag) (t : Tag) → MayFollow version last t → is_text_over last ≡ false

@@ -5,18 +5,18 @@ use Rattle.std.specs.List.{AllByRecursion, flat_map}
 use Rattle.std.proofs.lemmas.List.Elements.{recursion_from_All}
 use Rattle.std.proofs.lemmas.Bool.{le-leb, lt-ltb}
 use Rattle.std.proofs.lemmas.List.{append-nil, map-append}
-use Rattle.reg_text.proofs.Names.{MOST_ACCOUNTS, MOST_ROWS, Instruction, IsShared, MOST_RECORD, IsUserNo, IsDayNo, IsInstruction, IsRising, AccountValue, IsAccount, IsBehind, AreBelow, RetiredFits, RetirementRow, ListsValue, row_numbers, no_lists, AccountHead, IsWithin, IsYearNo, Fits, IsOfPeriods, Correction, Version, One, Two, Scope, widest, Tag, Record, tag_word, last_item, option_to_list, Said, row, account_head, lists_of, account_with, account_block, list_tags, each_row, section_rows, all_rows, key, follows, IsOrdered, most, is_room, AreAtMost, rule, Section, IsSection, DraftValue, items_said, accounts_in, account_count, nothing_read, scope_of, Day}
-use Rattle.reg_text.proofs.Names.{lags_in, heading, saying, current_rows, day_text, current_said, IsPair, CanBeSaid, IsVersionOf, with, in_order, has_room, with_row, next_in, next_draft, after_rows}
+use Rattle.reg_text.proofs.Names.{MOST_ACCOUNTS, MOST_ROWS, Instruction, IsShared, MOST_RECORD, IsUserNo, IsDayNo, IsInstruction, IsRising, AccountValue, IsAccount, IsBehind, AreBelow, RetiredFits, RetirementRow, ListsValue, row_numbers, no_lists, AccountHead, IsWithin, IsYearNo, Fits, IsOfPeriods, Correction, Version, One, Two, Scope, widest, Tag, Record, tag_word, last_item, option_to_list, Said, row, account_head, lists_of, account_with, account_block, list_tags, each_row, section_rows, all_rows, key, follows, IsOrdered, most, is_space, AreAtMost, stages, Section, IsSection, DraftValue, items_said, accounts_in, account_count, nothing_read, scope_of, Day}
+use Rattle.reg_text.proofs.Names.{lags_in, heading, saying, current_rows, day_text, current_said, IsPair, CanBeSaid, IsVersionOf, with, in_order, has_space, with_row, next_in, next_draft, after_rows}
 use Rattle.reg_text.specs.declared.reading.tag.Tag.TheVariants as tag
 use Rattle.reg_account.specs.Corrections.{LaterFits}
 use Rattle.reg_text.specs.Grammar.{row_text}
-use Rattle.reg_text.specs.Faults.{has_row_room}
+use Rattle.reg_text.specs.Faults.{has_row_space}
 use Rattle.reg_text.proofs.ListFacts.{all-both, all-weaker, all-rest}
 use Rattle.reg_text.proofs.GrammarLaws.{each-row, same-spelling}
 use Rattle.reg_text.proofs.RowLaws.{ArePeriodsOf, fit-lags, fit-account, fit-lists, fit-instruction}
 use Rattle.reg_text.proofs.Retirements.{below-at, sum-left}
 use Rattle.reg_text.proofs.RisingFacts.{rising-above, last_of-append}
-use Rattle.reg_text.proofs.SectionLaws.{ordered-at, room-at}
+use Rattle.reg_text.proofs.SectionLaws.{ordered-at, space-at}
 use Rattle.reg_text.proofs.DraftSteps.{count-accounts, rows_then, lists_in, list-rows}
 use Rattle.reg_text.proofs.TagLaws.{MayFollow, tag-again, goes_on, later}
 
@@ -27,15 +27,15 @@ Reach d rows v = (number : ℕ) → after_rows number d rows ≡ Ok v
 reach-row : (d e : DraftValue) (r : Record) (rows : List Record) (v : Day) → next_draft d r ≡ Ok e → Reach e rows v → Reach d (r ∷ rows) v
 reach-row d e r rows v step more number = rw step (more (number + 1))
 
-by_row : (t : Tag) (d : DraftValue) (x : Said t) → (row (scope_of d) t).Fits x → in_order t d x ≡ true → has_room t d x ≡ true → with_row t d (row_text t x) ≡ Ok (with t d x)
+by_row : (t : Tag) (d : DraftValue) (x : Said t) → (row (scope_of d) t).Fits x → in_order t d x ≡ true → has_space t d x ≡ true → with_row t d (row_text t x) ≡ Ok (with t d x)
 unfolding with_row
-by_row t d x fits ordered room =
+by_row t d x fits ordered space =
     let again = ap (λ (fields : Record). (row (scope_of d) t).read (tag_word t ∷ fields)) (sym (same-spelling (scope_of d) t x)) ∙ (each-row (scope_of d) t).again (tag_word t) x fits in
-    rw (again, ordered, room) refl
+    rw (again, ordered, space) refl
 
--- a row that may stand here, is in order and has room is taken
-pub taken : (t : Tag) (d : DraftValue) (x : Said t) → MayFollow (scope_of d).version d.last t → (row (scope_of d) t).Fits x → in_order t d x ≡ true → has_room t d x ≡ true → next_draft d (row_text t x) ≡ Ok (with t d x)
-taken t d x may fits ordered room = rw (goes_on (scope_of d).version d.last t may, tag-again (scope_of d).version d.last t may) (by_row t d x fits ordered room)
+-- a row that may stand here, is in order and has space is taken
+pub taken : (t : Tag) (d : DraftValue) (x : Said t) → MayFollow (scope_of d).version d.last t → (row (scope_of d) t).Fits x → in_order t d x ≡ true → has_space t d x ≡ true → next_draft d (row_text t x) ≡ Ok (with t d x)
+taken t d x may fits ordered space = rw (goes_on (scope_of d).version d.last t may, tag-again (scope_of d).version d.last t may) (by_row t d x fits ordered space)
 
 -- ---- a section: rows of a list, each of which is taken while the whole list is as it should be
 
@@ -46,17 +46,17 @@ pub record Grown (version : Version) (t : Tag) (state : Option Tag → List (Sai
   pub list : (last : Option Tag) (xs : List (Said t)) → items_said t (state last xs) ≡ xs
   pub more : (last : Option Tag) (xs : List (Said t)) (x : Said t) → with t (state last xs) x ≡ state (Some t) (xs ++ x ∷ [])
 
--- one row of such a list fits, and there is room for it
+-- one row of such a list fits, and there is space for it
 pub record IsNext (t : Tag) (d : DraftValue) (x : Said t) : Type 0 where
   pub fits : (row (scope_of d) t).Fits x
-  pub room : has_room t d x ≡ true
+  pub space : has_space t d x ≡ true
 
 section-step : (version : Version) (t : Tag) (state : Option Tag → List (Said t) → DraftValue) → Grown version t state → (last : Option Tag) (xs : List (Said t)) (x : Said t) (others : List (Said t)) → MayFollow version last t → IsOrdered (key t) (xs ++ x ∷ others)
     → IsNext t (state last xs) x → next_draft (state last xs) (row_text t x) ≡ Ok (state (Some t) (xs ++ x ∷ []))
 section-step version t state g last xs x others may ordered one =
     let order : in_order t (state last xs) x ≡ true = ap (λ (l : List (Said t)). follows (key t) (last_item l) x) (g.list last xs) ∙ ordered-at (key t) xs x others ordered in
     let may_here = subst (λ (v : Version). MayFollow v (state last xs).last t) (sym (g.version_is last xs)) (subst (λ (l : Option Tag). MayFollow version l t) (sym (g.last last xs)) may) in
-    taken t (state last xs) x may_here one.fits order one.room ∙ ap (λ (d : DraftValue). Ok d) (g.more last xs x)
+    taken t (state last xs) x may_here one.fits order one.space ∙ ap (λ (d : DraftValue). Ok d) (g.more last xs x)
 
 pub section-taken : (version : Version) (t : Tag) (state : Option Tag → List (Said t) → DraftValue) → Grown version t state
     → (Stands : Option Tag → Type 0) → ((last : Option Tag) → Stands last → MayFollow version last t) → Stands (Some t)
@@ -74,13 +74,13 @@ section-taken version t state g Stands may again Whole is next (x ∷ others) la
 -- the same of a section in a scope that its rows do not change
 pub list-taken : (scope : Scope) (t : Tag) (state : Option Tag → List (Said t) → DraftValue) → Grown scope.version t state → ((last : Option Tag) (xs : List (Said t)) → scope_of (state last xs) ≡ scope) → MayFollow scope.version (Some t) t
     → (Whole : List (Said t) → Type 0) → ((l : List (Said t)) → Whole l → IsSection scope (Some t, l))
-    → ((last : Option Tag) (xs : List (Said t)) (x : Said t) (others : List (Said t)) → Whole (xs ++ x ∷ others) → has_room t (state last xs) x ≡ true)
+    → ((last : Option Tag) (xs : List (Said t)) (x : Said t) (others : List (Said t)) → Whole (xs ++ x ∷ others) → has_space t (state last xs) x ≡ true)
     → (others : List (Said t)) (last : Option Tag) (xs : List (Said t)) (rest : List Record) (v : Day) → MayFollow scope.version last t → Whole (xs ++ others)
     → ((after : Option Tag) → MayFollow scope.version after t → Reach (state after (xs ++ others)) rest v) → Reach (state last xs) (section_rows (Some t, others) ++ rest) v
-list-taken scope t state g here again Whole is room others last xs rest v may whole more =
+list-taken scope t state g here again Whole is space others last xs rest v may whole more =
     section-taken scope.version t state g (λ l. MayFollow scope.version l t) (λ l m. m) again Whole (λ l w. (is l w).listed.ordered) (λ last' ys x zs w. record {
       fits = subst (λ (s : Scope). (row s t).Fits x) (sym (here last' ys)) (all-rest (row scope t).Fits ys (x ∷ zs) (is (ys ++ x ∷ zs) w).fits).0;
-      room = room last' ys x zs w;
+      space = space last' ys x zs w;
     }) others last xs rest v may whole more
 
 -- ---- lists one after another, each behind the one before it
@@ -96,11 +96,11 @@ pub record IsTaken (scope : Scope) (d : DraftValue) (t next : Tag) (xs : List (S
   pub none : (last : Option Tag) → after t d last [] ≡ record d { last = last }
   pub again : MayFollow scope.version (Some t) t
   pub fits : IsSection scope (Some t, xs)
-  pub room : (last : Option Tag) (l : List (Said t)) (x : Said t) (others : List (Said t)) → l ++ x ∷ others ≡ xs → has_room t (after t d last l) x ≡ true
-  pub low : (rule scope.version next).from ≤ (rule scope.version t).from
-  pub high : (rule scope.version t).to ≤ (rule scope.version next).to
+  pub space : (last : Option Tag) (l : List (Said t)) (x : Said t) (others : List (Said t)) → l ++ x ∷ others ≡ xs → has_space t (after t d last l) x ≡ true
+  pub low : (stages scope.version next).from ≤ (stages scope.version t).from
+  pub high : (stages scope.version t).to ≤ (stages scope.version next).to
 
--- rows of which only the length of the list says whether there is room for one more
+-- rows of which only the length of the list says whether there is space for one more
 abbrev is_plain : Tag → Bool
 is_plain tag.Format = false
 is_plain tag.Period = false
@@ -122,22 +122,22 @@ plain-here tag.Format d last l e = absurd cc
 plain-here tag.Period d last l e = absurd cc
 plain-here t d last l e = refl
 
-plain-room : (t : Tag) (d : DraftValue) (last : Option Tag) (l : List (Said t)) (x : Said t) → is_plain t ≡ true → is_room (most t) (length l) ≡ true → has_room t (after t d last l) x ≡ true
-plain-room tag.Account d last l x e room = absurd cc
-plain-room tag.Retired d last l x e room = absurd cc
-plain-room tag.Do d last l x e room = absurd cc
-plain-room tag.End d last l x e room = absurd cc
-plain-room t d last l x e room = room
+plain-space : (t : Tag) (d : DraftValue) (last : Option Tag) (l : List (Said t)) (x : Said t) → is_plain t ≡ true → is_space (most t) (length l) ≡ true → has_space t (after t d last l) x ≡ true
+plain-space tag.Account d last l x e space = absurd cc
+plain-space tag.Retired d last l x e space = absurd cc
+plain-space tag.Do d last l x e space = absurd cc
+plain-space tag.End d last l x e space = absurd cc
+plain-space t d last l x e space = space
 
 plain : (d : DraftValue) (t next : Tag) (xs : List (Said t)) → is_plain t ≡ true → ((last : Option Tag) → after t d last [] ≡ record d { last = last }) → MayFollow (scope_of d).version (Some t) t
-    → (rule (scope_of d).version next).from ≤ (rule (scope_of d).version t).from → (rule (scope_of d).version t).to ≤ (rule (scope_of d).version next).to → IsSection (scope_of d) (Some t, xs) → IsTaken (scope_of d) d t next xs
+    → (stages (scope_of d).version next).from ≤ (stages (scope_of d).version t).from → (stages (scope_of d).version t).to ≤ (stages (scope_of d).version next).to → IsSection (scope_of d) (Some t, xs) → IsTaken (scope_of d) d t next xs
 plain d t next xs e none again low high fits = record {
   grown = plain-grown t d e;
   here = λ last l. plain-here t d last l e;
   none = none;
   again = again;
   fits = fits;
-  room = λ last l x others is. plain-room t d last l x e (room-at (most t) l x others (subst (λ (ys : List (Said t)). AreAtMost (most t) (length ys)) (sym is) fits.listed.few));
+  space = λ last l x others is. plain-space t d last l x e (space-at (most t) l x others (subst (λ (ys : List (Said t)). AreAtMost (most t) (length ys)) (sym is) fits.listed.few));
   low = low;
   high = high;
 }
@@ -166,7 +166,7 @@ all-taken scope d ((None, xs) ∷ ss) next last rest v h may more = absurd h
 all-taken scope d ((Some t, xs) ∷ ss) next last rest v h may more =
     let one = h.0 in
     subst (λ (e : DraftValue). Reach e (rows_then ((Some t, xs) ∷ ss) rest) v) (one.none last)
-    (list-taken scope t (after t d) one.grown one.here one.again (λ l. l ≡ xs) (λ l is. subst (λ (ys : List (Said t)). IsSection scope (Some t, ys)) (sym is) one.fits) one.room xs last [] (rows_then ss rest) v may refl (λ behind may'.
+    (list-taken scope t (after t d) one.grown one.here one.again (λ l. l ≡ xs) (λ l is. subst (λ (ys : List (Said t)). IsSection scope (Some t, ys)) (sym is) one.fits) one.space xs last [] (rows_then ss rest) v may refl (λ behind may'.
     all-taken scope (saying t d xs) ss next behind rest v h.1 (later scope.version behind t (first_of ss next) one.low one.high may') more))
 
 -- ---- the blocks of accounts
@@ -174,23 +174,23 @@ all-taken scope d ((Some t, xs) ∷ ss) next last rest v h may more =
 abbrev account_number : AccountValue → ℕ
 account_number a = a.number
 
--- there is room for the surrenders and deletions of an account, which are recorded under numbers below the next one
-retired-room : (next : ℕ) (days : List (ℕ × ℕ)) (l : List RetirementRow) (x : RetirementRow) (others : List RetirementRow) → next_in days ≡ Some next → length (l ++ x ∷ others) ≤ MOST_ROWS → AreBelow next (row_numbers (l ++ x ∷ others)) → RetiredFits (l ++ x ∷ others) → has_row_room (next_in days) l x ≡ true
-retired-room next days l x others is few behind sums = rw (room-at (Some MOST_ROWS) l x others few, is, below-at next l x others behind, sum-left l x others sums) refl
+-- there is space for the surrenders and deletions of an account, which are recorded under numbers below the next one
+retired-space : (next : ℕ) (days : List (ℕ × ℕ)) (l : List RetirementRow) (x : RetirementRow) (others : List RetirementRow) → next_in days ≡ Some next → length (l ++ x ∷ others) ≤ MOST_ROWS → AreBelow next (row_numbers (l ++ x ∷ others)) → RetiredFits (l ++ x ∷ others) → has_row_space (next_in days) l x ≡ true
+retired-space next days l x others is few behind sums = rw (space-at (Some MOST_ROWS) l x others few, is, below-at next l x others behind, sum-left l x others sums) refl
 
 -- the first version has no correction factors of later periods
 no-corrections : (count : ℕ) (xs : List Correction) → AllByRecursion LaterFits xs → AllByRecursion (λ (c : Correction). c.period ≤ count) xs → count ≤ 1 → xs ≡ []
 no-corrections count [] fits of few = refl
 no-corrections count (c ∷ xs) fits of few = absurd (omega (arith, fits.0.later.low, of.0))
 
-corrections-taken : (version : Version) (d : DraftValue) (next : Tag) (a : AccountValue) (rest : List Record) (v : Day) → (scope_of d).version ≡ version → ((w : Version) → (rule w next).from ≤ 80) → ((w : Version) → 81 ≤ (rule w next).to) → ArePeriodsOf (scope_of d) → Fits (scope_of d) None a
+corrections-taken : (version : Version) (d : DraftValue) (next : Tag) (a : AccountValue) (rest : List Record) (v : Day) → (scope_of d).version ≡ version → ((w : Version) → (stages w next).from ≤ 80) → ((w : Version) → 81 ≤ (stages w next).to) → ArePeriodsOf (scope_of d) → Fits (scope_of d) None a
     → ((last : Option Tag) → MayFollow (scope_of d).version last next → Reach (record d { last = last; lists = record no_lists { corrections = a.corrections } }) rest v)
     → Reach (record d { last = Some tag.Account; lists = no_lists }) (each_row tag.Correction a.corrections ++ rest) v
 corrections-taken One d next a rest v is low high p h more =
     let none = no-corrections (scope_of d).periods a.corrections h.0.corrections_fit.each h.1.corrections (p.one is) in
     let from = low (scope_of d).version in
     let to = high (scope_of d).version in
-    let then = more (Some tag.Account) (rw (le-leb (rule (scope_of d).version next).from 80 from, le-leb 80 (rule (scope_of d).version next).to (omega (arith, to))) refl) in
+    let then = more (Some tag.Account) (rw (le-leb (stages (scope_of d).version next).from 80 from, le-leb 80 (stages (scope_of d).version next).to (omega (arith, to))) refl) in
     rw none (rw none at then)
 corrections-taken Two d next a rest v is low high p h more =
     let scope = scope_of d in
@@ -220,7 +220,7 @@ lists-taken d next a rest v is p h behind more =
             none = λ last. refl;
             again = refl;
             fits = fit tag.Retired;
-            room = λ last l x others same. retired-room next d.days l x others is (rw same (fit tag.Retired).listed.few) (rw same behind) (rw same h.0.retired_fits);
+            space = λ last l x others same. retired-space next d.days l x others is (rw same (fit tag.Retired).listed.few) (rw same behind) (rw same h.0.retired_fits);
             low = omega arith;
             high = omega arith;
           },
@@ -232,7 +232,7 @@ lists-taken d next a rest v is p h behind more =
       ),
     ) may more)
 
--- an account that is above the ones before it comes after the open one
+-- an account that is above the ones before it comes after the begun one
 next-account : (accounts : List AccountValue) (head : Option AccountHead) (l : ListsValue) (a : AccountValue) (others : List AccountValue) → IsRising (map account_number ((accounts ++ map (account_with l) (option_to_list head)) ++ a ∷ others)) → follows (key tag.Account) (last_item (option_to_list head)) (account_head a) ≡ true
 next-account accounts None l a others rises = refl
 next-account accounts (Some h) l a others rises =
@@ -242,7 +242,7 @@ next-account accounts (Some h) l a others rises =
 pub blocks-taken : (d : DraftValue) (next : ℕ) (others : List AccountValue) (last : Option Tag) (accounts : List AccountValue) (head : Option AccountHead) (l : ListsValue) (rest : List Record) (v : Day) → next_in d.days ≡ Some next → MayFollow (scope_of d).version last tag.Account
     → ArePeriodsOf (scope_of d) → AllByRecursion (Fits (scope_of d) None) others → AllByRecursion (IsBehind next) others
     → IsRising (map account_number ((accounts ++ map (account_with l) (option_to_list head)) ++ others)) → length ((accounts ++ map (account_with l) (option_to_list head)) ++ others) ≤ MOST_ACCOUNTS
-    → ((after : Option Tag) (all : List AccountValue) (opened : Option AccountHead) (m : ListsValue) → MayFollow (scope_of d).version after tag.Account → all ++ map (account_with m) (option_to_list opened) ≡ (accounts ++ map (account_with l) (option_to_list head)) ++ others → Reach (record d { last = after; accounts = all; head = opened; lists = m }) rest v)
+    → ((after : Option Tag) (all : List AccountValue) (begun : Option AccountHead) (m : ListsValue) → MayFollow (scope_of d).version after tag.Account → all ++ map (account_with m) (option_to_list begun) ≡ (accounts ++ map (account_with l) (option_to_list head)) ++ others → Reach (record d { last = after; accounts = all; head = begun; lists = m }) rest v)
     → Reach (record d { last = last; accounts = accounts; head = head; lists = l }) (flat_map account_block others ++ rest) v
 blocks-taken d next [] last accounts head l rest v is may p fit behind rises few more = more last accounts head l may (sym (append-nil (accounts ++ map (account_with l) (option_to_list head))))
 blocks-taken d next (a ∷ others) last accounts head l rest v is may p fit behind rises few more =
@@ -250,14 +250,14 @@ blocks-taken d next (a ∷ others) last accounts head l rest v is may p fit behi
     let now = record d { last = last; accounts = accounts; head = head; lists = l } in
     let all = accounts_in now in
     let same : (all ++ a ∷ []) ++ others ≡ all ++ a ∷ others = append_assoc all (a ∷ []) others in
-    let room : account_count now < MOST_ACCOUNTS = omega (arith, few, length-append all (a ∷ others), count-accounts accounts head l) in
+    let space : account_count now < MOST_ACCOUNTS = omega (arith, few, length-append all (a ∷ others), count-accounts accounts head l) in
     let behind_it : List Record = flat_map account_block others ++ rest in
     let lists : List Record = rows_then (lists_in (lists_of a) list_tags) behind_it in
     let split : flat_map account_block (a ∷ others) ++ rest ≡ row_text tag.Account (account_head a) ∷ lists = append_assoc (account_block a) (flat_map account_block others) rest ∙ ap (λ (rs : List Record). row_text tag.Account (account_head a) ∷ rs) (list-rows (lists_of a) list_tags behind_it) in
     subst (λ (rs : List Record). Reach now rs v) (sym split)
-    (reach-row now (with tag.Account now (account_head a)) (row_text tag.Account (account_head a)) lists v (taken tag.Account now (account_head a) may (fit-account scope a fit.0.0) (next-account accounts head l a others rises) (lt-ltb _ _ room))
+    (reach-row now (with tag.Account now (account_head a)) (row_text tag.Account (account_head a)) lists v (taken tag.Account now (account_head a) may (fit-account scope a fit.0.0) (next-account accounts head l a others rises) (lt-ltb _ _ space))
     (lists-taken (record d { accounts = all; head = Some (account_head a) }) next a behind_it v is p fit.0 behind.0 (λ last1 may1.
-    blocks-taken d next others last1 all (Some (account_head a)) (lists_of a) rest v is may1 p fit.1 behind.1 (rw same rises) (rw same few) (λ after ones opened m may' equal. more after ones opened m may' (equal ∙ same)))))
+    blocks-taken d next others last1 all (Some (account_head a)) (lists_of a) rest v is may1 p fit.1 behind.1 (rw same rises) (rw same few) (λ after ones begun m may' equal. more after ones begun m may' (equal ∙ same)))))
 
 -- ---- the sections of a day
 
@@ -300,7 +300,7 @@ periods-taken Two d (p ∷ ps) rest v is one some within more =
     reach-row (state (Some tag.Day) []) (state (Some tag.Period) (p ∷ [])) (row_text tag.Period p) (section_rows (Some tag.Period, ps) ++ rest) v (taken tag.Period (state (Some tag.Day) []) p (rw is refl) within.fits.0 refl refl)
     (section-taken Two tag.Period state (record { version_is = λ last xs. is; last = λ last xs. refl; list = λ last xs. refl; more = λ last xs x. refl }) (λ last. last ≡ Some tag.Period) (λ last e. rw e refl) refl
     (λ l. IsSection (scope_of d) (Some tag.Period, l)) (λ l whole. whole.listed.ordered)
-    (λ last xs x others whole. record { fits = (all-rest (row widest tag.Period).Fits xs (x ∷ others) whole.fits).0; room = room-at (most tag.Period) xs x others whole.listed.few })
+    (λ last xs x others whole. record { fits = (all-rest (row widest tag.Period).Fits xs (x ∷ others) whole.fits).0; space = space-at (most tag.Period) xs x others whole.listed.few })
     ps (Some tag.Period) (p ∷ []) rest v refl within (λ after e. subst (λ (l : Option Tag). Reach (state l (p ∷ ps)) rest v) (sym e) more))
 
 -- the row of the current period, where the version has one, and that of the lags
@@ -392,6 +392,6 @@ text-taken version v known h =
     blocks-taken d3 v.book.next v.book.accounts last3 [] None no_lists rows4 v refl may3 (periods-of version v known h) (accounts scope v refl h) (recursion_from_All (IsBehind v.book.next) v.book.accounts h.day.book.behind) h.day.book.rising h.day.book.few (λ last4 accounts head lists may4 all.
     let d4 = record d3 { accounts = accounts; head = head; lists = lists } in
     let d5 = record d4 { instructions = v.batch.instructions } in
-    list-taken scope tag.Do (λ last l. record d4 { last = last; instructions = l }) (record { version_is = λ last xs. refl; last = λ last xs. refl; list = λ last xs. refl; more = λ last xs x. refl }) (λ last xs. refl) refl (AreNumbered scope v) (λ l whole. whole.0) (λ last xs x others whole. rw (room-at (most tag.Do) xs x others whole.0.listed.few, le-leb (v.book.next + length xs) MOST_RECORD (omega (arith, length-append xs (x ∷ others), whole.1))) refl)
+    list-taken scope tag.Do (λ last l. record d4 { last = last; instructions = l }) (record { version_is = λ last xs. refl; last = λ last xs. refl; list = λ last xs. refl; more = λ last xs x. refl }) (λ last xs. refl) refl (AreNumbered scope v) (λ l whole. whole.0) (λ last xs x others whole. rw (space-at (most tag.Do) xs x others whole.0.listed.few, le-leb (v.book.next + length xs) MOST_RECORD (omega (arith, length-append xs (x ∷ others), whole.1))) refl)
     v.batch.instructions last4 [] rows5 v (later scope.version last4 tag.Account tag.Do (omega arith) (omega arith) may4) (do-section scope v h, omega (arith, h.day.follows, h.day.batch.numbered)) (λ last5 may5.
     reach-row (record d5 { last = last5 }) (record d5 { last = Some tag.End }) (row_text tag.End tt) [] v (taken tag.End (record d5 { last = last5 }) tt (later scope.version last5 tag.Do tag.End (omega arith) (omega arith) may5) tt refl refl) (whole version v accounts head lists known h base all)))))

@@ -23,14 +23,16 @@ abbrev pub Move : Type 0
 Move = ℕ × ℕ × AllowanceKind × ℕ
 
 abbrev pub move_fields : Fields Move
-move_fields = made (λ p. (p.0, p.1.0, p.1.1.0, p.1.1.1)) (λ m. (m.0, (m.1, (m.2, m.3)))) (a_no ▸ a_no ▸ a_word kind_word kind_of ▸ last any_number)
+move_fields = made (λ p. (p.0, p.1.0, p.1.1.0, p.1.1.1)) (λ m. (m.0, (m.1, (m.2, m.3))))
+    (a_no ▸ a_no ▸ a_word kind_word kind_of ▸ last any_number)
 
 -- FROM,KIND,AMOUNT or TO,KIND,AMOUNT
 abbrev pub Amount : Type 0
 Amount = ℕ × AllowanceKind × ℕ
 
 abbrev pub amount_fields : Fields Amount
-amount_fields = made (λ p. (p.0, p.1.0, p.1.1)) (λ m. (m.0, (m.1, m.2))) (a_no ▸ a_word kind_word kind_of ▸ last any_number)
+amount_fields = made (λ p. (p.0, p.1.0, p.1.1)) (λ m. (m.0, (m.1, m.2)))
+    (a_no ▸ a_word kind_word kind_of ▸ last any_number)
 
 -- TO,AMOUNT one to eight times
 abbrev pub share_made : ℕ × ℕ → Share
@@ -50,7 +52,8 @@ abbrev pub Distribution : Type 0
 Distribution = ℕ × AllowanceKind × List Share
 
 abbrev pub distribution_fields : Fields Distribution
-distribution_fields = made (λ p. (p.0, p.1.0, p.1.1)) (λ d. (d.0, (d.1, d.2))) (a_no ▸ a_word kind_word kind_of ▸ share_fields)
+distribution_fields = made (λ p. (p.0, p.1.0, p.1.1)) (λ d. (d.0, (d.1, d.2)))
+    (a_no ▸ a_word kind_word kind_of ▸ share_fields)
 
 -- a distribution has one share to eight
 abbrev pub IsShared : Act → Type 0
@@ -87,23 +90,69 @@ pub record ActForm : Type 1 where
   pub make : Parts → Act
 
 abbrev pub form : ActName → ActForm
-form Transfer = record { word = codes "transfer"; Parts = Move; fields = move_fields; make = λ p. act.Transfer p.0 p.1 p.2 p.3 }
-form Surrender = record { word = codes "surrender"; Parts = Amount; fields = amount_fields; make = λ p. act.Surrender p.0 p.1 p.2 }
-form Delete = record { word = codes "delete"; Parts = Amount; fields = amount_fields; make = λ p. act.Delete p.0 p.1 p.2 }
-form Return = record { word = codes "return"; Parts = Move; fields = move_fields; make = λ p. act.ReturnExcess p.0 p.1 p.2 p.3 }
+form Transfer = record {
+  word = codes "transfer";
+  Parts = Move;
+  fields = move_fields;
+  make = λ p. act.Transfer p.0 p.1 p.2 p.3;
+}
+form Surrender = record {
+  word = codes "surrender";
+  Parts = Amount;
+  fields = amount_fields;
+  make = λ p. act.Surrender p.0 p.1 p.2;
+}
+form Delete = record {
+  word = codes "delete";
+  Parts = Amount;
+  fields = amount_fields;
+  make = λ p. act.Delete p.0 p.1 p.2;
+}
+form Return = record {
+  word = codes "return";
+  Parts = Move;
+  fields = move_fields;
+  make = λ p. act.ReturnExcess p.0 p.1 p.2 p.3;
+}
 form Reverse = record { word = codes "reverse"; Parts = ℕ × ℕ; fields = record_fields; make = λ p. act.Reverse p.0 p.1 }
-form Create = record { word = codes "create"; Parts = Amount; fields = amount_fields; make = λ p. act.Create p.0 p.1 p.2 }
-form Central = record { word = codes "central"; Parts = Move; fields = move_fields; make = λ p. act.CentralMove p.0 p.1 p.2 p.3 }
-form Distribute = record { word = codes "distribute"; Parts = Distribution; fields = distribution_fields; make = λ p. act.Distribute p.0 p.1 p.2 }
+form Create = record {
+  word = codes "create";
+  Parts = Amount;
+  fields = amount_fields;
+  make = λ p. act.Create p.0 p.1 p.2;
+}
+form Central = record {
+  word = codes "central";
+  Parts = Move;
+  fields = move_fields;
+  make = λ p. act.CentralMove p.0 p.1 p.2 p.3;
+}
+form Distribute = record {
+  word = codes "distribute";
+  Parts = Distribution;
+  fields = distribution_fields;
+  make = λ p. act.Distribute p.0 p.1 p.2;
+}
 form Trust = record { word = codes "trust"; Parts = ℕ × ℕ; fields = other_fields; make = λ p. act.Trust p.0 p.1 }
 form Untrust = record { word = codes "untrust"; Parts = ℕ × ℕ; fields = other_fields; make = λ p. act.Untrust p.0 p.1 }
-form SetStatus = record { word = codes "status"; Parts = ℕ × Status; fields = status_fields; make = λ p. act.SetStatus p.0 p.1 }
-form Emissions = record { word = codes "emissions"; Parts = ℕ × ℕ × ℕ; fields = emission_fields; make = λ p. act.EnterEmissions p.0 p.1 p.2 }
+form SetStatus = record {
+  word = codes "status";
+  Parts = ℕ × Status;
+  fields = status_fields;
+  make = λ p. act.SetStatus p.0 p.1;
+}
+form Emissions = record {
+  word = codes "emissions";
+  Parts = ℕ × ℕ × ℕ;
+  fields = emission_fields;
+  make = λ p. act.EnterEmissions p.0 p.1 p.2;
+}
 form Assess = record { word = codes "assess"; Parts = ℕ × ℕ; fields = year_fields; make = λ p. act.Assess p.0 p.1 }
 
 -- the acts that a row may name
 abbrev pub act_names : List ActName
-act_names = Transfer ∷ Surrender ∷ Delete ∷ Return ∷ Reverse ∷ Create ∷ Central ∷ Distribute ∷ Trust ∷ Untrust ∷ SetStatus ∷ Emissions ∷ Assess ∷ []
+act_names = Transfer ∷ Surrender ∷ Delete ∷ Return ∷ Reverse ∷ Create ∷ Central ∷ Distribute ∷ Trust ∷ Untrust
+    ∷ SetStatus ∷ Emissions ∷ Assess ∷ []
 
 -- the name and the parts of an act
 abbrev pub said : Act → (n : ActName) × (form n).Parts
@@ -136,7 +185,8 @@ an_act_name = a_word act_word act_name_of
 
 -- ACT and the fields of the act
 abbrev pub act_fields : Fields Act
-act_fields = forms act_name (λ n. (form n).Parts) an_act_name (λ n. (form n).fields) (λ n. (form n).make) (λ a. (said a).1)
+act_fields = forms act_name (λ n. (form n).Parts) an_act_name (λ n. (form n).fields) (λ n. (form n).make)
+    (λ a. (said a).1)
 
 -- the fields that spell an act
 unfoldable pub act_text : Act → Record
@@ -151,7 +201,7 @@ instruction_fields_of = made
     (λ i. (i.proposed, (i.proposer, (i.approver, i.act))))
     (a_date ▸ a_no ▸ an_approver ▸ act_fields)
 
--- the same; the act at place 4 is looked at first
+-- the same; the act in column 4 is looked at first
 abbrev pub instruction_row : Row Instruction
 instruction_row = named_row 4 an_act_name (row_with instruction_fields_of)
 

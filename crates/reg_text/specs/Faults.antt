@@ -16,8 +16,8 @@ use Rattle.reg_text.specs.Causes.{◌>>=◌, test}
 use Rattle.reg_text.specs.Records.{Record, field}
 use Rattle.reg_text.specs.Tags.{tag_after}
 use Rattle.reg_text.specs.Grammar.{Said, row}
-use Rattle.reg_text.specs.Sections.{key, follows, most, is_room}
-use Rattle.reg_text.specs.Drafts.{DraftValue, items_said, part, account_count, block_closed, nothing_read, scope_of}
+use Rattle.reg_text.specs.Sections.{key, follows, most, is_space}
+use Rattle.reg_text.specs.Drafts.{DraftValue, items_said, draft_list, account_count, with_block_over, nothing_read, scope_of}
 use Rattle.reg_book.specs.Day.{Day}
 use Rattle.reg_text.specs.Day.{is_text_over, day_said}
 
@@ -25,11 +25,11 @@ use Rattle.reg_text.specs.Day.{is_text_over, day_said}
 
 -- the draft in which the rows with a tag say these
 abbrev pub saying : (t : Tag) → DraftValue → List (Said t) → DraftValue
-saying t d xs = (part t).with_items d xs
+saying t d xs = (draft_list t).with_items d xs
 
 -- the draft to which a row with a tag is added: before another account all blocks are over
 abbrev pub ready_for : Tag → DraftValue → DraftValue
-ready_for tag.Account d = block_closed d
+ready_for tag.Account d = with_block_over d
 ready_for t d = d
 
 -- the draft with what a row says
@@ -59,25 +59,26 @@ is_recorded (Some next) row = nat_lt row.number next
 abbrev pub is_sum_left : List RetirementRow → RetirementRow → Bool
 is_sum_left rows row = nat_le (retired_in (retirement_of row.fate) row.kind (rows ++ row ∷ [])) MOST_RETIRED
 
--- an account has room for one more surrender or deletion, it is one of before the day, and not too much
-abbrev pub has_row_room : Option ℕ → List RetirementRow → RetirementRow → Bool
-has_row_room next rows row = nat_lt (length rows) MOST_ROWS && (is_recorded next row && is_sum_left rows row)
+-- an account has space for one more surrender or deletion, it is one of before the day, and not too much
+abbrev pub has_row_space : Option ℕ → List RetirementRow → RetirementRow → Bool
+has_row_space next rows row = nat_lt (length rows) MOST_ROWS && (is_recorded next row && is_sum_left rows row)
 
--- its section may have one more row, an instruction has a record number, and a surrender or a deletion is one of before the day, and
--- not too much
-abbrev pub has_room : (t : Tag) → DraftValue → Said t → Bool
-has_room tag.Account d x = nat_lt (account_count d) MOST_ACCOUNTS
-has_room tag.Retired d x = has_row_room (next_in d.days) d.lists.rows x
-has_room tag.Do d x = nat_lt (length d.instructions) MOST_INSTRUCTIONS && is_number_left (next_in d.days) (length d.instructions)
-has_room t d x = is_room (most t) (length (items_said t d))
+-- its section may have one more row, an instruction has a record number, and a surrender or a deletion is one of before
+-- the day, and not too much
+abbrev pub has_space : (t : Tag) → DraftValue → Said t → Bool
+has_space tag.Account d x = nat_lt (account_count d) MOST_ACCOUNTS
+has_space tag.Retired d x = has_row_space (next_in d.days) d.lists.rows x
+has_space tag.Do d x = nat_lt (length d.instructions) MOST_INSTRUCTIONS
+    && is_number_left (next_in d.days) (length d.instructions)
+has_space t d x = is_space (most t) (length (items_said t d))
 
 -- a value, if two tests pass
 abbrev pub placed : {A : Type 0} → Bool → Bool → A → Result A Cause
-placed ordered room x = if ordered then test room cause.Limit x else Err cause.Order
+placed ordered space x = if ordered then test space cause.Limit x else Err cause.Order
 
 -- what a row that says this adds
 abbrev pub adding : (t : Tag) → DraftValue → Said t → Result DraftValue Cause
-adding t d x = placed (in_order t d x) (has_room t d x) (with t d x)
+adding t d x = placed (in_order t d x) (has_space t d x) (with t d x)
 
 -- what a row with this tag adds
 unfoldable pub with_row : Tag → DraftValue → Record → Result DraftValue Cause
@@ -85,7 +86,8 @@ with_row t d r = (row (scope_of d) t).read r >>= λ x. adding t d x
 
 -- what the rows say with one more row, or the first cause that applies to it
 abbrev pub next_draft : DraftValue → Record → Result DraftValue Cause
-next_draft d r = if is_text_over d.last then Err cause.End else (tag_after (scope_of d).version d.last (field r 0) >>= λ t. with_row t d r)
+next_draft d r = if is_text_over d.last then Err cause.End
+    else (tag_after (scope_of d).version d.last (field r 0) >>= λ t. with_row t d r)
 
 -- what these rows, each of which is taken, make of a draft
 abbrev pub drafted : DraftValue → List Record → Result DraftValue Cause

@@ -25,4 +25,5 @@ pub record IsDateText (f : List ℕ) : Type 0 where
 
 -- a fault of this reader is the given cause if the field is no such text, and `limit` if it is one
 abbrev pub TellsFromLimit : {X : Type 0} → (List ℕ → Result X Cause) → Cause → (List ℕ → Type 0) → Type 0
-TellsFromLimit read otherwise IsText = (f : List ℕ) (c : Cause) → read f ≡ Err c → ((c ≡ otherwise) × ¬ (IsText f)) ⊎ ((c ≡ cause.Limit) × IsText f)
+TellsFromLimit read otherwise IsText =
+    (f : List ℕ) (c : Cause) → read f ≡ Err c → ((c ≡ otherwise) × ¬ (IsText f)) ⊎ ((c ≡ cause.Limit) × IsText f)

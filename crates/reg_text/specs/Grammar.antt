@@ -1,4 +1,5 @@
--- The grammar of a day text: of each tag its word, its place, what its row says, its fields, its order, and how many there may be.
+-- The grammar of a day text: of each tag its word, its stage, what its row says, its fields, its order, and how many
+-- there may be.
 use Rattle.std.specs.Prelude.{[], ◌∷◌, ℕ, Bool, true, false, not, is_ok, nat_le, ◌==◌, if◌then◌else◌, List, Option, Some, None, Result, codes}
 use Rattle.reg_base.specs.declared.limits.TheConstants.{MOST_ADMINISTRATORS, MOST_INSTRUCTIONS, MOST_PERIODS, MOST_ROWS, MOST_TRUSTED, MOST_USERS}
 use Rattle.reg_base.specs.declared.kinds.AccountKind.{AccountKind}
@@ -36,7 +37,12 @@ use Rattle.reg_text.specs.Codecs.{Codec, Fields, a_no, a_record, a_next, a_year,
 
 -- the version of the format
 abbrev pub a_version : Codec Version
-a_version = record { spell = version_word; read = version_of; tests = λ f. when (not (is_ok (version_of f))) cause.Version ∷ []; Fits = λ v. Unit {0} }
+a_version = record {
+  spell = version_word;
+  read = version_of;
+  tests = λ f. when (not (is_ok (version_of f))) cause.Version ∷ [];
+  Fits = λ v. Unit {0};
+}
 
 abbrev pub yes_or_no : Codec Bool
 yes_or_no = a_word yes_no_word yes_no_of
@@ -64,26 +70,47 @@ is_surrender_kind Trading = false
 
 -- ACCOUNTKIND,KIND: one of four pairs, and any other is a wrong word
 abbrev pub pair_fields : Fields (AccountKind × AllowanceKind)
-pair_fields = provided (λ p. is_surrender_kind p.0) cause.Word (a_word account_kind_word account_kind_of ▸ last (a_word kind_word kind_of))
+pair_fields = provided (λ p. is_surrender_kind p.0) cause.Word
+    (a_word account_kind_word account_kind_of ▸ last (a_word kind_word kind_of))
 
 -- NO,ACCOUNTKIND,HOLDER,STATUS,OUTSIDE,WAIVER,CORRECTION,GENERAL,AVIATION
 abbrev pub account_fields : Fields AccountHead
 account_fields = made
-    (λ p. record { number = p.0; kind = p.1.0; holder = p.1.1.0; status = p.1.1.1.0; outside = p.1.1.1.1.0; waiver = p.1.1.1.1.1.0; correction = p.1.1.1.1.1.1.0; held = record { general = p.1.1.1.1.1.1.1.0; aviation = p.1.1.1.1.1.1.1.1 } })
-    (λ a. (a.number, (a.kind, (a.holder, (a.status, (a.outside, (a.waiver, (a.correction, (a.held.general, a.held.aviation)))))))))
-    (a_no ▸ a_word account_kind_word account_kind_of ▸ a_no ▸ a_word status_word status_of ▸ yes_or_no ▸ yes_or_no ▸ factor ▸ a_holding ▸ last a_holding)
+    (λ p. record {
+      number = p.0;
+      kind = p.1.0;
+      holder = p.1.1.0;
+      status = p.1.1.1.0;
+      outside = p.1.1.1.1.0;
+      waiver = p.1.1.1.1.1.0;
+      correction = p.1.1.1.1.1.1.0;
+      held =
+          record { general = p.1.1.1.1.1.1.1.0; aviation = p.1.1.1.1.1.1.1.1 };
+    })
+    (λ a. (
+      a.number,
+      (
+        a.kind,
+        (a.holder, (a.status, (a.outside, (a.waiver, (a.correction, (a.held.general, a.held.aviation)))))),
+      ),
+    ))
+    (a_no ▸ a_word account_kind_word account_kind_of ▸ a_no ▸ a_word status_word
+    status_of ▸ yes_or_no ▸ yes_or_no ▸ factor ▸ a_holding ▸ last a_holding)
 
 -- USER,RIGHT
 abbrev pub user_fields : Fields Representative
-user_fields = made (λ p. record { user = p.0; right = p.1 }) (λ u. (u.user, u.right)) (a_no ▸ last (a_word right_word right_of))
+user_fields = made (λ p. record { user = p.0; right = p.1 }) (λ u. (u.user, u.right))
+    (a_no ▸ last (a_word right_word right_of))
 
 -- NO,DATE
 abbrev pub trusted_fields : Fields TrustedEntry
-trusted_fields = made (λ p. record { account = p.0; effective = p.1 }) (λ t. (t.account, t.effective)) (a_no ▸ last a_date)
+trusted_fields = made (λ p. record { account = p.0; effective = p.1 }) (λ t. (t.account, t.effective))
+    (a_no ▸ last a_date)
 
 -- PERIOD,FACTOR
 abbrev pub correction_fields : ℕ → Fields Correction
-correction_fields periods = made (λ p. record { period = p.0; factor = p.1 }) (λ c. (c.period, c.factor)) (a_period 2 periods ▸ last later_factor)
+correction_fields periods = made (λ p. record { period = p.0; factor = p.1 }) (λ c. (c.period, c.factor))
+    (a_period 2 periods ▸ last later_factor)
 
 -- what became of allowances, by the word and by the period, which is left out where it is the first
 abbrev pub fate_said : Retirement → Option ℕ → Fate
@@ -105,7 +132,14 @@ may_name Deleted (Some period) = false
 may_name what period = true
 
 abbrev pub retired_made : RetiredSaid → RetirementRow
-retired_made p = record { number = p.0; fate = fate_said p.1.0 p.1.1.1.1.1.1; kind = p.1.1.0; amount = p.1.1.1.0; day = p.1.1.1.1.0; reversed = p.1.1.1.1.1.0 }
+retired_made p = record {
+  number = p.0;
+  fate = fate_said p.1.0 p.1.1.1.1.1.1;
+  kind = p.1.1.0;
+  amount = p.1.1.1.0;
+  day = p.1.1.1.1.0;
+  reversed = p.1.1.1.1.1.0;
+}
 
 abbrev pub retired_parts : RetirementRow → RetiredSaid
 retired_parts r = (r.number, (retirement_of r.fate, (r.kind, (r.amount, (r.day, (r.reversed, period_said r.fate))))))
@@ -115,7 +149,9 @@ abbrev pub retired_period : Scope → Fields (Option ℕ)
 retired_period scope = maybe (by_version false true scope.version) (a_period 2 scope.periods)
 
 abbrev pub retired_said : Scope → Fields RetiredSaid
-retired_said scope = provided (λ p. may_name p.1.0 p.1.1.1.1.1.1) cause.Limit (a_record ▸ a_word retirement_word retirement_named ▸ a_word kind_word kind_of ▸ an_amount ▸ a_date ▸ yes_or_no ▸ retired_period scope)
+retired_said scope = provided (λ p. may_name p.1.0 p.1.1.1.1.1.1) cause.Limit
+    (a_record ▸ a_word retirement_word retirement_named ▸ a_word kind_word
+    kind_of ▸ an_amount ▸ a_date ▸ yes_or_no ▸ retired_period scope)
 
 abbrev pub retired_fields : Scope → Fields RetirementRow
 retired_fields scope = made retired_made retired_parts (retired_said scope)
@@ -141,14 +177,14 @@ by number = Some (record { begins = number; ends = number })
 abbrev pub by_years : Option (Key (ℕ × ℕ))
 by_years = Some (record { begins = λ period. period.0; ends = λ period. period.1 })
 
--- the place of a pair that may be surrendered
-abbrev pub pair_place : AccountKind × AllowanceKind → ℕ
-pair_place (Aircraft, General) = 2
-pair_place (Aircraft, Aviation) = 3
-pair_place (kind, General) = 0
-pair_place (kind, Aviation) = 1
+-- the index of a pair among those that may be surrendered
+abbrev pub pair_index : AccountKind × AllowanceKind → ℕ
+pair_index (Aircraft, General) = 2
+pair_index (Aircraft, Aviation) = 3
+pair_index (kind, General) = 0
+pair_index (kind, Aviation) = 1
 
--- the same places in each version; no places, since the last row stands at 100
+-- the same stages in each version; no stages, since the last row stands at 100
 abbrev pub between : ℕ → ℕ → Version → ℕ × ℕ
 between from to version = (from, to)
 
@@ -157,25 +193,26 @@ nowhere = (101, 0)
 
 -- ---- all rows
 
--- a row kind: its word, its place, between which places the row before it stands in a version, what a row says, its fields by what
--- earlier rows decided, by what such rows rise, if they do, and how many there may be, if that is limited
+-- a row kind: its word, its stage, between which stages the row before it stands in a version, what a row says, its
+-- fields by what earlier rows decided, by what such rows rise, if they do, and how many there may be, if that is
+-- limited
 pub record RowKind : Type 1 where
   pub word : List ℕ
-  pub place : ℕ
+  pub stage : ℕ
   pub allowed : Version → ℕ × ℕ
   pub Says : Type 0
   pub fields : Scope → Row Says
   pub key : Option (Key Says)
   pub most : Option ℕ
 
--- the grammar, a record each; places leave gaps for other tags, and 80 to 89 are those of an account's block, behind whose last row
--- another block may begin. How many accounts there may be is asked of the draft (`has_room`)
+-- the grammar, a record each; stages leave gaps for other tags, and 80 to 89 are those of an account's block, behind
+-- whose last row another block may begin. How many accounts there may be is asked of the draft (`has_space`)
 abbrev pub row_kind : Tag → RowKind
-row_kind tag.Format = record { word = codes "format"; place = 10; allowed = between 0 0; Says = Version; fields = λ scope. row_with (last a_version); key = None; most = None }
-row_kind tag.Day = record { word = codes "day"; place = 20; allowed = between 10 10; Says = ℕ × ℕ; fields = λ scope. row_with (a_date ▸ last a_next); key = None; most = None }
+row_kind tag.Format = record { word = codes "format"; stage = 10; allowed = between 0 0; Says = Version; fields = λ scope. row_with (last a_version); key = None; most = None }
+row_kind tag.Day = record { word = codes "day"; stage = 20; allowed = between 10 10; Says = ℕ × ℕ; fields = λ scope. row_with (a_date ▸ last a_next); key = None; most = None }
 row_kind tag.Period = record {
   word = codes "period";
-  place = 30;
+  stage = 30;
   allowed = by_version (20, 20) (20, 30);
   Says = ℕ × ℕ;
   fields = λ scope. row_with period_fields;
@@ -184,36 +221,36 @@ row_kind tag.Period = record {
 }
 row_kind tag.Current = record {
   word = codes "current";
-  place = 35;
+  stage = 35;
   allowed = by_version nowhere (30, 30);
   Says = ℕ;
   fields = λ scope. row_with (last (a_period 1 scope.periods));
   key = None;
   most = None;
 }
-row_kind tag.Lags = record { word = codes "lags"; place = 40; allowed = by_version (30, 30) (35, 35); Says = Lags; fields = λ scope. row_with lags_fields; key = None; most = None }
+row_kind tag.Lags = record { word = codes "lags"; stage = 40; allowed = by_version (30, 30) (35, 35); Says = Lags; fields = λ scope. row_with lags_fields; key = None; most = None }
 row_kind tag.Surrender = record {
   word = codes "surrender";
-  place = 50;
+  stage = 50;
   allowed = between 40 50;
   Says = AccountKind × AllowanceKind;
   fields = λ scope. row_with pair_fields;
-  key = by pair_place;
+  key = by pair_index;
   most = None;
 }
 row_kind tag.Admin = record {
   word = codes "admin";
-  place = 60;
+  stage = 60;
   allowed = between 40 60;
   Says = ℕ;
   fields = λ scope. row_with (last a_no);
   key = by (λ n. n);
   most = Some MOST_ADMINISTRATORS;
 }
-row_kind tag.Work = record { word = codes "work"; place = 70; allowed = between 40 70; Says = ℕ; fields = λ scope. row_with (last a_date); key = by (λ day. day); most = None }
+row_kind tag.Work = record { word = codes "work"; stage = 70; allowed = between 40 70; Says = ℕ; fields = λ scope. row_with (last a_date); key = by (λ day. day); most = None }
 row_kind tag.Account = record {
   word = codes "account";
-  place = 80;
+  stage = 80;
   allowed = between 40 89;
   Says = AccountHead;
   fields = λ scope. row_with account_fields;
@@ -222,7 +259,7 @@ row_kind tag.Account = record {
 }
 row_kind tag.Correction = record {
   word = codes "correction";
-  place = 81;
+  stage = 81;
   allowed = by_version nowhere (80, 81);
   Says = Correction;
   fields = λ scope. row_with (correction_fields scope.periods);
@@ -231,7 +268,7 @@ row_kind tag.Correction = record {
 }
 row_kind tag.User = record {
   word = codes "user";
-  place = 82;
+  stage = 82;
   allowed = between 80 82;
   Says = Representative;
   fields = λ scope. row_with user_fields;
@@ -240,7 +277,7 @@ row_kind tag.User = record {
 }
 row_kind tag.Trusted = record {
   word = codes "trusted";
-  place = 83;
+  stage = 83;
   allowed = between 80 83;
   Says = TrustedEntry;
   fields = λ scope. row_with trusted_fields;
@@ -249,7 +286,7 @@ row_kind tag.Trusted = record {
 }
 row_kind tag.Retired = record {
   word = codes "retired";
-  place = 84;
+  stage = 84;
   allowed = between 80 84;
   Says = RetirementRow;
   fields = λ scope. row_with (retired_fields scope);
@@ -258,7 +295,7 @@ row_kind tag.Retired = record {
 }
 row_kind tag.Emissions = record {
   word = codes "emissions";
-  place = 85;
+  stage = 85;
   allowed = between 80 85;
   Says = Emission;
   fields = λ scope. row_with emissions_fields;
@@ -267,7 +304,7 @@ row_kind tag.Emissions = record {
 }
 row_kind tag.Figure = record {
   word = codes "figure";
-  place = 86;
+  stage = 86;
   allowed = between 80 86;
   Says = Figure;
   fields = λ scope. row_with figure_fields;
@@ -276,14 +313,14 @@ row_kind tag.Figure = record {
 }
 row_kind tag.Do = record {
   word = codes "do";
-  place = 90;
+  stage = 90;
   allowed = between 40 90;
   Says = Instruction;
   fields = λ scope. instruction_row;
   key = None;
   most = Some MOST_INSTRUCTIONS;
 }
-row_kind tag.End = record { word = codes "end"; place = 100; allowed = between 40 90; Says = Unit {0}; fields = λ scope. row_with none; key = None; most = None }
+row_kind tag.End = record { word = codes "end"; stage = 100; allowed = between 40 90; Says = Unit {0}; fields = λ scope. row_with none; key = None; most = None }
 
 -- what a row with a tag says
 abbrev pub Said : Tag → Type 0

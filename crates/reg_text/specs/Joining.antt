@@ -35,23 +35,29 @@ pub record HasHeading (h d : DraftValue) : Type 0 where
   pub work : d.work ≡ h.work
 
 -- the last row is that of an account with this number, or if there is none, an instruction
-abbrev pub OpensWith : DraftValue → Option ℕ → Type 0
-OpensWith d (Some number) = (d.last ≡ Some tag.Account) × (number_in d.head ≡ Some number)
-OpensWith d None = d.last ≡ Some tag.Do
+abbrev pub BeginsWith : DraftValue → Option ℕ → Type 0
+BeginsWith d (Some number) = (d.last ≡ Some tag.Account) × (number_in d.head ≡ Some number)
+BeginsWith d None = d.last ≡ Some tag.Do
 
 -- the rows of a part, read behind a heading, give this draft. The first row is this one
 pub record IsPart (h : DraftValue) (rows : List Record) (first : Option ℕ) (d : DraftValue) : Type 0 where
   pub row : Record
   pub others : List Record
-  pub opened : DraftValue
+  pub after_first : DraftValue
   pub rows_are : rows ≡ row ∷ others
-  pub opens : next_draft h row ≡ Ok opened
-  pub begins : OpensWith opened first
-  pub goes_on : drafted opened others ≡ Ok d
+  pub takes_first : next_draft h row ≡ Ok after_first
+  pub begins : BeginsWith after_first first
+  pub goes_on : drafted after_first others ≡ Ok d
 
 -- a draft, and behind it what a part adds that begins with an account of this number, or with an instruction
 abbrev pub joined_drafts : Option ℕ → DraftValue → DraftValue → DraftValue
-joined_drafts (Some number) d e = record d { last = e.last; accounts = accounts_in d ++ e.accounts; head = e.head; lists = e.lists; instructions = e.instructions }
+joined_drafts (Some number) d e = record d {
+  last = e.last;
+  accounts = accounts_in d ++ e.accounts;
+  head = e.head;
+  lists = e.lists;
+  instructions = e.instructions;
+}
 joined_drafts None d e = record d { last = e.last; instructions = d.instructions ++ e.instructions }
 
 -- accounts of a part, whose first one has this number, may stand behind a draft
@@ -61,7 +67,7 @@ pub record AccountsMayFollow (number : ℕ) (d e : DraftValue) : Type 0 where
   pub ordered : is_above (number_in d.head) number ≡ true
   pub few : account_count d + account_count e ≤ MOST_ACCOUNTS
 
--- instructions of a part may stand behind a draft: there is room, and the last one has a record number
+-- instructions of a part may stand behind a draft: there is space, and the last one has a record number
 pub record InstructionsMayFollow (d e : DraftValue) : Type 0 where
   pub stands : may_follow (scope_of d).version d.last tag.Do ≡ true
   pub few : length d.instructions + length e.instructions ≤ MOST_INSTRUCTIONS
@@ -74,7 +80,8 @@ MayJoin None d e = InstructionsMayFollow d e
 
 -- law: the rows of a part, read behind the draft before it, give both drafts joined, with the same heading
 abbrev pub PartsJoin : Type 0
-PartsJoin = (h d e : DraftValue) (rows : List Record) (first : Option ℕ) → IsHeading h → HasHeading h d → MayJoin first d e → IsPart h rows first e
+PartsJoin = (h d e : DraftValue) (rows : List Record) (first : Option ℕ) → IsHeading h → HasHeading h d
+    → MayJoin first d e → IsPart h rows first e
     → (drafted d rows ≡ Ok (joined_drafts first d e)) × HasHeading h (joined_drafts first d e)
 
 -- the rows of a text, which may be cut at its end, give this draft, which has this heading

@@ -9,7 +9,7 @@ use Rattle.reg_book.specs.Day.{Day, log_of}
 use Rattle.reg_book.specs.Chains.{book_after, IsChain}
 use Rattle.reg_text.specs.Acts.{IsShared}
 use Rattle.reg_text.specs.Faults.{day_of_rows}
-use Rattle.reg_text.specs.Grammar.{pair_place}
+use Rattle.reg_text.specs.Grammar.{pair_index}
 use Rattle.reg_text.specs.ReadAgain.{book_line, IsBlocks, IsHeadingText, IsClosingText}
 use Rattle.reg_text.specs.Reading.{CanBeSaid, IsPair, IsVersionOf}
 use Rattle.reg_text.specs.Records.{Record}
@@ -26,12 +26,14 @@ report_of day = text_of (report_rows (book_after day) (log_of day))
 abbrev pub rows_behind : BookValue → List Record
 rows_behind book = totals_row book General ∷ totals_row book Aviation ∷ end_row ∷ []
 
--- these bytes stand in the report of the day between its `book` row and its first `totals` row: they are its account rows
+-- these bytes stand in the report of the day between its `book` row and its first `totals` row: they are its account
+-- rows
 abbrev pub StandInReport : Day → List ℕ → Type 0
-StandInReport day blocks = report_of day ≡ text_of (log_rows (log_of day)) ++ book_line (book_after day) ++ blocks ++ text_of (rows_behind (book_after day))
+StandInReport day blocks = report_of day
+    ≡ text_of (log_rows (log_of day)) ++ book_line (book_after day) ++ blocks ++ text_of (rows_behind (book_after day))
 
--- a text of the day, in a version of the format, with these account rows between its heading and its instructions, however these
--- are spelled
+-- a text of the day, in a version of the format, with these account rows between its heading and its instructions,
+-- however these are spelled
 pub record IsTextOf (day : Day) (blocks text : List ℕ) : Type 0 where
   pub version : Version
   pub is_known : IsVersionOf day version
@@ -41,15 +43,17 @@ pub record IsTextOf (day : Day) (blocks text : List ℕ) : Type 0 where
   pub closing : IsClosingText day back
   pub made : text ≡ front ++ blocks ++ back
 
--- texts of these days: that of the first has these account rows, and each later one those of the report of the day before
+-- texts of these days: that of the first has these account rows, and each later one those of the report of the day
+-- before
 abbrev pub AreTexts : List ℕ → List Day → List (List ℕ) → Type 0
 AreTexts blocks [] [] = Unit {0}
 AreTexts blocks [] (text ∷ texts) = ⊥
 AreTexts blocks (day ∷ days) [] = ⊥
-AreTexts blocks (day ∷ days) (text ∷ texts) = IsTextOf day blocks text × ((copied : List ℕ) × StandInReport day copied × AreTexts copied days texts)
+AreTexts blocks (day ∷ days) (text ∷ texts) =
+    IsTextOf day blocks text × ((copied : List ℕ) × StandInReport day copied × AreTexts copied days texts)
 
--- what is new in the text of the next day is within the limits: its rules, which have as many periods as those of the day before,
--- or more, and its batch, which begins with the next record number
+-- what is new in the text of the next day is within the limits: its rules, which have as many periods as those of the
+-- day before, or more, and its batch, which begins with the next record number
 pub record IsNextDay (before day : Day) : Type 0 where
   pub book : day.book ≡ book_after before
   pub rules : AreRules day.rules
@@ -58,7 +62,7 @@ pub record IsNextDay (before day : Day) : Type 0 where
   pub periods : length before.rules.periods ≤ length day.rules.periods
   pub shares : All (λ i. IsShared i.act) day.batch.instructions
   pub pairs : All IsPair day.rules.surrender
-  pub pairs_rise : IsRising (map pair_place day.rules.surrender)
+  pub pairs_rise : IsRising (map pair_index day.rules.surrender)
 
 -- each of these days is the next one after the day before it
 abbrev pub GoOn : Day → List Day → Type 0
@@ -72,8 +76,11 @@ pub record ReportsAreReadOn : Type 0 where
   -- if a text can say a day, a text can say the next one, whatever is new in it
   pub can_be_said : (before day : Day) → CanBeSaid before → IsNextDay before day → CanBeSaid day
   -- it is read as this next day, whose book is the one that the day before left
-  pub next_day : (before day : Day) (blocks text : List ℕ) → CanBeSaid before → IsNextDay before day → StandInReport before blocks → IsTextOf day blocks text
+  pub next_day : (before day : Day) (blocks text : List ℕ) → CanBeSaid before → IsNextDay before day
+      → StandInReport before blocks → IsTextOf day blocks text
       → day_of_rows (rows_in_text text) ≡ Ok day
   -- so the texts of days that go on are read as these days, and these are a chain
-  pub chain : (first : Day) (days : List Day) (blocks : List ℕ) (texts : List (List ℕ)) → CanBeSaid first → GoOn first days → IsBlocks first.book blocks → AreTexts blocks (first ∷ days) texts
-      → (map (λ text. day_of_rows (rows_in_text text)) texts ≡ map Ok (first ∷ days)) × IsChain first.book (first ∷ days)
+  pub chain : (first : Day) (days : List Day) (blocks : List ℕ) (texts : List (List ℕ)) → CanBeSaid first
+      → GoOn first days → IsBlocks first.book blocks → AreTexts blocks (first ∷ days) texts
+      → (map (λ text. day_of_rows (rows_in_text text)) texts ≡ map Ok (first ∷ days))
+      × IsChain first.book (first ∷ days)

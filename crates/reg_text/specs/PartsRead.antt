@@ -10,7 +10,8 @@ use Rattle.reg_text.specs.Joining.{IsPart}
 -- what was read of a part is what its rows say behind the heading, or nothing was read
 abbrev pub IsReadPart : DraftValue → List ℕ → Option Part → Type 0
 IsReadPart h text None = Unit {0}
-IsReadPart h text (Some part) = IsCut text × HasNoMark text × IsPart h (rows_in_text text) part.first (draft_of part.draft)
+IsReadPart h text (Some part) =
+    IsCut text × HasNoMark text × IsPart h (rows_in_text text) part.first (draft_of part.draft)
 
 -- the same of each part, one after another
 unfoldable pub ReadsEach : DraftValue → List (Bor (List ℕ)) → List (Option Part) → Type 0
@@ -19,6 +20,7 @@ ReadsEach h (p ∷ parts) (o ∷ read) = IsReadPart h p.now o × ReadsEach h par
 ReadsEach h [] (o ∷ read) = ⊥
 ReadsEach h (p ∷ parts) [] = ⊥
 
--- the same, at each place
+-- the same, at each index
 abbrev pub ReadsAt : DraftValue → List (Bor (List ℕ)) → List (Option Part) → Type 0
-ReadsAt h parts read = (i : ℕ) (p : Bor (List ℕ)) (o : Option Part) → i < length parts → IsReadPart h (slice_index_or parts i p).now (slice_index_or read i o)
+ReadsAt h parts read = (i : ℕ) (p : Bor (List ℕ)) (o : Option Part) → i < length parts
+    → IsReadPart h (slice_index_or parts i p).now (slice_index_or read i o)

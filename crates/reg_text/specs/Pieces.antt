@@ -18,11 +18,12 @@ use Rattle.reg_text.specs.Sections.{account_block}
 abbrev pub text_of_pieces : List (Vec ℕ Global) → List ℕ
 text_of_pieces pieces = flat_map (λ piece. piece.items) pieces
 
--- each of these is made of a run of so many values, of which the first has this place, unless memory ran out
+-- each of these is made of a run of so many values, of which the first has this index, unless memory ran out
 abbrev pub MadeAt : {X Y : Type 0} → (ℕ → List X → Y → Type 0) → List X → ℕ → List (Result Y NoMemory) → Type 0
-MadeAt {X} {Y} IsOf values size runs = (n : ℕ) (r : Result Y NoMemory) → n < length runs → IfOk (slice_index_or runs n r) (IsOf (n * size) (slice_chunk values size n))
+MadeAt {X} {Y} IsOf values size runs = (n : ℕ) (r : Result Y NoMemory) → n < length runs
+    → IfOk (slice_index_or runs n r) (IsOf (n * size) (slice_chunk values size n))
 
--- the log rows of instructions from this place on, counted from 0, with these replies
+-- the log rows of instructions from this index on, counted from 0, with these replies
 abbrev pub rows_after : BatchValue → ℕ → List Reply → List LogRow
 rows_after batch first replies = rows_from batch.day (batch.base + first + 1) (drop first batch.instructions) replies
 
@@ -32,4 +33,5 @@ IsLogOf batch first replies text = text.items ≡ text_of (log_rows (rows_after 
 
 -- what was spelled of accounts is the text of their blocks, with their totals
 abbrev pub AreBlocksOf : ℕ → List AccountValue → Blocks → Type 0
-AreBlocksOf first accounts blocks = (blocks.text.items ≡ text_of (flat_map account_block accounts)) × (blocks.totals ≡ totals_of accounts)
+AreBlocksOf first accounts blocks =
+    (blocks.text.items ≡ text_of (flat_map account_block accounts)) × (blocks.totals ≡ totals_of accounts)

@@ -19,42 +19,75 @@ use Rattle.reg_text.specs.Grammar.{Key, Said, row, row_kind, row_text}
 
 -- what the row of an account says of it
 abbrev pub account_head : AccountValue → AccountHead
-account_head a = record { number = a.number; kind = a.kind; holder = a.holder; status = a.status; outside = a.outside; waiver = a.waiver; correction = a.correction; held = a.held }
+account_head a = record {
+  number = a.number;
+  kind = a.kind;
+  holder = a.holder;
+  status = a.status;
+  outside = a.outside;
+  waiver = a.waiver;
+  correction = a.correction;
+  held = a.held;
+}
 
 -- and what its lists have
 abbrev pub lists_of : AccountValue → ListsValue
-lists_of a = record { corrections = a.corrections; users = a.users; trusted = a.trusted; rows = a.rows; emissions = a.emissions; figures = a.figures }
+lists_of a = record {
+  corrections = a.corrections;
+  users = a.users;
+  trusted = a.trusted;
+  rows = a.rows;
+  emissions = a.emissions;
+  figures = a.figures;
+}
 
 -- the account of this row, with these lists
 abbrev pub account_with : ListsValue → AccountHead → AccountValue
-account_with l h = record { number = h.number; kind = h.kind; holder = h.holder; status = h.status; outside = h.outside; waiver = h.waiver; correction = h.correction; held = h.held; corrections = l.corrections; users = l.users; trusted = l.trusted; rows = l.rows; emissions = l.emissions; figures = l.figures }
+account_with l h = record {
+  number = h.number;
+  kind = h.kind;
+  holder = h.holder;
+  status = h.status;
+  outside = h.outside;
+  waiver = h.waiver;
+  correction = h.correction;
+  held = h.held;
+  corrections = l.corrections;
+  users = l.users;
+  trusted =
+      l.trusted;
+  rows = l.rows;
+  emissions = l.emissions;
+  figures = l.figures;
+}
 
 -- a row with this tag for each of these
 abbrev pub each_row : (t : Tag) → List (Said t) → List Record
 each_row t xs = flat_map (λ x. row_text t x ∷ []) xs
 
--- a part of a value: the items in it, and the value with these items in their place
-pub record Part (W X : Type 0) : Type 0 where
+-- a list in a value: its items, and the value with these items in their place
+pub record ListIn (W X : Type 0) : Type 0 where
   pub items : W → List X
   pub with_items : W → List X → W
 
 -- where the lists of an account have what rows with a tag say
-abbrev pub list_part : (t : Tag) → Part ListsValue (Said t)
-list_part tag.Correction = record { items = λ l. l.corrections; with_items = λ l xs. record l { corrections = xs } }
-list_part tag.User = record { items = λ l. l.users; with_items = λ l xs. record l { users = xs } }
-list_part tag.Trusted = record { items = λ l. l.trusted; with_items = λ l xs. record l { trusted = xs } }
-list_part tag.Retired = record { items = λ l. l.rows; with_items = λ l xs. record l { rows = xs } }
-list_part tag.Emissions = record { items = λ l. l.emissions; with_items = λ l xs. record l { emissions = xs } }
-list_part tag.Figure = record { items = λ l. l.figures; with_items = λ l xs. record l { figures = xs } }
-list_part t = record { items = λ l. []; with_items = λ l xs. l }
+abbrev pub account_list : (t : Tag) → ListIn ListsValue (Said t)
+account_list tag.Correction = record { items = λ l. l.corrections; with_items = λ l xs. record l { corrections = xs } }
+account_list tag.User = record { items = λ l. l.users; with_items = λ l xs. record l { users = xs } }
+account_list tag.Trusted = record { items = λ l. l.trusted; with_items = λ l xs. record l { trusted = xs } }
+account_list tag.Retired = record { items = λ l. l.rows; with_items = λ l xs. record l { rows = xs } }
+account_list tag.Emissions = record { items = λ l. l.emissions; with_items = λ l xs. record l { emissions = xs } }
+account_list tag.Figure = record { items = λ l. l.figures; with_items = λ l xs. record l { figures = xs } }
+account_list t = record { items = λ l. []; with_items = λ l xs. l }
 
 -- what the rows of these lists with a tag say
 abbrev pub list_items : (t : Tag) → ListsValue → List (Said t)
-list_items t l = (list_part t).items l
+list_items t l = (account_list t).items l
 
 -- the rows of an account: its own, and then those of its lists
 abbrev pub account_block : AccountValue → List Record
-account_block a = row_text tag.Account (account_head a) ∷ flat_map (λ t. each_row t (list_items t (lists_of a))) list_tags
+account_block a = row_text tag.Account (account_head a)
+    ∷ flat_map (λ t. each_row t (list_items t (lists_of a))) list_tags
 
 -- ---- sections
 
@@ -101,9 +134,9 @@ IsOrdered (Some k) xs = AreAbove (map k.ends xs) (map k.begins xs)
 abbrev pub most : Tag → Option ℕ
 most t = (row_kind t).most
 
-abbrev pub is_room : Option ℕ → ℕ → Bool
-is_room None count = true
-is_room (Some limit) count = nat_lt count limit
+abbrev pub is_space : Option ℕ → ℕ → Bool
+is_space None count = true
+is_space (Some limit) count = nat_lt count limit
 
 abbrev pub AreAtMost : Option ℕ → ℕ → Type 0
 AreAtMost None count = Unit {0}

@@ -52,7 +52,8 @@ closing_row held = codes "closing" ∷ holding_fields held
 -- the statement of an account that held this before the day, and the row end
 abbrev pub statement_rows : DirectoryValue → HeldNow → List LogRow → List Record
 statement_rows directory opening rows =
-    opening_row opening ∷ log_rows (rows_about directory opening.account rows) ++ closing_row (closing_held directory opening rows) ∷ end_row ∷ []
+    opening_row opening ∷ log_rows (rows_about directory opening.account rows)
+    ++ closing_row (closing_held directory opening rows) ∷ end_row ∷ []
 
 -- the statement of an account of the book before the day
 abbrev pub statement_of : BookValue → List LogRow → ℕ → List Record

@@ -2,7 +2,7 @@
 use Rattle.std.specs.Prelude.{ℕ, Bool, true, false, ◌&&◌, nat_lt, nat_le, List, [], ◌∷◌, ◌++◌, Option, Some, None, Result}
 use Rattle.reg_text.specs.declared.cause.Cause.{Cause}
 use Rattle.reg_text.specs.declared.cause.Cause.TheVariants as cause
-use Rattle.reg_text.specs.declared.reading.tag.Rule.{Rule}
+use Rattle.reg_text.specs.declared.reading.tag.Stages.{Stages}
 use Rattle.reg_text.specs.declared.reading.tag.Tag.{Tag}
 use Rattle.reg_text.specs.declared.reading.tag.Tag.TheVariants.{Format, Day, Period, Current, Lags, Surrender, Admin, Work, Account, Correction, User, Trusted, Retired, Emissions, Figure, Do, End}
 use Rattle.reg_text.specs.declared.reading.scope.Version.{Version}
@@ -10,7 +10,7 @@ use Rattle.reg_text.specs.Causes.{◌>>=◌, test}
 use Rattle.reg_text.specs.Words.{named}
 use Rattle.reg_text.specs.Grammar.{row_kind, tag_word}
 
--- all tags by their places: those of the rows before the accounts, those of the lists of an account, and the others
+-- all tags by their stages: those of the rows before the accounts, those of the lists of an account, and the others
 abbrev pub heading_tags : List Tag
 heading_tags = Format ∷ Day ∷ Period ∷ Current ∷ Lags ∷ Surrender ∷ Admin ∷ Work ∷ []
 
@@ -23,20 +23,24 @@ later_tags = Account ∷ list_tags ++ Do ∷ End ∷ []
 abbrev pub all_tags : List Tag
 all_tags = heading_tags ++ later_tags
 
--- the place of a row with a tag, and between which places the row before it stands in a version
-abbrev pub tag_place : Tag → ℕ
-tag_place t = (row_kind t).place
+-- the stage of a row with a tag, and between which stages the row before it stands in a version
+abbrev pub tag_stage : Tag → ℕ
+tag_stage t = (row_kind t).stage
 
-abbrev pub rule : Version → Tag → Rule
-rule version t = record { place = tag_place t; from = ((row_kind t).allowed version).0; to = ((row_kind t).allowed version).1 }
+abbrev pub stages : Version → Tag → Stages
+stages version t = record {
+  stage = tag_stage t;
+  from = ((row_kind t).allowed version).0;
+  to = ((row_kind t).allowed version).1;
+}
 
 -- a row with this tag may stand somewhere
 abbrev pub is_in_version : Version → Tag → Bool
-is_in_version version t = nat_le (rule version t).from (rule version t).to
+is_in_version version t = nat_le (stages version t).from (stages version t).to
 
 -- a row with this tag occurs at most once, because it may not follow itself
 abbrev pub is_once : Version → Tag → Bool
-is_once version t = nat_lt (rule version t).to (tag_place t)
+is_once version t = nat_lt (stages version t).to (tag_stage t)
 
 -- a row with this tag has to come before those behind it
 abbrev pub is_needed : Version → Tag → Bool
@@ -48,13 +52,13 @@ is_needed version Lags = true
 is_needed version End = true
 is_needed version t = false
 
--- the place of the last row; 0 before the first
-abbrev pub place : Option Tag → ℕ
-place None = 0
-place (Some t) = tag_place t
+-- the stage of the last row; 0 before the first
+abbrev pub stage : Option Tag → ℕ
+stage None = 0
+stage (Some t) = tag_stage t
 
 abbrev pub may_follow : Version → Option Tag → Tag → Bool
-may_follow version last t = nat_le (rule version t).from (place last) && nat_le (place last) (rule version t).to
+may_follow version last t = nat_le (stages version t).from (stage last) && nat_le (stage last) (stages version t).to
 
 -- the tag that a field names, if it is allowed after the last row
 abbrev pub tag_after : Version → Option Tag → List ℕ → Result Tag Cause

@@ -17,7 +17,8 @@ totals_rows book = totals_row book General ∷ totals_row book Aviation ∷ end_
 
 -- the same of totals that were added up
 abbrev pub row_of_totals : AllowanceKind → Totals → Record
-row_of_totals kind totals = codes "totals" ∷ kind_word kind ∷ number totals.held ∷ number totals.surrendered ∷ number totals.deleted ∷ []
+row_of_totals kind totals =
+    codes "totals" ∷ kind_word kind ∷ number totals.held ∷ number totals.surrendered ∷ number totals.deleted ∷ []
 
 abbrev pub rows_of_totals : BothTotals → List Record
 rows_of_totals both = row_of_totals General both.general ∷ row_of_totals Aviation both.aviation ∷ end_row ∷ []

@@ -45,7 +45,8 @@ pub fn one_spelling_of_a_number()
 /// the limits of a correction factor. The factor of a period after the first is not 0 either.
 pub fn one_spelling_of_a_correction()
     ensures first { (f : List ℕ) (z : ℤ) → (signed_correction_of f ≡ Ok z) ↔ ((f ≡ signed z) × CorrectionFits z) }
-    ensures later { (f : List ℕ) (z : ℤ) → (later_factor.read f ≡ Ok z) ↔ ((f ≡ signed z) × CorrectionFits z × (z ≢ pos 0)) }
+    ensures later { (f : List ℕ) (z : ℤ)
+        → (later_factor.read f ≡ Ok z) ↔ ((f ≡ signed z) × CorrectionFits z × (z ≢ pos 0)) }
 {}
 
 /// A field is read as a determined figure exactly if it is the one spelling of that number and the number is within
@@ -62,11 +63,12 @@ pub fn one_spelling_of_a_day()
 /// A field is read as a number within limits exactly if it is the one spelling of that number and the number is
 /// within these limits.
 pub fn one_spelling_within_limits()
-    ensures { (low high : ℕ) (f : List ℕ) (n : ℕ) → high < 2 ^ 64 → (bounded_of low high f ≡ Ok n) ↔ ((f ≡ number n) × (low ≤ n) × (n ≤ high)) }
+    ensures { (low high : ℕ) (f : List ℕ) (n : ℕ) → high < 2 ^ 64
+        → (bounded_of low high f ≡ Ok n) ↔ ((f ≡ number n) × (low ≤ n) × (n ≤ high)) }
 {}
 
-/// A field is read as a kind, an account kind, a status, a right, what became of allowances, yes or no, a tag, an act or a
-/// version exactly if it is the word of that value.
+/// A field is read as a kind, an account kind, a status, a right, what became of allowances, yes or no, a tag, an act
+/// or a version exactly if it is the word of that value.
 pub fn one_word_of_each_value()
     ensures kinds { (f : List ℕ) (k : AllowanceKind) → (kind_of f ≡ Ok k) ↔ (f ≡ kind_word k) }
     ensures account_kinds { (f : List ℕ) (k : AccountKind) → (account_kind_of f ≡ Ok k) ↔ (f ≡ account_kind_word k) }
@@ -92,14 +94,18 @@ pub fn at_most_one_reading()
 /// A fault names the first row such that no day text begins with the rows up to it. If a day text begins with all the
 /// rows, but they are not a whole one, the fault names the number of rows plus 1, and the cause is `end`.
 pub fn names_the_first_faulty_row()
-    ensures first { (rows : List Record) (row : ℕ) (c : Cause) → day_of_rows rows ≡ Err (row, c) → IsFirstFaulty rows row }
-    ensures end { (rows : List Record) (row : ℕ) (c : Cause) → day_of_rows rows ≡ Err (row, c) → row ≡ length rows + 1 → c ≡ cause.End }
+    ensures first { (rows : List Record) (row : ℕ) (c : Cause) → day_of_rows rows ≡ Err (row, c)
+        → IsFirstFaulty rows row }
+    ensures end { (rows : List Record) (row : ℕ) (c : Cause) → day_of_rows rows ≡ Err (row, c) → row ≡ length rows + 1
+        → c ≡ cause.End }
 {}
 
 /// If the rows of a text have this fault at one of them, the rows before it make a draft, and the cause is the first of
-/// the table of causes that applies to that draft and that row. After any draft, a row to which no cause applies is taken.
+/// the table of causes that applies to that draft and that row. After any draft, a row to which no cause applies is
+/// taken.
 pub fn names_the_first_cause()
-    ensures of_text { (rows : List Record) (row : ℕ) (c : Cause) → day_of_rows rows ≡ Err (row, c) → row ≤ length rows → IsCauseOf rows row c }
+    ensures of_text { (rows : List Record) (row : ℕ) (c : Cause) → day_of_rows rows ≡ Err (row, c) → row ≤ length rows
+        → IsCauseOf rows row c }
     ensures of_row { (d : DraftValue) (r : Record) → fault_of (next_draft d r) ≡ first_cause (tests_of d r) }
 {}
 

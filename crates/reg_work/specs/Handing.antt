@@ -1,5 +1,5 @@
--- What becomes of a parcel that a worker delivers: a dock takes it, and the task that the dock gives out is put into the worker's
--- own deque.
+-- What becomes of a parcel that a worker delivers: a dock takes it, and the task that the dock gives out is put into
+-- the worker's own deque.
 use Rattle.std.specs.Prelude.{◌≡◌, ℕ, [], ◌∷◌, Option, Some, None}
 use Rattle.reg_book.specs.Day.{Day}
 use Rattle.reg_schedules.specs.Docks.{ParcelValue, TaskValue}

@@ -1,18 +1,22 @@
 //! Settlement by workers to whom the book gives its accounts.
 
-ghost use Rattle.std.specs.Prelude.{◌≡◌, ◌+◌, ◌≤◌, true, Some, length, IfOk, IfErr, IfSome, MatchResult};
+ghost use Rattle.std.specs.Prelude.{◌≡◌, ◌+◌, ◌≤◌, true, Some, length, IfOk, IfErr, IfSome, OnOk, MatchResult};
+ghost use Rattle.std.specs.List.{list_all};
 ghost use Rattle.reg_base.specs.Rising.{IsRising};
 ghost use Rattle.reg_rules.specs.State.{numbers};
 ghost use Rattle.reg_book.specs.Day.{day_of, settled_day, closing_state, replies_of};
 ghost use Rattle.reg_book.specs.Fold.{replies_in};
 ghost use Rattle.reg_book.specs.Settled.{committed};
+ghost use Rattle.reg_tasks.specs.Contexts.{the_day};
+ghost use Rattle.reg_tasks.specs.Gathering.{is_last};
 ghost use Rattle.reg_tasks.specs.Lent.{lent_book, AreOfBook};
 ghost use Rattle.reg_tasks.specs.Lots.{AreOfDay};
 ghost use Rattle.reg_tasks.specs.Names.{IsNamed};
+ghost use Rattle.reg_tasks.specs.Parcels.{names_of};
+ghost use Rattle.reg_tasks.specs.declared.lack.Lack.TheVariants.{Foreign};
 ghost use Rattle.reg_work.specs.Faults.{are_workers, IsWorkFault};
 ghost use Rattle.reg_work.specs.Shifts.{AreShifts};
 ghost use Rattle.reg_work.specs.Shortages.{IsShortage};
-ghost use Rattle.reg_work.specs.declared.fault.Shortage.TheVariants.{Memory};
 
 use crate::alone::{only_shift, run_in_order};
 use crate::fault::{Shortage, WorkFault};
@@ -25,7 +29,7 @@ use reg_account::Account;
 use reg_base::{Batch, Directory, NoMemory, Rules};
 use reg_book::{Book, ClosedDay, closing_is_a_book, settled_is_closing};
 use reg_rules::{LogRow, Reply};
-use reg_tasks::{Context, Gate, Naming, Parcel, Slots, Vault};
+use reg_tasks::{Context, Gate, Lack, Naming, Parcel, Slots, Vault};
 use std::alloc::Global;
 use std::marker::Brand;
 use std::sync::Wait;
@@ -44,25 +48,26 @@ fn lay_back<N: Naming>(
     context: &Context<N>,
     vault: &mut Vault<N>,
     parcels: Vec<Parcel<N>>,
-) -> Result<(), Shortage>
-    ensures { IfErr result (λ lack. lack ≡ Memory) }
+) -> Result<(), Lack>
+    ensures last { OnOk result (list_all (is_last (the_day context.now) context.now.plan) (names_of parcels.items) ≡ true) }
+    ensures lack { IfErr result (λ lack. lack ≡ Foreign) }
 {
     for parcel in parcels {
         if vault.lay(context, parcel).is_err() {
-            return Err(Shortage::Memory);
+            return Err(Lack::Foreign);
         }
     }
     Ok(())
 }
 
 // The accounts after the day, if all that were taken out of the vault were laid back.
-fn close_vault<N: Naming>(context: &Context<N>, vault: Vault<N>) -> Result<Vec<Account>, Shortage>
+fn close_vault<N: Naming>(context: &Context<N>, vault: Vault<N>) -> Result<Vec<Account>, Lack>
     ensures closing { IfOk result (λ accounts. IfSome N.day (λ d. accounts.items ≡ closing_state d)) }
-    ensures memory { IfErr result (λ lack. lack ≡ Memory) }
+    ensures lack { IfErr result (λ lack. lack ≡ Foreign) }
 {
     match vault.close(context) {
         Some(accounts) => Ok(accounts),
-        None => Err(Shortage::Memory),
+        None => Err(Lack::Foreign),
     }
 }
 
@@ -119,11 +124,10 @@ fn run_alone<N: Naming, G: Gate>(
     context: &Context<N>,
     vault: Vault<N>,
     gate: &G,
-) -> Result<Ended<N>, Shortage>
+) -> Result<Ended<N>, Lack>
     ensures closing { IfOk result (λ e. IfSome N.day (λ d. e.accounts.items ≡ closing_state d)) }
     ensures replies { IfOk result (λ e. IfSome N.day (λ d. e.replies.items ≡ replies_of d)) }
     ensures shifts { IfOk result (λ e. AreShifts 1 (length context.now.batch.now.instructions) e.shifts.items) }
-    ensures memory { IfErr result (λ lack. lack ≡ Memory) }
 {
     let mut vault = vault;
     let mut slots = Slots::open_from(alloc, context, &mut vault)?;
@@ -155,7 +159,7 @@ fn run_context<N: Naming + Send + Sync, R: Threads + Wait + Sync, G: Gate>(
     ensures lack { IfErr result (IsShortage workers) }
 {
     if workers == 1 {
-        return run_alone(alloc, context, vault, gate);
+        return Ok(run_alone(alloc, context, vault, gate)?);
     }
     run_stealing(rt, alloc, context, vault, workers, gate)
 }
@@ -182,7 +186,7 @@ fn run_lent<N: Naming + Send + Sync, R: Threads + Wait + Sync, G: Gate>(
     ensures replies { IfOk result (λ e. IfSome N.day (λ d. e.replies.items ≡ replies_of d)) }
     ensures shifts { IfOk result (λ e. AreShifts workers (length batch.now.instructions) e.shifts.items) }
 {
-    let context = Context::<N>::of_lent(alloc, directory, next, rules, batch)?;
+    let context = Context::<N>::of_lent(rt, alloc, directory, next, rules, batch, workers)?;
     let Ok(vault) = Vault::of(alloc, accounts) else {
         return Err(WorkFault::NoMemory);
     };

@@ -2,7 +2,8 @@
 
 ghost use Rattle.std.specs.Prelude.{◌≡◌};
 ghost use Rattle.reg_work.specs.Shortages.{fault_of_shortage, fault_of_context};
-ghost use Rattle.reg_work.specs.declared.fault.Shortage.TheVariants.{Memory};
+ghost use Rattle.reg_tasks.specs.declared.lack.Lack.TheVariants.{Memory};
+ghost use Rattle.reg_work.specs.declared.fault.Shortage.TheVariants.{Day};
 
 use reg_base::NoMemory;
 use reg_book::SettleFault;
@@ -36,18 +37,20 @@ pub(crate) enum Shortage {
     /// A thread could not be started.
     #[error("no thread")]
     Thread,
-    /// Memory ran out.
-    #[error("out of memory")]
-    Memory,
+    /// Something was lacking for a task or the settled day.
+    #[error("{0}")]
+    Day(Lack),
 }
 
+/// What is lacking for a day is told as memory. If a day is named and all comes from its own context in a legal order,
+/// nothing else can be lacking.
 impl From<Shortage> for WorkFault {
     ghost from_gives = { λ shortage fault. fault ≡ fault_of_shortage shortage };
 
     fn from(shortage: Shortage) -> WorkFault {
         match shortage {
             Shortage::Thread => WorkFault::NoThread,
-            Shortage::Memory => WorkFault::NoMemory,
+            Shortage::Day(_) => WorkFault::NoMemory,
         }
     }
 }
@@ -64,27 +67,25 @@ impl From<SettleFault> for WorkFault {
 }
 
 impl From<NoMemory> for Shortage {
-    ghost from_gives = { λ _ shortage. shortage ≡ Memory };
+    ghost from_gives = { λ _ shortage. shortage ≡ Day Memory };
 
     fn from(_none: NoMemory) -> Shortage {
-        Shortage::Memory
+        Shortage::Day(Lack::Memory)
     }
 }
 
 impl From<AllocError> for Shortage {
-    ghost from_gives = { λ _ shortage. shortage ≡ Memory };
+    ghost from_gives = { λ _ shortage. shortage ≡ Day Memory };
 
     fn from(_refused: AllocError) -> Shortage {
-        Shortage::Memory
+        Shortage::Day(Lack::Memory)
     }
 }
 
-/// What is lacking is told as memory. If a day is named and all comes from its own context in a legal order, nothing
-/// else can be lacking.
 impl From<Lack> for Shortage {
-    ghost from_gives = { λ _ shortage. shortage ≡ Memory };
+    ghost from_gives = { λ lack shortage. shortage ≡ Day lack };
 
-    fn from(_lack: Lack) -> Shortage {
-        Shortage::Memory
+    fn from(lack: Lack) -> Shortage {
+        Shortage::Day(lack)
     }
 }

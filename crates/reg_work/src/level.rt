@@ -23,7 +23,8 @@ struct OutcomesOf<N: Naming> {
 }
 
 impl<N: Naming> Promise<Result<Vec<Outcome<N>>, NoMemory>> for OutcomesOf<N> {
-    ghost kept_by = { λ promise result. IfOk result (λ outcomes. places_run outcomes.items ≡ places_of promise.tasks.value.items) };
+    ghost kept_by = { λ promise result. IfOk result
+        (λ outcomes. places_run outcomes.items ≡ places_of promise.tasks.value.items) };
 }
 
 type Handle<N> = PromisedHandle<Result<Vec<Outcome<N>>, NoMemory>, OutcomesOf<N>>;
@@ -55,7 +56,9 @@ fn join_all<N: Naming, R: Threads>(
     handles: Vec<Handle<N>>,
     outcomes: &mut Vec<Outcome<N>>,
 ) -> Result<(), NoMemory>
-    ensures { OnOk result (places_run outcomes.new.items ≡ places_run outcomes.old.items ++ places_of (flat_map (λ handle. handle.promise.tasks.value.items) handles.items)) }
+    ensures { OnOk result (places_run outcomes.new.items
+        ≡ places_run outcomes.old.items
+        ++ places_of (flat_map (λ handle. handle.promise.tasks.value.items) handles.items)) }
 {
     let mut answer = Ok(());
     for handle in handles {
@@ -79,7 +82,8 @@ fn start_all<'s, E, N: Naming + Send + Sync + 's, G: Gate + 's>(
 ) -> Result<(), Shortage>
     requires none { handles.old.items ≡ [] }
     requires room { vec_len parts ≤ vec_capacity handles.old }
-    ensures all { OnOk result (flat_map (λ handle. handle.promise.tasks.value.items) handles.new.items ≡ joined parts.items) }
+    ensures all { OnOk result
+        (flat_map (λ handle. handle.promise.tasks.value.items) handles.new.items ≡ joined parts.items) }
     ensures fault { IfErr result (λ fault. fault ≡ Thread) }
 {
     let mut worker: u32 = 0;
@@ -141,11 +145,11 @@ fn run_parts<N: Naming + Send + Sync, R: Threads + Wait, G: Gate>(
 }
 
 /// Runs the tasks of a level, divided in their order among so many workers, or as many as there are tasks if these are
-/// fewer. Each of several workers has a thread of its own, in which it calls the gate before each run; a single worker is
-/// the calling thread. The outcomes are in the order of the tasks.
+/// fewer. Each of several workers has a thread of its own, in which it calls the gate before each run; a single worker
+/// is the calling thread. The outcomes are in the order of the tasks.
 ///
 /// # Errors
-/// `Thread` if a thread could not be started. Otherwise `Memory` if memory ran out, or if no day is named, also if a task
+/// `Thread` if a thread could not be started. Otherwise `Memory` if memory ran out. If no day is named, also if a task
 /// is of another context. All threads have ended then.
 pub(crate) fn run_level<N: Naming + Send + Sync, R: Threads + Wait, G: Gate>(
     rt: &R,

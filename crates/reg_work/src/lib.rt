@@ -1,5 +1,5 @@
-//! Workers: the instructions of a day, run in threads: by workers that take them as soon as what they wait for is there, or
-//! level by level.
+//! Workers: the instructions of a day, run in threads: by workers that take them as soon as what they wait for is
+//! there, or level by level.
 //!
 //! A use of it, proved in `registry_uses/src/work.rt`:
 //!
@@ -10,7 +10,7 @@
 //!
 //! use reg_base::{Batch, Rules};
 //! use reg_book::{Book, Settled};
-//! use reg_work::{OpenGate, WorkFault, settle_with};
+//! use reg_work::{FreeGate, WorkFault, settle_with};
 //! use std::alloc::Global;
 //! use std::sync::Wait;
 //! use std::thread::Threads;
@@ -31,7 +31,7 @@
 //!         (λ s. (batch.now.base + 1 ≡ book.now.next) × (s ≡ settled_day (day_of book.now rules.now batch.now)))
 //!         (IsWorkFault 4 book.now batch.now) }
 //! {
-//!     let (settled, _) = settle_with(rt, alloc, book, rules, batch, 4, &OpenGate)?;
+//!     let (settled, _) = settle_with(rt, alloc, book, rules, batch, 4, &FreeGate)?;
 //!     Ok(settled)
 //! }
 //! ```
@@ -55,7 +55,7 @@ mod worker;
 
 pub use closing::close_with;
 pub use fault::WorkFault;
-pub use reg_tasks::{Gate, OpenGate};
+pub use reg_tasks::{FreeGate, Gate};
 pub use shift::Shift;
 pub use stealing::settle_with;
 pub use waves::settle_waves;

@@ -5,12 +5,11 @@ ghost use Rattle.reg_plan.specs.Plans.{inward};
 ghost use Rattle.reg_schedules.specs.Pool.{footprint_at};
 ghost use Rattle.reg_tasks.specs.Contexts.{the_day};
 
-use reg_base::NoMemory;
-use reg_tasks::{Context, Naming, Parcel, Task, Vault};
+use reg_tasks::{Context, Lack, Naming, Parcel, Task, Vault};
 use std::alloc::Global;
 
-/// So many places are opened at once by copies. The values of so many instructions are still near the processor when they are
-/// run.
+/// So many places are opened at once by copies. The values of so many instructions are still near the processor when
+/// they are run.
 pub(crate) const COPIED_AT_ONCE: u32 = 32;
 
 // So many places are opened at once by moving accounts: between them the worker looks whether it is to leave.
@@ -24,41 +23,41 @@ pub(crate) trait Opener<N: Naming> {
     /// Whether all places are opened before the worker runs a task, for others to take them meanwhile.
     fn opens_ahead(&self) -> bool;
 
-    /// The task of a place with the opening values of its accounts, exactly if no arrow leads to the place. The place is
-    /// counted from 1.
+    /// The task of a place with the opening values of its accounts, exactly if no arrow leads to the place. The place
+    /// is counted from 1.
     ///
     /// # Errors
-    /// `NoMemory` if memory ran out.
+    /// `Memory` if memory ran out. `Foreign` if an account is not there.
     fn open_task(
         &mut self,
         alloc: Global,
         context: &Context<N>,
         place: u32,
-    ) -> Result<Option<Task<N>>, NoMemory>
+    ) -> Result<Option<Task<N>>, Lack>
         requires from_one { 1 ≤ place }
         requires within { place ≤ length context.now.batch.now.instructions }
         ensures waits { IfOk result (λ t. is_some t ≡ (length (inward context.now.plan.arrows place) == 0)) }
         ensures place { IfOk result (λ t. IfSome t (λ t. t.place ≡ place)) };
 
-    /// The opening value of the account that stands at this position of the footprint of a place, exactly if no arrow leads
-    /// to the place at that account. The place is counted from 1, the position from 0.
+    /// The opening value of the account that stands at this index of the footprint of a place, exactly if no arrow
+    /// leads to the place at that account. The place is counted from 1, the index from 0.
     ///
     /// # Errors
-    /// `NoMemory` if memory ran out.
+    /// `Memory` if memory ran out. `Foreign` if an account is not there.
     fn open_value(
         &mut self,
         alloc: Global,
         context: &Context<N>,
         place: u32,
-        position: usize,
-    ) -> Result<Option<Parcel<N>>, NoMemory>
+        index: usize,
+    ) -> Result<Option<Parcel<N>>, Lack>
         requires from_one { 1 ≤ place }
         requires within { place ≤ length context.now.batch.now.instructions }
-        requires there { position < length (footprint_at (the_day context.now) place) };
+        requires there { index < length (footprint_at (the_day context.now) place) };
 }
 
-/// Opens so many places at once, each by copies of the book's accounts. Several workers open in turn. A worker that opens none
-/// leaves all of them to another one.
+/// Opens so many places at once, each by copies of the book's accounts. Several workers open in turn. A worker that
+/// opens none leaves all of them to another one.
 #[derive(Clone, Copy)]
 pub(crate) struct Copying {
     pub(crate) places: u32,
@@ -78,8 +77,8 @@ impl<N: Naming> Opener<N> for Copying {
         alloc: Global,
         context: &Context<N>,
         place: u32,
-    ) -> Result<Option<Task<N>>, NoMemory> {
-        Task::open(alloc, context, place)
+    ) -> Result<Option<Task<N>>, Lack> {
+        Ok(Task::open(alloc, context, place)?)
     }
 
     fn open_value(
@@ -87,9 +86,9 @@ impl<N: Naming> Opener<N> for Copying {
         alloc: Global,
         context: &Context<N>,
         place: u32,
-        position: usize,
-    ) -> Result<Option<Parcel<N>>, NoMemory> {
-        context.opening_at(alloc, place, position)
+        index: usize,
+    ) -> Result<Option<Parcel<N>>, Lack> {
+        Ok(context.opening_at(alloc, place, index)?)
     }
 }
 
@@ -108,7 +107,7 @@ impl<N: Naming> Opener<N> for Vault<N> {
         alloc: Global,
         context: &Context<N>,
         place: u32,
-    ) -> Result<Option<Task<N>>, NoMemory> {
+    ) -> Result<Option<Task<N>>, Lack> {
         Task::open_from(alloc, context, place, self)
     }
 
@@ -117,8 +116,8 @@ impl<N: Naming> Opener<N> for Vault<N> {
         _alloc: Global,
         context: &Context<N>,
         place: u32,
-        position: usize,
-    ) -> Result<Option<Parcel<N>>, NoMemory> {
-        self.opening_at(context, place, position)
+        index: usize,
+    ) -> Result<Option<Parcel<N>>, Lack> {
+        self.opening_at(context, place, index)
     }
 }

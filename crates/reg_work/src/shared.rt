@@ -10,8 +10,8 @@ use reg_yard::{Docks, Yard};
 use std::marker::{Brand, PhantomData};
 use std::sync::atomic::AtomicU32;
 
-/// Which claim table and which deques the workers of a call share, and how many places there are. It has no code. What a
-/// thread gives back is known by its type alone, so its type names them.
+/// Which claim table and which deques the workers of a call share, and how many places there are. It has no code. What
+/// a thread gives back is known by its type alone, so its type names them.
 pub(crate) trait SharedIds {
     ghost use Rattle.std.specs.Prelude.{ℕ, List};
     ghost use Rattle.atomic_table.specs.Seated.{TableId};
@@ -35,8 +35,8 @@ impl SharedIds for Brand {
     ghost deques = { [] };
 }
 
-/// What the workers of a call share: the day, its docks, who claimed what, the deques of all workers, and how many places
-/// of the day were opened.
+/// What the workers of a call share: the day, its docks, who claimed what, the deques of all workers, and how many
+/// places of the day were opened.
 #[derive(Drop)]
 pub(crate) struct Shared<'c, N: Naming, I: SharedIds> {
     pub(crate) context: &'c Context<'c, N>,

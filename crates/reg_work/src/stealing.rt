@@ -22,10 +22,10 @@ use crate::tally::{Work, count_up, join_parts};
 use crate::threads::run_in_threads;
 use crate::waves::is_allowed;
 use crate::worker::Worker;
-use reg_base::{Batch, NoMemory, Rules};
+use reg_base::{Batch, Rules};
 use reg_book::{Book, Settled};
 use reg_claim::{ClaimTable, Seat};
-use reg_tasks::{Context, Gate, Naming};
+use reg_tasks::{Context, Gate, Lack, Naming};
 use reg_yard::{Docks, Owner, Pass, Yard};
 use std::alloc::Global;
 use std::marker::{Brand, PhantomData};
@@ -40,7 +40,7 @@ fn make_workers<N: Naming, I: SharedIds>(
     seat: Seat,
     owners: Vec<Owner<N>>,
     passes: Vec<Pass<N>>,
-) -> Result<(Seat, Vec<Worker<N, I>>), NoMemory>
+) -> Result<(Seat, Vec<Worker<N, I>>), Lack>
     requires table { (table_id table.now ≡ I.table) × (seat_table seat ≡ I.table) }
     requires fresh { ((known seat).share ≡ 16) × ((known seat).finished ≡ []) × ((known seat).seen ≡ 0) }
     requires few { (vec_len passes ≤ 8) × (vec_len owners ≡ vec_len passes) }
@@ -57,7 +57,7 @@ fn make_workers<N: Naming, I: SharedIds>(
     let mut owners = owners.into_iter();
     for pass in passes {
         let Some(owner) = owners.next() else {
-            return Err(NoMemory);
+            return Err(Lack::Foreign);
         };
         let (kept, own) = table.split(rest);
         rest = kept;
@@ -115,11 +115,11 @@ fn run_workers<
     Ok(count_up(alloc, table, rest, ended_workers)?)
 }
 
-/// Runs the day of a context by several workers, which have docks, deques and a claim table. The calling thread opens places by
-/// an opener of its own.
+/// Runs the day of a context by several workers, which have docks, deques and a claim table. The calling thread opens
+/// places by an opener of its own.
 ///
 /// # Errors
-/// `Thread` if a thread could not be started. `Memory` if memory ran out.
+/// `Thread` if a thread could not be started. Otherwise what the day lacked.
 pub(crate) fn run_by_stealing<
     N: Naming + Send + Sync,
     R: Threads + Wait + Sync,
@@ -138,12 +138,13 @@ pub(crate) fn run_by_stealing<
     requires workers { are_workers workers ≡ true }
     ensures shifts { IfOk result (λ w. AreShifts workers (length context.now.batch.now.instructions) w.shifts.items) }
     ensures lack { IfErr result (IsShortage workers) }
-    ensures each_done { IfOk result (λ w. (p : ℕ) → times p (places_of w.done.items) ≡ once (length context.now.batch.now.instructions) p) }
+    ensures each_done { IfOk result
+        (λ w. (p : ℕ) → times p (places_of w.done.items) ≡ once (length context.now.batch.now.instructions) p) }
 {
     let docks = Docks::of_waiting(alloc, context)?;
     let (yard, owners, passes) = Yard::new(alloc, workers)?;
     let Ok((table, seat)) = ClaimTable::new(alloc, context.batch().len()) else {
-        return Err(Shortage::Memory);
+        return Err(Shortage::Day(Lack::Memory));
     };
     run_workers::<N, Brand, R, G, O>(
         rt, alloc, context, docks, table, seat, yard, owners, passes, gate, others, own,
@@ -165,7 +166,7 @@ fn settle_context<N: Naming + Send + Sync, R: Threads + Wait + Sync, G: Gate>(
     ensures lack { IfErr result (IsShortage workers) }
 {
     if workers == 1 {
-        return settle_alone(alloc, context, gate);
+        return Ok(settle_alone(alloc, context, gate)?);
     }
     let others = Copying {
         places: COPIED_AT_ONCE,
@@ -203,24 +204,25 @@ fn settle_named<N: Naming + Send + Sync, R: Threads + Wait + Sync, G: Gate>(
     Ok(settle_context(rt, alloc, &context, workers, gate)?)
 }
 
-/// Settles a batch by workers. Each of several workers has a deque of tasks. A worker takes the first task of its own deque. If
-/// there is none, it opens the next instructions of the day, and puts the tasks of those that wait for no other into its deque. If all are
-/// opened, it steals the first task of another worker's deque, in rising number. It claims the task's place, calls the gate, runs the task, hands on what the
-/// instruction left to the instructions that wait for it, puts each task that is complete with that into its own deque,
-/// and finishes the place. It leaves after it saw that all places are finished, or that the workers are to leave. The book
-/// is not changed.
+/// Settles a batch by workers. Each of several workers has a deque of tasks. A worker takes the first task of its own
+/// deque. If there is none, it opens the next instructions of the day, and puts the tasks of those that wait for no
+/// other into its deque. If all are opened, it steals the first task of another worker's deque, in rising number. It
+/// claims the task's place, calls the gate, runs the task, hands on what the instruction left to the instructions that
+/// wait for it, puts each task that is complete with that into its own deque, and finishes the place. It leaves after
+/// it saw that all places are finished, or that the workers are to leave. The book is not changed.
 ///
-/// The last of several workers is the calling thread, and each other one has a thread of its own. A single worker is the
-/// calling thread. Nobody waits for it, so it needs no deque, no dock and no claim: it runs the instructions in the order
-/// of the batch, each on what those before it left, and passes the gate before each.
+/// The last of several workers is the calling thread, and each other one has a thread of its own. A single worker is
+/// the calling thread. Nobody waits for it, so it needs no deque, no dock and no claim: it runs the instructions in the
+/// order of the batch, each on what those before it left, and passes the gate before each.
 ///
-/// The settled day is that of `settle_plain`, whatever the number of workers and the order in which they work. There is a
-/// shift for each worker, from worker 0 on, and each place from 1 to the number of instructions is in one shift, once.
+/// The settled day is that of `settle_plain`, whatever the number of workers and the order in which they work. There is
+/// a shift for each worker, from worker 0 on, and each place from 1 to the number of instructions is in one shift,
+/// once.
 ///
 /// # Errors
-/// The first of these that applies. `Workers` if the number of workers is not 1 to 8. `WrongBase` if the first record number
-/// of the batch is not the book's next record number. `NoThread` if a thread could not be started. `NoMemory` if memory ran
-/// out. All threads have ended then.
+/// The first of these that applies. `Workers` if the number of workers is not 1 to 8. `WrongBase` if the first record
+/// number of the batch is not the book's next record number. `NoThread` if a thread could not be started. `NoMemory` if
+/// memory ran out. All threads have ended then.
 pub fn settle_with<R: Threads + Wait + Sync, G: Gate>(
     rt: &R,
     alloc: Global,
@@ -231,7 +233,8 @@ pub fn settle_with<R: Threads + Wait + Sync, G: Gate>(
     gate: &G,
 ) -> Result<(Settled, Vec<Shift<Brand>>), WorkFault>
     ensures settled { MatchResult result
-        (λ s. (are_workers workers ≡ true) × (batch.now.base + 1 ≡ book.now.next) × (s.0 ≡ settled_day (day_of book.now rules.now batch.now)))
+        (λ s. (are_workers workers ≡ true) × (batch.now.base + 1 ≡ book.now.next)
+        × (s.0 ≡ settled_day (day_of book.now rules.now batch.now)))
         (IsWorkFault workers book.now batch.now) }
     ensures of_book { IfOk result (λ s. IsOfBook book.now s.0) }
     ensures shifts { IfOk result (λ s. AreShifts workers (length batch.now.instructions) s.1.items) }

@@ -15,7 +15,7 @@ use crate::work_loop::EndedWorker;
 use crate::worker::Worker;
 use reg_base::NoMemory;
 use reg_claim::{ClaimTable, Seat};
-use reg_tasks::{Done, Naming, Parcel, Ran};
+use reg_tasks::{Done, Lack, Naming, Parcel, Ran};
 use std::alloc::Global;
 
 /// What all workers did: who ran what, the replies, and the values that no other instruction needs, worker by worker.
@@ -52,9 +52,13 @@ impl<N: Naming> Work<N> {
     ) -> Result<(), NoMemory>
         ensures done { OnOk result (self.new.done.items ≡ self.old.done.items ++ done.items) }
         ensures closing { OnOk result (joined self.new.closing.items ≡ joined self.old.closing.items ++ closing.items) }
-        ensures shifts { OnOk result (self.new.shifts.items ≡ self.old.shifts.items ++ record { worker = worker; ran = ran } ∷ []) }
-        ensures workers { OnOk result (workers_of self.new.shifts.items ≡ workers_of self.old.shifts.items ++ worker ∷ []) }
-        ensures times { OnOk result ((p : ℕ) → times_in p self.new.shifts.items ≡ times_in p self.old.shifts.items + times p (places_ran ran.items)) }
+        ensures shifts { OnOk result
+            (self.new.shifts.items ≡ self.old.shifts.items ++ record { worker = worker; ran = ran } ∷ []) }
+        ensures workers { OnOk result
+            (workers_of self.new.shifts.items ≡ workers_of self.old.shifts.items ++ worker ∷ []) }
+        ensures times { OnOk result
+            ((p : ℕ) → times_in p self.new.shifts.items
+            ≡ times_in p self.old.shifts.items + times p (places_ran ran.items)) }
     {
         append_all(&mut self.done, done)?;
         self.closing.push(closing)?;
@@ -93,13 +97,13 @@ pub(crate) fn join_parts<T: Drop>(alloc: Global, parts: Vec<Vec<T>>) -> Result<V
 /// Joins the seats of all workers and closes the table. Without a stop each place is in one shift, once.
 ///
 /// # Errors
-/// `NoMemory` if memory ran out, also if that made the workers leave early.
+/// `Memory` if memory ran out. If the workers left early, what the first of them lacked that told them to.
 pub(crate) fn count_up<N: Naming, I: SharedIds>(
     alloc: Global,
     table: ClaimTable,
     seat: Seat,
     ended_workers: Vec<EndedWorker<N, I>>,
-) -> Result<Work<N>, NoMemory>
+) -> Result<Work<N>, Lack>
     requires table { (table_id table ≡ I.table) × (places table ≡ I.count) × (seat_table seat ≡ I.table) }
     requires share { (known seat).share + vec_len ended_workers ≡ 16 }
     requires fresh { ((known seat).finished ≡ []) × ((known seat).seen ≡ 0) }
@@ -112,8 +116,14 @@ pub(crate) fn count_up<N: Naming, I: SharedIds>(
 {
     let mut rest = seat;
     let mut work: Work<N> = Work::new(alloc);
+    let mut lack: Option<Lack> = None;
     for ended_worker in ended_workers {
-        let EndedWorker { number, worker, .. } = ended_worker;
+        let EndedWorker {
+            number,
+            worker,
+            lack: why,
+            ..
+        } = ended_worker;
         let Worker {
             seat: theirs,
             ran,
@@ -121,12 +131,13 @@ pub(crate) fn count_up<N: Naming, I: SharedIds>(
             closing,
             ..
         } = worker;
+        lack = lack.or(why);
         rest = table.join(rest, theirs);
         work.add(number, ran, done, closing)?;
     }
     let tally = table.close(rest);
     if tally.stopped {
-        return Err(NoMemory);
+        return Err(lack.unwrap_or(Lack::Foreign));
     }
     Ok(work)
 }

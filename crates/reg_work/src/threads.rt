@@ -28,8 +28,8 @@ impl<N: Naming, I: SharedIds> Promise<EndedWorker<N, I>> for EndOf {
 
 type Handle<N, I> = PromisedHandle<EndedWorker<N, I>, EndOf>;
 
-// Starts a thread for each worker, from worker 0 on, until one cannot be started. There is room for their handles. Each worker
-// has the opener.
+// Starts a thread for each worker, from worker 0 on, until one cannot be started. There is room for their handles. Each
+// worker has the opener.
 fn start_all<
     's,
     'b: 's,
@@ -51,7 +51,8 @@ fn start_all<
     requires none { handles.old.items ≡ [] }
     requires room { vec_len unstarted ≤ vec_capacity handles.old }
     requires few { vec_len unstarted ≤ 8 }
-    ensures all { OnOk result (map (λ handle. handle.promise.number) handles.new.items ≡ numbers_below (vec_len unstarted)) }
+    ensures all { OnOk result
+        (map (λ handle. handle.promise.number) handles.new.items ≡ numbers_below (vec_len unstarted)) }
     ensures each { OnOk result (vec_len handles.new ≡ vec_len unstarted) }
     ensures fault { IfErr result (λ fault. fault ≡ Thread) }
 {
@@ -97,11 +98,12 @@ fn join_and_drop<N: Naming, I: SharedIds, R: Threads>(rt: &R, handles: Vec<Handl
     }
 }
 
-/// Runs the workers: each in a thread of its own, but for the last, which is the calling thread. It opens places by an opener
-/// of its own. All threads are joined.
+/// Runs the workers: each in a thread of its own, but for the last, which is the calling thread. It opens places by an
+/// opener of its own. All threads are joined.
 ///
 /// # Errors
-/// `Thread` if a thread could not be started: then those that were started are told to leave. `Memory` if memory ran out.
+/// `Thread` if a thread could not be started: then those that were started are told to leave. Otherwise `Memory` if
+/// memory ran out.
 pub(crate) fn run_in_threads<
     N: Naming + Send + Sync,
     I: SharedIds + Send + Sync,
@@ -119,7 +121,8 @@ pub(crate) fn run_in_threads<
     own: &mut O,
 ) -> Result<Vec<EndedWorker<N, I>>, Shortage>
     requires few { vec_len unstarted ≤ 7 }
-    ensures workers { IfOk result (λ ended_workers. ended_numbers ended_workers.items ≡ numbers_below (vec_len unstarted + 1)) }
+    ensures workers { IfOk result
+        (λ ended_workers. ended_numbers ended_workers.items ≡ numbers_below (vec_len unstarted + 1)) }
     ensures each { IfOk result (λ ended_workers. vec_len ended_workers ≡ vec_len unstarted + 1) }
 {
     let count = unstarted.len();
@@ -129,7 +132,8 @@ pub(crate) fn run_in_threads<
         move |scope| -> Result<Vec<EndedWorker<N, I>>, Shortage>
             requires few { vec_len unstarted ≤ 7 }
             requires number { count ≡ vec_len unstarted }
-            ensures workers { IfOk result (λ ended_workers. ended_numbers ended_workers.items ≡ numbers_below (vec_len unstarted + 1)) }
+            ensures workers { IfOk result
+                (λ ended_workers. ended_numbers ended_workers.items ≡ numbers_below (vec_len unstarted + 1)) }
             ensures each { IfOk result (λ ended_workers. vec_len ended_workers ≡ vec_len unstarted + 1) }
         {
             let mut last = last;

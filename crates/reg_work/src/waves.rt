@@ -144,7 +144,8 @@ pub fn settle_waves<R: Threads + Wait, G: Gate>(
     gate: &G,
 ) -> Result<Settled, WorkFault>
     ensures settled { MatchResult result
-        (λ s. (are_workers workers ≡ true) × (batch.now.base + 1 ≡ book.now.next) × (s ≡ settled_day (day_of book.now rules.now batch.now)))
+        (λ s. (are_workers workers ≡ true) × (batch.now.base + 1 ≡ book.now.next)
+        × (s ≡ settled_day (day_of book.now rules.now batch.now)))
         (IsWorkFault workers book.now batch.now) }
     ensures of_book { IfOk result (λ s. IsOfBook book.now s) }
 {

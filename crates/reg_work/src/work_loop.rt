@@ -8,22 +8,23 @@ use crate::opener::Opener;
 use crate::shared::{Shared, SharedIds};
 use crate::worker::Worker;
 use crossbeam_utils::Backoff;
-use reg_base::NoMemory;
-use reg_tasks::{Gate, Naming, Task};
+use reg_tasks::{Gate, Lack, Naming, Task};
 use std::alloc::Global;
 use std::sync::Wait;
 use std::thread::Parker;
 use std::time::Duration;
 
-// How long a worker sleeps that has found nothing for a while, in microseconds. An instruction takes about one, and to fall
-// asleep and to wake up takes some five. The system may add 50 of its own.
+// How long a worker sleeps that has found nothing for a while, in microseconds. An instruction takes about one, and to
+// fall asleep and to wake up takes some five. The system may add 50 of its own.
 const NAP: u64 = 50;
 
-/// A worker at its end: it has seen that all is done, or that the workers are to leave.
+/// A worker at its end: it has seen that all is done, or that the workers are to leave. If it told them to, it says
+/// what it lacked.
 #[derive(Drop)]
 pub(crate) struct EndedWorker<N: Naming, I: SharedIds> {
     pub(crate) number: u32,
     pub(crate) worker: Worker<N, I>,
+    pub(crate) lack: Option<Lack>,
     pub(crate) ghost over: { sees_end I.count (known worker.seat) ≡ true },
 }
 
@@ -36,23 +37,23 @@ fn run_task<N: Naming, I: SharedIds, R: Wait, G: Gate>(
     number: u32,
     worker: &mut Worker<N, I>,
     task: Task<N>,
-) -> Result<(), NoMemory> {
+) -> Result<(), Lack> {
     let Some(mut execution) = worker.run(alloc, shared, gate, number, task)? else {
         return Ok(());
     };
     worker.hand_on(rt, shared, &mut execution)?;
-    worker.finish(shared, execution)
+    Ok(worker.finish(shared, execution)?)
 }
 
-// The task that a worker runs next, if it finds one: of its own deque, else of the places that it opens, some or all of them,
-// else of another worker's deque. It opens and steals nothing once it sees that the workers are to leave.
+// The task that a worker runs next, if it finds one: of its own deque, else of the places that it opens, some or all of
+// them, else of another worker's deque. It opens and steals nothing once it sees that the workers are to leave.
 fn find<N: Naming, I: SharedIds, R: Wait, O: Opener<N>>(
     rt: &R,
     alloc: Global,
     shared: &Shared<'_, N, I>,
     worker: &mut Worker<N, I>,
     opener: &mut O,
-) -> Result<Option<Task<N>>, NoMemory> {
+) -> Result<Option<Task<N>>, Lack> {
     let own = worker.take_own();
     if own.is_some() {
         return Ok(own);
@@ -88,7 +89,7 @@ fn step<N: Naming, I: SharedIds, R: Wait, G: Gate, O: Opener<N>>(
     number: u32,
     worker: &mut Worker<N, I>,
     opener: &mut O,
-) -> Result<bool, NoMemory> {
+) -> Result<bool, Lack> {
     let Some(task) = find(rt, alloc, shared, worker, opener)? else {
         return Ok(false);
     };
@@ -96,8 +97,8 @@ fn step<N: Naming, I: SharedIds, R: Wait, G: Gate, O: Opener<N>>(
     Ok(true)
 }
 
-// Lets a worker wait that has found nothing. It spins at first, then it lets others have the processor, and if that has not
-// helped it sleeps for a while: nobody wakes it.
+// Lets a worker wait that has found nothing. It spins at first, then it lets others have the processor, and if that has
+// not helped it sleeps for a while: nobody wakes it.
 fn pause<R: Wait>(rt: &R, backoff: &Backoff) {
     if backoff.is_completed() {
         Parker::new().park_timeout(rt, Duration::from_micros(NAP));
@@ -106,8 +107,8 @@ fn pause<R: Wait>(rt: &R, backoff: &Backoff) {
     }
 }
 
-/// Runs tasks until all are done, or the workers are to leave. If memory runs out, it tells all workers to leave. It
-/// leaves only after a look that shows the one or the other.
+/// Runs tasks until all are done, or the workers are to leave. If something is lacking, it tells all workers to leave.
+/// It leaves only after a look that shows the one or the other.
 pub(crate) fn work<N: Naming, I: SharedIds, R: Wait, G: Gate, O: Opener<N>>(
     rt: &R,
     alloc: Global,
@@ -120,12 +121,14 @@ pub(crate) fn work<N: Naming, I: SharedIds, R: Wait, G: Gate, O: Opener<N>>(
     ensures { result.number ≡ number }
 {
     let mut worker = worker;
+    let mut lack = None;
     let backoff = Backoff::new();
     for _ in rt.forever() {
         let found = match step(rt, alloc, shared, gate, number, &mut worker, opener) {
             Ok(found) => found,
-            Err(_) => {
+            Err(why) => {
                 worker.stop(shared);
+                lack = Some(why);
                 false
             }
         };
@@ -134,7 +137,11 @@ pub(crate) fn work<N: Naming, I: SharedIds, R: Wait, G: Gate, O: Opener<N>>(
             continue;
         }
         if worker.is_over(shared) {
-            return EndedWorker { number, worker };
+            return EndedWorker {
+                number,
+                worker,
+                lack,
+            };
         }
         pause(rt, &backoff);
     }

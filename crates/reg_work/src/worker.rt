@@ -13,7 +13,7 @@ use crate::shared::{Shared, SharedIds};
 use reg_base::NoMemory;
 use reg_claim::Seat;
 use reg_schedules::MOST_WORKERS;
-use reg_tasks::{Done, Gate, Naming, Parcel, Ran, Task};
+use reg_tasks::{Done, Gate, Lack, Naming, Parcel, Ran, Task};
 use reg_yard::{Owner, Pass};
 use std::alloc::Global;
 use std::marker::PhantomData;
@@ -38,7 +38,7 @@ pub(crate) struct Worker<N: Naming, I: SharedIds> {
 }
 
 impl<N: Naming, I: SharedIds> Worker<N, I> {
-    ghost use Rattle.std.specs.Prelude.{◌≢◌, ◌⊎◌, ℕ, true, Some, ◌++◌, ◌∷◌, IfOk, IfSome, IfNone, OnOk};
+    ghost use Rattle.std.specs.Prelude.{◌≢◌, ◌⊎◌, ℕ, true, false, Some, ◌++◌, ◌∷◌, IfOk, IfSome, IfNone, OnOk};
     ghost use Rattle.std.specs.Option.{option_map};
     ghost use Rattle.reg_plan.specs.Plans.{inward};
     ghost use Rattle.reg_tasks.specs.Contexts.{the_day};
@@ -91,18 +91,18 @@ impl<N: Naming, I: SharedIds> Worker<N, I> {
         shared.table.stop(&mut self.seat);
     }
 
-    /// Opens the next places of the day that no worker has opened, as many as the opener opens at once. Answers whether there
-    /// may be more.
+    /// Opens the next places of the day that no worker has opened, as many as the opener opens at once. Answers whether
+    /// there may be more.
     ///
     /// # Errors
-    /// `NoMemory` if memory ran out, or if a dock gives back an opening value.
+    /// `Memory` if memory ran out. `Foreign` if an account is not there, or if a dock gives back an opening value.
     pub(crate) fn open_next<R: Wait, O: Opener<N>>(
         &mut self,
         rt: &R,
         alloc: Global,
         shared: &Shared<'_, N, I>,
         opener: &mut O,
-    ) -> Result<bool, NoMemory>
+    ) -> Result<bool, Lack>
         ensures rest { OwnerAlone self.old self.new }
     {
         let count = shared.context.batch().len();
@@ -126,17 +126,19 @@ impl<N: Naming, I: SharedIds> Worker<N, I> {
         shared: &Shared<'_, N, I>,
         opener: &mut O,
         place: u32,
-    ) -> Result<(), NoMemory>
+    ) -> Result<(), Lack>
         requires from_one { 1 ≤ place }
         requires within { place ≤ length shared.now.context.now.batch.now.instructions }
         ensures rest { OwnerAlone self.old self.new }
-        ensures task { OnOk result (length (inward shared.now.context.now.plan.arrows place) ≡ 0 → owned self.new.owner ≡ with_put (place ∷ []) (owned self.old.owner)) }
+        ensures task { OnOk result
+            (length (inward shared.now.context.now.plan.arrows place) ≡ 0
+            → owned self.new.owner ≡ with_put (place ∷ []) (owned self.old.owner)) }
     {
         if let Some(task) = opener.open_task(alloc, shared.context, place)? {
             return self.put(task);
         }
-        for position in 0..shared.context.touched_at(place).len() {
-            if let Some(parcel) = opener.open_value(alloc, shared.context, place, position)? {
+        for index in 0..shared.context.touched_at(place).len() {
+            if let Some(parcel) = opener.open_value(alloc, shared.context, place, index)? {
                 self.deliver(rt, shared, parcel)?;
             }
         }
@@ -144,37 +146,40 @@ impl<N: Naming, I: SharedIds> Worker<N, I> {
     }
 
     // Puts a task into the worker's own deque.
-    fn put(&mut self, task: Task<N>) -> Result<(), NoMemory>
+    fn put(&mut self, task: Task<N>) -> Result<(), Lack>
         ensures rest { OwnerAlone self.old self.new }
         ensures task { OnOk result (owned self.new.owner ≡ with_put (task.place ∷ []) (owned self.old.owner)) }
     {
         if self.owner.put(task).is_err() {
-            return Err(NoMemory);
+            return Err(Lack::Memory);
         }
         Ok(())
     }
 
-    // Delivers an opening value to the dock that awaits it, and puts the task that is complete with it into the worker's own
-    // deque.
+    // Delivers an opening value to the dock that awaits it, and puts the task that is complete with it into the
+    // worker's own deque.
     fn deliver<R: Wait>(
         &mut self,
         rt: &R,
         shared: &Shared<'_, N, I>,
         parcel: Parcel<N>,
-    ) -> Result<(), NoMemory>
+    ) -> Result<(), Lack>
         ensures rest { OwnerAlone self.old self.new }
-        ensures delivered { OnOk result (IsDelivered N.day (goes_to shared.now.docks.context.now.plan (parcel_of parcel)) (parcel_of parcel) (owned self.old.owner) (owned self.new.owner)) }
+        ensures delivered { OnOk result
+            (IsDelivered N.day (goes_to shared.now.docks.context.now.plan (parcel_of parcel)) (parcel_of parcel)
+            (owned self.old.owner) (owned self.new.owner)) }
     {
         match shared.docks.deliver(rt, parcel) {
             Ok(task) => self.put_complete(task),
-            Err(_) => Err(NoMemory),
+            Err(_) => Err(Lack::Foreign),
         }
     }
 
     // Puts a task that a dock gave out, if it did, into the worker's own deque.
-    fn put_complete(&mut self, complete: Option<Task<N>>) -> Result<(), NoMemory>
+    fn put_complete(&mut self, complete: Option<Task<N>>) -> Result<(), Lack>
         ensures rest { OwnerAlone self.old self.new }
-        ensures task { OnOk result (owned self.new.owner ≡ with_task (option_map task_of complete) (owned self.old.owner)) }
+        ensures task { OnOk result
+            (owned self.new.owner ≡ with_task (option_map task_of complete) (owned self.old.owner)) }
     {
         match complete {
             Some(task) => self.put(task),
@@ -194,7 +199,9 @@ impl<N: Naming, I: SharedIds> Worker<N, I> {
     /// The first task of another worker's deque, in rising number.
     pub(crate) fn steal(&mut self, shared: &Shared<'_, N, I>) -> Option<Task<N>>
         ensures rest { PassAlone self.old self.new }
-        ensures some { IfSome result (λ t. (from : ℕ) × (from ≢ self.old.pass.worker) × StealsAt from (views self.old.pass) t.place (views self.new.pass)) }
+        ensures some { IfSome result
+            (λ t. (from : ℕ) × (from ≢ self.old.pass.worker)
+            × StealsAt from (views self.old.pass) t.place (views self.new.pass)) }
         ensures none { IfNone result (views self.new.pass ≡ views self.old.pass) }
     {
         let own = self.pass.worker();
@@ -214,7 +221,8 @@ impl<N: Naming, I: SharedIds> Worker<N, I> {
     /// run, and there is no execution.
     ///
     /// # Errors
-    /// `NoMemory` if memory ran out. If no day is named, also if the task is of another context.
+    /// `Memory` if memory ran out. If no day is named, also if the task is of another context, and `Foreign` if its
+    /// place is none of this one.
     pub(crate) fn run<G: Gate>(
         &mut self,
         alloc: Global,
@@ -222,39 +230,43 @@ impl<N: Naming, I: SharedIds> Worker<N, I> {
         gate: &G,
         worker: u32,
         task: Task<N>,
-    ) -> Result<Option<Execution<N>>, NoMemory>
-        ensures execution { IfOk result (λ execution. IfSome execution (λ t. IsToFinish t.ran.place (known self.new.seat))) }
+    ) -> Result<Option<Execution<N>>, Lack>
+        ensures execution { IfOk result
+            (λ execution. IfSome execution (λ t. IsToFinish t.ran.place (known self.new.seat))) }
         ensures rest { SeatAlone self.old self.new }
         ensures place { IfOk result (λ execution. IfSome execution (λ t. t.ran.place ≡ task.place)) }
-        ensures made { IfOk result (λ execution. IfSome execution (λ t. reply_at (the_day shared.now.context.now) task.place (values_of task.parcels.items) ≡ Some (values_of t.left.items, t.done.reply))) }
+        ensures made { IfOk result
+            (λ execution. IfSome execution
+            (λ t. reply_at (the_day shared.now.context.now) task.place (values_of task.parcels.items)
+            ≡ Some (values_of t.left.items, t.done.reply))) }
         ensures none { IfOk result (λ execution. IfNone execution (known self.new.seat ≡ known self.old.seat)) }
     {
         let place = task.place();
         if place == 0 || place > shared.context.batch().len() {
-            return Err(NoMemory);
+            return Err(Lack::Foreign);
         }
         if !shared.table.claim(&mut self.seat, place) {
             return Ok(None);
         }
         gate.enter(worker, &task);
         let Ok(outcome) = task.run(alloc, shared.context) else {
-            return Err(NoMemory);
+            return Err(Lack::Memory);
         };
         let (ran, done, left) = outcome.into_done();
         Ok(Some(Execution { ran, done, left }))
     }
 
-    /// Hands on what an instruction left: to the dock of the instruction that waits for it, and each task that is complete
-    /// with it into the worker's own deque. What no other instruction needs is kept.
+    /// Hands on what an instruction left: to the dock of the instruction that waits for it, and each task that is
+    /// complete with it into the worker's own deque. What no other instruction needs is kept.
     ///
     /// # Errors
-    /// `NoMemory` if memory ran out, or if a dock gives back a parcel that another instruction needs.
+    /// `Memory` if memory ran out. `Foreign` if a dock gives back a parcel that another instruction needs.
     pub(crate) fn hand_on<R: Wait>(
         &mut self,
         rt: &R,
         shared: &Shared<'_, N, I>,
         execution: &mut Execution<N>,
-    ) -> Result<(), NoMemory>
+    ) -> Result<(), Lack>
         ensures seat { self.new.seat ≡ self.old.seat }
         ensures work { (self.new.ran ≡ self.old.ran) × (self.new.done ≡ self.old.done) }
         ensures pass { self.new.pass ≡ self.old.pass }
@@ -267,19 +279,22 @@ impl<N: Naming, I: SharedIds> Worker<N, I> {
         Ok(())
     }
 
-    // Hands on one parcel that the instruction at a place left. Most parcels are awaited, so their docks are asked first; one
-    // that comes back is kept, if no other instruction needs it.
+    // Hands on one parcel that the instruction at a place left. Most parcels are awaited, so their docks are asked
+    // first; one that comes back is kept, if no other instruction needs it.
     fn hand_on_one<R: Wait>(
         &mut self,
         rt: &R,
         shared: &Shared<'_, N, I>,
         place: u32,
         parcel: Parcel<N>,
-    ) -> Result<(), NoMemory>
+    ) -> Result<(), Lack>
         ensures seat { self.new.seat ≡ self.old.seat }
         ensures work { (self.new.ran ≡ self.old.ran) × (self.new.done ≡ self.old.done) }
         ensures pass { self.new.pass ≡ self.old.pass }
-        ensures handed { OnOk result (IsDelivered N.day (goes_to shared.now.docks.context.now.plan (parcel_of parcel)) (parcel_of parcel) (owned self.old.owner) (owned self.new.owner) ⊎ (self.new.closing.items ≡ self.old.closing.items ++ parcel ∷ [])) }
+        ensures handed { OnOk result
+            (IsDelivered N.day (goes_to shared.now.docks.context.now.plan (parcel_of parcel)) (parcel_of parcel)
+            (owned self.old.owner) (owned self.new.owner)
+            ⊎ (self.new.closing.items ≡ self.old.closing.items ++ parcel ∷ [])) }
     {
         match shared.docks.deliver(rt, parcel) {
             Ok(complete) => self.put_complete(complete),
@@ -288,20 +303,16 @@ impl<N: Naming, I: SharedIds> Worker<N, I> {
     }
 
     // Keeps a parcel that no dock awaits.
-    fn keep(
-        &mut self,
-        shared: &Shared<'_, N, I>,
-        place: u32,
-        parcel: Parcel<N>,
-    ) -> Result<(), NoMemory>
+    fn keep(&mut self, shared: &Shared<'_, N, I>, place: u32, parcel: Parcel<N>) -> Result<(), Lack>
         ensures seat { self.new.seat ≡ self.old.seat }
         ensures work { (self.new.ran ≡ self.old.ran) × (self.new.done ≡ self.old.done) }
         ensures pass { self.new.pass ≡ self.old.pass }
         ensures owner { self.new.owner ≡ self.old.owner }
         ensures kept { OnOk result (self.new.closing.items ≡ self.old.closing.items ++ parcel ∷ []) }
+        ensures last { OnOk result (1 ≤ place → place ≤ length shared.now.context.now.batch.now.instructions → leads_on shared.now.context.now.plan place parcel.value.number ≡ false) }
     {
         if leads_on(shared, place, &parcel) {
-            return Err(NoMemory);
+            return Err(Lack::Foreign);
         }
         self.closing.push(parcel)?;
         Ok(())
@@ -340,7 +351,8 @@ fn leads_on<N: Naming, I: SharedIds>(
     place: u32,
     parcel: &Parcel<N>,
 ) -> bool
-    ensures { 1 ≤ place → place ≤ length shared.now.context.now.batch.now.instructions → result ≡ leads_on shared.now.context.now.plan place parcel.now.value.number }
+    ensures { 1 ≤ place → place ≤ length shared.now.context.now.batch.now.instructions
+        → result ≡ leads_on shared.now.context.now.plan place parcel.now.value.number }
 {
     let context = shared.context;
     if place == 0 || place > context.batch().len() {

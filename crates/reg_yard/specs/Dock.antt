@@ -15,8 +15,10 @@ module _ {N : Type 0} {b : Ghosts N} where
 
   -- the parcel is not awaited here, or has come already
   abbrev pub refuses : Dock N b → Parcel N b → Bool
-  refuses dock parcel = is_refused (the_day dock.context.now) dock.context.now.plan dock.place (came_to dock) (parcel_of parcel)
+  refuses dock parcel = is_refused (the_day dock.context.now) dock.context.now.plan dock.place (came_to dock)
+      (parcel_of parcel)
 
   -- what stays here after the parcel has come, and the task that goes out
   abbrev pub after_parcel : Dock N b → Parcel N b → Option (List ParcelValue) × Option TaskValue
-  after_parcel dock parcel = delivered (the_day dock.context.now) dock.context.now.plan dock.place (came_to dock) (parcel_of parcel)
+  after_parcel dock parcel =
+      delivered (the_day dock.context.now) dock.context.now.plan dock.place (came_to dock) (parcel_of parcel)

@@ -1,5 +1,5 @@
--- What a dock holds, and what becomes of a parcel that is delivered to it. While parcels wait in a dock, it is seen as their
--- list; once its task has gone out, nothing is in it any more, since all that the place awaits has come.
+-- What a dock holds, and what becomes of a parcel that is delivered to it. While parcels wait in a dock, it is seen as
+-- their list; once its task has gone out, nothing is in it any more, since all that the place awaits has come.
 use Rattle.std.specs.Prelude.{◌≡◌, ℕ, ◌+◌, ◌≤◌, Bool, true, false, List, [], ◌∷◌, ◌++◌, length, Option, Some, None, is_some, vec_capacity, if◌then◌else◌}
 use Rattle.std.specs.Option.{option_map}
 use Rattle.std.specs.declared.vec.Vec.{Vec}
@@ -27,17 +27,19 @@ abbrev pub left_at : Day → PlanValue → ℕ → List ParcelValue → Option (
 left_at day plan place came = left_of (came, complete day plan place came)
 
 -- the same after one parcel more
-abbrev pub delivered : Day → PlanValue → ℕ → Option (List ParcelValue) → ParcelValue → Option (List ParcelValue) × Option TaskValue
+abbrev pub delivered : Day → PlanValue → ℕ → Option (List ParcelValue) → ParcelValue
+    → Option (List ParcelValue) × Option TaskValue
 delivered day plan place None p = (None, None)
 delivered day plan place (Some came) p = left_of (received day plan place came p)
 
 -- those that came and those that are still awaited are no more than the accounts that the place's instruction touches
 abbrev pub FitInDock : Day → PlanValue → ℕ → List ParcelValue → Type 0
-FitInDock day plan place came = length came + length (still_awaited day plan place came) ≤ length (footprint_at day place)
+FitInDock day plan place came =
+    length came + length (still_awaited day plan place came) ≤ length (footprint_at day place)
 
--- a dock took the parcel: that of the place where the parcel goes, in a day and by a plan of it. If a day is named, it is that one.
--- The task went out exactly if the parcel was the last. Which parcels had come before stands behind a lock; but they fitted in
--- the dock, so none had come to a place that needs this parcel alone
+-- a dock took the parcel: that of the place where the parcel goes, in a day and by a plan of it. If a day is named, it
+-- is that one. The task went out exactly if the parcel was the last. Which parcels had come before stands behind a
+-- lock; but they fitted in the dock, so none had come to a place that needs this parcel alone
 pub record IsTaken (name : Option Day) (goes : Option ℕ) (p : ParcelValue) (task : Option TaskValue) : Type 0 where
   pub day : Day
   pub plan : PlanValue
@@ -57,8 +59,10 @@ module _ {N : Type 0} {b : Ghosts N} where
 
   -- if parcels wait, they are that few
   abbrev pub FewWait : Day → PlanValue → ℕ → Option (Vec (Parcel N b) Global) → Type 0
-  FewWait day plan place waiting = (parcels : Vec (Parcel N b) Global) → waiting ≡ Some parcels → FitInDock day plan place (parcels_of parcels.items)
+  FewWait day plan place waiting =
+      (parcels : Vec (Parcel N b) Global) → waiting ≡ Some parcels → FitInDock day plan place (parcels_of parcels.items)
 
   -- if parcels wait, there is room for one of each account that the place's instruction touches
   abbrev pub HaveRoom : Day → ℕ → Option (Vec (Parcel N b) Global) → Type 0
-  HaveRoom day place waiting = (parcels : Vec (Parcel N b) Global) → waiting ≡ Some parcels → vec_capacity parcels ≡ length (footprint_at day place)
+  HaveRoom day place waiting = (parcels : Vec (Parcel N b) Global) → waiting ≡ Some parcels
+      → vec_capacity parcels ≡ length (footprint_at day place)

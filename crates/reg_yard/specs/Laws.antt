@@ -7,4 +7,5 @@ use Rattle.reg_yard.specs.Held.{IsTaken}
 
 -- law: if the place needs one parcel alone, its dock gave out the task when it took that
 abbrev pub ASingleParcelGivesTheTask : Type 0
-ASingleParcelGivesTheTask = (name : Option Day) (goes : Option ℕ) (p : ParcelValue) (task : Option TaskValue) (taken : IsTaken name goes p task) → length (footprint_at taken.day taken.place) ≡ 1 → is_some task ≡ true
+ASingleParcelGivesTheTask = (name : Option Day) (goes : Option ℕ) (p : ParcelValue) (task : Option TaskValue)
+    (taken : IsTaken name goes p task) → length (footprint_at taken.day taken.place) ≡ 1 → is_some task ≡ true

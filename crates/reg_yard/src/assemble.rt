@@ -11,7 +11,8 @@ ghost use Rattle.reg_yard.specs.Held.{left_at, waiting_of, FitInDock, FewWait, H
 use crate::awaited::awaited_accounts;
 use reg_tasks::{Context, Naming, Parcel, Task};
 
-/// The task of a place, if these parcels are all that it awaits, and otherwise the parcels. The place is counted from 1.
+/// The task of a place, if these parcels are all that it awaits, and otherwise the parcels. The place is counted from
+/// 1.
 pub(crate) fn try_assemble<N: Naming>(
     context: &Context<N>,
     place: u32,
@@ -21,7 +22,8 @@ pub(crate) fn try_assemble<N: Naming>(
     requires within { place ≤ length context.now.batch.now.instructions }
     requires few { FitInDock (the_day context.now) context.now.plan place (parcels_of parcels.items) }
     requires room { vec_capacity parcels ≡ length (footprint_at (the_day context.now) place) }
-    ensures left { (waiting_of result.0, option_map task_of result.1) ≡ left_at (the_day context.now) context.now.plan place (parcels_of parcels.items) }
+    ensures left { (waiting_of result.0, option_map task_of result.1)
+        ≡ left_at (the_day context.now) context.now.plan place (parcels_of parcels.items) }
     ensures few { FewWait (the_day context.now) context.now.plan place result.0 }
     ensures room { HaveRoom (the_day context.now) place result.0 }
     ensures place { IfSome result.1 (λ t. t.place ≡ place) }

@@ -34,7 +34,8 @@ fn is_of(accounts: &[AccountNo], account: AccountNo) -> bool
 fn is_needed<N: Naming>(context: &Context<N>, place: u32, parcel: &Parcel<N>) -> bool
     requires from_one { 1 ≤ place }
     requires within { place ≤ length context.now.batch.now.instructions }
-    ensures { result ≡ list_any (is_name (parcel.now.value.number, parcel.now.after)) (awaited (the_day context.now) context.now.plan place) }
+    ensures { result ≡ list_any (is_name (parcel.now.value.number, parcel.now.after))
+        (awaited (the_day context.now) context.now.plan place) }
 {
     let account = parcel.account();
     is_of(awaited_accounts(context, place), account)
@@ -69,7 +70,8 @@ pub(crate) fn is_awaited<N: Naming>(
 ) -> bool
     requires from_one { 1 ≤ place }
     requires within { place ≤ length context.now.batch.now.instructions }
-    ensures { result ≡ not (is_not_awaited (the_day context.now) context.now.plan place (parcels_of came.now) (parcel_of parcel.now)) }
+    ensures { result ≡ not (is_not_awaited (the_day context.now) context.now.plan place (parcels_of came.now)
+        (parcel_of parcel.now)) }
 {
     is_needed(context, place, parcel) && !has_come(came, parcel)
 }

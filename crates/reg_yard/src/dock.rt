@@ -10,8 +10,8 @@ use reg_base::NoMemory;
 use reg_tasks::{Context, Naming, Parcel, Task};
 use std::alloc::Global;
 
-/// Where the parcels that an instruction needs wait for each other. The task goes out with the last of them, and from then
-/// on nothing is awaited.
+/// Where the parcels that an instruction needs wait for each other. The task goes out with the last of them, and from
+/// then on nothing is awaited.
 #[derive(Drop)]
 pub struct Dock<'c, 'a, N: Naming> {
     context: &'c Context<'a, N>,
@@ -46,7 +46,8 @@ impl<'c, 'a, N: Naming> Dock<'c, 'a, N> {
         requires within { place ≤ length context.now.batch.now.instructions }
         ensures context { IfOk result (λ r. r.0.context.now ≡ context.now) }
         ensures place { IfOk result (λ r. r.0.place ≡ place) }
-        ensures left { IfOk result (λ r. (came_to r.0, option_map task_of r.1) ≡ left_at (the_day context.now) context.now.plan place []) }
+        ensures left { IfOk result
+            (λ r. (came_to r.0, option_map task_of r.1) ≡ left_at (the_day context.now) context.now.plan place []) }
         ensures at_once { IfOk result (λ r. option_map task_of r.1 ≡ task_at_once (the_day context.now) place) }
     {
         let none = Vec::with_capacity(alloc, awaited_accounts(context, place).len())?;
@@ -59,7 +60,8 @@ impl<'c, 'a, N: Naming> Dock<'c, 'a, N> {
         Ok((dock, task))
     }
 
-    /// The dock of a place whose instruction waits for others, to which nothing has come yet. The place is counted from 1.
+    /// The dock of a place whose instruction waits for others, to which nothing has come yet. The place is counted from
+    /// 1.
     ///
     /// # Errors
     /// `NoMemory` if memory ran out.
@@ -121,7 +123,8 @@ impl<'c, 'a, N: Naming> Dock<'c, 'a, N> {
         ensures context { self.new.context.now ≡ self.old.context.now }
         ensures place { self.new.place ≡ self.old.place }
         ensures refused { is_err result ≡ refuses self.old parcel }
-        ensures delivered { IfOk result (λ task. (came_to self.new, option_map task_of task) ≡ after_parcel self.old parcel) }
+        ensures delivered { IfOk result
+            (λ task. (came_to self.new, option_map task_of task) ≡ after_parcel self.old parcel) }
         ensures at { IfOk result (λ task. IfSome task (λ t. t.place ≡ self.old.place)) }
         ensures has { IfOk result (λ task. IfSome task (λ t. Contains t.parcels.items parcel)) }
         ensures back { IfErr result (λ p. p ≡ parcel) }

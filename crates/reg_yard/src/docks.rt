@@ -29,8 +29,8 @@ impl<'c, 'a, N: Naming> Docks<'c, 'a, N> {
     ghost use Rattle.reg_yard.specs.Parcels.{parcel_of, goes_to};
     ghost use Rattle.reg_yard.specs.Held.{IsTaken};
 
-    /// A dock for each instruction, to which nothing has come yet, and the tasks of those that touch no account, by rising
-    /// place.
+    /// A dock for each instruction, to which nothing has come yet, and the tasks of those that touch no account, by
+    /// rising place.
     ///
     /// The time is linear in the instructions, look-ups apart.
     ///
@@ -47,8 +47,9 @@ impl<'c, 'a, N: Naming> Docks<'c, 'a, N> {
         Ok((Docks { context, docks }, tasks))
     }
 
-    /// A dock for each instruction that waits for another, to which nothing has come yet. The docks of all others are those of
-    /// instructions whose tasks have gone out: whoever makes these docks makes their tasks too, by [`Task::open`].
+    /// A dock for each instruction that waits for another, to which nothing has come yet. The docks of all others are
+    /// those of instructions whose tasks have gone out: whoever makes these docks makes their tasks too, by
+    /// [`Task::open`].
     ///
     /// The time is linear in the instructions.
     ///
@@ -74,9 +75,9 @@ impl<'c, 'a, N: Naming> Docks<'c, 'a, N> {
         self.docks.get(place as usize - 1)
     }
 
-    /// Delivers a parcel to the dock of the place that awaits it, once no other thread is at that dock: an opening value
-    /// to the first instruction that touches its account, any other to the head of the arrow that leads on from it.
-    /// Answers the task of that place if the parcel is the last that was awaited. Takes no memory.
+    /// Delivers a parcel to the dock of the place that awaits it, once no other thread is at that dock: an opening
+    /// value to the first instruction that touches its account, any other to the head of the arrow that leads on from
+    /// it. Answers the task of that place if the parcel is the last that was awaited. Takes no memory.
     ///
     /// # Errors
     /// The parcel, if nothing awaits it, or if it has come already.
@@ -86,9 +87,12 @@ impl<'c, 'a, N: Naming> Docks<'c, 'a, N> {
         parcel: Parcel<N>,
     ) -> Result<Option<Task<N>>, Parcel<N>>
         ensures nowhere { goes_to self.now.context.now.plan (parcel_of parcel) ≡ None → is_err result ≡ true }
-        ensures place { IfOk result (λ task. IfSome task (λ t. goes_to self.now.context.now.plan (parcel_of parcel) ≡ Some t.place)) }
+        ensures place { IfOk result
+            (λ task. IfSome task (λ t. goes_to self.now.context.now.plan (parcel_of parcel) ≡ Some t.place)) }
         ensures has { IfOk result (λ task. IfSome task (λ t. Contains t.parcels.items parcel)) }
-        ensures taken { IfOk result (λ task. IsTaken N.day (goes_to self.now.context.now.plan (parcel_of parcel)) (parcel_of parcel) (option_map task_of task)) }
+        ensures taken { IfOk result
+            (λ task. IsTaken N.day (goes_to self.now.context.now.plan (parcel_of parcel)) (parcel_of parcel)
+            (option_map task_of task)) }
         ensures back { IfErr result (λ p. p ≡ parcel) }
     {
         let Some(place) = place_for(self.context, &parcel) else {

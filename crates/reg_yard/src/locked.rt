@@ -10,7 +10,8 @@ use crate::dock::Dock;
 use reg_tasks::{Naming, Parcel, Task};
 use std::sync::{Mutex, Wait};
 
-/// A dock behind a lock of its own. No contract can name what is behind a lock, so the place of the dock stands outside of it.
+/// A dock behind a lock of its own. No contract can name what is behind a lock, so the place of the dock stands outside
+/// of it.
 #[derive(Drop)]
 pub(crate) struct LockedDock<'c, 'a, N: Naming> {
     place: u32,
@@ -39,7 +40,8 @@ impl<'c, 'a, N: Naming> LockedDock<'c, 'a, N> {
     ) -> Result<Option<Task<N>>, Parcel<N>>
         ensures at { IfOk result (λ task. IfSome task (λ t. t.place ≡ self.now.place)) }
         ensures has { IfOk result (λ task. IfSome task (λ t. Contains t.parcels.items parcel)) }
-        ensures taken { IfOk result (λ task. IsTaken N.day (Some self.now.place) (parcel_of parcel) (option_map task_of task)) }
+        ensures taken { IfOk result
+            (λ task. IsTaken N.day (Some self.now.place) (parcel_of parcel) (option_map task_of task)) }
         ensures back { IfErr result (λ p. p ≡ parcel) }
     {
         self.dock.lock(wait).deliver_at(self.place, parcel)

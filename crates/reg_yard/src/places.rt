@@ -5,8 +5,8 @@ ghost use Rattle.reg_yard.specs.Parcels.{parcel_of, goes_to};
 
 use reg_tasks::{Context, Naming, Parcel};
 
-/// The place that awaits a parcel, if one does: that of the first instruction that touches its account for an opening value,
-/// and for any other the head of the arrow that leads on from it.
+/// The place that awaits a parcel, if one does: that of the first instruction that touches its account for an opening
+/// value, and for any other the head of the arrow that leads on from it.
 pub(crate) fn place_for<N: Naming>(context: &Context<N>, parcel: &Parcel<N>) -> Option<u32>
     ensures { result ≡ goes_to context.now.plan (parcel_of parcel.now) }
 {

@@ -25,7 +25,9 @@ fn open_dock<'c, 'a, N: Naming>(
     requires from_one { 1 ≤ place }
     requires within { place ≤ length context.now.batch.now.instructions }
     ensures place { IfOk result (λ dock. dock.place ≡ place) }
-    ensures tasks { IfOk result (λ dock. map task_of tasks.new.items ≡ map task_of tasks.old.items ++ tasks_from (the_day context.now) place 1) }
+    ensures tasks { IfOk result
+        (λ dock. map task_of tasks.new.items
+        ≡ map task_of tasks.old.items ++ tasks_from (the_day context.now) place 1) }
 {
     let (dock, task) = Dock::new(alloc, context, place)?;
     if let Some(task) = task {
@@ -51,8 +53,8 @@ pub(crate) fn open_docks<'c, 'a, N: Naming>(
     Ok((docks, tasks))
 }
 
-// The dock of a place at the start, if the tasks that wait for no other are made elsewhere: one that awaits parcels if the
-// instruction waits for another, and otherwise one whose task has gone out.
+// The dock of a place at the start, if the tasks that wait for no other are made elsewhere: one that awaits parcels if
+// the instruction waits for another, and otherwise one whose task has gone out.
 fn waiting_dock<'c, 'a, N: Naming>(
     alloc: Global,
     context: &'c Context<'a, N>,
@@ -61,7 +63,8 @@ fn waiting_dock<'c, 'a, N: Naming>(
     requires from_one { 1 ≤ place }
     requires within { place ≤ length context.now.batch.now.instructions }
     ensures place { IfOk result (λ dock. dock.place ≡ place) }
-    ensures came { IfOk result (λ dock. came_to dock ≡ (if length (inward context.now.plan.arrows place) == 0 then None else Some [])) }
+    ensures came { IfOk result
+        (λ dock. came_to dock ≡ (if length (inward context.now.plan.arrows place) == 0 then None else Some [])) }
 {
     if context.waits(place) {
         return Dock::waiting(alloc, context, place);
@@ -69,8 +72,8 @@ fn waiting_dock<'c, 'a, N: Naming>(
     Ok(Dock::emptied(context, place))
 }
 
-/// A dock for each place. Nothing has come yet to those of instructions that wait for others; the tasks of all others have
-/// gone out.
+/// A dock for each place. Nothing has come yet to those of instructions that wait for others; the tasks of all others
+/// have gone out.
 pub(crate) fn waiting_docks<'c, 'a, N: Naming>(
     alloc: Global,
     context: &'c Context<'a, N>,

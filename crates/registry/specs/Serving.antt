@@ -22,7 +22,8 @@ streams r w f = record { reader = r; writer = w; faults = f }
 -- the same of a reader and two writers whose calls are counted, and whose bytes these functions tell
 abbrev pub streams_of : {R W F : Type 0} → (R → Option (List ℕ)) → (W → Option (List ℕ)) → (F → Option (List ℕ))
     → Counted R → Counted W → Counted F → Streams
-streams_of remaining contents told r w f = streams (counted_stream remaining r) (counted_stream contents w) (counted_stream told f)
+streams_of remaining contents told r w f =
+    streams (counted_stream remaining r) (counted_stream contents w) (counted_stream told f)
 
 -- 0 after a command without a fault, or the status of its fault
 abbrev pub status_after : Option FrontFault → ℕ
@@ -41,8 +42,8 @@ pub record Obeys (command : Command) (status : ℕ) (old new : Streams) : Type 0
   pub answered : status ≡ status_after fault
   pub told : IsToldAfter fault old.faults new.faults
 
--- a status in place of a command's: help or the version was shown (0), the words were not taken (2), or memory ran out (4), of
--- which the line tells; only help or the version is written to the writer
+-- a status in place of a command's: help or the version was shown (0), the words were not taken (2), or memory ran out
+-- (4), of which the line tells; only help or the version is written to the writer
 pub record IsShown (status : ℕ) (old new before after : Stream) : Type 0 where
   pub answered : Contains (0 ∷ 2 ∷ 4 ∷ []) status
   pub kept : status ≢ 0 → new ≡ old

@@ -10,8 +10,8 @@ const HINT: &str = "reading a day text from the terminal; Ctrl-D ends it";
 // Standard input, as Linux names it among the open files of a program.
 const PATH: &str = "/proc/self/fd/0";
 
-/// How many bytes the file has that is standard input: 0 if it is no file, or if the system does not say. Those before the
-/// place from which the program reads count too.
+/// How many bytes the file has that is standard input: 0 if it is no file, or if the system does not say. Those before
+/// the place from which the program reads count too.
 pub(crate) fn file_length<F: Files>(files: &F) -> usize {
     match fs::metadata(files, PATH) {
         Ok(found) if found.is_file() => usize::try_from(found.len()).unwrap_or(0),

@@ -26,8 +26,8 @@ use std::thread::Threads;
 use std::{env, io};
 
 /// Carries out the command of these words, which stand without the program's name: reads a day text from `reader`
-/// and writes the command's text to `writer`. Help and the version go to `writer` too. Each stream is any reader or writer,
-/// whose failed calls are counted.
+/// and writes the command's text to `writer`. Help and the version go to `writer` too. Each stream is any reader or
+/// writer, whose failed calls are counted.
 ///
 /// Answers the exit status of the program: 0, or the status of the fault. A fault is written as one line to `faults`,
 /// and words that are not taken as a longer text, before any input is read. The status is the same if these can't be
@@ -45,7 +45,8 @@ pub fn serve<T: Threads + Wait + Sync, S: AsStr, R: Read, W: Write, F: Write>(
     requires reader { CanFail (counted_stream R.remaining reader.old) }
     requires writer { CanFail (counted_stream W.contents writer.old) }
     requires faults { CanFail (counted_stream F.contents faults.old) }
-    ensures { Serves result (streams_of R.remaining W.contents F.contents reader.old writer.old faults.old) (streams_of R.remaining W.contents F.contents reader.new writer.new faults.new) }
+    ensures { Serves result (streams_of R.remaining W.contents F.contents reader.old writer.old faults.old)
+        (streams_of R.remaining W.contents F.contents reader.new writer.new faults.new) }
 {
     match read_words(alloc, words) {
         Ok(command) => carry_out(rt, alloc, command, reader, writer, faults),
@@ -65,7 +66,8 @@ fn carry_out<T: Threads + Wait + Sync, R: Source, W: Sink, F: Sink>(
     requires reader { CanFail (R.stream reader.old) }
     requires writer { CanFail (W.stream writer.old) }
     requires faults { CanFail (F.stream faults.old) }
-    ensures { Obeys command result (streams (R.stream reader.old) (W.stream writer.old) (F.stream faults.old)) (streams (R.stream reader.new) (W.stream writer.new) (F.stream faults.new)) }
+    ensures { Obeys command result (streams (R.stream reader.old) (W.stream writer.old) (F.stream faults.old))
+        (streams (R.stream reader.new) (W.stream writer.new) (F.stream faults.new)) }
 {
     match run_without_freeing(rt, alloc, reader, writer, command) {
         Ok(()) => 0,
@@ -80,7 +82,8 @@ fn show<W: Write, F: Write>(
     faults: &mut Counted<F>,
 ) -> u8
     requires { CanFail (counted_stream F.contents faults.old) }
-    ensures { IsShown result (counted_stream W.contents writer.old) (counted_stream W.contents writer.new) (counted_stream F.contents faults.old) (counted_stream F.contents faults.new) }
+    ensures { IsShown result (counted_stream W.contents writer.old) (counted_stream W.contents writer.new)
+        (counted_stream F.contents faults.old) (counted_stream F.contents faults.new) }
 {
     if error.kind() == ErrorKind::OutOfMemory {
         return tell(FrontFault::NoMemory, faults);

@@ -59,9 +59,11 @@ fn find_words<'a, S: AsStr>(
 fn find_command(matches: &ArgMatches<'_>) -> Option<Command>
     ensures name { IfSome result (λ command. subcommand_name_of matches.now ≡ Some (command_name command)) }
     ensures number { IfSome result (HasNumber (rows_found matches.now)) }
-    ensures settle { subcommand_name_of matches.now ≡ Some (codes "settle") → (word : List ℕ) → one_of (codes "workers") (rows_found matches.now) ≡ Some word
+    ensures settle { subcommand_name_of matches.now ≡ Some (codes "settle") → (word : List ℕ)
+        → one_of (codes "workers") (rows_found matches.now) ≡ Some word
         → IsNumberWord word → result ≡ Some (Settle (word_number word)) }
-    ensures statement { subcommand_name_of matches.now ≡ Some (codes "statement") → (word : List ℕ) → one_of (codes "account") (rows_found matches.now) ≡ Some word
+    ensures statement { subcommand_name_of matches.now ≡ Some (codes "statement") → (word : List ℕ)
+        → one_of (codes "account") (rows_found matches.now) ≡ Some word
         → IsNumberWord word → IsAccountNo (word_number word) → result ≡ Some (Statement (word_number word)) }
     ensures plan { subcommand_name_of matches.now ≡ Some (codes "plan") → result ≡ Some Plan }
     ensures figures { subcommand_name_of matches.now ≡ Some (codes "figures") → result ≡ Some Figures }
@@ -88,7 +90,8 @@ fn find_command(matches: &ArgMatches<'_>) -> Option<Command>
 fn settle_found(found: &ArgMatches<'_>) -> Option<Command>
     ensures name { IfSome result (λ command. command_name command ≡ codes "settle") }
     ensures number { IfSome result (HasNumber (rows_of (found_of found.now))) }
-    ensures found { (word : List ℕ) → one_of (codes "workers") (rows_of (found_of found.now)) ≡ Some word → IsNumberWord word → result ≡ Some (Settle (word_number word)) }
+    ensures found { (word : List ℕ) → one_of (codes "workers") (rows_of (found_of found.now)) ≡ Some word
+        → IsNumberWord word → result ≡ Some (Settle (word_number word)) }
 {
     let workers = found.get_one::<u32>("workers")?;
     Some(Command::Settle { workers })

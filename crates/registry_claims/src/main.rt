@@ -1,5 +1,6 @@
-//! Claims all places of a table at once from eight threads with two seats each, and tells how often each place was claimed.
-//! Each thread tries every place, so that most claims meet those of other threads. `bench/claims.py` measures it.
+//! Claims all places of a table at once from eight threads with two seats each, and tells how often each place was
+//! claimed. Each thread tries every place, so that most claims meet those of other threads. `bench/claims.py` measures
+//! it.
 #![tactic(auto)]
 
 ghost use Rattle.std.specs.Prelude.{◌≡◌, ◌<◌, ◌≤◌, ◌-◌, ◌*◌, ◌^◌, length, vec_len, IfOk};
@@ -72,7 +73,8 @@ fn in_threads<R: Threads + Sync>(
         rt,
         move || claim_all(table, pair, marks),
         move || -> Seat
-            requires seat { IsSync R.row × IsSeatOf table.now rest × ((known rest).share ≡ 2 * (threads - 1)) × (2 ≤ threads) }
+            requires seat { IsSync R.row × IsSeatOf table.now rest × ((known rest).share ≡ 2 * (threads - 1))
+                × (2 ≤ threads) }
             requires marks { (length marks.now ≡ places table.now) × (places table.now < 2 ^ 32) }
             ensures { (seat_table result ≡ seat_table rest) × ((known result).share ≡ 2 * (threads - 1)) }
         { in_threads(rt, table, rest, marks, threads - 1) },

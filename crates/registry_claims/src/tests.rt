@@ -71,7 +71,8 @@ fn finish(table: &ClaimTable, mut seat: Seat, first: bool) -> Seat
 fn look(table: &ClaimTable, mut seat: Seat, stop: bool) -> (Seat, Look)
     requires own { IsSeatOf table.now seat }
     ensures same { (seat_table result.0 ≡ seat_table seat) × ((known result.0).share ≡ (known seat).share) }
-    ensures lists { ((known result.0).claimed ≡ (known seat).claimed) × ((known result.0).finished ≡ (known seat).finished) }
+    ensures lists { ((known result.0).claimed ≡ (known seat).claimed)
+        × ((known result.0).finished ≡ (known seat).finished) }
 {
     let seen = table.look(&mut seat);
     if stop {

@@ -32,7 +32,8 @@ fn report_from_day(alloc: Global, mut day: DayInput) -> Option<Vec<u8>>
 
 /// The report of the day that this text describes. `None` if it is no day text, or if memory ran out.
 fn report_from_text(alloc: Global, text: &[u8]) -> Option<Vec<u8>>
-    ensures { IfSome result (λ report. (day : Day) × IsReading (rows_in_text text.now) day × (report.items ≡ report_of day)) }
+    ensures { IfSome result (λ report. (day : Day) × IsReading (rows_in_text text.now) day
+        × (report.items ≡ report_of day)) }
 {
     let Ok(day) = read_day(alloc, text) else {
         return None;

@@ -1,6 +1,6 @@
 //! A plan: making it, checking an order, writing it.
 
-use crate::call::{Call, try_call, try_rehearsed};
+use crate::call::{Call, try_call, try_rehearsed, try_threads};
 use crate::digest::digest_of;
 use crate::endings::{Ended, how_ended};
 use crate::settling::batch_order;
@@ -10,6 +10,7 @@ use reg_plan::Plan;
 use reg_text::{DayInput, plan_text};
 use std::alloc::Global;
 use std::io::Write;
+use std::thread::Threads;
 
 // `Plan::of`.
 #[derive(Drop)]
@@ -30,6 +31,21 @@ pub(crate) fn try_plan<W: Write>(
     writer: &mut W,
 ) -> Result<(), Stop> {
     try_rehearsed(alloc, day, &mut Planning { day }, writer)
+}
+
+/// Tries `Plan::of_with` by so many threads, each of which looks up the accounts of an instruction or more: it is to end as
+/// `Plan::of` does.
+pub(crate) fn try_plan_with<R: Threads + Sync, W: Write>(
+    rt: &R,
+    alloc: Global,
+    day: &DayInput,
+    threads: u32,
+    writer: &mut W,
+) -> Result<(), Stop> {
+    let (batch, directory) = (&day.batch, day.book.directory());
+    let wanted = how_ended(Plan::of(alloc, batch, directory));
+    let call = || how_ended(Plan::of_with(rt, alloc, batch, directory, threads, 1));
+    try_threads(day, call, wanted, writer)
 }
 
 fn plan_of(alloc: Global, day: &DayInput) -> Result<Plan, Stop> {

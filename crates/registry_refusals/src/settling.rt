@@ -7,7 +7,7 @@ use crate::stop::Stop;
 use reg_book::{SettleFault, settle_in_place, settle_plain};
 use reg_tasks::{Context, Unnamed, run_order};
 use reg_text::{DayInput, read_day};
-use reg_work::{OpenGate, close_with, settle_waves, settle_with};
+use reg_work::{FreeGate, close_with, settle_waves, settle_with};
 use std::alloc::Global;
 use std::io::Write;
 use std::sync::Wait;
@@ -107,7 +107,7 @@ impl<R: Threads + Wait> Call for InWaves<'_, R> {
             &self.day.rules,
             &self.day.batch,
             self.workers,
-            &OpenGate,
+            &FreeGate,
         ))
     }
 }
@@ -132,7 +132,7 @@ fn settled_by_workers<R: Threads + Wait + Sync>(
     workers: u32,
 ) -> Ended {
     let answer = settle_with(
-        rt, alloc, &day.book, &day.rules, &day.batch, workers, &OpenGate,
+        rt, alloc, &day.book, &day.rules, &day.batch, workers, &FreeGate,
     );
     match answer {
         Ok((settled, _)) => Ended::Done(digest_of(&settled)),
@@ -177,7 +177,7 @@ fn closed_by_workers<R: Threads + Wait + Sync>(
     workers: u32,
 ) -> Ended {
     let DayInput { book, rules, batch } = day;
-    match close_with(rt, alloc, book, &rules, &batch, workers, &OpenGate) {
+    match close_with(rt, alloc, book, &rules, &batch, workers, &FreeGate) {
         Ok((closed, _)) => Ended::Done(digest_of(&closed)),
         Err(fault) => fault.into(),
     }

@@ -6,7 +6,7 @@ use crate::call::tell;
 use crate::claims::try_table;
 use crate::docks::{try_dock, try_docks};
 use crate::front::{try_command, try_settle};
-use crate::plans::{try_check, try_plan, try_plan_text};
+use crate::plans::{try_check, try_plan, try_plan_text, try_plan_with};
 use crate::settling::{try_closing, try_order, try_plain, try_waves, try_workers};
 use crate::steps::try_execute;
 use crate::stop::Stop;
@@ -93,7 +93,7 @@ fn try_run_of_statement<R: Threads + Wait + Sync, W: Write>(
     try_command(rt, alloc, text, Command::Statement { account }, writer)
 }
 
-// Tries a call that settles a day, or one of the others.
+// Tries a call on a day that starts threads or settles it, or one of the others.
 fn try_on_day<R: Threads + Wait + Sync, W: Write>(
     rt: &R,
     alloc: Global,
@@ -105,6 +105,7 @@ fn try_on_day<R: Threads + Wait + Sync, W: Write>(
     match name {
         "settle_plain" => try_plain(alloc, day, writer),
         "run_order" => try_order(alloc, day, writer),
+        "plan_with" => try_plan_with(rt, alloc, day, number, writer),
         "settle_waves" => try_waves(rt, alloc, day, number, writer),
         "settle_with" => try_workers(rt, alloc, day, number, writer),
         "write_report_pieces" => try_pieces(rt, alloc, day, number, writer),

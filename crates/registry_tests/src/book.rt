@@ -151,8 +151,8 @@ fn commit_twice(rt: &impl Abort, alloc: Global) -> (Stale, usize, Option<u64>) {
     (stale, back.rows().len(), left(rt, &back, 1))
 }
 
-// Settles the day, puts it into its book, and settles it again. Answers the book's next record number, and why the day is
-// not settled again.
+// Settles the day, puts it into its book, and settles it again. Answers the book's next record number, and why the day
+// is not settled again.
 fn settle_again(rt: &impl Abort, alloc: Global) -> (u64, Option<SettleFault>) {
     let mut day = read(rt, alloc, DAY);
     let first = settle_plain(alloc, &day.book, &day.rules, &day.batch).expect(rt, "memory");

@@ -6,7 +6,7 @@ use crate::orders::{opening, settled, told};
 use crate::stealing::shifts;
 use reg_tasks::{Context, Unnamed, run_order};
 use reg_text::DayInput;
-use reg_work::OpenGate;
+use reg_work::FreeGate;
 use reg_yard::Dock;
 use std::alloc::Global;
 use std::process::Abort;
@@ -141,7 +141,7 @@ pub(crate) fn are_same<R: Abort + Threads + Wait + Sync>(
     order: &[u32],
 ) -> bool {
     for workers in 1..9u32 {
-        shifts(rt, alloc, day, workers, &OpenGate);
+        shifts(rt, alloc, day, workers, &FreeGate);
         if !is_same(rt, alloc, day, workers) {
             return false;
         }

@@ -1,5 +1,5 @@
-//! The engine on devices that move one byte a call and fail at a call, which no run of the program can show for each call,
-//! and on a writer of the standard library whose flush fails.
+//! The engine on devices that move one byte a call and fail at a call, which no run of the program can show for each
+//! call, and on a writer of the standard library whose flush fails.
 
 ghost use Rattle.reg_front.specs.Faulting.{sink_of, source_of};
 ghost use Rattle.reg_front.specs.Streams.{CanFail};

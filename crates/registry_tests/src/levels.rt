@@ -6,7 +6,7 @@ use crossbeam_utils::Backoff;
 use reg_graph::{Naming, Task};
 use reg_plan::{OrderFault, Plan};
 use reg_text::DayInput;
-use reg_work::{Gate, OpenGate, settle_waves};
+use reg_work::{FreeGate, Gate, settle_waves};
 use std::alloc::Global;
 use std::process::Abort;
 use std::sync::Wait;
@@ -101,7 +101,7 @@ pub(crate) fn is_same<R: Abort + Threads + Wait>(
     day: &DayInput,
     workers: u32,
 ) -> bool {
-    by_workers(rt, alloc, day, workers, &OpenGate) == settled(rt, alloc, day)
+    by_workers(rt, alloc, day, workers, &FreeGate) == settled(rt, alloc, day)
 }
 
 // Of so many workers who each wait until so many have entered: how many waited in vain, and the sum of their numbers.

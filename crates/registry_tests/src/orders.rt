@@ -1,4 +1,5 @@
-//! Orders of a day's instructions: that running them succeeds where memory is left, under a name that stands for the day.
+//! Orders of a day's instructions: that running them succeeds where memory is left, under a name that stands for the
+//! day.
 
 ghost use Rattle.std.specs.Prelude.{◌≡◌, IfSome};
 ghost use Rattle.reg_base.specs.Touches.{touches, is_touched};

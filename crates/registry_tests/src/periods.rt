@@ -3,8 +3,8 @@
 use crate::distributions::are_same;
 use crate::fixtures::read;
 
-// The text of that case. Account 1 has a surrender for the first period, and emissions of both. It surrenders for the second
-// one; then figures of both are determined, a reversal in each is asked for, and a figure is determined again.
+// The text of that case. Account 1 has a surrender for the first period, and emissions of both. It surrenders for the
+// second one; then figures of both are determined, a reversal in each is asked for, and a figure is determined again.
 const DAY: &str = "\
 format,2
 day,2025-03-31,6

@@ -6,7 +6,7 @@ use crate::orders::{APART, settled, told};
 use crossbeam_utils::Backoff;
 use reg_tasks::{Naming, Task};
 use reg_text::DayInput;
-use reg_work::{Gate, OpenGate, Shift, close_with, settle_with};
+use reg_work::{FreeGate, Gate, Shift, close_with, settle_with};
 use std::alloc::Global;
 use std::process::Abort;
 use std::sync::Wait;
@@ -160,5 +160,5 @@ fn a_held_worker_holds_no_other_one(rt: HostRuntime) {
 fn eight_workers_settle_a_full_batch(rt: HostRuntime) {
     let instructions = full_batch(&rt, rt.alloc());
     let day = worked(&rt, rt.alloc(), instructions.as_str());
-    shifts(&rt, rt.alloc(), &day, 8, &OpenGate);
+    shifts(&rt, rt.alloc(), &day, 8, &FreeGate);
 }

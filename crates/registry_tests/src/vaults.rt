@@ -17,6 +17,7 @@ use reg_text::DayInput;
 use std::alloc::Global;
 use std::marker::Brand;
 use std::process::Abort;
+use std::thread::Threads;
 
 // Runs the instruction at a place, if it is one, on what stands in the slots.
 fn run_place<N: Naming>(alloc: Global, slots: &mut Slots<N>, place: u32) -> Option<()> {
@@ -39,7 +40,8 @@ fn run_on<N: Naming>(alloc: Global, context: &Context<N>, vault: &mut Vault<N>) 
 }
 
 // The accounts of the named day after it, out of those of its book, which were given away.
-fn close_under<N: Naming>(
+fn close_under<N: Naming, R: Threads + Sync>(
+    rt: &R,
     alloc: Global,
     accounts: Vec<Account>,
     directory: &Directory,
@@ -52,7 +54,7 @@ fn close_under<N: Naming>(
     requires lent { AreOfBook (lent_book N.day) directory.now next }
     requires day { IsNamed N.day (lent_book N.day) rules.now batch.now }
 {
-    let Ok(context) = Context::<N>::of_lent(alloc, directory, next, rules, batch) else {
+    let Ok(context) = Context::<N>::of_lent(rt, alloc, directory, next, rules, batch, 1) else {
         return None;
     };
     let mut vault = Vault::of(alloc, accounts).ok()?;
@@ -61,9 +63,15 @@ fn close_under<N: Naming>(
 }
 
 // The accounts of a book after this very day.
-fn closed(alloc: Global, book: Book, rules: &Rules, batch: &Batch) -> Option<Vec<Account>> {
+fn closed<R: Threads + Sync>(
+    rt: &R,
+    alloc: Global,
+    book: Book,
+    rules: &Rules,
+    batch: &Batch,
+) -> Option<Vec<Account>> {
     let (accounts, directory, next) = book.into_parts();
-    close_under::<Brand>(alloc, accounts, &directory, next, rules, batch)
+    close_under::<Brand, R>(rt, alloc, accounts, &directory, next, rules, batch)
 }
 
 // The same, by settling plainly and committing.
@@ -83,7 +91,7 @@ fn committed(rt: &impl Abort, alloc: Global, day: DayInput) -> String {
 fn accounts_that_moved_are_those_after_the_day(rt: HostRuntime) {
     for instructions in [TWICE, APART] {
         let day = worked(&rt, rt.alloc(), instructions);
-        let moved = closed(rt.alloc(), day.book, &day.rules, &day.batch).expect(&rt, "memory");
+        let moved = closed(&rt, rt.alloc(), day.book, &day.rules, &day.batch).expect(&rt, "memory");
         let told = format!(in rt.alloc(); "{:?}", moved.as_slice()).expect(&rt, "memory");
         let again = worked(&rt, rt.alloc(), instructions);
         assert_eq!(rt; told, committed(&rt, rt.alloc(), again));

@@ -35,8 +35,8 @@ fn play(
     }
 }
 
-// What the events give on a day of these instructions. After the first ones not all instructions are done, after the others
-// all are.
+// What the events give on a day of these instructions. After the first ones not all instructions are done, after the
+// others all are.
 fn played(
     rt: &impl Abort,
     alloc: Global,

@@ -1,5 +1,5 @@
-//! Deques of tasks: what no clause says, that there is room for a yard, that tasks are answered, and that threads see one
-//! yard.
+//! Deques of tasks: what no clause says, that there is room for a yard, that tasks are answered, and that threads see
+//! one yard.
 
 ghost use Rattle.std.specs.Prelude.{◌≡◌, All, IfOk, IfSome};
 ghost use Rattle.reg_deques.specs.Yards.{IsPassOf};

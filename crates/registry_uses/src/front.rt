@@ -20,7 +20,8 @@ pub fn write_totals<T: Threads + Sync, W: Sink>(
     writer: &mut W,
 ) -> Result<(), FrontFault>
     requires { CanFail (W.stream writer.old) }
-    ensures { OnOk result (WritesText Totals (Some text.now) (W.stream writer.old).bytes (W.stream writer.new).bytes) }
+    ensures { OnOk result (WritesText Totals (Some text.now) (W.stream writer.old).bytes
+        (W.stream writer.new).bytes) }
 {
     let mut reader = Counted::new(text);
     run_totals(rt, alloc, &mut reader, writer)

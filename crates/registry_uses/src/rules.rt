@@ -28,7 +28,9 @@ pub fn carry_out(
 ) -> Result<LogRow, NoMemory>
     requires own { numbers accounts.old ≡ footprint setting.now.directory instruction.now.act }
     requires behind { All (IsBehind number) accounts.old }
-    ensures row { IfOk result (λ row. row ≡ row_of setting.now number instruction.now (reply_to setting.now accounts.old number instruction.now)) }
+    ensures row { IfOk result
+        (λ row. row ≡ row_of setting.now number instruction.now
+        (reply_to setting.now accounts.old number instruction.now)) }
     ensures after { OnOk result (accounts.new ≡ after_step setting.now accounts.old number instruction.now) }
     ensures refused { IfOk result (λ row. (q : Refusal) → row.reply ≡ Refused q → accounts.new ≡ accounts.old) }
     ensures err { OnErr result (accounts.new ≡ accounts.old) }

@@ -21,7 +21,9 @@ pub fn run_on<N: Naming>(
 ) -> Option<Outcome<N>>
     requires from_one { 1 ≤ place }
     requires within { place ≤ length context.now.batch.now.instructions }
-    ensures needed { IfSome result (λ _. has_names (names_of parcels.items) (names_needed (inward context.now.plan.arrows place) (footprint_at (the_day context.now) place)) ≡ true) }
+    ensures needed { IfSome result
+        (λ _. has_names (names_of parcels.items)
+        (names_needed (inward context.now.plan.arrows place) (footprint_at (the_day context.now) place)) ≡ true) }
     ensures row { IfSome result (λ o. IsRowOfDay N.day place o.row) }
     ensures left { IfSome result (λ o. AreLeft N.day place (names_of o.parcels.items)) }
 {

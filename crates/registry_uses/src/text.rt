@@ -14,7 +14,8 @@ use std::alloc::Global;
 /// # Errors
 /// `Row` if this is no day text, with its first faulty row and the cause. `NoMemory` if memory ran out.
 pub fn book_of_text(alloc: Global, text: &[u8]) -> Result<Vec<u8>, DayFault>
-    ensures { IfOk result (λ written. (day : Day) × IsReading (rows_in_text text.now) day × (written.items ≡ text_of (written_book day.book))) }
+    ensures { IfOk result (λ written. (day : Day) × IsReading (rows_in_text text.now) day
+        × (written.items ≡ text_of (written_book day.book))) }
 {
     let day = read_day(alloc, text)?;
     let written = write_book(alloc, &day.book)?;

@@ -6,7 +6,7 @@ ghost use Rattle.reg_work.specs.Faults.{IsWorkFault};
 
 use reg_base::{Batch, Rules};
 use reg_book::{Book, Settled};
-use reg_work::{OpenGate, WorkFault, settle_with};
+use reg_work::{FreeGate, WorkFault, settle_with};
 use std::alloc::Global;
 use std::sync::Wait;
 use std::thread::Threads;
@@ -27,6 +27,6 @@ pub fn settle_by_four<R: Threads + Wait + Sync>(
         (λ s. (batch.now.base + 1 ≡ book.now.next) × (s ≡ settled_day (day_of book.now rules.now batch.now)))
         (IsWorkFault 4 book.now batch.now) }
 {
-    let (settled, _) = settle_with(rt, alloc, book, rules, batch, 4, &OpenGate)?;
+    let (settled, _) = settle_with(rt, alloc, book, rules, batch, 4, &FreeGate)?;
     Ok(settled)
 }

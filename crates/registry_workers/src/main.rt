@@ -14,9 +14,13 @@
 //! `plain`, each place was run once, the order in which workers entered the gate is legal, and each worker's shift is what it
 //! entered with. Then it does the same by workers to whom the book's own accounts move, with the book that `place` leaves.
 //!
-//! For `levels`, `stealing`, `close`, `lanes` and `try` the second word is the number of workers. For `lanes` the third is a seed from which
-//! delays are drawn, or 0 for none. For `try` the third is a worker, counted from 0, that is held up, or a higher number for
-//! none, the fourth a seed, or 0, and the fifth how often it is tried.
+//! `each` does what `try` does with several day texts that stand one behind another, once with each, and writes a line for each.
+//!
+//! For `levels`, `stealing`, `close`, `lanes` and `try` the second word is the number of workers. For `lanes` the third is a
+//! seed from which delays are drawn, or 0 for none. For `try` the third is a worker, counted from 0, that is held up, or a higher
+//! number for none, the fourth a seed, or 0, and the fifth how often it is tried. For `each` the second word is a seed, which is
+//! one more for each further day; it says how many workers there are, which of them is held up, and how they are delayed. The
+//! third is the most days that are tried.
 #![tactic(auto)]
 
 mod gates;
@@ -29,12 +33,12 @@ mod ways;
 use crate::gates::{Delays, NOBODY, Noting};
 use crate::orders::{make_plan, run_batch, run_four, try_orders};
 use crate::stop::{Stop, number_at, tell};
-use crate::tries::try_stealing;
+use crate::tries::{try_each, try_stealing};
 use crate::ways::{by_owners, by_stealing, close_in_place, read};
 use reg_book::settle_plain;
 use reg_tasks::Naming;
 use reg_text::DayInput;
-use reg_work::{OpenGate, Shift, settle_waves};
+use reg_work::{FreeGate, Shift, settle_waves};
 use std::alloc::{AllocError, Global};
 use std::env;
 use std::io::{Read, Write};
@@ -88,7 +92,7 @@ fn close_stealing<R: Threads + Wait + Sync>(
     day: DayInput,
     workers: u32,
 ) -> Result<(), Stop> {
-    by_owners(rt, alloc, day, workers, &OpenGate)?;
+    by_owners(rt, alloc, day, workers, &FreeGate)?;
     Ok(())
 }
 
@@ -99,7 +103,7 @@ fn settle_levels<R: Threads + Wait>(
     workers: u32,
 ) -> Result<(), Stop> {
     settle_waves(
-        rt, alloc, &day.book, &day.rules, &day.batch, workers, &OpenGate,
+        rt, alloc, &day.book, &day.rules, &day.batch, workers, &FreeGate,
     )?;
     Ok(())
 }
@@ -110,7 +114,7 @@ fn settle_stealing<R: Threads + Wait + Sync>(
     day: &DayInput,
     workers: u32,
 ) -> Result<(), Stop> {
-    by_stealing(rt, alloc, day, workers, &OpenGate)?;
+    by_stealing(rt, alloc, day, workers, &FreeGate)?;
     Ok(())
 }
 
@@ -125,6 +129,9 @@ fn carry_out<R: Threads + Wait + Sync, W: Write>(
     let Some((first, rest)) = words.split_first() else {
         return Err(Stop::Input);
     };
+    if first.as_str() == "each" {
+        return try_each(rt, alloc, text, rest, writer);
+    }
     let day = read(alloc, text)?;
     match first.as_str() {
         "read" => Ok(()),

@@ -4,6 +4,7 @@ use crate::gates::{Delays, Noting};
 use crate::stop::{Stop, number_at, tell, told};
 use crate::ways::{by_owners, by_stealing, close_in_place, read};
 use reg_book::settle_plain;
+use reg_cuts::cut_near;
 use reg_plan::Plan;
 use reg_tasks::Naming;
 use reg_text::DayInput;
@@ -12,6 +13,9 @@ use std::alloc::{AllocError, Global};
 use std::io::Write;
 use std::sync::Wait;
 use std::thread::Threads;
+
+// What stands in front of each day text but the first, and at its beginning.
+const START: [&[u8]; 1] = [b"\nformat,"];
 
 // Notes how often each place was run.
 fn note_places<N: Naming>(times: &mut [u32], shift: &Shift<N>) {
@@ -158,6 +162,46 @@ pub(crate) fn try_stealing<R: Threads + Wait + Sync, W: Write>(
         if seed != 0 {
             seed = seed.wrapping_add(1);
         }
+    }
+    Ok(())
+}
+
+// Tries a drawn day once. The seed says how many workers there are, which of them is held up, and how the others are delayed.
+fn try_drawn<R: Threads + Wait + Sync, W: Write>(
+    rt: &R,
+    alloc: Global,
+    text: &[u8],
+    seed: u32,
+    writer: &mut W,
+) -> Result<(), Stop> {
+    let day = read(alloc, text)?;
+    let wanted = Wanted::of(alloc, text)?;
+    let workers = 1 + seed % 8;
+    let delays = Delays {
+        held_up: seed / 8 % 8,
+        seed,
+    };
+    try_delayed(rt, alloc, text, &day, workers, delays, &wanted, writer)
+}
+
+/// Tries each of several day texts that stand one behind another, at most so many, with rising seeds.
+pub(crate) fn try_each<R: Threads + Wait + Sync, W: Write>(
+    rt: &R,
+    alloc: Global,
+    texts: &[u8],
+    words: &[String],
+    writer: &mut W,
+) -> Result<(), Stop> {
+    let mut seed = number_at(words, 0)?;
+    let mut rest = texts;
+    for _ in 0..number_at(words, 1)? {
+        if rest.is_empty() {
+            break;
+        }
+        let (text, behind) = cut_near(rest, &START, 0);
+        try_drawn(rt, alloc, text, seed, writer)?;
+        seed = seed.wrapping_add(1);
+        rest = behind;
     }
     Ok(())
 }

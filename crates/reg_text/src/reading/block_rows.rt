@@ -59,7 +59,8 @@ pub(crate) fn read_trusted_row(row: &ByteRecord) -> Result<TrustedEntry, Cause>
     Ok(TrustedEntry { account, effective })
 }
 
-// Whether the row of a surrender or a deletion has as many fields as it needs: in the second version there may be one more.
+// Whether the row of a surrender or a deletion has as many fields as it needs: in the second version there may be one
+// more.
 fn has_retired_fields(scope: Scope, row: &ByteRecord) -> bool
     ensures { result ≡ (retired_fields scope).ends 1 (fields_of row.now) }
 {

@@ -1,5 +1,5 @@
-//! Joining the parts of a day text to its heading. An answer `None` says that a part may not stand behind those before it,
-//! or that memory ran out.
+//! Joining the parts of a day text to its heading. An answer `None` says that a part may not stand behind those before
+//! it, or that memory ran out.
 
 ghost use Rattle.std.specs.Prelude.{◌≡◌, ◌++◌, true, Some, None, IfSome, OnSome, drop};
 ghost use Rattle.reg_cuts.specs.Parts.{text_of_parts};
@@ -13,11 +13,11 @@ use crate::reading::account_row::AccountHead;
 use crate::reading::draft::Draft;
 use crate::reading::parts::Part;
 use crate::reading::tag::{Tag, may_follow};
-use crate::reading::take::{close_account, has_number};
+use crate::reading::take::{end_block, has_number};
 use reg_base::{AccountNo, MOST_ACCOUNTS, MOST_INSTRUCTIONS};
 use reg_cuts::{cuts_go_on, each_cut_splits};
 
-// Whether an account comes after the open one.
+// Whether an account comes after the begun one.
 fn comes_after(head: Option<AccountHead>, first: AccountNo) -> bool
     ensures { result ≡ is_above (number_in head) first }
 {
@@ -55,13 +55,14 @@ fn instructions_may_follow(draft: &Draft, part: &Draft) -> bool
 fn join_accounts(draft: Draft, first: AccountNo, part: Draft) -> Option<Draft>
     requires fits { FitsSoFar (draft_of draft) }
     ensures may { OnSome result (AccountsMayFollow first (draft_of draft) (draft_of part)) }
-    ensures joins { IfSome result (λ both. draft_of both ≡ joined_drafts (Some first) (draft_of draft) (draft_of part)) }
+    ensures joins { IfSome result
+        (λ both. draft_of both ≡ joined_drafts (Some first) (draft_of draft) (draft_of part)) }
 {
     if !accounts_may_follow(&draft, first, &part) {
         return None;
     }
     let mut before = draft;
-    let Ok(()) = close_account(&mut before) else {
+    let Ok(()) = end_block(&mut before) else {
         return None;
     };
     let count = before.count + part.count;
@@ -107,7 +108,8 @@ fn join_instructions(draft: Draft, part: Draft) -> Option<Draft>
 fn join_part(draft: Draft, part: Part) -> Option<Draft>
     requires { FitsSoFar (draft_of draft) }
     ensures may { OnSome result (MayJoin part.first (draft_of draft) (draft_of part.draft)) }
-    ensures joins { IfSome result (λ both. draft_of both ≡ joined_drafts part.first (draft_of draft) (draft_of part.draft)) }
+    ensures joins { IfSome result
+        (λ both. draft_of both ≡ joined_drafts part.first (draft_of draft) (draft_of part.draft)) }
 {
     match part.first {
         Some(first) => join_accounts(draft, first, part.draft),
@@ -133,7 +135,8 @@ pub(crate) fn join_all(
     requires heading { IsHeading (draft_of heading) }
     requires begins { IsReadSoFar (draft_of heading) head.now (draft_of heading) }
     requires each { ReadsEach (draft_of heading) parts.now read.items }
-    ensures { IfSome result (λ draft. IsReadSoFar (draft_of heading) (head.now ++ text_of_parts parts.now) (draft_of draft)) }
+    ensures { IfSome result (λ draft. IsReadSoFar (draft_of heading) (head.now ++ text_of_parts parts.now)
+        (draft_of draft)) }
 {
     each_cut_splits();
     cuts_go_on();

@@ -4,7 +4,7 @@ ghost use Rattle.std.specs.Prelude.{◌≡◌};
 ghost use Rattle.csv.specs.Records.{fields_of};
 ghost use Rattle.reg_text.specs.declared.reading.tag.Tag.TheVariants as tag;
 ghost use Rattle.reg_text.specs.Scopes.{widest};
-ghost use Rattle.reg_text.specs.Grammar.{row_read, is_surrender_kind, pair_place, by};
+ghost use Rattle.reg_text.specs.Grammar.{row_read, is_surrender_kind, pair_index, by};
 ghost use Rattle.reg_text.specs.Sections.{follows};
 
 use crate::cause::Cause;
@@ -25,9 +25,9 @@ fn is_surrender_kind(kind: AccountKind) -> bool
     }
 }
 
-// The place of a pair of kinds among the four that may be surrendered, counted from 0.
-fn pair_place(pair: (AccountKind, AllowanceKind)) -> u8
-    ensures { result ≡ pair_place pair }
+// The index of a pair of kinds among the four that may be surrendered, counted from 0.
+fn pair_index(pair: (AccountKind, AllowanceKind)) -> u8
+    ensures { result ≡ pair_index pair }
 {
     match pair {
         (AccountKind::Aircraft, AllowanceKind::General) => 2,
@@ -42,10 +42,10 @@ pub(crate) fn comes_after(
     before: Option<(AccountKind, AllowanceKind)>,
     pair: (AccountKind, AllowanceKind),
 ) -> bool
-    ensures { result ≡ follows (by pair_place) before pair }
+    ensures { result ≡ follows (by pair_index) before pair }
 {
     match before {
-        Some(before) => pair_place(before) < pair_place(pair),
+        Some(before) => pair_index(before) < pair_index(pair),
         None => true,
     }
 }

@@ -2,11 +2,11 @@
 //! whole text is read row by row, which names the first fault.
 
 ghost use Rattle.std.specs.Prelude.{◌≡◌, Ok, IfSome, OnSome};
-ghost use Rattle.reg_cuts.specs.Rows.{IsOpen, rows_left};
+ghost use Rattle.reg_cuts.specs.Rows.{IsBetweenRows, rows_left};
 ghost use Rattle.reg_text.specs.Drafts.{draft_of};
 ghost use Rattle.reg_text.specs.DraftLimits.{IsDraft};
 ghost use Rattle.reg_text.specs.Faults.{drafted};
-ghost use Rattle.reg_text.specs.Joining.{OpensWith, IsHeading, IsReadSoFar};
+ghost use Rattle.reg_text.specs.Joining.{BeginsWith, IsHeading, IsReadSoFar};
 ghost use Rattle.reg_text.specs.PartsRead.{IsReadPart};
 
 use crate::reading::draft::Draft;
@@ -14,7 +14,7 @@ use crate::reading::tag::Tag;
 use crate::reading::take::take_row;
 use csv::{ByteRecord, Reader};
 use reg_base::AccountNo;
-use reg_cuts::{has_no_mark, is_cut, next_row, open_rows};
+use reg_cuts::{has_no_mark, is_cut, next_row, start_rows};
 use std::alloc::Global;
 
 /// A part of a day text that was read on its own.
@@ -33,7 +33,7 @@ fn take_rows(
     row: &mut ByteRecord,
     draft: &mut Draft,
 ) -> Option<()>
-    requires ready { IsOpen reader.old }
+    requires ready { IsBetweenRows reader.old }
     requires fits { IsDraft (draft_of draft.old) }
     ensures taken { OnSome result (drafted (draft_of draft.old) (rows_left reader.old) ≡ Ok (draft_of draft.new)) }
     ensures fits { OnSome result (IsDraft (draft_of draft.new)) }
@@ -55,7 +55,7 @@ pub(crate) fn read_heading(alloc: Global, text: &[u8]) -> Option<Draft>
     if !is_cut(text) {
         return None;
     }
-    let mut reader = open_rows(alloc, text);
+    let mut reader = start_rows(alloc, text);
     let mut row = ByteRecord::new(alloc);
     let mut draft = Draft::empty(alloc);
     take_rows(alloc, &mut reader, &mut row, &mut draft)?;
@@ -78,7 +78,7 @@ pub(crate) fn read_part(alloc: Global, heading: &Draft, text: &[u8]) -> Option<P
     if !has_no_mark(text) {
         return None;
     }
-    let mut reader = open_rows(alloc, text);
+    let mut reader = start_rows(alloc, text);
     let mut row = ByteRecord::new(alloc);
     let Ok(again) = heading.again(alloc) else {
         return None;
@@ -90,14 +90,14 @@ pub(crate) fn read_part(alloc: Global, heading: &Draft, text: &[u8]) -> Option<P
     let Ok(()) = take_row(alloc, &mut draft, &row) else {
         return None;
     };
-    let first = opening_of(&draft)?;
+    let first = beginning_of(&draft)?;
     take_rows(alloc, &mut reader, &mut row, &mut draft)?;
     Some(Part { first, draft })
 }
 
 // How a part begins of which one row was taken: with an account of this number, or with an instruction.
-fn opening_of(draft: &Draft) -> Option<Option<AccountNo>>
-    ensures { IfSome result (OpensWith (draft_of draft.now)) }
+fn beginning_of(draft: &Draft) -> Option<Option<AccountNo>>
+    ensures { IfSome result (BeginsWith (draft_of draft.now)) }
 {
     if draft.last == Some(Tag::Do) {
         return Some(None);

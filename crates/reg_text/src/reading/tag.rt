@@ -5,7 +5,7 @@ ghost use Rattle.reg_text.specs.declared.cause.Cause.TheVariants as cause;
 ghost use Rattle.reg_text.specs.Words.{named};
 ghost use Rattle.reg_text.specs.declared.reading.scope.Version.TheVariants.{One, Two};
 ghost use Rattle.reg_text.specs.Grammar.{tag_word};
-ghost use Rattle.reg_text.specs.Tags.{all_tags, tag_place, rule, place, may_follow, tag_after};
+ghost use Rattle.reg_text.specs.Tags.{all_tags, tag_stage, stages, stage, may_follow, tag_after};
 
 use crate::cause::Cause;
 use crate::fields::words::{Word, is_word, read_named};
@@ -50,10 +50,10 @@ pub enum Tag {
     End,
 }
 
-// The table of tags: of each its place among the rows of a text, the lowest and the highest place of the row before it in
-// the first version and then in the second (101 and 0 if there is no such row), and its word. The macro that is named
-// first makes something of it. Places leave gaps for other tags. Those of an account's block are 80 to 89, and another
-// block may begin behind each of its rows.
+// The table of tags: of each its stage among the rows of a text, the lowest and the highest stage of the row before it
+// in the first version and then in the second (101 and 0 if there is no such row), and its word. The macro that is
+// named first makes something of it. Stages leave gaps for other tags. Those of an account's block are 80 to 89, and
+// another block may begin behind each of its rows.
 macro_rules! tags {
     ($make:ident $($of:tt)?) => {
         $make! { [$($of)?]
@@ -79,7 +79,8 @@ macro_rules! tags {
 }
 
 macro_rules! words {
-    ([$of:tt] $($tag:ident $place:literal ($from:literal $to:literal) ($later_from:literal $later_to:literal) $word:literal,)*) => {
+    ([$of:tt] $($tag:ident $stage:literal ($from:literal $to:literal)
+    ($later_from:literal $later_to:literal) $word:literal,)*) => {
         match $of {
             $(Tag::$tag => $word,)*
         }
@@ -87,31 +88,35 @@ macro_rules! words {
 }
 
 macro_rules! list {
-    ([] $($tag:ident $place:literal ($from:literal $to:literal) ($later_from:literal $later_to:literal) $word:literal,)*) => {
+    ([] $($tag:ident $stage:literal ($from:literal $to:literal)
+    ($later_from:literal $later_to:literal) $word:literal,)*) => {
         &[$(Tag::$tag),*]
     };
 }
 
-macro_rules! places {
-    ([$of:tt] $($tag:ident $place:literal ($from:literal $to:literal) ($later_from:literal $later_to:literal) $word:literal,)*) => {
+macro_rules! own_stages {
+    ([$of:tt] $($tag:ident $stage:literal ($from:literal $to:literal)
+    ($later_from:literal $later_to:literal) $word:literal,)*) => {
         match $of {
-            $(Tag::$tag => $place,)*
+            $(Tag::$tag => $stage,)*
         }
     };
 }
 
-macro_rules! first_rules {
-    ([$of:tt] $($tag:ident $place:literal ($from:literal $to:literal) ($later_from:literal $later_to:literal) $word:literal,)*) => {
+macro_rules! stages_in_first {
+    ([$of:tt] $($tag:ident $stage:literal ($from:literal $to:literal)
+    ($later_from:literal $later_to:literal) $word:literal,)*) => {
         match $of {
-            $(Tag::$tag => Rule::new($place, $from, $to),)*
+            $(Tag::$tag => Stages::new($stage, $from, $to),)*
         }
     };
 }
 
-macro_rules! second_rules {
-    ([$of:tt] $($tag:ident $place:literal ($from:literal $to:literal) ($later_from:literal $later_to:literal) $word:literal,)*) => {
+macro_rules! stages_in_second {
+    ([$of:tt] $($tag:ident $stage:literal ($from:literal $to:literal)
+    ($later_from:literal $later_to:literal) $word:literal,)*) => {
         match $of {
-            $(Tag::$tag => Rule::new($place, $later_from, $later_to),)*
+            $(Tag::$tag => Stages::new($stage, $later_from, $later_to),)*
         }
     };
 }
@@ -135,60 +140,60 @@ impl Word for Tag {
 
 /// Where a row with a tag is allowed.
 #[derive(Clone, Copy, Debug, PartialEq, Eq)]
-pub(crate) struct Rule {
-    /// Its place among the rows of a text.
-    pub place: u8,
-    /// The lowest place of the row before it.
+pub(crate) struct Stages {
+    /// Its stage among the rows of a text.
+    pub stage: u8,
+    /// The lowest stage of the row before it.
     pub from: u8,
-    /// The highest place of the row before it.
+    /// The highest stage of the row before it.
     pub to: u8,
 }
 
-impl Rule {
-    const fn new(place: u8, from: u8, to: u8) -> Rule
-        ensures { result ≡ record { place = place; from = from; to = to } }
+impl Stages {
+    const fn new(stage: u8, from: u8, to: u8) -> Stages
+        ensures { result ≡ record { stage = stage; from = from; to = to } }
     {
-        Rule { place, from, to }
+        Stages { stage, from, to }
     }
 }
 
 impl Tag {
     /// Where a row with the tag is allowed in a version.
-    pub(crate) fn rule(self, version: Version) -> Rule
-        ensures { result ≡ rule version self }
+    pub(crate) fn stages(self, version: Version) -> Stages
+        ensures { result ≡ stages version self }
     {
         match version {
-            Version::One => self.first_rule(),
-            Version::Two => self.second_rule(),
+            Version::One => self.first_stages(),
+            Version::Two => self.second_stages(),
         }
     }
 
-    fn first_rule(self) -> Rule
-        ensures { result ≡ rule One self }
+    fn first_stages(self) -> Stages
+        ensures { result ≡ stages One self }
     {
-        tags!(first_rules self)
+        tags!(stages_in_first self)
     }
 
-    fn second_rule(self) -> Rule
-        ensures { result ≡ rule Two self }
+    fn second_stages(self) -> Stages
+        ensures { result ≡ stages Two self }
     {
-        tags!(second_rules self)
+        tags!(stages_in_second self)
     }
 
-    fn place(self) -> u8
-        ensures { result ≡ tag_place self }
+    fn stage(self) -> u8
+        ensures { result ≡ tag_stage self }
     {
-        tags!(places self)
+        tags!(own_stages self)
     }
 }
 
-// The place of the last row; 0 before the first.
-fn place_of(last: Option<Tag>) -> u8
-    ensures { result ≡ place last }
+// The stage of the last row; 0 before the first.
+fn stage_of(last: Option<Tag>) -> u8
+    ensures { result ≡ stage last }
 {
     match last {
         None => 0,
-        Some(tag) => tag.place(),
+        Some(tag) => tag.stage(),
     }
 }
 
@@ -232,9 +237,9 @@ fn read_other_name(field: &[u8]) -> Result<Tag, Cause>
 pub(crate) fn may_follow(version: Version, last: Option<Tag>, tag: Tag) -> bool
     ensures { result ≡ may_follow version last tag }
 {
-    let rule = tag.rule(version);
-    let at = place_of(last);
-    rule.from <= at && at <= rule.to
+    let stages = tag.stages(version);
+    let at = stage_of(last);
+    stages.from <= at && at <= stages.to
 }
 
 /// The tag that a field names, if it is allowed after the last row.

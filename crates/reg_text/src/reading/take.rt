@@ -8,9 +8,9 @@ ghost use Rattle.reg_account.specs.Rows.{retired_in, retirement_of};
 ghost use Rattle.reg_book.specs.Book.{has_row_ahead, with_account};
 ghost use Rattle.reg_text.specs.Lasts.{last_item};
 ghost use Rattle.reg_text.specs.Sections.{key, follows};
-ghost use Rattle.reg_text.specs.Drafts.{draft_of, block_closed};
+ghost use Rattle.reg_text.specs.Drafts.{draft_of, with_block_over};
 ghost use Rattle.reg_text.specs.DraftLimits.{FitsSoFar, IsDraft};
-ghost use Rattle.reg_text.specs.Faults.{TakesRow, placed, next_in, is_recorded, is_sum_left, is_number_left, has_row_room, with_row, next_draft};
+ghost use Rattle.reg_text.specs.Faults.{TakesRow, placed, next_in, is_recorded, is_sum_left, is_number_left, has_row_space, with_row, next_draft};
 ghost use Rattle.reg_text.specs.declared.reading.tag.Tag.TheVariants as tag;
 
 use crate::cause::{Cause, RowError};
@@ -51,7 +51,7 @@ fn take_format(draft: &mut Draft, row: &ByteRecord) -> Result<(), RowError>
 fn take_day(alloc: Global, draft: &mut Draft, row: &ByteRecord) -> Result<(), RowError>
     requires none { (draft_of draft.old).days ≡ [] }
     requires no_accounts { (draft_of draft.old).accounts ≡ [] }
-    requires unopened { draft.old.head ≡ None }
+    requires unbegun { draft.old.head ≡ None }
     ensures { TakesRow (draft_of draft.new) result (with_row tag.Day (draft_of draft.old) (fields_of row.now)) }
 {
     let (day, next) = read_day_row(row)?;
@@ -150,7 +150,7 @@ fn take_work(draft: &mut Draft, row: &ByteRecord) -> Result<(), RowError>
 // Inserts an account whose number is above all others.
 fn insert_account(book: &mut BookDraft, account: Account) -> Result<(), NoMemory>
     requires rising { IsRising (map (λ a. a.number) (book.old.accounts ++ account ∷ [])) }
-    requires room { length book.old.accounts < MOST_ACCOUNTS }
+    requires space { length book.old.accounts < MOST_ACCOUNTS }
     requires behind { has_row_ahead book.old.next account ≡ false }
     ensures ok { OnOk result (book.new ≡ with_account book.old account) }
     ensures err { OnErr result (book.new ≡ book.old) }
@@ -158,7 +158,7 @@ fn insert_account(book: &mut BookDraft, account: Account) -> Result<(), NoMemory
     match book.insert(account) {
         Ok(()) => Ok(()),
         Err((_, BookFault::NoMemory)) => Err(NoMemory),
-        // There is room, the account numbers rise, so that none of them is the new one, and all record numbers are
+        // There is space, the account numbers rise, so that none of them is the new one, and all record numbers are
         // below the next one.
         Err((_, BookFault::Full)) => unreachable!(),
         Err((_, BookFault::Repeated)) => unreachable!(),
@@ -166,10 +166,10 @@ fn insert_account(book: &mut BookDraft, account: Account) -> Result<(), NoMemory
     }
 }
 
-/// Puts the open account, if there is one, among those whose blocks are over.
-pub(crate) fn close_account(draft: &mut Draft) -> Result<(), NoMemory>
+/// Puts the begun account, if there is one, among those whose blocks are over.
+pub(crate) fn end_block(draft: &mut Draft) -> Result<(), NoMemory>
     requires { FitsSoFar (draft_of draft.old) }
-    ensures closed { OnOk result (draft_of draft.new ≡ block_closed (draft_of draft.old)) }
+    ensures over { OnOk result (draft_of draft.new ≡ with_block_over (draft_of draft.old)) }
     ensures count { OnOk result (draft.new.count ≡ draft.old.count) }
 {
     if let Some(head) = draft.head {
@@ -194,7 +194,7 @@ fn take_account(draft: &mut Draft, row: &ByteRecord) -> Result<(), RowError>
     if draft.count >= MOST_ACCOUNTS {
         return Err(RowError::Fault(Cause::Limit));
     }
-    close_account(draft)?;
+    end_block(draft)?;
     draft.head = Some(head);
     draft.count += 1;
     draft.last = Some(Tag::Account);
@@ -278,10 +278,10 @@ fn is_recorded(day: Option<(Day, u64)>, row: &RetirementRow) -> bool
     }
 }
 
-// Whether there is a place for one more row, its number is below the next one, and the sum is within the limit with it.
-fn has_row_room(lists: &Lists, day: Option<(Day, u64)>, row: RetirementRow) -> bool
+// Whether there is space for one more row, its number is below the next one, and the sum is within the limit with it.
+fn has_row_space(lists: &Lists, day: Option<(Day, u64)>, row: RetirementRow) -> bool
     requires { retired_in (retirement_of row.fate) row.kind lists.now.rows ≤ MOST_RETIRED }
-    ensures { result ≡ has_row_room (next_in (option_to_list day)) lists.now.rows row }
+    ensures { result ≡ has_row_space (next_in (option_to_list day)) lists.now.rows row }
 {
     lists.rows().len() < MOST_ROWS && (is_recorded(day, &row) && is_sum_left(lists, row))
 }
@@ -303,15 +303,16 @@ fn comes_last(lists: &Lists, row: &RetirementRow) -> bool
     is_later_row(lists.rows().last().copied(), row)
 }
 
-// Whether a row comes behind those in the lists, and there is room for it.
+// Whether a row comes behind those in the lists, and there is space for it.
 fn check_row(lists: &Lists, day: Option<(Day, u64)>, row: &RetirementRow) -> Result<(), Cause>
     requires { retired_in (retirement_of row.now.fate) row.now.kind lists.now.rows ≤ MOST_RETIRED }
-    ensures { result ≡ placed (follows (key tag.Retired) (last_item lists.now.rows) row.now) (has_row_room (next_in (option_to_list day)) lists.now.rows row.now) tt }
+    ensures { result ≡ placed (follows (key tag.Retired) (last_item lists.now.rows) row.now)
+        (has_row_space (next_in (option_to_list day)) lists.now.rows row.now) tt }
 {
     if !comes_last(lists, row) {
         return Err(Cause::Order);
     }
-    if !has_row_room(lists, day, *row) {
+    if !has_row_space(lists, day, *row) {
         return Err(Cause::Limit);
     }
     Ok(())
@@ -369,7 +370,7 @@ fn is_number_left(day: Option<(Day, u64)>, count: usize) -> bool
     }
 }
 
-/// Whether there is a place and a record number for one more of so many instructions.
+/// Whether there is space and a record number for one more of so many instructions.
 pub(crate) fn has_number(day: Option<(Day, u64)>, count: usize) -> bool
     ensures { result ≡ (nat_lt count MOST_INSTRUCTIONS && is_number_left (next_in (option_to_list day)) count) }
 {

@@ -60,7 +60,8 @@ fn read_by_parts<R: Threads + Sync>(
     count: usize,
 ) -> Option<Draft>
     requires { 1 ≤ count }
-    ensures { IfSome result (λ draft. FitsSoFar (draft_of draft) × (draft.last ≡ Some tag.End) × (day_of_rows (rows_in_text text.now) ≡ at_end 0 (day_said (draft_of draft)))) }
+    ensures { IfSome result (λ draft. FitsSoFar (draft_of draft) × (draft.last ≡ Some tag.End)
+        × (day_of_rows (rows_in_text text.now) ≡ at_end 0 (day_said (draft_of draft)))) }
 {
     let (head, body) = cut_near(text, &STARTS, 0);
     let heading = read_heading(alloc, head)?;
@@ -88,7 +89,8 @@ pub(crate) fn read_rows_with<R: Threads + Sync>(
     least: usize,
 ) -> Result<Draft, DayFault>
     ensures { MatchResult result
-        (λ draft. FitsSoFar (draft_of draft) × (draft.last ≡ Some tag.End) × (day_of_rows (rows_in_text text.now) ≡ at_end 0 (day_said (draft_of draft))))
+        (λ draft. FitsSoFar (draft_of draft) × (draft.last ≡ Some tag.End)
+        × (day_of_rows (rows_in_text text.now) ≡ at_end 0 (day_said (draft_of draft))))
         (λ e. AnswersFault e (day_of_rows (rows_in_text text.now))) }
 {
     let count = count_parts(text.len(), wanted, least);

@@ -61,8 +61,8 @@ fn put_accounts(text: &mut Text, row: &mut RowText, accounts: &[Account]) -> Res
 /// The compliance figures of a book: for each account, by rising number, a row for each year with a determined figure,
 /// by rising year, and the row `end`. An account without a determined figure has no row.
 ///
-/// A figure is in tonnes of carbon dioxide equivalent, and negative if allowances are missing. It stands here as it was last
-/// determined, whatever the account's kind and status are now.
+/// A figure is in tonnes of carbon dioxide equivalent, and negative if allowances are missing. It stands here as it was
+/// last determined, whatever the account's kind and status are now.
 ///
 /// # Errors
 /// `NoMemory` if memory ran out.

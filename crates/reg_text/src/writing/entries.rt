@@ -1,5 +1,5 @@
-//! Writing the rows of the log of a batch from the replies to its instructions. The batch has all else of a row, so no row
-//! is made before its text.
+//! Writing the rows of the log of a batch from the replies to its instructions. The batch has all else of a row, so no
+//! row is made before its text.
 
 ghost use Rattle.std.specs.Prelude.{◌≡◌, ◌+◌, ◌≤◌, ◌++◌, length, OnOk};
 ghost use Rattle.reg_base.specs.declared.limits.TheConstants.{MOST_RECORD};
@@ -24,10 +24,11 @@ fn put_entries(
     replies: &[Reply],
 ) -> Result<(), NoMemory>
     requires { last + length instructions.now ≤ MOST_RECORD }
-    ensures { OnOk result (text.new ≡ text.old ++ text_of (log_rows (rows_from day (last + 1) instructions.now replies.now))) }
+    ensures { OnOk result (text.new
+        ≡ text.old ++ text_of (log_rows (rows_from day (last + 1) instructions.now replies.now))) }
 {
     let mut entry = last;
-    for place in 0..instructions.len().min(replies.len()) {
+    for index in 0..instructions.len().min(replies.len()) {
         entry += 1;
         let number = RecordNo::new(entry).unwrap();
         put_entry(
@@ -35,8 +36,8 @@ fn put_entries(
             row,
             number,
             day,
-            &instructions[place],
-            &replies[place],
+            &instructions[index],
+            &replies[index],
         )?;
     }
     Ok(())
@@ -61,7 +62,7 @@ pub(crate) fn put_log_of(
     )
 }
 
-/// Adds the log rows of instructions with these replies. The first of them is at this place, counted from 0.
+/// Adds the log rows of instructions with these replies. The first of them has this index, counted from 0.
 pub(crate) fn put_log_after(
     text: &mut Text,
     row: &mut RowText,

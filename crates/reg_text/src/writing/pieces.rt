@@ -1,5 +1,5 @@
-//! The report of a day in pieces, whose bytes one after another are its text. The rows of the log and of the accounts are
-//! spelled run by run, by several threads.
+//! The report of a day in pieces, whose bytes one after another are its text. The rows of the log and of the accounts
+//! are spelled run by run, by several threads.
 
 ghost use Rattle.std.specs.Prelude.{◌≡◌, ◌<◌, ◌≤◌, ◌+◌, ◌/◌, ◌%◌, ◌++◌, ◌∷◌, [], codes, min, IfOk, OnOk, vec_len, length};
 ghost use Rattle.csv.specs.Writing.{default_writer, row_text};
@@ -34,7 +34,7 @@ struct Blocks {
     totals: BothTotals,
 }
 
-// The text of the log rows of instructions with these replies. The first of them is at this place, counted from 0.
+// The text of the log rows of instructions with these replies. The first of them has this index, counted from 0.
 fn spell_log(
     alloc: Global,
     batch: &Batch,
@@ -121,7 +121,8 @@ fn add_log<R: Threads + Sync>(
     workers: usize,
 ) -> Result<(), NoMemory>
     requires { 1 ≤ workers }
-    ensures { OnOk result (text_of_pieces pieces.new.items ≡ text_of_pieces pieces.old.items ++ text_of (log_rows (rows_replied batch.now replies.now))) }
+    ensures { OnOk result (text_of_pieces pieces.new.items
+        ≡ text_of_pieces pieces.old.items ++ text_of (log_rows (rows_replied batch.now replies.now))) }
 {
     let size = run_size(replies.len(), workers);
     for run in spell_logs(rt, alloc, batch, replies, size)? {
@@ -139,7 +140,8 @@ fn add_accounts<R: Threads + Sync>(
     workers: usize,
 ) -> Result<BothTotals, NoMemory>
     requires { 1 ≤ workers }
-    ensures text { OnOk result (text_of_pieces pieces.new.items ≡ text_of_pieces pieces.old.items ++ text_of (book_rows book.now)) }
+    ensures text { OnOk result
+        (text_of_pieces pieces.new.items ≡ text_of_pieces pieces.old.items ++ text_of (book_rows book.now)) }
     ensures totals { IfOk result (λ totals. totals ≡ totals_of book.now.accounts) }
 {
     let accounts = book.accounts();
@@ -173,9 +175,9 @@ fn spell_tail(alloc: Global, totals: &BothTotals) -> Result<Vec<u8>, NoMemory>
     Ok(text.into_bytes())
 }
 
-/// The report of a batch with these replies in pieces, spelled by so many threads. Their bytes one after another are the
-/// text that [`write_report_over`](crate::write_report_over) makes; they are never put together. Each thread adds up the
-/// accounts that it spells, for the totals. A short report is one piece.
+/// The report of a batch with these replies in pieces, spelled by so many threads. Their bytes one after another are
+/// the text that [`write_report_over`](crate::write_report_over) makes; they are never put together. Each thread adds
+/// up the accounts that it spells, for the totals. A short report is one piece.
 ///
 /// # Errors
 /// `NoMemory` if memory ran out. That a thread can't be started is no error.
@@ -188,7 +190,8 @@ pub fn write_report_pieces<R: Threads + Sync>(
     workers: usize,
 ) -> Result<Vec<Vec<u8>>, NoMemory>
     requires { 1 ≤ workers }
-    ensures { IfOk result (λ pieces. text_of_pieces pieces.items ≡ text_of (report_rows book.now (rows_replied batch.now replies.now))) }
+    ensures { IfOk result (λ pieces. text_of_pieces pieces.items
+        ≡ text_of (report_rows book.now (rows_replied batch.now replies.now))) }
 {
     if book.accounts().len() < FEW && replies.len() < FEW {
         return spell_at_once(alloc, book, batch, replies);
@@ -208,7 +211,8 @@ fn spell_at_once(
     batch: &Batch,
     replies: &[Reply],
 ) -> Result<Vec<Vec<u8>>, NoMemory>
-    ensures { IfOk result (λ pieces. text_of_pieces pieces.items ≡ text_of (report_rows book.now (rows_replied batch.now replies.now))) }
+    ensures { IfOk result (λ pieces. text_of_pieces pieces.items
+        ≡ text_of (report_rows book.now (rows_replied batch.now replies.now))) }
 {
     let text = write_report_over(Vec::new(alloc), book, batch, replies)?;
     let mut pieces = Vec::new(alloc);

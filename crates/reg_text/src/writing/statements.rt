@@ -90,8 +90,10 @@ fn put_row_about(
     log: &LogRow,
     told: Option<HeldNow>,
 ) -> Result<Option<HeldNow>, NoMemory>
-    ensures text { OnOk result (text.new ≡ text.old ++ text_of (log_rows (rows_about directory.now number (log.now ∷ [])))) }
-    ensures told { IfOk result (λ last. last ≡ last_or told (filter_map (told_by number) (rows_about directory.now number (log.now ∷ [])))) }
+    ensures text { OnOk result
+        (text.new ≡ text.old ++ text_of (log_rows (rows_about directory.now number (log.now ∷ [])))) }
+    ensures told { IfOk result
+        (λ last. last ≡ last_or told (filter_map (told_by number) (rows_about directory.now number (log.now ∷ [])))) }
 {
     if !concerns(directory, number, log) {
         return Ok(told);

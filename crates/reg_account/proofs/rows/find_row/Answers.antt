@@ -8,8 +8,8 @@ returns-in-Ok c =
     let searched = c.binary_search_by_key.ensures.position (λ v. v.number) (always_returns_same _ (λ a r. r ≡ a.0.now.number) _ (λ a r q k. search rules)) in
     let found = rw c.in-Ok.is at searched in
     let within = rw c.in-Ok.is at c.binary_search_by_key.ensures.bound in
-    ap Some c.index-rows-place.is
-    ∙ sym (item_at (λ v. v.number) 0 c.args.rows.now (from_zero _ c.requires) c.in-Ok.place c.args.number c.index-rows-place.result within (number_found (λ v. v.number) c.args.rows.now c.args.number c.in-Ok.place c.index-rows-place.result found))
+    ap Some c.index-rows-index.is
+    ∙ sym (item_at (λ v. v.number) 0 c.args.rows.now (from_zero _ c.requires) c.in-Ok.index c.args.number c.index-rows-index.result within (number_found (λ v. v.number) c.args.rows.now c.args.number c.in-Ok.index c.index-rows-index.result found))
 
 pub returns-in-Err : goal.returns-in-Err
 returns-in-Err c =

@@ -11,8 +11,8 @@ returns-in-Ok c =
     let found = rw c.in-Ok.is at searched in
     let within = rw c.in-Ok.is at c.binary_search_by_key.ensures.bound in
     let xs = c.args.entries.now in
-    let d = c.index-entries-place.result in
-    sym (ap (option_map (λ (t : TrustedEntry). t.effective)) (item_at (λ (v : TrustedEntry). v.account) 0 xs (from_zero _ c.requires) c.in-Ok.place c.args.account d within (number_found (λ (v : TrustedEntry). v.account) xs c.args.account c.in-Ok.place d found)))
+    let d = c.index-entries-index.result in
+    sym (ap (option_map (λ (t : TrustedEntry). t.effective)) (item_at (λ (v : TrustedEntry). v.account) 0 xs (from_zero _ c.requires) c.in-Ok.index c.args.account d within (number_found (λ (v : TrustedEntry). v.account) xs c.args.account c.in-Ok.index d found)))
 
 pub returns-in-Err : goal.returns-in-Err
 returns-in-Err c =

@@ -14,15 +14,15 @@ returns-in-Ok-clause-ok c =
     let found = rw c.in-Ok.is at searched in
     let within = rw c.in-Ok.is at c.binary_search_by_key.ensures.bound in
     let new = c.args.new in
-    let place = c.in-Ok.place in
+    let index = c.in-Ok.index in
     let xs = c.args.entries.now.items in
     let ys = c.deref_mut.result.now in
-    let size : length (set ys place new) ≡ length xs = length-set ys place new ∙ ap length c.deref_mut.ensures.value in
-    written_back (set ys place new) (drop (length (set ys place new)) xs) (length xs) size
-    ∙ ap (λ zs. set zs place new) c.deref_mut.ensures.value
-    ∙ put_found (λ (v : TrustedEntry). v.account) 0 xs (from_zero _ c.requires) place new new
-    (subst (λ (zs : List TrustedEntry). place < length zs) c.as_slice.ensures within)
-    (subst (λ (zs : List TrustedEntry). (get_or zs place new).account ≡ new.account) c.as_slice.ensures (number_found (λ (v : TrustedEntry). v.account) c.as_slice.result.now new.account place new found))
+    let size : length (set ys index new) ≡ length xs = length-set ys index new ∙ ap length c.deref_mut.ensures.value in
+    written_back (set ys index new) (drop (length (set ys index new)) xs) (length xs) size
+    ∙ ap (λ zs. set zs index new) c.deref_mut.ensures.value
+    ∙ put_found (λ (v : TrustedEntry). v.account) 0 xs (from_zero _ c.requires) index new new
+    (subst (λ (zs : List TrustedEntry). index < length zs) c.as_slice.ensures within)
+    (subst (λ (zs : List TrustedEntry). (get_or zs index new).account ≡ new.account) c.as_slice.ensures (number_found (λ (v : TrustedEntry). v.account) c.as_slice.result.now new.account index new found))
 
 pub returns-in_ok-insert-in-Err-clause-ok : goal.returns-in_ok-insert-in-Err-clause-ok
 returns-in_ok-insert-in-Err-clause-ok c =
@@ -30,8 +30,8 @@ returns-in_ok-insert-in-Err-clause-ok c =
     let absent = rw c.in-Err.is at searched in
     let within = rw c.in-Err.is at c.binary_search_by_key.ensures.bound in
     let new = c.args.new in
-    let place = c.in-Err.place in
+    let index = c.in-Err.index in
     c.in_ok-insert-in-Err.ensures.ok
-    ∙ put_absent (λ (v : TrustedEntry). v.account) c.args.entries.now.items (from_zero _ c.requires) place new
-    (subst (λ (xs : List TrustedEntry). place ≤ length xs) c.as_slice.ensures within)
-    (subst (λ (xs : List TrustedEntry). IsBinarySearchResult (λ y. nat_cmp y.account new.account) xs (Err place)) c.as_slice.ensures absent)
+    ∙ put_absent (λ (v : TrustedEntry). v.account) c.args.entries.now.items (from_zero _ c.requires) index new
+    (subst (λ (xs : List TrustedEntry). index ≤ length xs) c.as_slice.ensures within)
+    (subst (λ (xs : List TrustedEntry). IsBinarySearchResult (λ y. nat_cmp y.account new.account) xs (Err index)) c.as_slice.ensures absent)

@@ -11,8 +11,8 @@ returns-in-Ok c =
     let found = rw c.in-Ok.is at searched in
     let within = rw c.in-Ok.is at c.binary_search_by_key.ensures.bound in
     let xs = c.args.users.now in
-    let d = c.index-users-place.result in
-    sym (ap (option_map (λ (u : Representative). u.right)) (item_at (λ (v : Representative). v.user) 0 xs (from_zero _ c.requires) c.in-Ok.place c.args.user d within (number_found (λ (v : Representative). v.user) xs c.args.user c.in-Ok.place d found)))
+    let d = c.index-users-index.result in
+    sym (ap (option_map (λ (u : Representative). u.right)) (item_at (λ (v : Representative). v.user) 0 xs (from_zero _ c.requires) c.in-Ok.index c.args.user d within (number_found (λ (v : Representative). v.user) xs c.args.user c.in-Ok.index d found)))
 
 pub returns-in-Err : goal.returns-in-Err
 returns-in-Err c =

@@ -11,8 +11,8 @@ returns-in-Ok c =
     let found = rw c.in-Ok.is at searched in
     let within = rw c.in-Ok.is at c.binary_search_by_key.ensures.bound in
     let xs = c.args.emissions.now in
-    let d = c.index-emissions-place.result in
-    sym (ap (option_map (λ (e : Emission). e.tonnes)) (item_at (λ (v : Emission). v.year) 0 xs (from_zero _ c.requires) c.in-Ok.place c.args.year d within (number_found (λ (v : Emission). v.year) xs c.args.year c.in-Ok.place d found)))
+    let d = c.index-emissions-index.result in
+    sym (ap (option_map (λ (e : Emission). e.tonnes)) (item_at (λ (v : Emission). v.year) 0 xs (from_zero _ c.requires) c.in-Ok.index c.args.year d within (number_found (λ (v : Emission). v.year) xs c.args.year c.in-Ok.index d found)))
 
 pub returns-in-Err : goal.returns-in-Err
 returns-in-Err c =

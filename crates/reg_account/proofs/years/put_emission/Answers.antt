@@ -12,10 +12,10 @@ returns-in-Ok-clause-ok c =
     let found = rw c.in-Ok.is at searched in
     let within = rw c.in-Ok.is at c.binary_search_by_key.ensures.bound in
     let new = c.args.new in
-    let place = c.in-Ok.place in
-    put_found (λ (v : Emission). v.year) 0 c.args.emissions.now.items (from_zero _ c.requires) place new new
-    (subst (λ (xs : List Emission). place < length xs) c.deref.ensures.value within)
-    (subst (λ (xs : List Emission). (get_or xs place new).year ≡ new.year) c.deref.ensures.value (number_found (λ (v : Emission). v.year) c.deref.result.now new.year place new found))
+    let index = c.in-Ok.index in
+    put_found (λ (v : Emission). v.year) 0 c.args.emissions.now.items (from_zero _ c.requires) index new new
+    (subst (λ (xs : List Emission). index < length xs) c.deref.ensures.value within)
+    (subst (λ (xs : List Emission). (get_or xs index new).year ≡ new.year) c.deref.ensures.value (number_found (λ (v : Emission). v.year) c.deref.result.now new.year index new found))
 
 pub returns-in_ok-insert-in-Err-clause-ok : goal.returns-in_ok-insert-in-Err-clause-ok
 returns-in_ok-insert-in-Err-clause-ok c =
@@ -23,8 +23,8 @@ returns-in_ok-insert-in-Err-clause-ok c =
     let absent = rw c.in-Err.is at searched in
     let within = rw c.in-Err.is at c.binary_search_by_key.ensures.bound in
     let new = c.args.new in
-    let place = c.in-Err.place in
+    let index = c.in-Err.index in
     c.in_ok-insert-in-Err.ensures.items
-    ∙ put_absent (λ (v : Emission). v.year) c.args.emissions.now.items (from_zero _ c.requires) place new
-    (subst (λ (xs : List Emission). place ≤ length xs) c.deref.ensures.value within)
-    (subst (λ (xs : List Emission). IsBinarySearchResult (λ y. nat_cmp y.year new.year) xs (Err place)) c.deref.ensures.value absent)
+    ∙ put_absent (λ (v : Emission). v.year) c.args.emissions.now.items (from_zero _ c.requires) index new
+    (subst (λ (xs : List Emission). index ≤ length xs) c.deref.ensures.value within)
+    (subst (λ (xs : List Emission). IsBinarySearchResult (λ y. nat_cmp y.year new.year) xs (Err index)) c.deref.ensures.value absent)

@@ -11,7 +11,7 @@ returns-in-Ok c =
     let searched = c.binary_search_by_key.ensures.position (λ v. v.number) (always_returns_same _ (λ a r. r ≡ a.0.now.number) _ (λ a r q k. search rules)) in
     let found = rw c.in-Ok.is at searched in
     let within = rw c.in-Ok.is at c.binary_search_by_key.ensures.bound in
-    ap Some c.index-accounts-place.is ∙ sym (searched_ok c.args.accounts.now c.args.number c.in-Ok.place c.index-accounts-place.result rises within found)
+    ap Some c.index-accounts-index.is ∙ sym (searched_ok c.args.accounts.now c.args.number c.in-Ok.index c.index-accounts-index.result rises within found)
 
 pub returns-in-Err : goal.returns-in-Err
 returns-in-Err c =

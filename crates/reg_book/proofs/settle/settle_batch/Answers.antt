@@ -5,7 +5,7 @@ use Rattle.reg_rules.specs.Laws.{IsReady}
 use Rattle.reg_book.specs.Book.{directory_of}
 use Rattle.reg_book.specs.Day.{Day, IsDay, day_of}
 use Rattle.reg_book.specs.Fold.{touched_of}
-use Rattle.reg_book.specs.Places.{AllStandAt, places_lists}
+use Rattle.reg_book.specs.Indexes.{AllStandAt, index_lists}
 use Rattle.reg_book.specs.Settled.{IsSettled, IsOfBook}
 use Rattle.reg_book.proofs.Days.{day-made, log-made, settled-kept, settled-of_book, touched-ready}
 use Rattle.reg_book.proofs.Folds.{size-replies_of}
@@ -31,14 +31,14 @@ pub settle_all-requires-clause-ready : goal.settle_all-requires-clause-ready
 settle_all-requires-clause-ready c =
     subst (IsReady (c.args.batch.now.base + 1)) (sym (table c)) (touched-ready c.step_laws.ensures (day_of c.args.book.now c.args.rules.now c.args.batch.now) (kept c))
 
-pub settle_all-requires-clause-places : goal.settle_all-requires-clause-places
-settle_all-requires-clause-places c =
-    let ps = places_lists c.in_ok-accounts.field-0.places.items in
+pub settle_all-requires-clause-indexes : goal.settle_all-requires-clause-indexes
+settle_all-requires-clause-indexes c =
+    let ps = index_lists c.in_ok-accounts.field-0.indexes.items in
     let directory = c.directory-directory.result.now in
-    let listed = subst (λ d. AllStandAt d (numbers c.in_ok-accounts.field-0.accounts.items) ps c.instructions.result.now) (ap directory_of c.accounts.ensures.value ∙ sym c.directory-directory.ensures) c.in_ok-accounts.ensures.places in
+    let listed = subst (λ d. AllStandAt d (numbers c.in_ok-accounts.field-0.accounts.items) ps c.instructions.result.now) (ap directory_of c.accounts.ensures.value ∙ sym c.directory-directory.ensures) c.in_ok-accounts.ensures.indexes in
     let first = subst (AllStandAt directory (numbers c.in_ok-accounts.field-0.accounts.items) ps) c.instructions.ensures listed in
     let second = subst (λ (s : State). AllStandAt directory (numbers s) ps c.args.batch.now.instructions) (sym c.deref_mut.ensures.value) first in
-    subst (λ vs. AllStandAt directory (numbers c.deref_mut.result.now) (places_lists vs) c.args.batch.now.instructions) (sym c.deref.ensures.value) second
+    subst (λ vs. AllStandAt directory (numbers c.deref_mut.result.now) (index_lists vs) c.args.batch.now.instructions) (sym c.deref.ensures.value) second
 
 pub make_log-requires : goal.make_log-requires
 make_log-requires c =

@@ -6,7 +6,7 @@ use Rattle.reg_schedules.specs.Pool.{footprint_at}
 use Rattle.reg_tasks.specs.Parcels.{parcels_of}
 use Rattle.reg_graph.specs.WorldParts.{docks_of, DocksHaveRoom}
 use Rattle.reg_graph.proofs.PartFacts.{view-at, placed, at-placed}
-use Rattle.reg_graph.proofs.DockRoom.{room-at, room-closed}
+use Rattle.reg_graph.proofs.DockRoom.{room-at, room-gone}
 use Rattle.reg_graph.proofs.delivery.take_dock.Goals as goal
 
 pub returns-clause-came : goal.returns-clause-came
@@ -35,4 +35,4 @@ returns-clause-room g c = λ day rooms.
 
 pub returns-clause-rooms : goal.returns-clause-rooms
 returns-clause-rooms g c = λ day rooms.
-    subst (λ d. DocksHaveRoom day (slice_set c.args.docks.now.items (c.args.place - 1) d)) (sym c.take.ensures.after) (room-closed day c.args.docks.now.items (c.args.place - 1) rooms)
+    subst (λ d. DocksHaveRoom day (slice_set c.args.docks.now.items (c.args.place - 1) d)) (sym c.take.ensures.after) (room-gone day c.args.docks.now.items (c.args.place - 1) rooms)

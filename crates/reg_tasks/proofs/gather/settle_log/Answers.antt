@@ -23,7 +23,7 @@ settle-requires g c =
     record {
       gathered = record {
         rows_are = λ d e. first_whole d c.args.log.items (subst (λ (x : Day). c.args.log.items ≡ take (length x.batch.instructions) (log_of d)) (c.args.context.now.named d e) (c.requires.log d e));
-        accounts_are = λ d e. c.in-Ok.ensures ∙ settled_from c.settled_is_closing.ensures.settled c.settled_is_of_book.ensures.in_order c.value_is_last_touchers.ensures d
+        accounts_are = λ d e. c.in_ok-closing.ensures ∙ settled_from c.settled_is_closing.ensures.settled c.settled_is_of_book.ensures.in_order c.value_is_last_touchers.ensures d
             (subst IsDay (c.args.context.now.named d e) c.is_day.ensures) e c.args.parcels.items (subst (λ (x : Day). AreLast x (names_of c.args.parcels.items)) (c.args.context.now.named d e) is) accounts rising numbers;
       };
     }

@@ -37,8 +37,8 @@ settle-requires g c =
     record {
       gathered = record {
         rows_are = λ d e. log_from d e c.args.rows.items (subst (λ (x : Day). places_of c.args.rows.items ≡ count_up 1 (length x.batch.instructions)) (c.args.context.now.named d e) tested.0)
-            c.in-Ok.log.items (subst (λ (x : Day). map Some c.in-Ok.log.items ≡ rows_in x c.args.rows.items) (c.args.context.now.named d e) c.in-Ok.ensures);
-        accounts_are = λ d e. c.in-Ok-values.ensures ∙ settled_from c.settled_is_closing.ensures.settled c.settled_is_of_book.ensures.in_order c.value_is_last_touchers.ensures d
+            c.in_ok-log.log.items (subst (λ (x : Day). map Some c.in_ok-log.log.items ≡ rows_in x c.args.rows.items) (c.args.context.now.named d e) c.in_ok-log.ensures);
+        accounts_are = λ d e. c.in_ok-accounts.ensures ∙ settled_from c.settled_is_closing.ensures.settled c.settled_is_of_book.ensures.in_order c.value_is_last_touchers.ensures d
             (subst IsDay (c.args.context.now.named d e) c.is_day.ensures) e c.args.parcels.items (subst (λ (x : Day). AreLast x (names_of c.args.parcels.items)) (c.args.context.now.named d e) is) accounts rising numbers;
       };
     }

@@ -14,7 +14,7 @@ of_needed-task-requires-clause-needed g c =
     let context = c.args.self.now.context.now in
     let arrows = inward context.plan.arrows c.args.place in
     let touched = footprint_at (the_day context) c.args.place in
-    let names = names_of c.in-Ok.parcels.items in
+    let names = names_of c.in_ok-parcels.parcels.items in
     let passed : c.are_ready.result ≡ true = c.if-not-are_ready.false in
     let ready : list_all (λ name. is_there (standing_in context.plan.openings c.args.self.now.slots.items) name) (names_needed arrows touched) ≡ true =
     ap (λ ws. list_all (λ name. is_there (standing_in context.plan.openings c.args.self.now.slots.items) name) (names_needed ws touched)) (sym c.arrows_to.ensures)
@@ -23,7 +23,7 @@ of_needed-task-requires-clause-needed g c =
     ∙ ap (λ ss. list_all (λ name. is_there (standing_in c.openings.result.now ss) name) (names_needed c.arrows_to.result.now c.touched_at-accounts.result.now)) (sym c.deref.ensures.value)
     ∙ sym c.are_ready.ensures ∙ passed in
     let taken : map Some names ≡ map (standing_in context.plan.openings c.args.self.now.slots.items) touched =
-    c.in-Ok.ensures.names
+    c.in_ok-parcels.ensures.names
     ∙ ap (λ os. map (standing_in os c.deref_mut.result.now) c.touched_at-accounts.result.now) c.openings-2.ensures.value
     ∙ ap (λ ss. map (standing_in context.plan.openings ss) c.touched_at-accounts.result.now) c.deref_mut.ensures.value
     ∙ ap (map (standing_in context.plan.openings c.args.self.now.slots.items)) c.touched_at-accounts.ensures.value in

@@ -13,9 +13,9 @@ returns c = (
   record {
     row = fields_of c.next_row.new.row;
     others = rows_left c.next_row.new.reader;
-    opened = draft_of c.take_row.new.draft;
-    rows_are = sym c.open_rows-reader.ensures.rows ∙ rw c.in-Ok-true.field-0-test at c.in-Ok-true.ensures.rows;
-    opens = ap (λ (d : DraftValue). next_draft d (fields_of c.next_row.new.row)) (sym c.in-Ok.ensures) ∙ c.in-Ok-take_row.ensures;
+    after_first = draft_of c.take_row.new.draft;
+    rows_are = sym c.start_rows-reader.ensures.rows ∙ rw c.in-Ok-true.field-0-test at c.in-Ok-true.ensures.rows;
+    takes_first = ap (λ (d : DraftValue). next_draft d (fields_of c.next_row.new.row)) (sym c.in-Ok.ensures) ∙ c.in-Ok-take_row.ensures;
     begins = c.in_ok-first.ensures;
     goes_on = c.in_ok-take_rows.ensures.taken;
   },

@@ -14,8 +14,8 @@ take_day-requires-clause-none c = none-before (draft_of c.args.draft.now) tag.Da
 pub take_day-requires-clause-no_accounts : goal.take_day-requires-clause-no_accounts
 take_day-requires-clause-no_accounts c = (no-blocks (draft_of c.args.draft.now) c.field_at.result.now c.requires (sym (rw c.scope.ensures at c.read_tag.ensures) ∙ c.in_ok-read_tag.was {u = tt} ∙ ap (λ (t : Tag). Ok t) c.in-Day.is)).0
 
-pub take_day-requires-clause-unopened : goal.take_day-requires-clause-unopened
-take_day-requires-clause-unopened c = (no-blocks (draft_of c.args.draft.now) c.field_at.result.now c.requires (sym (rw c.scope.ensures at c.read_tag.ensures) ∙ c.in_ok-read_tag.was {u = tt} ∙ ap (λ (t : Tag). Ok t) c.in-Day.is)).1
+pub take_day-requires-clause-unbegun : goal.take_day-requires-clause-unbegun
+take_day-requires-clause-unbegun c = (no-blocks (draft_of c.args.draft.now) c.field_at.result.now c.requires (sym (rw c.scope.ensures at c.read_tag.ensures) ∙ c.in_ok-read_tag.was {u = tt} ∙ ap (λ (t : Tag). Ok t) c.in-Day.is)).1
 
 pub take_current-requires : goal.take_current-requires
 take_current-requires c = no-current (draft_of c.args.draft.now) c.field_at.result.now c.requires (sym (rw c.scope.ensures at c.read_tag.ensures) ∙ c.in_ok-read_tag.was {u = tt} ∙ ap (λ (t : Tag). Ok t) c.in-Current.is)

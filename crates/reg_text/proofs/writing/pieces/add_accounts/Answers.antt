@@ -4,7 +4,7 @@ use Rattle.reg_account.specs.Account.{AccountValue}
 use Rattle.reg_book.specs.declared.totals.BothTotals.{BothTotals}
 use Rattle.reg_text.specs.declared.writing.pieces.Blocks.{Blocks}
 use Rattle.reg_text.specs.Pieces.{AreBlocksOf, text_of_pieces}
-use Rattle.reg_text.proofs.BlockFacts.{AddUpWith, blocks_text, blocks-texts, add-none, add-run, added-all, run-has_room}
+use Rattle.reg_text.proofs.BlockFacts.{AddUpWith, blocks_text, blocks-texts, add-none, add-run, added-all, run-has_space}
 use Rattle.reg_text.proofs.RunFacts.{RunsOf, IsSpelled, runs-of, one-piece, all-pieces}
 use Rattle.reg_text.proofs.writing.pieces.add_accounts.Goals as goal
 
@@ -35,7 +35,7 @@ plus-totals-requires g c =
     let size = c.run_size-size.result in
     let behind = c.next.new.self.rest.items in
     let items = c.in-Some.ensures.steps.0 ∙ ap (λ (r : Result Blocks NoMemory). r ∷ behind) c.in_ok-blocks.was in
-    run-has_room c.loop-run.totals c.in_ok-blocks.blocks all whole size c.loop-run.pieces.items behind c.accounts-accounts.ensures.kept.within_limits c.accounts-accounts.ensures.kept.few
+    run-has_space c.loop-run.totals c.in_ok-blocks.blocks all whole size c.loop-run.pieces.items behind c.accounts-accounts.ensures.kept.within_limits c.accounts-accounts.ensures.kept.few
     (subst (IsSpelled AreBlocksOf (λ first accounts. blocks_text accounts) (λ (blocks : Blocks). blocks.text) (AddUpWith c.loop-run.totals all) whole size c.loop-run.pieces.items) items c.loop-run.invariant.spelled)
 
 pub loop-run-preserved : goal.loop-run-preserved

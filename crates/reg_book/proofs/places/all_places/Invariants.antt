@@ -1,8 +1,0 @@
-use Rattle.std.proofs.Common.{take}
-use Rattle.reg_rules.specs.State.{numbers}
-use Rattle.reg_book.specs.Book.{directory_of}
-use Rattle.reg_book.specs.Places.{AllStandAt, places_lists}
-use Rattle.reg_book.proofs.places.all_places.Given as goal
-
-abbrev pub invariant-loop-instruction : goal.invariant-loop-instruction
-invariant-loop-instruction l = AllStandAt (directory_of l.accounts) (numbers l.accounts) (places_lists l.places.items) (take l.instruction-index l.instructions)
