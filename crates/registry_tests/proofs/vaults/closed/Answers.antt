@@ -5,10 +5,10 @@ use Rattle.reg_book.specs.Day.{Day}
 use Rattle.registry_tests.proofs.vaults.closed.Goals as goal
 
 pub close_under-requires-clause-of_day : goal.close_under-requires-clause-of_day
-close_under-requires-clause-of_day c d e = ap (λ (x : Day). x.book.accounts) (same_Some _ d e)
+close_under-requires-clause-of_day g c l s d e = ap (λ (x : Day). x.book.accounts) (same_Some _ d e)
 
 pub close_under-requires-clause-lent : goal.close_under-requires-clause-lent
-close_under-requires-clause-lent c =
+close_under-requires-clause-lent g c l s =
     let parts = c.into_parts-accounts.ensures in
     record {
       listed = parts.directory ∙ ap directory_of (sym parts.accounts);
@@ -17,4 +17,4 @@ close_under-requires-clause-lent c =
     }
 
 pub close_under-requires-clause-day : goal.close_under-requires-clause-day
-close_under-requires-clause-day c d e = same_Some _ d e
+close_under-requires-clause-day g c l s d e = same_Some _ d e
