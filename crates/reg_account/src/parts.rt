@@ -46,8 +46,7 @@ pub struct AccountParts {
 pub enum AccountFault {
     /// A correction factor is below -10^15 or above 10^15 tonnes; or the periods of later factors don't rise from 2 to
     /// 8, or one of these factors is 0.
-    #[error("a correction factor is not -10^15 to 10^15 tonnes, or those of later periods are 0 or don't rise
-        from 2 to 8")]
+    #[error("a correction factor is not -10^15 to 10^15 tonnes, or those of later periods are 0 or don't rise from 2 to 8")]
     Correction,
     /// A holding is above 10^15 allowances.
     #[error("a holding is above 10^15 allowances")]
@@ -60,8 +59,7 @@ pub enum AccountFault {
     Trusted,
     /// There are more than 4,096 surrenders and deletions, their numbers don't rise, an amount is not 1 to 10^15, or
     /// the period of a surrender is not 1 to 8.
-    #[error("the surrenders and deletions are more than 4,096, don't rise, or have an amount that is not 1 to 10^15 or a
-        period that is not 1 to 8")]
+    #[error("the surrenders and deletions are more than 4,096, don't rise, or have an amount that is not 1 to 10^15 or a period that is not 1 to 8")]
     Rows,
     /// A surrendered or a deleted amount of a kind is above 10^15 allowances.
     #[error("a surrendered or deleted amount is above 10^15 allowances")]
