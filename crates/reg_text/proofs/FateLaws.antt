@@ -5,7 +5,7 @@ use Rattle.std.proofs.lemmas.Bool.{cases_lt, eqb-true, eq-eqb, ne_eqb}
 use Rattle.reg_text.proofs.Names.{MOST_PERIODS, IsWithin, Retirement, Surrendered, Deleted, RetirementRow, Fate, FateIsOf, Version, One, Two, Scope, by_version}
 use Rattle.reg_account.specs.declared.rows.Fate.TheVariants as fate
 use Rattle.reg_account.specs.Rows.{retirement_of, FateFits}
-use Rattle.reg_text.specs.Grammar.{RetiredSaid, fate_said, period_said, may_name, retired_made, retired_parts}
+use Rattle.reg_text.specs.Grammar.{RetiredSaid, fate_said, period_said, may_name, retired_said, retired_made, retired_parts}
 
 -- what is said of a fate says it again
 fate-again : (f : Fate) → fate_said (retirement_of f) (period_said f) ≡ f
@@ -33,8 +33,10 @@ later-than-one : (scope : Scope) (o : Option ℕ) → PeriodFits scope o → IfS
 later-than-one scope None h = tt
 later-than-one scope (Some n) h = h.1.0.low
 
-pub row-again : (scope : Scope) (p : RetiredSaid) → may_name p.1.0 p.1.1.1.1.1.1 ≡ true → PeriodFits scope p.1.1.1.1.1.1 → retired_parts (retired_made p) ≡ p
-row-again scope p may fits = let s = said-again p.1.0 p.1.1.1.1.1.1 may (later-than-one scope p.1.1.1.1.1.1 fits) in rw (s.0, s.1) refl
+pub row-again : (scope : Scope) (p : RetiredSaid) → (retired_said scope).Fits p → retired_parts (retired_made p) ≡ p
+row-again scope (number, (what, (kind, (amount, (day, (reversed, period))))))
+    ((_, (_, (_, (_, (_, (_, fits)))))), may) =
+    let s = said-again what period may (later-than-one scope period fits) in rw (s.0, s.1) refl
 
 -- ---- the fate of a row that fits
 

@@ -169,7 +169,8 @@ same-spelling scope tag.Format x = refl
 same-spelling scope t x = refl
 
 are-retired : (scope : Scope) → AreFields (retired_fields scope)
-are-retired scope = are_made retired_made retired_parts (retired_said scope) (search codecs depth 14) (λ p fits. row-again scope p fits.1 fits.0.1.1.1.1.1.1) row-back
+are-retired scope =
+    are_made retired_made retired_parts (retired_said scope) (search codecs depth 14) (row-again scope) row-back
 
 pub each-row : (scope : Scope) (t : Tag) → IsRow (row scope t)
 each-row scope tag.Do = is_named_row 4 an_act_name (row_with instruction_fields_of) (λ i. act_name i.act) (is-word act_word act_names own-act_word) (is_row _ are-instructions) (λ tag i fits. (omega arith, refl, tt))

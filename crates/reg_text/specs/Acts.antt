@@ -1,5 +1,5 @@
 -- The acts that an instruction's row may name: of each its word, its fields, and how it is made of them.
-use Rattle.std.specs.Prelude.{ℕ, Bool, List, [], ◌∷◌, map, length, ⊤, Result, Ok, codes}
+use Rattle.std.specs.Prelude.{ℕ, Bool, List, [], ◌∷◌, map, length, ⊤, Option, Result, Ok, codes}
 use Rattle.reg_base.specs.declared.limits.TheConstants.{MOST_SHARES}
 use Rattle.reg_base.specs.declared.kinds.AllowanceKind.{AllowanceKind}
 use Rattle.reg_base.specs.declared.kinds.Status.{Status}
@@ -14,7 +14,7 @@ use Rattle.reg_text.specs.declared.reading.instruction_row.ActName.TheVariants.{
 use Rattle.reg_text.specs.Causes.{◌>>=◌}
 use Rattle.reg_text.specs.Records.{Record}
 use Rattle.reg_text.specs.Words.{word_of, kind_word, kind_of, status_word, status_of}
-use Rattle.reg_text.specs.Codecs.{Codec, Fields, any_number, a_date, a_no, a_record, a_year, an_approver, a_word, last, ◌▸◌, made, pairs, forms, Row, row_with, named_row}
+use Rattle.reg_text.specs.Codecs.{Codec, Fields, any_number, a_date, a_no, a_record, a_year, an_approver, a_word, last, ◌▸◌, made, three_made, three_parts, four_made, four_parts, pairs, forms, Row, row_with, named_row}
 
 -- ---- fields of acts
 
@@ -23,16 +23,14 @@ abbrev pub Move : Type 0
 Move = ℕ × ℕ × AllowanceKind × ℕ
 
 abbrev pub move_fields : Fields Move
-move_fields = made (λ p. (p.0, p.1.0, p.1.1.0, p.1.1.1)) (λ m. (m.0, (m.1, (m.2, m.3))))
-    (a_no ▸ a_no ▸ a_word kind_word kind_of ▸ last any_number)
+move_fields = made four_made four_parts (a_no ▸ a_no ▸ a_word kind_word kind_of ▸ last any_number)
 
 -- FROM,KIND,AMOUNT or TO,KIND,AMOUNT
 abbrev pub Amount : Type 0
 Amount = ℕ × AllowanceKind × ℕ
 
 abbrev pub amount_fields : Fields Amount
-amount_fields = made (λ p. (p.0, p.1.0, p.1.1)) (λ m. (m.0, (m.1, m.2)))
-    (a_no ▸ a_word kind_word kind_of ▸ last any_number)
+amount_fields = made three_made three_parts (a_no ▸ a_word kind_word kind_of ▸ last any_number)
 
 -- TO,AMOUNT one to eight times
 abbrev pub share_made : ℕ × ℕ → Share
@@ -52,8 +50,7 @@ abbrev pub Distribution : Type 0
 Distribution = ℕ × AllowanceKind × List Share
 
 abbrev pub distribution_fields : Fields Distribution
-distribution_fields = made (λ p. (p.0, p.1.0, p.1.1)) (λ d. (d.0, (d.1, d.2)))
-    (a_no ▸ a_word kind_word kind_of ▸ share_fields)
+distribution_fields = made three_made three_parts (a_no ▸ a_word kind_word kind_of ▸ share_fields)
 
 -- a distribution has one share to eight
 abbrev pub IsShared : Act → Type 0
@@ -74,7 +71,7 @@ status_fields = a_no ▸ last (a_word status_word status_of)
 
 -- ACCOUNT,YEAR,TONNES
 abbrev pub emission_fields : Fields (ℕ × ℕ × ℕ)
-emission_fields = made (λ p. (p.0, p.1.0, p.1.1)) (λ m. (m.0, (m.1, m.2))) (a_no ▸ a_year ▸ last any_number)
+emission_fields = made three_made three_parts (a_no ▸ a_year ▸ last any_number)
 
 -- ACCOUNT,YEAR
 abbrev pub year_fields : Fields (ℕ × ℕ)
@@ -195,10 +192,11 @@ act_text a = (form (act_name a)).fields.spell (said a).1
 -- ---- the row of an instruction
 
 -- PROPOSED,PROPOSER,APPROVER,ACT and the fields of the act
+abbrev pub instruction_made : ℕ × (ℕ × (Option ℕ × Act)) → Instruction
+instruction_made (day, (user, (approver, a))) = record { proposed = day; proposer = user; approver = approver; act = a }
+
 abbrev pub instruction_fields_of : Fields Instruction
-instruction_fields_of = made
-    (λ p. record { proposed = p.0; proposer = p.1.0; approver = p.1.1.0; act = p.1.1.1 })
-    (λ i. (i.proposed, (i.proposer, (i.approver, i.act))))
+instruction_fields_of = made instruction_made (λ i. (i.proposed, (i.proposer, (i.approver, i.act))))
     (a_date ▸ a_no ▸ an_approver ▸ act_fields)
 
 -- the same; the act in column 4 is looked at first

@@ -1,11 +1,12 @@
 -- The grammar of a day text: of each tag its word, its stage, what its row says, its fields, its order, and how many
 -- there may be.
-use Rattle.std.specs.Prelude.{[], ◌∷◌, ℕ, Bool, true, false, not, is_ok, nat_le, ◌==◌, if◌then◌else◌, List, Option, Some, None, Result, codes}
+use Rattle.std.specs.Prelude.{[], ◌∷◌, ℕ, ℤ, Bool, true, false, not, is_ok, nat_le, ◌==◌, if◌then◌else◌, List, Option, Some, None, Result, codes}
 use Rattle.reg_base.specs.declared.limits.TheConstants.{MOST_ADMINISTRATORS, MOST_INSTRUCTIONS, MOST_PERIODS, MOST_ROWS, MOST_TRUSTED, MOST_USERS}
 use Rattle.reg_base.specs.declared.kinds.AccountKind.{AccountKind}
 use Rattle.reg_base.specs.declared.kinds.AccountKind.TheVariants.{Total, Allocation, Operator, Aircraft, Trading}
 use Rattle.reg_base.specs.declared.kinds.AllowanceKind.{AllowanceKind}
 use Rattle.reg_base.specs.declared.kinds.AllowanceKind.TheVariants.{General, Aviation}
+use Rattle.reg_base.specs.declared.kinds.Status.{Status}
 use Rattle.reg_base.specs.declared.instruction.Instruction.{Instruction}
 use Rattle.reg_base.specs.declared.kinds.Retirement.{Retirement}
 use Rattle.reg_base.specs.declared.kinds.Retirement.TheVariants.{Surrendered, Deleted}
@@ -54,10 +55,12 @@ abbrev pub period_fields : Fields (ℕ × ℕ)
 period_fields = provided (λ p. nat_le p.0 p.1) cause.Order (a_year ▸ last a_year)
 
 -- TRUSTED,OTHER,LIST,REVERSAL
+abbrev pub lags_made : ℕ × (ℕ × (ℕ × ℕ)) → Lags
+lags_made (trusted, (other, (list, reversal))) =
+    record { trusted = trusted; other = other; list = list; reversal = reversal }
+
 abbrev pub lags_fields : Fields Lags
-lags_fields = made
-    (λ p. record { trusted = p.0; other = p.1.0; list = p.1.1.0; reversal = p.1.1.1 })
-    (λ v. (v.trusted, (v.other, (v.list, v.reversal))))
+lags_fields = made lags_made (λ v. (v.trusted, (v.other, (v.list, v.reversal))))
     (a_lag ▸ a_lag ▸ a_lag ▸ last a_lag)
 
 -- accounts from which allowances may be surrendered at all
@@ -74,19 +77,20 @@ pair_fields = provided (λ p. is_surrender_kind p.0) cause.Word
     (a_word account_kind_word account_kind_of ▸ last (a_word kind_word kind_of))
 
 -- NO,ACCOUNTKIND,HOLDER,STATUS,OUTSIDE,WAIVER,CORRECTION,GENERAL,AVIATION
+abbrev pub head_made : ℕ × (AccountKind × (ℕ × (Status × (Bool × (Bool × (ℤ × (ℕ × ℕ))))))) → AccountHead
+head_made (number, (kind, (holder, (status, (outside, (waiver, (correction, (general, aviation)))))))) = record {
+  number = number;
+  kind = kind;
+  holder = holder;
+  status = status;
+  outside = outside;
+  waiver = waiver;
+  correction = correction;
+  held = record { general = general; aviation = aviation };
+}
+
 abbrev pub account_fields : Fields AccountHead
-account_fields = made
-    (λ p. record {
-      number = p.0;
-      kind = p.1.0;
-      holder = p.1.1.0;
-      status = p.1.1.1.0;
-      outside = p.1.1.1.1.0;
-      waiver = p.1.1.1.1.1.0;
-      correction = p.1.1.1.1.1.1.0;
-      held =
-          record { general = p.1.1.1.1.1.1.1.0; aviation = p.1.1.1.1.1.1.1.1 };
-    })
+account_fields = made head_made
     (λ a. (
       a.number,
       (
@@ -131,14 +135,18 @@ abbrev pub may_name : Retirement → Option ℕ → Bool
 may_name Deleted (Some period) = false
 may_name what period = true
 
+-- so not every word says a fate with every period
+abbrev pub says_a_fate : RetiredSaid → Bool
+says_a_fate (number, (what, (kind, (amount, (day, (reversed, period)))))) = may_name what period
+
 abbrev pub retired_made : RetiredSaid → RetirementRow
-retired_made p = record {
-  number = p.0;
-  fate = fate_said p.1.0 p.1.1.1.1.1.1;
-  kind = p.1.1.0;
-  amount = p.1.1.1.0;
-  day = p.1.1.1.1.0;
-  reversed = p.1.1.1.1.1.0;
+retired_made (number, (what, (kind, (amount, (day, (reversed, period)))))) = record {
+  number = number;
+  fate = fate_said what period;
+  kind = kind;
+  amount = amount;
+  day = day;
+  reversed = reversed;
 }
 
 abbrev pub retired_parts : RetirementRow → RetiredSaid
@@ -149,7 +157,7 @@ abbrev pub retired_period : Scope → Fields (Option ℕ)
 retired_period scope = maybe (by_version false true scope.version) (a_period 2 scope.periods)
 
 abbrev pub retired_said : Scope → Fields RetiredSaid
-retired_said scope = provided (λ p. may_name p.1.0 p.1.1.1.1.1.1) cause.Limit
+retired_said scope = provided says_a_fate cause.Limit
     (a_record ▸ a_word retirement_word retirement_named ▸ a_word kind_word
     kind_of ▸ an_amount ▸ a_date ▸ yes_or_no ▸ retired_period scope)
 

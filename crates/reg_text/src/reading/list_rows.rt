@@ -4,8 +4,7 @@ ghost use Rattle.std.specs.Prelude.{◌≡◌};
 ghost use Rattle.csv.specs.Records.{fields_of};
 ghost use Rattle.reg_text.specs.declared.reading.tag.Tag.TheVariants as tag;
 ghost use Rattle.reg_text.specs.Scopes.{widest};
-ghost use Rattle.reg_text.specs.Grammar.{row_read, is_surrender_kind, pair_index, by};
-ghost use Rattle.reg_text.specs.Sections.{follows};
+ghost use Rattle.reg_text.specs.Grammar.{row_read, is_surrender_kind, pair_index};
 
 use crate::cause::Cause;
 use crate::fields::dates::read_date;
@@ -25,8 +24,8 @@ fn is_surrender_kind(kind: AccountKind) -> bool
     }
 }
 
-// The index of a pair of kinds among the four that may be surrendered, counted from 0.
-fn pair_index(pair: (AccountKind, AllowanceKind)) -> u8
+/// The index of a pair of kinds among the four that may be surrendered, counted from 0.
+pub(crate) fn pair_index(pair: (AccountKind, AllowanceKind)) -> u8
     ensures { result ≡ pair_index pair }
 {
     match pair {
@@ -34,19 +33,6 @@ fn pair_index(pair: (AccountKind, AllowanceKind)) -> u8
         (AccountKind::Aircraft, AllowanceKind::Aviation) => 3,
         (_, AllowanceKind::General) => 0,
         (_, AllowanceKind::Aviation) => 1,
-    }
-}
-
-/// Whether a pair comes after the one before it, if there is one.
-pub(crate) fn comes_after(
-    before: Option<(AccountKind, AllowanceKind)>,
-    pair: (AccountKind, AllowanceKind),
-) -> bool
-    ensures { result ≡ follows (by pair_index) before pair }
-{
-    match before {
-        Some(before) => pair_index(before) < pair_index(pair),
-        None => true,
     }
 }
 

@@ -1,5 +1,7 @@
 //! What each row adds to the draft.
 
+#![tactic(auto, unfolding(crate::specs::Faults::with_row))]
+
 ghost use Rattle.std.specs.Prelude.{◌≡◌, ◌+◌, ◌<◌, ◌≤◌, ◌&&◌, nat_lt, nat_le, ◌∷◌, ◌++◌, [], length, map, false, None, if◌then◌else◌, option_to_list, OnOk, OnErr};
 ghost use Rattle.reg_base.specs.declared.limits.TheConstants.{MOST_ACCOUNTS, MOST_RETIRED, MOST_INSTRUCTIONS, MOST_RECORD, MOST_ROWS};
 ghost use Rattle.csv.specs.Records.{fields_of};
@@ -24,7 +26,7 @@ use crate::reading::heading_rows::{
     read_current_row, read_day_row, read_format_row, read_lags_row, read_period_row,
 };
 use crate::reading::instruction_row::read_instruction_row;
-use crate::reading::list_rows::{comes_after, read_admin_row, read_surrender_row, read_work_row};
+use crate::reading::list_rows::{pair_index, read_admin_row, read_surrender_row, read_work_row};
 use crate::reading::row::{field_at, has_fields};
 use crate::reading::tag::{Tag, read_tag};
 use csv::ByteRecord;
@@ -36,7 +38,26 @@ use reg_base::{
 use reg_book::{BookDraft, BookFault};
 use std::alloc::Global;
 
-#[tactic(auto, unfolding(crate::specs::Faults::with_row))]
+// Takes a row of a list. A call names the draft and the tag, what the row says and how it is read, the value before it
+// in its list, when it comes after that value, how many there may be, if that is limited, and how it is added.
+macro_rules! take_listed {
+    ($draft:ident $tag:ident, $value:ident = $read:expr, $before:ident in $list:expr,
+    follows $follows:expr, $(at_most $most:expr,)? push $push:expr) => {{
+        let $value = $read?;
+        if let Some($before) = $list.last().copied() {
+            if !($follows) {
+                return Err(RowError::Fault(Cause::Order));
+            }
+        }
+        $(if $list.len() >= $most {
+            return Err(RowError::Fault(Cause::Limit));
+        })?
+        $push?;
+        $draft.last = Some(Tag::$tag);
+        Ok(())
+    }};
+}
+
 fn take_format(draft: &mut Draft, row: &ByteRecord) -> Result<(), RowError>
     requires { (draft_of draft.old).versions ≡ [] }
     ensures { TakesRow (draft_of draft.new) result (with_row tag.Format (draft_of draft.old) (fields_of row.now)) }
@@ -47,7 +68,6 @@ fn take_format(draft: &mut Draft, row: &ByteRecord) -> Result<(), RowError>
     Ok(())
 }
 
-#[tactic(auto, unfolding(crate::specs::Faults::with_row))]
 fn take_day(alloc: Global, draft: &mut Draft, row: &ByteRecord) -> Result<(), RowError>
     requires none { (draft_of draft.old).days ≡ [] }
     requires no_accounts { (draft_of draft.old).accounts ≡ [] }
@@ -61,25 +81,13 @@ fn take_day(alloc: Global, draft: &mut Draft, row: &ByteRecord) -> Result<(), Ro
     Ok(())
 }
 
-#[tactic(auto, unfolding(crate::specs::Faults::with_row))]
 fn take_period(draft: &mut Draft, row: &ByteRecord) -> Result<(), RowError>
     ensures { TakesRow (draft_of draft.new) result (with_row tag.Period (draft_of draft.old) (fields_of row.now)) }
 {
-    let period = read_period_row(row)?;
-    if let Some(before) = draft.periods.last().copied() {
-        if period.0 <= before.1 {
-            return Err(RowError::Fault(Cause::Order));
-        }
-    }
-    if draft.periods.len() >= usize::from(MOST_PERIODS) {
-        return Err(RowError::Fault(Cause::Limit));
-    }
-    draft.periods.push(period)?;
-    draft.last = Some(Tag::Period);
-    Ok(())
+    take_listed!(draft Period, period = read_period_row(row), before in draft.periods,
+        follows before.1 < period.0, at_most usize::from(MOST_PERIODS), push draft.periods.push(period))
 }
 
-#[tactic(auto, unfolding(crate::specs::Faults::with_row))]
 fn take_current(draft: &mut Draft, row: &ByteRecord) -> Result<(), RowError>
     requires { (draft_of draft.old).current ≡ [] }
     ensures { TakesRow (draft_of draft.new) result (with_row tag.Current (draft_of draft.old) (fields_of row.now)) }
@@ -90,7 +98,6 @@ fn take_current(draft: &mut Draft, row: &ByteRecord) -> Result<(), RowError>
     Ok(())
 }
 
-#[tactic(auto, unfolding(crate::specs::Faults::with_row))]
 fn take_lags(draft: &mut Draft, row: &ByteRecord) -> Result<(), RowError>
     requires { (draft_of draft.old).lags ≡ [] }
     ensures { TakesRow (draft_of draft.new) result (with_row tag.Lags (draft_of draft.old) (fields_of row.now)) }
@@ -101,50 +108,25 @@ fn take_lags(draft: &mut Draft, row: &ByteRecord) -> Result<(), RowError>
     Ok(())
 }
 
-#[tactic(auto, unfolding(crate::specs::Faults::with_row))]
 fn take_surrender(draft: &mut Draft, row: &ByteRecord) -> Result<(), RowError>
     ensures { TakesRow (draft_of draft.new) result (with_row tag.Surrender (draft_of draft.old) (fields_of row.now)) }
 {
-    let pair = read_surrender_row(row)?;
-    if !comes_after(draft.surrender.last().copied(), pair) {
-        return Err(RowError::Fault(Cause::Order));
-    }
-    draft.surrender.push(pair)?;
-    draft.last = Some(Tag::Surrender);
-    Ok(())
+    take_listed!(draft Surrender, pair = read_surrender_row(row), before in draft.surrender,
+        follows pair_index(before) < pair_index(pair), push draft.surrender.push(pair))
 }
 
-#[tactic(auto, unfolding(crate::specs::Faults::with_row))]
 fn take_admin(draft: &mut Draft, row: &ByteRecord) -> Result<(), RowError>
     ensures { TakesRow (draft_of draft.new) result (with_row tag.Admin (draft_of draft.old) (fields_of row.now)) }
 {
-    let admin = read_admin_row(row)?;
-    if let Some(before) = draft.admins.last().copied() {
-        if admin <= before {
-            return Err(RowError::Fault(Cause::Order));
-        }
-    }
-    if draft.admins.len() >= MOST_ADMINISTRATORS {
-        return Err(RowError::Fault(Cause::Limit));
-    }
-    draft.admins.push(admin)?;
-    draft.last = Some(Tag::Admin);
-    Ok(())
+    take_listed!(draft Admin, admin = read_admin_row(row), before in draft.admins,
+        follows before < admin, at_most MOST_ADMINISTRATORS, push draft.admins.push(admin))
 }
 
-#[tactic(auto, unfolding(crate::specs::Faults::with_row))]
 fn take_work(draft: &mut Draft, row: &ByteRecord) -> Result<(), RowError>
     ensures { TakesRow (draft_of draft.new) result (with_row tag.Work (draft_of draft.old) (fields_of row.now)) }
 {
-    let day = read_work_row(row)?;
-    if let Some(before) = draft.work.last().copied() {
-        if day <= before {
-            return Err(RowError::Fault(Cause::Order));
-        }
-    }
-    draft.work.push(day)?;
-    draft.last = Some(Tag::Work);
-    Ok(())
+    take_listed!(draft Work, day = read_work_row(row), before in draft.work,
+        follows before < day, push draft.work.push(day))
 }
 
 // Inserts an account whose number is above all others.
@@ -180,7 +162,6 @@ pub(crate) fn end_block(draft: &mut Draft) -> Result<(), NoMemory>
     Ok(())
 }
 
-#[tactic(auto, unfolding(crate::specs::Faults::with_row))]
 fn take_account(draft: &mut Draft, row: &ByteRecord) -> Result<(), RowError>
     requires { IsDraft (draft_of draft.old) }
     ensures { TakesRow (draft_of draft.new) result (with_row tag.Account (draft_of draft.old) (fields_of row.now)) }
@@ -201,55 +182,26 @@ fn take_account(draft: &mut Draft, row: &ByteRecord) -> Result<(), RowError>
     Ok(())
 }
 
-#[tactic(auto, unfolding(crate::specs::Faults::with_row))]
 fn take_correction(draft: &mut Draft, row: &ByteRecord) -> Result<(), RowError>
     ensures { TakesRow (draft_of draft.new) result (with_row tag.Correction (draft_of draft.old) (fields_of row.now)) }
 {
-    let correction = read_correction_row(draft.scope(), row)?;
-    if let Some(before) = draft.lists.corrections().last().copied() {
-        if correction.period <= before.period {
-            return Err(RowError::Fault(Cause::Order));
-        }
-    }
-    draft.lists.push_correction(correction)?;
-    draft.last = Some(Tag::Correction);
-    Ok(())
+    take_listed!(draft Correction, correction = read_correction_row(draft.scope(), row),
+        before in draft.lists.corrections(),
+        follows before.period < correction.period, push draft.lists.push_correction(correction))
 }
 
-#[tactic(auto, unfolding(crate::specs::Faults::with_row))]
 fn take_user(draft: &mut Draft, row: &ByteRecord) -> Result<(), RowError>
     ensures { TakesRow (draft_of draft.new) result (with_row tag.User (draft_of draft.old) (fields_of row.now)) }
 {
-    let representative = read_representative_row(row)?;
-    if let Some(before) = draft.lists.users().last().copied() {
-        if representative.user <= before.user {
-            return Err(RowError::Fault(Cause::Order));
-        }
-    }
-    if draft.lists.users().len() >= MOST_USERS {
-        return Err(RowError::Fault(Cause::Limit));
-    }
-    draft.lists.push_user(representative)?;
-    draft.last = Some(Tag::User);
-    Ok(())
+    take_listed!(draft User, user = read_representative_row(row), before in draft.lists.users(),
+        follows before.user < user.user, at_most MOST_USERS, push draft.lists.push_user(user))
 }
 
-#[tactic(auto, unfolding(crate::specs::Faults::with_row))]
 fn take_trusted(draft: &mut Draft, row: &ByteRecord) -> Result<(), RowError>
     ensures { TakesRow (draft_of draft.new) result (with_row tag.Trusted (draft_of draft.old) (fields_of row.now)) }
 {
-    let entry = read_trusted_row(row)?;
-    if let Some(before) = draft.lists.trusted().last().copied() {
-        if entry.account <= before.account {
-            return Err(RowError::Fault(Cause::Order));
-        }
-    }
-    if draft.lists.trusted().len() >= MOST_TRUSTED {
-        return Err(RowError::Fault(Cause::Limit));
-    }
-    draft.lists.push_trusted(entry)?;
-    draft.last = Some(Tag::Trusted);
-    Ok(())
+    take_listed!(draft Trusted, entry = read_trusted_row(row), before in draft.lists.trusted(),
+        follows before.account < entry.account, at_most MOST_TRUSTED, push draft.lists.push_trusted(entry))
 }
 
 // How many allowances of the row count: none if it was reversed.
@@ -318,6 +270,7 @@ fn check_row(lists: &Lists, day: Option<(Day, u64)>, row: &RetirementRow) -> Res
     Ok(())
 }
 
+#[tactic(auto)]
 fn take_retired(draft: &mut Draft, row: &ByteRecord) -> Result<(), RowError>
     requires { IsDraft (draft_of draft.old) }
     ensures { TakesRow (draft_of draft.new) result (with_row tag.Retired (draft_of draft.old) (fields_of row.now)) }
@@ -329,34 +282,18 @@ fn take_retired(draft: &mut Draft, row: &ByteRecord) -> Result<(), RowError>
     Ok(())
 }
 
-#[tactic(auto, unfolding(crate::specs::Faults::with_row))]
 fn take_emissions(draft: &mut Draft, row: &ByteRecord) -> Result<(), RowError>
     ensures { TakesRow (draft_of draft.new) result (with_row tag.Emissions (draft_of draft.old) (fields_of row.now)) }
 {
-    let emission = read_emissions_row(row)?;
-    if let Some(before) = draft.lists.emissions().last().copied() {
-        if emission.year <= before.year {
-            return Err(RowError::Fault(Cause::Order));
-        }
-    }
-    draft.lists.push_emission(emission)?;
-    draft.last = Some(Tag::Emissions);
-    Ok(())
+    take_listed!(draft Emissions, emission = read_emissions_row(row), before in draft.lists.emissions(),
+        follows before.year < emission.year, push draft.lists.push_emission(emission))
 }
 
-#[tactic(auto, unfolding(crate::specs::Faults::with_row))]
 fn take_figure(draft: &mut Draft, row: &ByteRecord) -> Result<(), RowError>
     ensures { TakesRow (draft_of draft.new) result (with_row tag.Figure (draft_of draft.old) (fields_of row.now)) }
 {
-    let figure = read_figure_row(row)?;
-    if let Some(before) = draft.lists.figures().last().copied() {
-        if figure.year <= before.year {
-            return Err(RowError::Fault(Cause::Order));
-        }
-    }
-    draft.lists.push_figure(figure)?;
-    draft.last = Some(Tag::Figure);
-    Ok(())
+    take_listed!(draft Figure, figure = read_figure_row(row), before in draft.lists.figures(),
+        follows before.year < figure.year, push draft.lists.push_figure(figure))
 }
 
 // Whether there is a record number for one more of so many instructions, if the next number is known.
@@ -377,7 +314,6 @@ pub(crate) fn has_number(day: Option<(Day, u64)>, count: usize) -> bool
     count < MOST_INSTRUCTIONS && is_number_left(day, count)
 }
 
-#[tactic(auto, unfolding(crate::specs::Faults::with_row))]
 fn take_instruction(draft: &mut Draft, row: &ByteRecord) -> Result<(), RowError>
     ensures { TakesRow (draft_of draft.new) result (with_row tag.Do (draft_of draft.old) (fields_of row.now)) }
 {
@@ -400,7 +336,6 @@ fn take_instruction(draft: &mut Draft, row: &ByteRecord) -> Result<(), RowError>
     Ok(())
 }
 
-#[tactic(auto, unfolding(crate::specs::Faults::with_row))]
 fn take_end(draft: &mut Draft, row: &ByteRecord) -> Result<(), RowError>
     ensures { TakesRow (draft_of draft.new) result (with_row tag.End (draft_of draft.old) (fields_of row.now)) }
 {
@@ -412,6 +347,7 @@ fn take_end(draft: &mut Draft, row: &ByteRecord) -> Result<(), RowError>
 }
 
 /// Adds what a row says, or answers the first cause that applies to it.
+#[tactic(auto)]
 pub(crate) fn take_row(alloc: Global, draft: &mut Draft, row: &ByteRecord) -> Result<(), RowError>
     requires { IsDraft (draft_of draft.old) }
     ensures { TakesRow (draft_of draft.new) result (next_draft (draft_of draft.old) (fields_of row.now)) }

@@ -8,6 +8,7 @@ ghost use Rattle.reg_book.specs.Fold.{rows_from};
 ghost use Rattle.reg_text.specs.Pieces.{rows_after};
 ghost use Rattle.reg_text.specs.Report.{text_of, log_rows};
 
+use crate::writing::dates::spell_date;
 use crate::writing::log::put_entry;
 use crate::writing::row::RowText;
 use crate::writing::text::Text;
@@ -27,6 +28,7 @@ fn put_entries(
     ensures { OnOk result (text.new
         ≡ text.old ++ text_of (log_rows (rows_from day (last + 1) instructions.now replies.now))) }
 {
+    let spelled = spell_date(day);
     let mut entry = last;
     for index in 0..instructions.len().min(replies.len()) {
         entry += 1;
@@ -36,6 +38,7 @@ fn put_entries(
             row,
             number,
             day,
+            &spelled,
             &instructions[index],
             &replies[index],
         )?;
