@@ -1,7 +1,7 @@
 -- The rows of a log, spelled run by run from the batch and the replies.
-use Rattle.std.proofs.Common.{◌≡◌, ℕ, zero, suc, min, ◌+◌, ◌<◌, ◌≤◌, List, [], ◌∷◌, ◌++◌, length, get_or, take, drop, Vec, refl, sym, ap, ◌∙◌, arith, append_assoc}
+use Rattle.std.proofs.Common.{◌≡◌, ℕ, zero, suc, min, ◌+◌, ◌≤◌, List, [], ◌∷◌, ◌++◌, length, take, drop, Vec, refl, sym, ap, ◌∙◌, arith}
 use Rattle.std.specs.Global.{Global}
-use Rattle.std.proofs.lemmas.List.{drop-drop, drop_more, map-append}
+use Rattle.std.proofs.lemmas.List.{drop-drop, map-append}
 use Rattle.std.proofs.lemmas.Grind.{flat_map-append}
 use Rattle.csv.specs.Writing.{row_text}
 use Rattle.reg_base.specs.Batch.{BatchValue}
@@ -61,22 +61,6 @@ log-texts batch = record {
 -- from the first place on they are the whole log
 pub from-first : (batch : BatchValue) (rs : List Reply) → rows_after batch 0 rs ≡ rows_from batch.day (batch.base + 1) batch.instructions rs
 from-first batch rs = let number : batch.base + 0 + 1 ≡ batch.base + 1 = omega arith in ap (λ (n : ℕ). rows_from batch.day n batch.instructions rs) number
-
--- one row more in a loop over the places
-pub entry-more : (day last j : ℕ) (is : List Instruction) (rs : List Reply) (i : Instruction) (r : Reply) (number : ℕ) (text more whole : List ℕ) → j < length is → j < length rs → i ≡ get_or is j i → r ≡ get_or rs j r → number ≡ last + 1
-    → more ≡ text ++ row_text default_writer (log_row (record { number = number; day = day; instruction = i; reply = r }))
-    → text ++ log_text (rows_from day (last + 1) (drop j is) (drop j rs)) ≡ whole
-    → more ++ log_text (rows_from day (last + 1 + 1) (drop (j + 1) is) (drop (j + 1) rs)) ≡ whole
-entry-more day last j is rs i r number text more whole lt within at there counted grown so_far =
-    let instructions : drop j is ≡ i ∷ drop (j + 1) is = drop_more is j i lt ∙ ap (λ x. x ∷ drop (j + 1) is) (sym at) in
-    let replies : drop j rs ≡ r ∷ drop (j + 1) rs = drop_more rs j r within ∙ ap (λ x. x ∷ drop (j + 1) rs) (sym there) in
-    let behind = log_text (rows_from day (last + 1 + 1) (drop (j + 1) is) (drop (j + 1) rs)) in
-    let row : ℕ → List ℕ = λ n. row_text default_writer (log_row (record { number = n; day = day; instruction = i; reply = r })) in
-    ap (λ (t : List ℕ). t ++ behind) (grown ∙ ap (λ (n : ℕ). text ++ row n) counted)
-    ∙ append_assoc text (row (last + 1)) behind
-    ∙ ap (λ (js : List Instruction). text ++ log_text (rows_from day (last + 1) js (r ∷ drop (j + 1) rs))) (sym instructions)
-    ∙ ap (λ (qs : List Reply). text ++ log_text (rows_from day (last + 1) (drop j is) qs)) (sym replies)
-    ∙ so_far
 
 -- at the end of the shorter list no row is left
 pub none-left : (day n j : ℕ) (is : List Instruction) (rs : List Reply) → min (length is) (length rs) ≤ j → rows_from day n (drop j is) (drop j rs) ≡ []

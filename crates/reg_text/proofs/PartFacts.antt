@@ -65,9 +65,6 @@ pub joins : (h d e : DraftValue) (rows : List Record) (first : Option ℕ) → I
 joins h d e rows (Some number) is same m p = (accounts-join h d e rows number is same m p, heading-joined h d e (Some number) same)
 joins h d e rows None is same m p = (instructions-join h d e rows is same m p, heading-joined h d e None same)
 
-pub heading-itself : (h : DraftValue) → HasHeading h h
-heading-itself h = record { versions = refl; days = refl; periods = refl; current = refl; lags = refl; surrender = refl; admins = refl; work = refl }
-
 one-more : (h d e : DraftValue) (text part : List ℕ) (first : Option ℕ) → EachCutSplits → CutsGoOn → IsHeading h → IsReadSoFar h text d → MayJoin first d e → IsCut part → HasNoMark part → IsPart h (rows_in_text part) first e → IsReadSoFar h (text ++ part) (joined_drafts first d e)
 one-more h d e text part first splits go_on is so_far m cut mark p =
     let both = joins h d e (rows_in_text part) first is so_far.heading m p in
