@@ -1,6 +1,5 @@
 -- Slots at the end of a day: in each stands what the last instruction that touches its account left.
 use Rattle.std.proofs.Common.{◌≡◌, ℕ, inl, inr, Bool, true, false, cond, ◌&&◌, eqb, List, [], ◌∷◌, length, map, Option, Some, None, refl, sym, ap, subst, ◌∙◌, arith}
-use Rattle.std.specs.Prelude.{is_some}
 use Rattle.std.specs.Option.{option_map}
 use Rattle.std.specs.List.{IsDistinct, AllByRecursion, list_all}
 use Rattle.std.proofs.lemmas.Bool.{eq-eqb, ne_eqb, and_from, or_left, or_right}
@@ -15,14 +14,14 @@ use Rattle.reg_schedules.specs.Pool.{directory, footprint_at}
 use Rattle.reg_schedules.proofs.Known.{footprint_touches}
 use Rattle.reg_schedules.proofs.Tails.{touched_from}
 use Rattle.reg_schedules.proofs.Members.{In}
-use Rattle.reg_tasks.specs.Gathering.{AreLast, AreOutcomes, are_last, named_accounts}
+use Rattle.reg_tasks.specs.Gathering.{AreLast, AreOutcomes, have_accounts, is_last, is_last_there, named_accounts}
 use Rattle.reg_tasks.specs.Slots.{name_of, standing_in, opened_accounts, have_slots, IsAtEnd}
 use Rattle.reg_tasks.specs.declared.naming.Naming.{Ghosts}
 use Rattle.reg_tasks.specs.declared.parcel.Parcel.{Parcel}
 use Rattle.reg_tasks.proofs.Rising.{Up, up_rising, up_distinct}
 use Rattle.reg_tasks.proofs.Slotting.{Name, number_of, stands_opened, stands_nowhere, unopened}
 use Rattle.reg_tasks.proofs.OrderSteps.{all_touched}
-use Rattle.reg_tasks.proofs.Collecting.{opened_touched, last_tested}
+use Rattle.reg_tasks.proofs.Collecting.{opened_touched, tested_accounts, the_last_is}
 
 -- slots, one by one
 module _ {N : Type 0} {b : Ghosts N} where
@@ -38,10 +37,6 @@ module _ {N : Type 0} {b : Ghosts N} where
       ap (λ n. n ∷ map (option_map name_of) ss) (sym (ap (λ c. cond c (option_map name_of s) (standing_in os ss o.account)) (eq-eqb o.account o.account refl)) ∙ there o (inl refl))
       ∙ ap (λ ns. Some (want o.account) ∷ ns) (slots_are want os ss up.1 (omega (arith, size)) (λ w m.
       sym (passes_over o s os ss w.account (λ e. omega (arith, e, up.0 w m))) ∙ there w (inr m)))
-
-pub all_full : (want : ℕ → ℕ × ℕ) (os : List Opening) → list_all is_some (map {A = Opening} {B = Name} (λ (o : Opening). Some (want o.account)) os) ≡ true
-all_full want [] = refl
-all_full want (o ∷ os) = all_full want os
 
 pub names_full : (want : ℕ → ℕ × ℕ) (os : List Opening) (names : List (ℕ × ℕ)) → map Some names ≡ map (λ (o : Opening). Some (want o.account)) os → names ≡ map (λ (o : Opening). want o.account) os
 names_full want [] [] e = refl
@@ -107,9 +102,25 @@ module _ (tails : TailsAreLastTouchers) (last : LastToucherIsLast) (day : Day) (
     full_at_end rising slots size places ends =
         slots_are last_at plan.openings slots (up_rising number_of plan.openings rising) size (λ o m. ends.last_left o.account (all_touched tails last day plan planned o m))
 
-    pub none_empty : IsRising (opened_accounts plan.openings) → (slots : List (Option (Parcel N b))) → length slots ≡ length plan.openings → (places : List ℕ)
-        → IsAtEnd day places (standing_in plan.openings slots) → list_all is_some (map (option_map name_of) slots) ≡ true
-    none_empty rising slots size places ends = ap (list_all is_some) (full_at_end rising slots size places ends) ∙ all_full last_at plan.openings
+    -- what stands in each is the last one of its account
+    pub all_last_there : IsRising (opened_accounts plan.openings) → (slots : List (Option (Parcel N b)))
+        → length slots ≡ length plan.openings → (places : List ℕ) → IsAtEnd day places (standing_in plan.openings slots)
+        → list_all (is_last_there day plan) (map (option_map name_of) slots) ≡ true
+    all_last_there rising slots size places ends =
+        ap (list_all (is_last_there day plan)) (full_at_end rising slots size places ends)
+        ∙ each plan.openings (λ o m. all_touched tails last day plan planned o m)
+      where
+        each : (os : List Opening)
+            → ((o : Opening) → In o os → is_touched (directory day) day.batch.instructions o.account ≡ true)
+            → list_all (is_last_there day plan) (map {A = Opening} {B = Name} (λ (o : Opening). Some (last_at o.account)) os) ≡ true
+        each [] touched = refl
+        each (o ∷ os) touched =
+            and_from (is_last day plan (last_at o.account))
+            (list_all (is_last_there day plan) (map {A = Opening} {B = Name} (λ (w : Opening). Some (last_at w.account)) os))
+            (the_last_is tails last day plan planned o.account
+            (last_toucher (directory day) day.batch.instructions o.account (length day.batch.instructions))
+            (touched o (inl refl)) refl)
+            (each os (λ w m. touched w (inr m)))
 
     -- with the names of what stands in them
     pub outcomes_at_end : IsRising (opened_accounts plan.openings) → (slots : List (Option (Parcel N b))) → length slots ≡ length plan.openings → (places : List ℕ) (names : List (ℕ × ℕ))
@@ -119,9 +130,11 @@ module _ (tails : TailsAreLastTouchers) (last : LastToucherIsLast) (day : Day) (
       last = names_at_end names rising (names_full last_at plan.openings names (e ∙ full_at_end rising slots size places ends));
     }
 
-    -- which pass the test
-    pub last_at_end : IsRising (opened_accounts plan.openings) → (slots : List (Option (Parcel N b))) → length slots ≡ length plan.openings → (places : List ℕ) (names : List (ℕ × ℕ))
-        → map Some names ≡ map (option_map name_of) slots → IsAtEnd day places (standing_in plan.openings slots) → are_last day plan (opened_accounts plan.openings) names ≡ true
-    last_at_end rising slots size places names e ends =
+    -- which are of the opened accounts
+    pub accounts_of_end : IsRising (opened_accounts plan.openings) → (slots : List (Option (Parcel N b)))
+        → length slots ≡ length plan.openings → (places : List ℕ) (names : List (ℕ × ℕ))
+        → map Some names ≡ map (option_map name_of) slots → IsAtEnd day places (standing_in plan.openings slots)
+        → have_accounts (opened_accounts plan.openings) names ≡ true
+    accounts_of_end rising slots size places names e ends =
         let is = names_full last_at plan.openings names (e ∙ full_at_end rising slots size places ends) in
-        last_tested tails last day plan planned names (names_at_end names rising is) (ap named_accounts is ∙ accounts_at_end plan.openings)
+        tested_accounts (opened_accounts plan.openings) names (ap named_accounts is ∙ accounts_at_end plan.openings)

@@ -31,14 +31,16 @@ use Rattle.reg_schedules.specs.Pool.{directory, footprint_at, leads_on}
 use Rattle.reg_schedules.proofs.Members.{In}
 use Rattle.reg_schedules.proofs.Known.{footprint_touches}
 use Rattle.reg_schedules.proofs.Tails.{clash, touched_somewhere, last_of_all, not_last, last_touches}
-use Rattle.reg_tasks.specs.Gathering.{AreLast, AreOutcomes, AreWithin, named_accounts, places_of, replies_kept, row_replied, rows_in, replies_by_number, replies_from, counts_up, is_last, are_each, are_last, are_outcomes}
-use Rattle.reg_tasks.specs.Slots.{opened_accounts}
+use Rattle.reg_tasks.specs.Gathering.{AreLast, AreOutcomes, AreWithin, named_accounts, places_of, replies_kept, row_replied, rows_in, replies_by_number, replies_from, counts_up, is_last, are_each, have_accounts, are_outcomes}
+use Rattle.reg_tasks.specs.LastParcels.{parcels_in}
+use Rattle.reg_tasks.specs.Slots.{name_of, opened_accounts}
 use Rattle.reg_tasks.specs.declared.naming.Naming.{Ghosts}
 use Rattle.reg_tasks.specs.declared.done.Done.{Done}
+use Rattle.reg_tasks.specs.declared.last_parcel.LastParcel.{LastParcel}
 use Rattle.reg_tasks.specs.declared.parcel.Parcel.{Parcel}
 use Rattle.reg_tasks.specs.Parcels.{names_of, values_of}
-use Rattle.reg_tasks.proofs.Rising.{Up, all_in, all_from_in, in_permuted, in_before, up_distinct, up_rising, up_keys, in_map, keys_are, ascending}
-use Rattle.reg_tasks.proofs.Slotting.{number_of, among_opening}
+use Rattle.reg_tasks.proofs.Rising.{Up, all_in, all_from_in, in_permuted, in_before, up_distinct, up_rising, up_keys, keys_are, ascending}
+use Rattle.reg_tasks.proofs.Slotting.{Name, number_of, among_opening}
 use Rattle.reg_tasks.proofs.Gathering.{eqb_sym, size_rows, same_accounts, closing_values, accounts_are}
 use Rattle.reg_tasks.proofs.OrderSteps.{touched_opened, all_touched}
 
@@ -101,37 +103,31 @@ number_in (n ∷ ns) a (inr m) = by (eqb n a) (number_in ns a m) where
 
 -- ---- the last names
 
-pub uneven : (day : Day) (plan : PlanValue) (accounts : List ℕ) (names : List (ℕ × ℕ)) → (length names ≡ length accounts → ⊥) → are_last day plan accounts names ≡ false
-uneven day plan [] [] ne = absurd (ne refl)
-uneven day plan [] (n ∷ names) ne = refl
-uneven day plan (a ∷ more) [] ne = refl
-uneven day plan (a ∷ more) (n ∷ names) ne = by (eqb n.0 a && is_last day plan n) (uneven day plan more names (λ e. ne (ap suc e))) where
+pub uneven : (accounts : List ℕ) (names : List (ℕ × ℕ)) → (length names ≡ length accounts → ⊥) → have_accounts accounts names ≡ false
+uneven [] [] ne = absurd (ne refl)
+uneven [] (n ∷ names) ne = refl
+uneven (a ∷ more) [] ne = refl
+uneven (a ∷ more) (n ∷ names) ne = by (eqb n.0 a) (uneven more names (λ e. ne (ap suc e))) where
   by : (b : Bool) {c : Bool} → c ≡ false → (b && c) ≡ false
   by true e = e
   by false e = refl
 
-pub accounts_tested : (day : Day) (plan : PlanValue) (accounts : List ℕ) (names : List (ℕ × ℕ)) → are_last day plan accounts names ≡ true
-    → (named_accounts names ≡ accounts) × AllByRecursion (λ n. is_last day plan n ≡ true) names
-accounts_tested day plan [] [] e = (refl, tt)
-accounts_tested day plan [] (n ∷ names) e = absurd cc
-accounts_tested day plan (a ∷ more) [] e = absurd cc
-accounts_tested day plan (a ∷ more) (n ∷ names) e =
-    let both = and_parts (eqb n.0 a && is_last day plan n) (are_last day plan more names) e in
-    let here = and_parts (eqb n.0 a) (is_last day plan n) both.0 in
-    let rest = accounts_tested day plan more names both.1 in
-    (ap (λ b. b ∷ named_accounts names) (eqb-true n.0 a here.0) ∙ ap (λ ns. a ∷ ns) rest.0, (here.1, rest.1))
+pub accounts_tested : (accounts : List ℕ) (names : List (ℕ × ℕ)) → have_accounts accounts names ≡ true → named_accounts names ≡ accounts
+accounts_tested [] [] e = refl
+accounts_tested [] (n ∷ names) e = absurd cc
+accounts_tested (a ∷ more) [] e = absurd cc
+accounts_tested (a ∷ more) (n ∷ names) e =
+    let both = and_parts (eqb n.0 a) (have_accounts more names) e in
+    ap (λ b. b ∷ named_accounts names) (eqb-true n.0 a both.0) ∙ ap (λ ns. a ∷ ns) (accounts_tested more names both.1)
 
-tested_accounts : (day : Day) (plan : PlanValue) (accounts : List ℕ) (names : List (ℕ × ℕ)) → named_accounts names ≡ accounts → AllByRecursion (λ n. is_last day plan n ≡ true) names
-    → are_last day plan accounts names ≡ true
-tested_accounts day plan [] [] e all = refl
-tested_accounts day plan [] (n ∷ names) e all = absurd cc
-tested_accounts day plan (a ∷ more) [] e all = absurd cc
-tested_accounts day plan (a ∷ more) (n ∷ names) e all =
+pub tested_accounts : (accounts : List ℕ) (names : List (ℕ × ℕ)) → named_accounts names ≡ accounts → have_accounts accounts names ≡ true
+tested_accounts [] [] e = refl
+tested_accounts [] (n ∷ names) e = absurd cc
+tested_accounts (a ∷ more) [] e = absurd cc
+tested_accounts (a ∷ more) (n ∷ names) e =
     let head : n.0 ≡ a = cc in
     let tail : named_accounts names ≡ more = cc in
-    and_from (eqb n.0 a && is_last day plan n) (are_last day plan more names)
-    (and_from (eqb n.0 a) (is_last day plan n) (eq-eqb n.0 a head) all.0)
-    (tested_accounts day plan more names tail all.1)
+    and_from (eqb n.0 a) (have_accounts more names) (eq-eqb n.0 a head) (tested_accounts more names tail)
 
 -- the last names in another order
 pub last_permuted : (day : Day) (names others : List (ℕ × ℕ)) → IsPermutation names others → AreLast day names → AreLast day others
@@ -156,15 +152,15 @@ tested_each day places e =
     (eq-eqb (length places) (length day.batch.instructions) (ap length e ∙ size_count 1 (length day.batch.instructions)))
     (ap (counts_up 1) e ∙ counts 1 (length day.batch.instructions))
 
-pub outcomes_tested : (day : Day) (plan : PlanValue) (accounts places : List ℕ) (names : List (ℕ × ℕ)) → are_outcomes day plan accounts places names ≡ true
-    → (places ≡ count_up 1 (length day.batch.instructions)) × (are_last day plan accounts names ≡ true)
-outcomes_tested day plan accounts places names e =
-    let both = and_parts (are_each day places) (are_last day plan accounts names) e in
+pub outcomes_tested : (day : Day) (accounts places : List ℕ) (names : List (ℕ × ℕ)) → are_outcomes day accounts places names ≡ true
+    → (places ≡ count_up 1 (length day.batch.instructions)) × (have_accounts accounts names ≡ true)
+outcomes_tested day accounts places names e =
+    let both = and_parts (are_each day places) (have_accounts accounts names) e in
     (each_tested day places both.0, both.1)
 
-pub tested_outcomes : (day : Day) (plan : PlanValue) (accounts places : List ℕ) (names : List (ℕ × ℕ)) → places ≡ count_up 1 (length day.batch.instructions) → are_last day plan accounts names ≡ true
-    → are_outcomes day plan accounts places names ≡ true
-tested_outcomes day plan accounts places names e l = and_from (are_each day places) (are_last day plan accounts names) (tested_each day places e) l
+pub tested_outcomes : (day : Day) (accounts places : List ℕ) (names : List (ℕ × ℕ)) → places ≡ count_up 1 (length day.batch.instructions) → have_accounts accounts names ≡ true
+    → are_outcomes day accounts places names ≡ true
+tested_outcomes day accounts places names e l = and_from (are_each day places) (have_accounts accounts names) (tested_each day places e) l
 
 -- replies of all places pass the test once they are sorted
 module _ {N : Type 0} {b : Ghosts N} (day : Day) where
@@ -192,7 +188,7 @@ module _ (tails : TailsAreLastTouchers) (last : LastToucherIsLast) (day : Day) (
       ∥∥₁_elim planned (Prim.hlevel props) (λ made. sym (last_of_all tails last (directory day) day.batch.instructions plan made a place
       (sym (footprint_touches day place a) ∙ both.0) (not-true (leads_on plan place a) both.1)))
 
-  the_last_is : (a place : ℕ) → is_touched (directory day) day.batch.instructions a ≡ true → place ≡ last_toucher (directory day) day.batch.instructions a (length day.batch.instructions)
+  pub the_last_is : (a place : ℕ) → is_touched (directory day) day.batch.instructions a ≡ true → place ≡ last_toucher (directory day) day.batch.instructions a (length day.batch.instructions)
       → is_last day plan (a, place) ≡ true
   the_last_is a place touched e = ∥∥₁_elim planned (Prim.hlevel props) (λ made.
       let on : touches_place (directory day) day.batch.instructions a place ≡ true = subst (λ q. touches_place (directory day) day.batch.instructions a q ≡ true) (sym e)
@@ -213,53 +209,73 @@ module _ (tails : TailsAreLastTouchers) (last : LastToucherIsLast) (day : Day) (
           let (n, lt, on) = touched_somewhere (directory day) day.batch.instructions a touched in
           at_least (last_toucher (directory day) day.batch.instructions a (length day.batch.instructions)) refl n lt on
 
-  -- names that pass the test are the last ones
-  pub tested_last : IsRising (opened_accounts plan.openings) → (names : List (ℕ × ℕ)) → are_last day plan (opened_accounts plan.openings) names ≡ true → AreLast day names
-  tested_last rising names e =
-      let both = accounts_tested day plan (opened_accounts plan.openings) names e in
-      record {
-        once = subst (IsDistinct eqb) (sym both.0) (up_distinct number_of plan.openings (up_rising number_of plan.openings rising));
-        touched = λ a. ap (λ ns. is_among ns a) both.0 ∙ opened_touched a;
-        last = all_from_in (λ n. n.1 ≡ last_toucher (directory day) day.batch.instructions n.0 (length day.batch.instructions)) names
-            (λ n m. is_the_last n.0 n.1 (all_in (λ n. is_last day plan n ≡ true) names n both.1 m));
-      }
-
-  -- and the last names pass it if they are of the opened accounts, in their order
-  pub last_tested : (names : List (ℕ × ℕ)) → AreLast day names → named_accounts names ≡ opened_accounts plan.openings → are_last day plan (opened_accounts plan.openings) names ≡ true
-  last_tested names is accounts =
-      tested_accounts day plan (opened_accounts plan.openings) names accounts
-      (all_from_in (λ n. is_last day plan n ≡ true) names (λ n m. the_last_is n.0 n.1 (on n m)
-      (all_in (λ n. n.1 ≡ last_toucher (directory day) day.batch.instructions n.0 (length day.batch.instructions)) names n is.last m)))
-    where
-      on : (n : ℕ × ℕ) → In n names → is_touched (directory day) day.batch.instructions n.0 ≡ true
-      on n m = sym (is.touched n.0) ∙ number_in (named_accounts names) n.0 (in_map (λ (n : ℕ × ℕ). n.0) names n m)
+  -- last names of the opened accounts are the last ones
+  pub all_last : IsRising (opened_accounts plan.openings) → (names : List (ℕ × ℕ)) → named_accounts names ≡ opened_accounts plan.openings
+      → AllByRecursion (λ n. n.1 ≡ last_toucher (directory day) day.batch.instructions n.0 (length day.batch.instructions)) names → AreLast day names
+  all_last rising names accounts each = record {
+    once = subst (IsDistinct eqb) (sym accounts) (up_distinct number_of plan.openings (up_rising number_of plan.openings rising));
+    touched = λ a. ap (λ ns. is_among ns a) accounts ∙ opened_touched a;
+    last = each;
+  }
 
   module _ {N : Type 0} {b : Ghosts N} where
-    keys_names : (ps : List (Parcel N b)) → map (λ p. p.value.number) ps ≡ named_accounts (names_of ps)
+    keys_names : (ls : List (LastParcel N b)) → map (λ l. l.parcel.value.number) ls ≡ named_accounts (names_of (parcels_in ls))
     keys_names [] = refl
-    keys_names (p ∷ ps) = ap (λ ns. p.value.number ∷ ns) (keys_names ps)
+    keys_names (l ∷ ls) = ap (λ ns. l.parcel.value.number ∷ ns) (keys_names ls)
 
     -- the last parcels, sorted by account, are those of the opened accounts
-    accounts_sorted : IsRising (opened_accounts plan.openings) → (ps : List (Parcel N b)) → AreLast day (names_of ps) → IsNonDecreasingBy (λ p. p.value.number) ps
-        → named_accounts (names_of ps) ≡ opened_accounts plan.openings
-    accounts_sorted rising ps is sorted =
-        sym (keys_names ps)
-        ∙ keys_are (λ p. p.value.number) ps (opened_accounts plan.openings) (up_keys number_of plan.openings (up_rising number_of plan.openings rising)) sorted
-        (subst (IsDistinct eqb) (sym (keys_names ps)) is.once)
-        (λ a m. in_number (opened_accounts plan.openings) a (sym (same a) ∙ number_in (named_accounts (names_of ps)) a (subst (In a) (keys_names ps) m)))
-        (λ a m. subst (In a) (sym (keys_names ps)) (in_number (named_accounts (names_of ps)) a (same a ∙ number_in (opened_accounts plan.openings) a m)))
+    accounts_sorted : IsRising (opened_accounts plan.openings) → (ls : List (LastParcel N b)) → AreLast day (names_of (parcels_in ls)) → IsNonDecreasingBy (λ l. l.parcel.value.number) ls
+        → named_accounts (names_of (parcels_in ls)) ≡ opened_accounts plan.openings
+    accounts_sorted rising ls is sorted =
+        sym (keys_names ls)
+        ∙ keys_are (λ l. l.parcel.value.number) ls (opened_accounts plan.openings) (up_keys number_of plan.openings (up_rising number_of plan.openings rising)) sorted
+        (subst (IsDistinct eqb) (sym (keys_names ls)) is.once)
+        (λ a m. in_number (opened_accounts plan.openings) a (sym (same a) ∙ number_in (named_accounts (names_of (parcels_in ls))) a (subst (In a) (keys_names ls) m)))
+        (λ a m. subst (In a) (sym (keys_names ls)) (in_number (named_accounts (names_of (parcels_in ls))) a (same a ∙ number_in (opened_accounts plan.openings) a m)))
       where
-        same : (a : ℕ) → is_among (named_accounts (names_of ps)) a ≡ is_among (opened_accounts plan.openings) a
+        same : (a : ℕ) → is_among (named_accounts (names_of (parcels_in ls))) a ≡ is_among (opened_accounts plan.openings) a
         same a = is.touched a ∙ sym (opened_touched a)
 
     -- what was sorted passes the tests if it is all that is needed
-    pub outcomes_pass : IsRising (opened_accounts plan.openings) → (done sorted : List (Done N b)) (ps sorted_ps : List (Parcel N b)) → IsPermutation done sorted → IsNonDecreasingBy (λ d. d.place) sorted
-        → IsPermutation ps sorted_ps → IsNonDecreasingBy (λ p. p.value.number) sorted_ps → AreOutcomes day (places_of done) (names_of ps)
-        → are_outcomes day plan (opened_accounts plan.openings) (places_of sorted) (names_of sorted_ps) ≡ true
-    outcomes_pass rising done sorted ps sorted_ps same rise same_ps rise_ps all =
+    pub outcomes_pass : IsRising (opened_accounts plan.openings) → (done sorted : List (Done N b)) (ls sorted_ls : List (LastParcel N b)) → IsPermutation done sorted → IsNonDecreasingBy (λ d. d.place) sorted
+        → IsPermutation ls sorted_ls → IsNonDecreasingBy (λ l. l.parcel.value.number) sorted_ls → AreOutcomes day (places_of done) (names_of (parcels_in ls))
+        → are_outcomes day (opened_accounts plan.openings) (places_of sorted) (names_of (parcels_in sorted_ls)) ≡ true
+    outcomes_pass rising done sorted ls sorted_ls same rise same_ls rise_ls all =
         let places = sorted_each day done sorted same rise all.each in
-        let is = last_permuted day (names_of ps) (names_of sorted_ps) (IsPermutation-map (λ (p : Parcel N b). (p.value.number, p.after)) ps sorted_ps same_ps) all.last in
-        tested_outcomes day plan (opened_accounts plan.openings) (places_of sorted) (names_of sorted_ps) places (last_tested (names_of sorted_ps) is (accounts_sorted rising sorted_ps is rise_ps))
+        let parcels = IsPermutation-map (λ (l : LastParcel N b). l.parcel) ls sorted_ls same_ls in
+        let is = last_permuted day (names_of (parcels_in ls)) (names_of (parcels_in sorted_ls)) (IsPermutation-map (λ (p : Parcel N b). (p.value.number, p.after)) (parcels_in ls) (parcels_in sorted_ls) parcels) all.last in
+        tested_outcomes day (opened_accounts plan.openings) (places_of sorted) (names_of (parcels_in sorted_ls)) places
+        (tested_accounts (opened_accounts plan.openings) (names_of (parcels_in sorted_ls)) (accounts_sorted rising sorted_ls is rise_ls))
+
+-- each last parcel of a named day has the name of a last one
+module _ {N : Type 0} {b : Ghosts N} (day : Day) (named : b.day ≡ Some day) where
+  pub each_last : (ls : List (LastParcel N b)) → AllByRecursion (λ n. n.1 ≡ last_toucher (directory day) day.batch.instructions n.0 (length day.batch.instructions)) (names_of (parcels_in ls))
+  each_last [] = tt
+  each_last (l ∷ ls) = ((l.closing day named).last, each_last ls)
+
+-- one parcel more that is a last one
+module _ {N : Type 0} {b : Ghosts N} where
+  pub last_more : (before now : List (LastParcel N b)) (one : LastParcel N b) (p : Parcel N b) (rest all : List (Parcel N b)) → now ≡ before ++ one ∷ [] → one.parcel ≡ p
+      → parcels_in before ++ p ∷ rest ≡ all → parcels_in now ++ rest ≡ all
+  last_more before now one p rest all grown same so_far =
+      ap (λ ls. parcels_in ls ++ rest) grown
+      ∙ ap (λ ps. ps ++ rest) (map-append (λ (l : LastParcel N b). l.parcel) before (one ∷ []))
+      ∙ append_assoc (parcels_in before) (one.parcel ∷ []) rest
+      ∙ ap (λ q. parcels_in before ++ q ∷ rest) same
+      ∙ so_far
+
+  pub name_more : (before now : List (LastParcel N b)) (one : LastParcel N b) (n : Name) (rest all : List Name)
+      → now ≡ before ++ one ∷ [] → Some (name_of one.parcel) ≡ n
+      → map Some (names_of (parcels_in before)) ++ n ∷ rest ≡ all → map Some (names_of (parcels_in now)) ++ rest ≡ all
+  name_more before now one n rest all grown same so_far =
+      ap (λ ls. map Some (names_of (parcels_in ls)) ++ rest) grown
+      ∙ ap (λ ps. map Some (names_of ps) ++ rest) (map-append (λ (l : LastParcel N b). l.parcel) before (one ∷ []))
+      ∙ ap (λ ns. map Some ns ++ rest)
+      (map-append (λ (q : Parcel N b). (q.value.number, q.after)) (parcels_in before) (one.parcel ∷ []))
+      ∙ ap (λ ns. ns ++ rest) (map-append Some (names_of (parcels_in before)) (name_of one.parcel ∷ []))
+      ∙ append_assoc (map Some (names_of (parcels_in before))) (Some (name_of one.parcel) ∷ []) rest
+      ∙ ap (λ (m : Name). map Some (names_of (parcels_in before)) ++ m ∷ rest) same
+      ∙ so_far
 
 -- ---- the rows
 

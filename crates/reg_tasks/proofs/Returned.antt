@@ -1,8 +1,9 @@
 -- Accounts that were laid back, and that all of them are the accounts after the day.
-use Rattle.std.proofs.Common.{◌≡◌, ℕ, zero, suc, ◌<◌, ◌≤◌, inl, inr, Bool, true, false, cond, List, [], ◌∷◌, length, get_or, Option, Some, None, refl, sym, ap, subst, ◌∙◌, arith}
+use Rattle.std.proofs.Common.{◌≡◌, ℕ, zero, suc, ◌<◌, ◌≤◌, inl, inr, Bool, true, false, cond, List, [], ◌∷◌, eqb, length, get_or, set, Option, Some, None, refl, sym, ap, subst, ◌∙◌, arith}
 use Rattle.std.specs.Prelude.{filter, slice_get}
 use Rattle.std.proofs.Props.{props}
-use Rattle.std.proofs.lemmas.Bool.{and_parts, cases_lt}
+use Rattle.std.proofs.lemmas.Bool.{and_parts, cases_lt, eq-eqb, or_left, or_right}
+use Rattle.std.proofs.lemmas.List.{length-set}
 use Rattle.std.proofs.lemmas.Option.{same_Some, slice_get_past}
 use mathlib.Core.Logic.{∥∥₁_elim}
 use Rattle.reg_base.specs.Footprint.{is_among, EachFootprintIsSound}
@@ -12,7 +13,7 @@ use Rattle.reg_account.specs.Account.{AccountValue}
 use Rattle.reg_plan.specs.declared.arrow.Opening.{Opening}
 use Rattle.reg_plan.specs.Plans.{PlanValue, IsPlan}
 use Rattle.reg_plan.specs.Laws.{TailsAreLastTouchers}
-use Rattle.reg_rules.specs.State.{State, numbers}
+use Rattle.reg_rules.specs.State.{State, account, numbers}
 use Rattle.reg_book.specs.Day.{Day, closing_state, value_at}
 use Rattle.reg_book.specs.Laws.{NumbersStay, UntouchedStay, ValueIsLastTouchers}
 use Rattle.reg_schedules.specs.Pool.{directory, footprint_at}
@@ -21,11 +22,11 @@ use Rattle.reg_schedules.proofs.Members.{in_filter, of_filter}
 use Rattle.reg_schedules.proofs.Tails.{clash, touched_from}
 use Rattle.reg_tasks.specs.declared.lot.Lot.{Lot}
 use Rattle.reg_tasks.specs.declared.lot.Lot.TheVariants.{Here, Out, Back}
-use Rattle.reg_tasks.specs.Gathering.{is_last}
+use Rattle.reg_tasks.specs.Gathering.{IsLastName, is_last}
 use Rattle.reg_tasks.specs.Lots.{was_taken, back_count}
 use Rattle.reg_tasks.specs.Slots.{opened_accounts}
 use Rattle.reg_tasks.proofs.Collecting.{in_number, number_in, is_the_last, opened_touched}
-use Rattle.reg_tasks.proofs.LotFacts.{at-number, get-there}
+use Rattle.reg_tasks.proofs.LotFacts.{at-number, get-set, get-there, numbers-set}
 use Rattle.reg_tasks.proofs.Rising.{Up, same_rising, up_rising, up_keys}
 use Rattle.reg_tasks.proofs.Slotting.{number_of}
 
@@ -46,16 +47,43 @@ module _ (tails : TailsAreLastTouchers) (last : LastToucherIsLast) (day : Day) (
       let both = and_parts (is_among (footprint_at day place) a) _ e in
       touched_from (directory day) day.batch.instructions a place (sym (footprint_touches day place a) ∙ both.0)
 
-  -- and it is as the last one leaves it
-  pub last-value : NumbersStay → ValueIsLastTouchers → (accounts : State) (k : ℕ) (v : AccountValue) (after : ℕ) → IsRising (numbers accounts) → numbers accounts ≡ numbers day.book.accounts
-      → k < length accounts → get_or (numbers accounts) k 0 ≡ v.number → value_at day v.number after ≡ Some v → is_last day plan (v.number, after) ≡ true → Some v ≡ slice_get (closing_state day) k
-  last-value stay values accounts k v after rising have within same right e =
-      let n : ℕ = length day.batch.instructions in
-      let numbers_are : numbers (closing_state day) ≡ numbers accounts = stay day n ∙ sym have in
-      let size : length (closing_state day) ≡ length accounts = size-same (closing_state day) accounts numbers_are in
-      let at = at-number (closing_state day) k v.number (subst IsRising (sym numbers_are) rising) (omega (arith, within, size)) (ap (λ ns. get_or ns k 0) numbers_are ∙ same) in
-      let closing : value_at day v.number n ≡ Some v = values day v.number n ∙ ap (value_at day v.number) (sym (is_the_last tails last day plan planned v.number after e)) ∙ right in
-      sym (at ∙ closing)
+  -- so its name is that of a last one
+  pub last-name : (a place : ℕ) → is_last day plan (a, place) ≡ true → IsLastName day (a, place)
+  last-name a place e =
+      let on = last-touched a place e in
+      let is = is_the_last tails last day plan planned a place e in
+      record { touched = on; last = is }
+
+-- a last value is as the day leaves it
+pub last-value : NumbersStay → ValueIsLastTouchers → (day : Day) (accounts : State) (k : ℕ) (v : AccountValue) (after : ℕ)
+    → IsRising (numbers accounts) → numbers accounts ≡ numbers day.book.accounts → k < length accounts
+    → get_or (numbers accounts) k 0 ≡ v.number → value_at day v.number after ≡ Some v → IsLastName day (v.number, after)
+    → Some v ≡ slice_get (closing_state day) k
+last-value stay values day accounts k v after rising have within same right is =
+    let n : ℕ = length day.batch.instructions in
+    let numbers_are : numbers (closing_state day) ≡ numbers accounts = stay day n ∙ sym have in
+    let size : length (closing_state day) ≡ length accounts = size-same (closing_state day) accounts numbers_are in
+    let at = at-number (closing_state day) k v.number (subst IsRising (sym numbers_are) rising)
+    (omega (arith, within, size)) (ap (λ ns. get_or ns k 0) numbers_are ∙ same) in
+    let closing : value_at day v.number n ≡ Some v =
+    values day v.number n ∙ ap (value_at day v.number) (sym is.last) ∙ right in
+    sym (at ∙ closing)
+
+-- an account that stands somewhere is among them
+pub number-among : (s : State) (k a : ℕ) → k < length s → get_or (numbers s) k 0 ≡ a → is_among (numbers s) a ≡ true
+number-among [] k a lt is = absurd (omega (arith, lt))
+number-among (w ∷ ws) zero a lt is = or_left (eqb w.number a) (is_among (numbers ws) a) (eq-eqb w.number a is)
+number-among (w ∷ ws) (suc k) a lt is =
+    or_right (eqb w.number a) (is_among (numbers ws) a) (number-among ws k a (omega (arith, lt)) is)
+
+-- and what is laid there is the account of its number
+pub laid-there : (s : State) (k : ℕ) (v : AccountValue) → IsRising (numbers s) → k < length s
+    → get_or (numbers s) k 0 ≡ v.number → account (set s k v) v.number ≡ Some v
+laid-there s k v rising lt same =
+    let numbers_are : numbers (set s k v) ≡ numbers s = numbers-set s k v same lt in
+    sym (at-number (set s k v) k v.number (subst IsRising (sym numbers_are) rising)
+    (omega (arith, lt, length-set s k v)) (ap (λ ns. get_or ns k 0) numbers_are ∙ same))
+    ∙ get-set s k v lt
 
 -- ---- counting those that are back
 

@@ -47,6 +47,15 @@ pub record AreLast (day : Day) (names : List (ℕ × ℕ)) : Type 0 where
 abbrev pub AreClosing : Option Day → List (ℕ × ℕ) → Type 0
 AreClosing name names = (day : Day) → name ≡ Some day → AreLast day names
 
+-- this is the name of one of them
+pub record IsLastName (day : Day) (name : ℕ × ℕ) : Type 0 where
+  pub touched : is_touched (directory day) day.batch.instructions name.0 ≡ true
+  pub last : name.1 ≡ last_toucher (directory day) day.batch.instructions name.0 (length day.batch.instructions)
+
+-- if a day is named, the name is one of them
+abbrev pub IsClosing : Option Day → ℕ × ℕ → Type 0
+IsClosing name n = (day : Day) → name ≡ Some day → IsLastName day n
+
 -- if a day is named, the accounts are those
 abbrev pub AreClosingValues : Option Day → State → Type 0
 AreClosingValues name accounts = (day : Day) → name ≡ Some day → AreLastValues day accounts
@@ -114,16 +123,16 @@ abbrev pub is_last_there : Day → PlanValue → Option (ℕ × ℕ) → Bool
 is_last_there day plan None = false
 is_last_there day plan (Some name) = is_last day plan name
 
--- the names are of these accounts, in this order, and each is the last one
-abbrev pub are_last : Day → PlanValue → List ℕ → List (ℕ × ℕ) → Bool
-are_last day plan [] [] = true
-are_last day plan [] (name ∷ names) = false
-are_last day plan (a ∷ more) [] = false
-are_last day plan (a ∷ more) (name ∷ names) = ((name.0 == a) && is_last day plan name) && are_last day plan more names
+-- the names are of these accounts, in this order
+abbrev pub have_accounts : List ℕ → List (ℕ × ℕ) → Bool
+have_accounts [] [] = true
+have_accounts [] (name ∷ names) = false
+have_accounts (a ∷ more) [] = false
+have_accounts (a ∷ more) (name ∷ names) = (name.0 == a) && have_accounts more names
 
--- each place is there, in order, and the names are the last ones of these accounts
-abbrev pub are_outcomes : Day → PlanValue → List ℕ → List ℕ → List (ℕ × ℕ) → Bool
-are_outcomes day plan accounts places names = are_each day places && are_last day plan accounts names
+-- each place is there, in order, and the names are of these accounts
+abbrev pub are_outcomes : Day → List ℕ → List ℕ → List (ℕ × ℕ) → Bool
+are_outcomes day accounts places names = are_each day places && have_accounts accounts names
 
 -- if a day is named, these are its log and its settled accounts, in their order
 pub record IsGathered (name : Option Day) (rows : List LogRow) (accounts : State) : Type 0 where

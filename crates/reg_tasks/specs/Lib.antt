@@ -1,5 +1,6 @@
 pub mod Contexts
 pub mod Lent
+pub mod LastParcels
 pub mod Lots
 pub mod Names
 pub mod Parcels

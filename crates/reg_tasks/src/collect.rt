@@ -4,14 +4,15 @@ ghost use Rattle.std.specs.Prelude.{◌≡◌, ◌≤◌, Some, length, map, IfO
 ghost use Rattle.std.specs.List.Sorted.{IsNonDecreasingBy};
 ghost use Rattle.reg_tasks.specs.Contexts.{the_day};
 ghost use Rattle.reg_tasks.specs.Parcels.{names_of};
-ghost use Rattle.reg_tasks.specs.Gathering.{AreWithin, places_of, row_replied, rows_in, counts_up, is_last, are_each, are_last, are_outcomes};
-ghost use Rattle.reg_tasks.specs.Slots.{name_of, opened_accounts};
+ghost use Rattle.reg_tasks.specs.Gathering.{AreWithin, places_of, row_replied, rows_in, counts_up, are_each, have_accounts, are_outcomes};
+ghost use Rattle.reg_tasks.specs.LastParcels.{parcels_in};
+ghost use Rattle.reg_tasks.specs.Slots.{opened_accounts};
 
 use crate::context::Context;
 use crate::done::Done;
+use crate::last_parcel::LastParcel;
 use crate::naming::Naming;
 use crate::nearby::bring_near;
-use crate::parcel::Parcel;
 use crate::run::number_of;
 use reg_base::NoMemory;
 use reg_rules::{LogRow, log_row};
@@ -27,12 +28,12 @@ pub(crate) fn sort_done<N: Naming>(rows: &mut [Done<N>])
 }
 
 /// Sorts the last parcels of a day by the numbers of their accounts.
-pub(crate) fn sort_parcels<N: Naming>(parcels: &mut [Parcel<N>])
+pub(crate) fn sort_parcels<N: Naming>(parcels: &mut [LastParcel<N>])
     ensures same { IsPermutation parcels.old parcels.new }
-    ensures sorted { IsNonDecreasingBy (λ parcel. parcel.value.number) parcels.new }
+    ensures sorted { IsNonDecreasingBy (λ last. last.parcel.value.number) parcels.new }
 {
-    bring_near(parcels, |parcel| parcel.likely_slot() as usize);
-    parcels.sort_unstable_by_key(|parcel| parcel.account());
+    bring_near(parcels, |last| last.likely_slot() as usize);
+    parcels.sort_unstable_by_key(|last| last.account());
 }
 
 // Whether the places are 1, 2 and so on.
@@ -56,31 +57,17 @@ pub(crate) fn are_each<N: Naming>(context: &Context<N>, rows: &[Done<N>]) -> boo
     rows.len() == context.batch().len() as usize && count_up(rows)
 }
 
-/// Whether no later instruction touches the account of a parcel: the instruction after which it stands does, and no
-/// arrow leads on from there.
-pub(crate) fn is_last<N: Naming>(context: &Context<N>, parcel: &Parcel<N>) -> bool
-    ensures { result ≡ is_last (the_day context.now) context.now.plan (name_of parcel.now) }
-{
-    let place = parcel.after();
-    if place == 0 || place > context.batch().len() {
-        return false;
-    }
-    let touched = context.touched_at(place);
-    touched.contains(&parcel.account()) && !context.leads_on(place, parcel.account())
-}
-
-/// Whether these are the last parcels of all touched accounts, by rising account.
-pub(crate) fn are_last<N: Naming>(context: &Context<N>, parcels: &[Parcel<N>]) -> bool
-    ensures { result ≡ are_last (the_day context.now) context.now.plan (opened_accounts context.now.plan.openings)
-        (names_of parcels.now) }
+/// Whether these last parcels are those of all touched accounts, by rising account.
+pub(crate) fn have_accounts<N: Naming>(context: &Context<N>, parcels: &[LastParcel<N>]) -> bool
+    ensures { result ≡ have_accounts (opened_accounts context.now.plan.openings) (names_of (parcels_in parcels.now)) }
 {
     let openings = context.openings();
     if parcels.len() != openings.len() {
         return false;
     }
     for index in 0..parcels.len() {
-        let parcel = &parcels[index];
-        if parcel.account() != openings[index].account || !is_last(context, parcel) {
+        let last = &parcels[index];
+        if last.account() != openings[index].account {
             return false;
         }
     }
@@ -92,12 +79,12 @@ pub(crate) fn are_last<N: Naming>(context: &Context<N>, parcels: &[Parcel<N>]) -
 pub(crate) fn are_outcomes<N: Naming>(
     context: &Context<N>,
     rows: &[Done<N>],
-    parcels: &[Parcel<N>],
+    parcels: &[LastParcel<N>],
 ) -> bool
-    ensures { result ≡ are_outcomes (the_day context.now) context.now.plan (opened_accounts context.now.plan.openings)
-        (places_of rows.now) (names_of parcels.now) }
+    ensures { result ≡ are_outcomes (the_day context.now) (opened_accounts context.now.plan.openings)
+        (places_of rows.now) (names_of (parcels_in parcels.now)) }
 {
-    are_each(context, rows) && are_last(context, parcels)
+    are_each(context, rows) && have_accounts(context, parcels)
 }
 
 // The row in the log of an instruction that was run: the batch has all of it but the reply.

@@ -187,7 +187,7 @@ impl<'a, N: Naming> Context<'a, N> {
     }
 
     /// The arrows that lead to a place, counted from 1.
-    pub(crate) fn arrows_to(&self, place: u32) -> &[Arrow]
+    pub fn arrows_to(&self, place: u32) -> &[Arrow]
         requires from_one { 1 ≤ place }
         requires within { place ≤ length self.now.batch.now.instructions }
         ensures { result.now ≡ inward self.now.plan.arrows place }

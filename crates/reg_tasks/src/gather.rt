@@ -11,14 +11,16 @@ ghost use Rattle.reg_book.specs.Settled.{IsOfBook};
 ghost use Rattle.reg_book.specs.Day.{Day, log_of, settled_day};
 ghost use Rattle.reg_tasks.specs.Contexts.{the_day};
 ghost use Rattle.reg_tasks.specs.Parcels.{names_of, values_of};
-ghost use Rattle.reg_tasks.specs.Gathering.{AreRows, AreFirstRows, AreClosing, AreNotAll, IsGathered, IsCommittable, IsWhole, are_counted, are_last, are_outcomes, places_of, replies_by_number, replies_from};
+ghost use Rattle.reg_tasks.specs.Gathering.{AreRows, AreFirstRows, AreClosing, AreNotAll, IsGathered, IsCommittable, IsWhole, are_counted, are_outcomes, have_accounts, places_of, replies_by_number, replies_from};
+ghost use Rattle.reg_tasks.specs.LastParcels.{parcels_in};
 ghost use Rattle.reg_tasks.specs.Slots.{LacksFor, opened_accounts};
 ghost use Rattle.reg_schedules.specs.Schedules.{AreLastValues};
 
-use crate::collect::{are_last, are_outcomes, into_rows, sort_done, sort_parcels};
+use crate::collect::{are_outcomes, have_accounts, into_rows, sort_done, sort_parcels};
 use crate::context::Context;
 use crate::done::Done;
 use crate::lack::Lack;
+use crate::last_parcel::LastParcel;
 use crate::naming::Naming;
 use crate::parcel::Parcel;
 use reg_account::Account;
@@ -111,14 +113,13 @@ fn are_whole<N: Naming>(context: &Context<N>, rows: &[LogRow], accounts: &[Accou
     are_committable(book.directory(), next, accounts)
 }
 
-// The accounts of parcels, in their order.
-fn values<N: Naming>(alloc: Global, parcels: Vec<Parcel<N>>) -> Result<Vec<Account>, NoMemory>
-    ensures { IfOk result (λ accounts. accounts.items ≡ values_of parcels.items) }
+// The accounts of last parcels, in their order.
+fn values<N: Naming>(alloc: Global, parcels: Vec<LastParcel<N>>) -> Result<Vec<Account>, NoMemory>
+    ensures { IfOk result (λ accounts. accounts.items ≡ values_of (parcels_in parcels.items)) }
 {
     let mut accounts = Vec::with_capacity(alloc, parcels.len())?;
     for parcel in parcels {
-        let (value, _) = parcel.into_parts();
-        accounts.push(value)?;
+        accounts.push(parcel.into_value())?;
     }
     Ok(accounts)
 }
@@ -150,20 +151,19 @@ fn settle<N: Naming>(
     Some(Settled::of(context.batch().base(), rows, accounts))
 }
 
-/// The settled day of its log and parcels by rising account, if these are the last ones of all touched accounts.
+/// The settled day of its log and last parcels by rising account, if these are those of all touched accounts.
 pub(crate) fn settle_log<N: Naming>(
     alloc: Global,
     context: &Context<N>,
     log: Vec<LogRow>,
-    parcels: Vec<Parcel<N>>,
+    parcels: Vec<LastParcel<N>>,
 ) -> Result<Settled, Lack>
     requires log { AreFirstRows N.day (length context.now.batch.now.instructions) log.items }
     ensures settled { IfOk result (λ s. IfSome N.day (λ d. s ≡ settled_day d)) }
     ensures of_book { IfOk result (λ s. IsOfBook context.now.book s) }
     ensures lack { IfErr result
         (LacksFor ((d : Day) → N.day ≡ Some d
-        → are_last (the_day context.now) context.now.plan (opened_accounts context.now.plan.openings)
-        (names_of parcels.items) ≡ false)) }
+        → have_accounts (opened_accounts context.now.plan.openings) (names_of (parcels_in parcels.items)) ≡ false)) }
 {
     context.is_day();
     value_is_last_touchers();
@@ -171,26 +171,26 @@ pub(crate) fn settle_log<N: Naming>(
     tails_are_last_touchers();
     settled_is_closing();
     settled_is_of_book();
-    if !are_last(context, &parcels) {
+    if !have_accounts(context, &parcels) {
         return Err(Lack::Foreign);
     }
     let closing = values(alloc, parcels)?;
     settle(context, log, closing).ok_or(Lack::Foreign)
 }
 
-// The settled day of replies by rising place and parcels by rising account, if they are those of all places and the
-// last ones of all touched accounts.
+// The settled day of replies by rising place and last parcels by rising account, if they are those of all places and of
+// all touched accounts.
 fn settle_sorted<N: Naming>(
     alloc: Global,
     context: &Context<N>,
     rows: Vec<Done<N>>,
-    parcels: Vec<Parcel<N>>,
+    parcels: Vec<LastParcel<N>>,
 ) -> Result<Settled, Lack>
     ensures settled { IfOk result (λ s. IfSome N.day (λ d. s ≡ settled_day d)) }
     ensures of_book { IfOk result (λ s. IsOfBook context.now.book s) }
     ensures lack { IfErr result (LacksFor ((d : Day) → N.day ≡ Some d
-        → are_outcomes (the_day context.now) context.now.plan (opened_accounts context.now.plan.openings)
-        (places_of rows.items) (names_of parcels.items) ≡ false)) }
+        → are_outcomes (the_day context.now) (opened_accounts context.now.plan.openings)
+        (places_of rows.items) (names_of (parcels_in parcels.items)) ≡ false)) }
 {
     context.is_day();
     value_is_last_touchers();
@@ -237,6 +237,24 @@ fn with_places<N: Naming>(
     Ok(done)
 }
 
+// The parcels as last ones, in their order. `NoMemory` also if one of them is no last one.
+fn last_parcels<N: Naming>(
+    alloc: Global,
+    context: &Context<N>,
+    parcels: Vec<Parcel<N>>,
+) -> Result<Vec<LastParcel<N>>, NoMemory>
+    ensures { IfOk result (λ lasts. parcels_in lasts.items ≡ parcels.items) }
+{
+    let mut lasts = Vec::with_capacity(alloc, parcels.len())?;
+    for parcel in parcels {
+        let Ok(last) = context.last_parcel(parcel) else {
+            return Err(NoMemory);
+        };
+        lasts.push(last)?;
+    }
+    Ok(lasts)
+}
+
 impl<N: Naming> Context<'_, N> {
     /// The settled day, from its log and the touched accounts after the last instruction, in any order. Takes no
     /// memory.
@@ -253,23 +271,24 @@ impl<N: Naming> Context<'_, N> {
         Settled::of(self.batch().base(), log, accounts)
     }
 
-    /// The settled day, from what is known of each instruction that was run and the parcels that were left at the end,
-    /// both in any order. What they are is known by their types; that none is missing and none stands twice is tested.
+    /// The settled day, from what is known of each instruction that was run and the last parcels, both in any order.
+    /// What they are is known by their types; that none is missing and none stands twice is tested.
     ///
     /// The time is linear in the replies and the parcels, sorting and look-ups apart.
     ///
     /// # Errors
-    /// `Memory` if memory ran out. `Foreign` if there is not exactly one reply for each place, or not exactly one
-    /// parcel, the last, for each touched account. If no day is named, also if they are of another context.
+    /// `Memory` if memory ran out. `Foreign` if there is not exactly one reply for each place, or not exactly one last
+    /// parcel for each touched account. If no day is named, also if they are of another context.
     pub fn gather_done(
         &self,
         alloc: Global,
         mut rows: Vec<Done<N>>,
-        mut parcels: Vec<Parcel<N>>,
+        mut parcels: Vec<LastParcel<N>>,
     ) -> Result<Settled, Lack>
         ensures settled { IfOk result (λ s. IfSome N.day (λ d. s ≡ settled_day d)) }
         ensures of_book { IfOk result (λ s. IsOfBook self.now.book s) }
-        ensures lack { IfErr result (LacksFor (AreNotAll N.day (places_of rows.items) (names_of parcels.items))) }
+        ensures lack { IfErr result (LacksFor (AreNotAll N.day (places_of rows.items)
+            (names_of (parcels_in parcels.items)))) }
     {
         last_toucher_is_last();
         tails_are_last_touchers();
@@ -297,6 +316,7 @@ impl<N: Naming> Context<'_, N> {
         ensures of_book { IfOk result (λ s. IsOfBook self.now.book s) }
     {
         let done = with_places(alloc, self, rows)?;
-        self.gather_done(alloc, done, parcels).or(Err(NoMemory))
+        let lasts = last_parcels(alloc, self, parcels)?;
+        self.gather_done(alloc, done, lasts).or(Err(NoMemory))
     }
 }

@@ -6,10 +6,11 @@ ghost use Rattle.reg_tasks.specs.Parcels.{names_of};
 
 use crate::context::Context;
 use crate::naming::Naming;
+use crate::needs::tail_in;
 use crate::parcel::Parcel;
 use reg_base::laws::each_footprint_is_sound;
 use reg_base::{AccountNo, NoMemory};
-use reg_plan::LikelySlots;
+use reg_plan::{Arrow, LikelySlots};
 use std::alloc::Global;
 
 /// The opening values of accounts that are in the book, in their order. The likely slots are those of the accounts.
@@ -47,7 +48,8 @@ impl<N: Naming> Context<'_, N> {
     }
 
     /// The opening value of the account that stands at this index of the footprint of a place, exactly if no arrow
-    /// leads to the place at that account. The place is counted from 1, the index from 0.
+    /// leads to the place at that account. The arrows are all that lead to the place: who opens several values of a
+    /// place looks them up once. The place is counted from 1, the index from 0.
     ///
     /// # Errors
     /// `NoMemory` if memory ran out.
@@ -55,10 +57,12 @@ impl<N: Naming> Context<'_, N> {
         &self,
         alloc: Global,
         place: u32,
+        arrows: &[Arrow],
         index: usize,
     ) -> Result<Option<Parcel<N>>, NoMemory>
         requires from_one { 1 ≤ place }
         requires within { place ≤ length self.now.batch.now.instructions }
+        requires arrows { arrows.now ≡ inward self.now.plan.arrows place }
         requires there { index < length (footprint_at (the_day self.now) place) }
         ensures first { IfOk result
             (λ p. is_some p ≡ (tail_of self.now.plan place
@@ -70,7 +74,7 @@ impl<N: Naming> Context<'_, N> {
     {
         each_footprint_is_sound();
         let account = self.touched_at(place)[index];
-        if self.tail_of(place, account) != 0 {
+        if tail_in(arrows, account) != 0 {
             return Ok(None);
         }
         let slot = self.likely_slots(place).at(index);

@@ -1,16 +1,20 @@
 //! Slots for parcels: one for each touched account, in the order of a plan's openings.
 
-ghost use Rattle.std.specs.Prelude.{◌≡◌, ℕ, ◌==◌, true, false, Some, None, nat_eq, length, map, is_some, OnOk, OnErr, IfOk, IfErr, if◌then◌else◌};
+ghost use Rattle.std.specs.Prelude.{◌≡◌, ℕ, ◌==◌, true, false, Some, None, nat_eq, length, map, is_some, MatchOption, OnOk, OnErr, IfOk, IfErr, if◌then◌else◌};
 ghost use Rattle.std.specs.Option.{option_map};
 ghost use Rattle.std.specs.List.{IsDistinct, list_all};
 ghost use Rattle.reg_base.specs.Footprint.{is_among};
 ghost use Rattle.reg_base.specs.Rising.{IsRising};
+ghost use Rattle.reg_tasks.specs.Contexts.{the_day};
+ghost use Rattle.reg_tasks.specs.Gathering.{is_last_there};
+ghost use Rattle.reg_tasks.specs.LastParcels.{parcels_in};
 ghost use Rattle.reg_tasks.specs.Parcels.{names_of};
 ghost use Rattle.reg_schedules.specs.Docks.{names_needed};
 ghost use Rattle.reg_tasks.specs.Slots.{opened_accounts, name_of, standing_in, laid_at, is_there, LacksFor};
 
 use crate::context::Context;
 use crate::lack::Lack;
+use crate::last_parcel::LastParcel;
 use crate::likely::find_slot;
 use crate::naming::Naming;
 use crate::needs::{is_named, tail_in};
@@ -185,20 +189,47 @@ pub(crate) fn lay_parcels<N: Naming>(
     true
 }
 
-/// The parcels of all slots.
+/// What stands in a slot, exactly if something does and it is what the last instruction left.
+pub(crate) fn last_there<N: Naming>(
+    context: &Context<N>,
+    slot: Option<Parcel<N>>,
+) -> Option<LastParcel<N>>
+    ensures { MatchOption result
+        (is_last_there (the_day context.now) context.now.plan (option_map name_of slot) ≡ false)
+        (λ last. (Some (name_of last.parcel) ≡ option_map name_of slot)
+        × (is_last_there (the_day context.now) context.now.plan (option_map name_of slot) ≡ true)) }
+{
+    let Some(parcel) = slot else {
+        return None;
+    };
+    match context.last_parcel(parcel) {
+        Ok(last) => Some(last),
+        Err(_) => None,
+    }
+}
+
+/// The last parcels that stand in all slots, in their order.
+///
+/// # Errors
+/// `Memory` if memory ran out. `Foreign` if a slot is empty, or if what stands in it is not what the last instruction
+/// left.
 pub(crate) fn empty_slots<N: Naming>(
     alloc: Global,
+    context: &Context<N>,
     slots: Vec<Option<Parcel<N>>>,
-) -> Result<Vec<Parcel<N>>, Lack>
-    ensures names { IfOk result (λ parcels. map Some (names_of parcels.items) ≡ map (option_map name_of) slots.items) }
-    ensures lack { IfErr result (LacksFor (list_all is_some (map (option_map name_of) slots.items) ≡ false)) }
+) -> Result<Vec<LastParcel<N>>, Lack>
+    ensures names { IfOk result
+        (λ lasts. map Some (names_of (parcels_in lasts.items)) ≡ map (option_map name_of) slots.items) }
+    ensures lack { IfErr result
+        (LacksFor (list_all (is_last_there (the_day context.now) context.now.plan)
+        (map (option_map name_of) slots.items) ≡ false)) }
 {
-    let mut parcels = Vec::with_capacity(alloc, slots.len())?;
+    let mut lasts = Vec::with_capacity(alloc, slots.len())?;
     for slot in slots {
-        let Some(parcel) = slot else {
+        let Some(last) = last_there(context, slot) else {
             return Err(Lack::Foreign);
         };
-        parcels.push(parcel)?;
+        lasts.push(last)?;
     }
-    Ok(parcels)
+    Ok(lasts)
 }

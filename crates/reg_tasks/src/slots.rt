@@ -201,7 +201,7 @@ impl<'c, 'a, N: Naming> Slots<'c, 'a, N> {
         last_toucher_is_last();
         tails_are_last_touchers();
         let Slots { context, slots, .. } = self;
-        let parcels = empty_slots(alloc, slots)?;
+        let parcels = empty_slots(alloc, context, slots)?;
         settle_log(alloc, context, log, parcels)
     }
 
@@ -219,7 +219,7 @@ impl<'c, 'a, N: Naming> Slots<'c, 'a, N> {
         last_toucher_is_last();
         tails_are_last_touchers();
         let Slots { context, slots, .. } = self;
-        let parcels = empty_slots(alloc, slots)?;
+        let parcels = empty_slots(alloc, context, slots)?;
         context.gather_done(alloc, done, parcels)
     }
 }

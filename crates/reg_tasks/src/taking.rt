@@ -14,10 +14,13 @@ ghost use Rattle.reg_tasks.specs.declared.lack.Lack.TheVariants.{Foreign};
 use crate::context::Context;
 use crate::lack::Lack;
 use crate::naming::Naming;
+use crate::needs::tail_in;
 use crate::parcel::Parcel;
+use crate::slot::last_there;
 use crate::task::Task;
 use crate::vault::Vault;
 use reg_base::AccountNo;
+use reg_plan::Arrow;
 use std::alloc::Global;
 
 // The opening values of accounts that instructions touch, in their order.
@@ -79,10 +82,10 @@ pub(crate) fn lay_slots<N: Naming>(
     ensures lack { IfErr result (λ lack. lack ≡ Foreign) }
 {
     for slot in slots {
-        let Some(parcel) = slot else {
+        let Some(last) = last_there(context, slot) else {
             return Err(Lack::Foreign);
         };
-        if vault.lay(context, parcel).is_err() {
+        if vault.lay(last).is_err() {
             return Err(Lack::Foreign);
         }
     }
@@ -90,11 +93,13 @@ pub(crate) fn lay_slots<N: Naming>(
 }
 
 impl<N: Naming> Vault<N> {
+    ghost use Rattle.reg_plan.specs.Plans.{inward};
     ghost use Rattle.reg_schedules.specs.Pool.{footprint_at, tail_of};
 
     /// The opening value of the account that stands at this index of the footprint of a place, exactly if no arrow
-    /// leads to the place at that account. The account is taken out. The place is counted from 1, the index from 0.
-    /// Takes no memory.
+    /// leads to the place at that account. The arrows are all that lead to the place: who opens several values of a
+    /// place looks them up once. The account is taken out. The place is counted from 1, the index from 0. Takes no
+    /// memory.
     ///
     /// # Errors
     /// `Foreign` if the account was taken out before.
@@ -102,10 +107,12 @@ impl<N: Naming> Vault<N> {
         &mut self,
         context: &Context<N>,
         place: u32,
+        arrows: &[Arrow],
         index: usize,
     ) -> Result<Option<Parcel<N>>, Lack>
         requires from_one { 1 ≤ place }
         requires within { place ≤ length context.now.batch.now.instructions }
+        requires arrows { arrows.now ≡ inward context.now.plan.arrows place }
         requires there { index < length (footprint_at (the_day context.now) place) }
         ensures first { IfOk result
             (λ p. is_some p ≡ (tail_of context.now.plan place
@@ -116,7 +123,7 @@ impl<N: Naming> Vault<N> {
         ensures lack { IfErr result (λ lack. lack ≡ Foreign) }
     {
         let account = context.touched_at(place)[index];
-        if context.tail_of(place, account) != 0 {
+        if tail_in(arrows, account) != 0 {
             return Ok(None);
         }
         let slot = context.likely_slots(place).at(index);

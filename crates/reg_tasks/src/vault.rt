@@ -5,8 +5,8 @@ ghost use Rattle.reg_base.specs.Rising.{IsRising};
 ghost use Rattle.reg_rules.specs.State.{numbers};
 ghost use Rattle.reg_tasks.specs.Lots.{HaveNumbers, AreHere, AreTouched, AreBack};
 
-use crate::collect::is_last;
 use crate::context::Context;
+use crate::last_parcel::LastParcel;
 use crate::laying::{count_back, mark, put_at, stand_at, vacate_at};
 use crate::lot::Lot;
 use crate::naming::Naming;
@@ -37,13 +37,12 @@ pub struct Vault<N: Naming> {
 
 impl<N: Naming> Vault<N> {
     ghost use Rattle.std.specs.Prelude.{◌==◌, ◌<◌, true, All, Some, is_some, slice_get, slice_index, IfErr, IfOk, IfSome, OnOk, IsTrue};
+    ghost use Rattle.reg_base.specs.Footprint.{is_among};
     ghost use Rattle.reg_base.specs.Touches.{is_touched};
+    ghost use Rattle.reg_rules.specs.State.{account};
     ghost use Rattle.reg_book.specs.Book.{directory_of};
     ghost use Rattle.reg_book.specs.Day.{closing_state};
-    ghost use Rattle.reg_tasks.specs.Contexts.{the_day};
-    ghost use Rattle.reg_tasks.specs.Gathering.{is_last};
     ghost use Rattle.reg_tasks.specs.Lots.{AreOfDay, back_count};
-    ghost use Rattle.reg_tasks.specs.Slots.{name_of};
     ghost use Rattle.reg_tasks.specs.declared.lot.Lot.TheVariants.{Here};
 
     /// The vault of the accounts of a book, of which none was taken out. If a day is named, the book must be the day's.
@@ -102,36 +101,33 @@ impl<N: Naming> Vault<N> {
         Parcel::new(value, 0, likely_slot)
     }
 
-    /// Lays an account back in its place, as its last instruction left it. Takes no memory.
+    /// Lays the last value of an account back in its place. Takes no memory.
     ///
     /// # Errors
-    /// The parcel as it was, if a later instruction needs it, or if there is no such account.
-    pub fn lay(&mut self, context: &Context<N>, parcel: Parcel<N>) -> Result<(), Parcel<N>>
-        ensures last { OnOk result (is_last (the_day context.now) context.now.plan (name_of parcel) ≡ true) }
-        ensures back { IfErr result (λ p. p ≡ parcel) }
+    /// The value as it was, if there is no such account.
+    pub fn lay(&mut self, last: LastParcel<N>) -> Result<(), LastParcel<N>>
+        ensures there { OnOk result (is_among (numbers self.old.accounts.items) last.parcel.value.number ≡ true) }
+        ensures laid { OnOk result (account self.new.accounts.items last.parcel.value.number ≡ Some last.parcel.value) }
+        ensures same_numbers { numbers self.new.accounts.items ≡ numbers self.old.accounts.items }
+        ensures back { IfErr result (λ l. l ≡ last) }
     {
-        let Some(index) = stand_at(&self.accounts, parcel.account()) else {
-            return Err(parcel);
+        let Some(index) = stand_at(&self.accounts, last.account()) else {
+            return Err(last);
         };
-        if !is_last(context, &parcel) {
-            return Err(parcel);
-        }
-        self.lay_at(context, index, parcel);
+        self.lay_at(index, last);
         Ok(())
     }
 
     // Lays a last value back at the index of its account.
-    fn lay_at(&mut self, context: &Context<N>, index: usize, parcel: Parcel<N>)
+    fn lay_at(&mut self, index: usize, last: LastParcel<N>)
         requires within { index < length self.old.accounts.items }
-        requires number { slice_index (numbers self.old.accounts.items) index ≡ parcel.value.number }
-        requires last { is_last (the_day context.now) context.now.plan (name_of parcel) ≡ true }
+        requires number { slice_index (numbers self.old.accounts.items) index ≡ last.parcel.value.number }
+        ensures laid { account self.new.accounts.items last.parcel.value.number ≡ Some last.parcel.value }
+        ensures same_numbers { numbers self.new.accounts.items ≡ numbers self.old.accounts.items }
     {
-        let _context = context;
         untouched_stay();
         value_is_last_touchers();
-        last_toucher_is_last();
-        tails_are_last_touchers();
-        let (value, _) = parcel.into_parts();
+        let value = last.into_value();
         mark(&mut self.lots, index, Lot::Back);
         put_at(&mut self.accounts, index, value);
     }

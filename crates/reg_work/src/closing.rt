@@ -2,17 +2,15 @@
 
 ghost use Rattle.std.specs.Prelude.{◌≡◌, ◌+◌, ◌≤◌, true, Some, length, IfOk, IfErr, IfSome, OnOk, MatchResult};
 ghost use Rattle.std.specs.List.{list_all};
+ghost use Rattle.reg_base.specs.Footprint.{is_among};
 ghost use Rattle.reg_base.specs.Rising.{IsRising};
 ghost use Rattle.reg_rules.specs.State.{numbers};
 ghost use Rattle.reg_book.specs.Day.{day_of, settled_day, closing_state, replies_of};
 ghost use Rattle.reg_book.specs.Fold.{replies_in};
 ghost use Rattle.reg_book.specs.Settled.{committed};
-ghost use Rattle.reg_tasks.specs.Contexts.{the_day};
-ghost use Rattle.reg_tasks.specs.Gathering.{is_last};
 ghost use Rattle.reg_tasks.specs.Lent.{lent_book, AreOfBook};
 ghost use Rattle.reg_tasks.specs.Lots.{AreOfDay};
 ghost use Rattle.reg_tasks.specs.Names.{IsNamed};
-ghost use Rattle.reg_tasks.specs.Parcels.{names_of};
 ghost use Rattle.reg_tasks.specs.declared.lack.Lack.TheVariants.{Foreign};
 ghost use Rattle.reg_work.specs.Faults.{are_workers, IsWorkFault};
 ghost use Rattle.reg_work.specs.Shifts.{AreShifts};
@@ -29,7 +27,7 @@ use reg_account::Account;
 use reg_base::{Batch, Directory, NoMemory, Rules};
 use reg_book::{Book, ClosedDay, closing_is_a_book, settled_is_closing};
 use reg_rules::{LogRow, Reply};
-use reg_tasks::{Context, Gate, Lack, Naming, Parcel, Slots, Vault};
+use reg_tasks::{Context, Gate, Lack, LastParcel, Naming, Slots, Vault};
 use std::alloc::Global;
 use std::marker::Brand;
 use std::sync::Wait;
@@ -43,17 +41,14 @@ struct Ended<N: Naming> {
     shifts: Vec<Shift<N>>,
 }
 
-// Lays parcels back into the vault.
-fn lay_back<N: Naming>(
-    context: &Context<N>,
-    vault: &mut Vault<N>,
-    parcels: Vec<Parcel<N>>,
-) -> Result<(), Lack>
-    ensures last { OnOk result (list_all (is_last (the_day context.now) context.now.plan) (names_of parcels.items) ≡ true) }
+// Lays last parcels back into the vault.
+fn lay_back<N: Naming>(vault: &mut Vault<N>, parcels: Vec<LastParcel<N>>) -> Result<(), Lack>
+    ensures there { OnOk result
+        (list_all (λ last. is_among (numbers vault.old.accounts.items) last.parcel.value.number) parcels.items ≡ true) }
     ensures lack { IfErr result (λ lack. lack ≡ Foreign) }
 {
-    for parcel in parcels {
-        if vault.lay(context, parcel).is_err() {
+    for last in parcels {
+        if vault.lay(last).is_err() {
             return Err(Lack::Foreign);
         }
     }
@@ -96,7 +91,7 @@ fn run_stealing<N: Naming + Send + Sync, R: Threads + Wait + Sync, G: Gate>(
         closing,
     } = work;
     for parcels in closing {
-        lay_back(context, &mut vault, parcels)?;
+        lay_back(&mut vault, parcels)?;
     }
     let accounts = close_vault(context, vault)?;
     let replies = context.gather_replies(alloc, done)?;

@@ -5,6 +5,7 @@ ghost use Rattle.reg_plan.specs.Plans.{inward};
 ghost use Rattle.reg_schedules.specs.Pool.{footprint_at};
 ghost use Rattle.reg_tasks.specs.Contexts.{the_day};
 
+use reg_plan::Arrow;
 use reg_tasks::{Context, Lack, Naming, Parcel, Task, Vault};
 use std::alloc::Global;
 
@@ -39,8 +40,8 @@ pub(crate) trait Opener<N: Naming> {
         ensures waits { IfOk result (λ t. is_some t ≡ (length (inward context.now.plan.arrows place) == 0)) }
         ensures place { IfOk result (λ t. IfSome t (λ t. t.place ≡ place)) };
 
-    /// The opening value of the account that stands at this index of the footprint of a place, exactly if no arrow
-    /// leads to the place at that account. The place is counted from 1, the index from 0.
+    /// The opening value of the account that stands at this index of the footprint of a place, exactly if none of the
+    /// arrows that lead to the place is at that account. The place is counted from 1, the index from 0.
     ///
     /// # Errors
     /// `Memory` if memory ran out. `Foreign` if an account is not there.
@@ -49,10 +50,12 @@ pub(crate) trait Opener<N: Naming> {
         alloc: Global,
         context: &Context<N>,
         place: u32,
+        arrows: &[Arrow],
         index: usize,
     ) -> Result<Option<Parcel<N>>, Lack>
         requires from_one { 1 ≤ place }
         requires within { place ≤ length context.now.batch.now.instructions }
+        requires arrows { arrows.now ≡ inward context.now.plan.arrows place }
         requires there { index < length (footprint_at (the_day context.now) place) };
 }
 
@@ -86,9 +89,10 @@ impl<N: Naming> Opener<N> for Copying {
         alloc: Global,
         context: &Context<N>,
         place: u32,
+        arrows: &[Arrow],
         index: usize,
     ) -> Result<Option<Parcel<N>>, Lack> {
-        Ok(context.opening_at(alloc, place, index)?)
+        Ok(context.opening_at(alloc, place, arrows, index)?)
     }
 }
 
@@ -116,8 +120,9 @@ impl<N: Naming> Opener<N> for Vault<N> {
         _alloc: Global,
         context: &Context<N>,
         place: u32,
+        arrows: &[Arrow],
         index: usize,
     ) -> Result<Option<Parcel<N>>, Lack> {
-        self.opening_at(context, place, index)
+        self.opening_at(context, place, arrows, index)
     }
 }

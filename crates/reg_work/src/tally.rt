@@ -15,7 +15,7 @@ use crate::work_loop::EndedWorker;
 use crate::worker::Worker;
 use reg_base::NoMemory;
 use reg_claim::{ClaimTable, Seat};
-use reg_tasks::{Done, Lack, Naming, Parcel, Ran};
+use reg_tasks::{Done, Lack, LastParcel, Naming, Ran};
 use std::alloc::Global;
 
 /// What all workers did: who ran what, the replies, and the values that no other instruction needs, worker by worker.
@@ -23,7 +23,7 @@ use std::alloc::Global;
 pub(crate) struct Work<N: Naming> {
     pub(crate) shifts: Vec<Shift<N>>,
     pub(crate) done: Vec<Done<N>>,
-    pub(crate) closing: Vec<Vec<Parcel<N>>>,
+    pub(crate) closing: Vec<Vec<LastParcel<N>>>,
 }
 
 impl<N: Naming> Work<N> {
@@ -48,7 +48,7 @@ impl<N: Naming> Work<N> {
         worker: u32,
         ran: Vec<Ran<N>>,
         done: Vec<Done<N>>,
-        closing: Vec<Parcel<N>>,
+        closing: Vec<LastParcel<N>>,
     ) -> Result<(), NoMemory>
         ensures done { OnOk result (self.new.done.items ≡ self.old.done.items ++ done.items) }
         ensures closing { OnOk result (joined self.new.closing.items ≡ joined self.old.closing.items ++ closing.items) }

@@ -2,7 +2,6 @@
 
 ghost use Rattle.std.specs.Prelude.{◌≡◌, ◌≤◌, [], length};
 ghost use Rattle.reg_claim.specs.Seats.{known, seat_table};
-ghost use Rattle.reg_schedules.specs.Pool.{leads_on};
 ghost use Rattle.reg_tasks.specs.Gathering.{places_of};
 ghost use Rattle.reg_deques.specs.Yards.{deques_of_pass};
 ghost use Rattle.reg_work.specs.Shifts.{places_ran};
@@ -13,7 +12,7 @@ use crate::shared::{Shared, SharedIds};
 use reg_base::NoMemory;
 use reg_claim::Seat;
 use reg_schedules::MOST_WORKERS;
-use reg_tasks::{Done, Gate, Lack, Naming, Parcel, Ran, Task};
+use reg_tasks::{Done, Gate, Lack, LastParcel, Naming, Parcel, Ran, Task};
 use reg_yard::{Owner, Pass};
 use std::alloc::Global;
 use std::marker::PhantomData;
@@ -28,7 +27,7 @@ pub(crate) struct Worker<N: Naming, I: SharedIds> {
     pub(crate) seat: Seat,
     pub(crate) ran: Vec<Ran<N>>,
     pub(crate) done: Vec<Done<N>>,
-    pub(crate) closing: Vec<Parcel<N>>,
+    pub(crate) closing: Vec<LastParcel<N>>,
     pub(crate) of: PhantomData<I>,
     pub(crate) ghost table_is: { seat_table seat ≡ I.table },
     pub(crate) ghost one_share: { (known seat).share ≡ 1 },
@@ -42,7 +41,10 @@ impl<N: Naming, I: SharedIds> Worker<N, I> {
     ghost use Rattle.std.specs.Option.{option_map};
     ghost use Rattle.reg_plan.specs.Plans.{inward};
     ghost use Rattle.reg_tasks.specs.Contexts.{the_day};
+    ghost use Rattle.reg_tasks.specs.Gathering.{is_last};
+    ghost use Rattle.reg_tasks.specs.LastParcels.{parcels_in};
     ghost use Rattle.reg_tasks.specs.Parcels.{values_of};
+    ghost use Rattle.reg_tasks.specs.Slots.{name_of};
     ghost use Rattle.reg_tasks.specs.Tasks.{task_of};
     ghost use Rattle.reg_deques.specs.Views.{with_put};
     ghost use Rattle.reg_deques.specs.Steps.{TakesOwn};
@@ -137,8 +139,9 @@ impl<N: Naming, I: SharedIds> Worker<N, I> {
         if let Some(task) = opener.open_task(alloc, shared.context, place)? {
             return self.put(task);
         }
+        let arrows = shared.context.arrows_to(place);
         for index in 0..shared.context.touched_at(place).len() {
-            if let Some(parcel) = opener.open_value(alloc, shared.context, place, index)? {
+            if let Some(parcel) = opener.open_value(alloc, shared.context, place, arrows, index)? {
                 self.deliver(rt, shared, parcel)?;
             }
         }
@@ -274,18 +277,17 @@ impl<N: Naming, I: SharedIds> Worker<N, I> {
         ensures all { OnOk result (execution.new.left.items ≡ []) }
     {
         while let Some(parcel) = execution.left.pop() {
-            self.hand_on_one(rt, shared, execution.ran.place(), parcel)?;
+            self.hand_on_one(rt, shared, parcel)?;
         }
         Ok(())
     }
 
-    // Hands on one parcel that the instruction at a place left. Most parcels are awaited, so their docks are asked
-    // first; one that comes back is kept, if no other instruction needs it.
+    // Hands on one parcel that an instruction left. Most parcels are awaited, so their docks are asked first; one that
+    // comes back is kept, if no other instruction needs it.
     fn hand_on_one<R: Wait>(
         &mut self,
         rt: &R,
         shared: &Shared<'_, N, I>,
-        place: u32,
         parcel: Parcel<N>,
     ) -> Result<(), Lack>
         ensures seat { self.new.seat ≡ self.old.seat }
@@ -294,27 +296,29 @@ impl<N: Naming, I: SharedIds> Worker<N, I> {
         ensures handed { OnOk result
             (IsDelivered N.day (goes_to shared.now.docks.context.now.plan (parcel_of parcel)) (parcel_of parcel)
             (owned self.old.owner) (owned self.new.owner)
-            ⊎ (self.new.closing.items ≡ self.old.closing.items ++ parcel ∷ [])) }
+            ⊎ (parcels_in self.new.closing.items ≡ parcels_in self.old.closing.items ++ parcel ∷ [])) }
     {
         match shared.docks.deliver(rt, parcel) {
             Ok(complete) => self.put_complete(complete),
-            Err(back) => self.keep(shared, place, back),
+            Err(back) => self.keep(shared, back),
         }
     }
 
-    // Keeps a parcel that no dock awaits.
-    fn keep(&mut self, shared: &Shared<'_, N, I>, place: u32, parcel: Parcel<N>) -> Result<(), Lack>
+    // Keeps a parcel that no dock awaits, if it is the last one of its account.
+    fn keep(&mut self, shared: &Shared<'_, N, I>, parcel: Parcel<N>) -> Result<(), Lack>
         ensures seat { self.new.seat ≡ self.old.seat }
         ensures work { (self.new.ran ≡ self.old.ran) × (self.new.done ≡ self.old.done) }
         ensures pass { self.new.pass ≡ self.old.pass }
         ensures owner { self.new.owner ≡ self.old.owner }
-        ensures kept { OnOk result (self.new.closing.items ≡ self.old.closing.items ++ parcel ∷ []) }
-        ensures last { OnOk result (1 ≤ place → place ≤ length shared.now.context.now.batch.now.instructions → leads_on shared.now.context.now.plan place parcel.value.number ≡ false) }
+        ensures kept { OnOk result
+            (parcels_in self.new.closing.items ≡ parcels_in self.old.closing.items ++ parcel ∷ []) }
+        ensures last { OnOk result
+            (is_last (the_day shared.now.context.now) shared.now.context.now.plan (name_of parcel) ≡ true) }
     {
-        if leads_on(shared, place, &parcel) {
+        let Ok(last) = shared.context.last_parcel(parcel) else {
             return Err(Lack::Foreign);
-        }
-        self.closing.push(parcel)?;
+        };
+        self.closing.push(last)?;
         Ok(())
     }
 
@@ -343,20 +347,4 @@ impl<N: Naming, I: SharedIds> Worker<N, I> {
         self.done.push_reserved(done);
         Ok(())
     }
-}
-
-// Whether another instruction needs a parcel that the instruction at a place left.
-fn leads_on<N: Naming, I: SharedIds>(
-    shared: &Shared<'_, N, I>,
-    place: u32,
-    parcel: &Parcel<N>,
-) -> bool
-    ensures { 1 ≤ place → place ≤ length shared.now.context.now.batch.now.instructions
-        → result ≡ leads_on shared.now.context.now.plan place parcel.now.value.number }
-{
-    let context = shared.context;
-    if place == 0 || place > context.batch().len() {
-        return false;
-    }
-    context.leads_on(place, parcel.account())
 }

@@ -8,6 +8,7 @@ use Rattle.reg_book.specs.Day.{Day}
 use Rattle.reg_schedules.proofs.Tails.{clash}
 use Rattle.reg_tasks.specs.Contexts.{the_day}
 use Rattle.reg_tasks.specs.Gathering.{AreOutcomes, are_outcomes, places_of}
+use Rattle.reg_tasks.specs.LastParcels.{parcels_in}
 use Rattle.reg_tasks.specs.Parcels.{names_of}
 use Rattle.reg_tasks.specs.Slots.{opened_accounts}
 use Rattle.reg_tasks.proofs.Names.{written_whole}
@@ -37,12 +38,12 @@ returns-clause-lack g c =
     let accounts = opened_accounts plan.openings in
     let rising : IsRising accounts = ∥∥₁_elim context.planned (Prim.hlevel props) (λ made. made.openings.rising) in
     err_more c.settle_sorted.result _ _ c.settle_sorted.ensures.lack (λ l lack. lack_from l lack (λ missing d e all.
-    let here : AreOutcomes (the_day context) (places_of c.args.rows.items) (names_of c.args.parcels.items) =
-    subst (λ (x : Day). AreOutcomes x (places_of c.args.rows.items) (names_of c.args.parcels.items)) (sym (context.named d e)) all in
-    let pass : are_outcomes (the_day context) plan accounts (places_of c.sort_done.new.rows) (names_of c.sort_parcels.new.parcels) ≡ true =
+    let here : AreOutcomes (the_day context) (places_of c.args.rows.items) (names_of (parcels_in c.args.parcels.items)) =
+    subst (λ (x : Day). AreOutcomes x (places_of c.args.rows.items) (names_of (parcels_in c.args.parcels.items))) (sym (context.named d e)) all in
+    let pass : are_outcomes (the_day context) accounts (places_of c.sort_done.new.rows) (names_of (parcels_in c.sort_parcels.new.parcels)) ≡ true =
     outcomes_pass c.tails_are_last_touchers.ensures c.last_toucher_is_last.ensures (the_day context) plan context.planned rising
     c.args.rows.items c.sort_done.new.rows c.args.parcels.items c.sort_parcels.new.parcels
     (subst (λ ds. IsPermutation ds c.sort_done.new.rows) c.deref_mut.ensures.value c.sort_done.ensures.same) c.sort_done.ensures.sorted
-    (subst (λ ps. IsPermutation ps c.sort_parcels.new.parcels) c.deref_mut-2.ensures.value c.sort_parcels.ensures.same) c.sort_parcels.ensures.sorted here in
-    clash (ap (λ ds. are_outcomes (the_day context) plan accounts (places_of ds) (names_of (take c.args.parcels.len (c.sort_parcels.new.parcels ++ drop (length c.sort_parcels.new.parcels) c.args.parcels.items)))) (rows_now g (goal.at.returns-clause-lack g c).After-settle_sorted)
-    ∙ ap (λ ps. are_outcomes (the_day context) plan accounts (places_of c.sort_done.new.rows) (names_of ps)) (parcels_now g (goal.at.returns-clause-lack g c).After-settle_sorted) ∙ pass) (missing d e)))
+    (subst (λ ls. IsPermutation ls c.sort_parcels.new.parcels) c.deref_mut-2.ensures.value c.sort_parcels.ensures.same) c.sort_parcels.ensures.sorted here in
+    clash (ap (λ ds. are_outcomes (the_day context) accounts (places_of ds) (names_of (parcels_in (take c.args.parcels.len (c.sort_parcels.new.parcels ++ drop (length c.sort_parcels.new.parcels) c.args.parcels.items))))) (rows_now g (goal.at.returns-clause-lack g c).After-settle_sorted)
+    ∙ ap (λ ls. are_outcomes (the_day context) accounts (places_of c.sort_done.new.rows) (names_of (parcels_in ls))) (parcels_now g (goal.at.returns-clause-lack g c).After-settle_sorted) ∙ pass) (missing d e)))

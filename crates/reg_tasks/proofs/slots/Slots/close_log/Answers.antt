@@ -5,10 +5,11 @@ use Rattle.reg_base.specs.Rising.{IsRising, count_up}
 use Rattle.reg_book.specs.Day.{Day}
 use Rattle.reg_schedules.proofs.Tails.{clash}
 use Rattle.reg_tasks.specs.Contexts.{the_day}
+use Rattle.reg_tasks.specs.LastParcels.{parcels_in}
 use Rattle.reg_tasks.specs.Parcels.{names_of}
 use Rattle.reg_tasks.specs.Slots.{opened_accounts, LacksFor, IsAtEnd}
 use Rattle.reg_tasks.specs.Standing.{stands}
-use Rattle.reg_tasks.proofs.AtEnd.{none_empty, last_at_end}
+use Rattle.reg_tasks.proofs.AtEnd.{accounts_of_end, all_last_there}
 use Rattle.reg_tasks.proofs.Placing.{lack_from, err_from, err_more}
 use Rattle.reg_tasks.proofs.slots.Slots.close_log.Goals as goal
 
@@ -20,7 +21,7 @@ returns-in_err-parcels-clause-lack g c =
     (λ l same. subst (LacksFor ((d : Day) → g.N.Naming.day ≡ Some d → ¬ (IsAtEnd d (count_up 1 (length d.batch.instructions)) (stands c.args.self)))) (sym same)
     (lack_from c.in_err-parcels.field-0.0 c.in_err-parcels.ensures.lack (λ missing d e ends.
     let here = subst (λ (x : Day). IsAtEnd x (count_up 1 (length x.batch.instructions)) (stands c.args.self)) (sym (context.named d e)) ends in
-    clash (none_empty c.tails_are_last_touchers.ensures c.last_toucher_is_last.ensures (the_day context) context.plan context.planned rising c.args.self.slots.items c.args.self.size _ here) missing)))
+    clash (all_last_there c.tails_are_last_touchers.ensures c.last_toucher_is_last.ensures (the_day context) context.plan context.planned rising c.args.self.slots.items c.args.self.size _ here) missing)))
 
 pub returns-clause-lack : goal.returns-clause-lack
 returns-clause-lack g c =
@@ -28,5 +29,5 @@ returns-clause-lack g c =
     let rising : IsRising (opened_accounts context.plan.openings) = ∥∥₁_elim context.planned (Prim.hlevel props) (λ made. made.openings.rising) in
     err_more c.settle_log.result _ _ c.settle_log.ensures.lack (λ l lack. lack_from l lack (λ missing d e ends.
     let here = subst (λ (x : Day). IsAtEnd x (count_up 1 (length x.batch.instructions)) (stands c.args.self)) (sym (context.named d e)) ends in
-    clash (last_at_end c.tails_are_last_touchers.ensures c.last_toucher_is_last.ensures (the_day context) context.plan context.planned rising c.args.self.slots.items c.args.self.size _
-    (names_of c.in_ok-parcels.parcels.items) c.in_ok-parcels.ensures.names here) (missing d e)))
+    clash (accounts_of_end c.tails_are_last_touchers.ensures c.last_toucher_is_last.ensures (the_day context) context.plan context.planned rising c.args.self.slots.items c.args.self.size _
+    (names_of (parcels_in c.in_ok-parcels.parcels.items)) c.in_ok-parcels.ensures.names here) (missing d e)))
