@@ -1,13 +1,13 @@
 //! The engine on devices that move one byte a call and fail at a call, which no run of the program can show for each
-//! call, and on a writer of the standard library whose flush fails.
+//! call, and on readers and writers of the standard library that fail at one call alone.
 
 ghost use Rattle.reg_front.specs.Faulting.{sink_of, source_of};
 ghost use Rattle.reg_front.specs.Streams.{CanFail};
 
-use reg_front::{Command, Counted, Faulty, FrontFault, run, run_plan};
+use reg_front::{Command, Counted, Faulty, FrontFault, run, run_plan, tell_fault};
 use std::alloc::Global;
 use std::io;
-use std::io::Write;
+use std::io::{Read, Write};
 use std::process::Abort;
 use std::sync::Wait;
 use std::thread::Threads;
@@ -94,10 +94,12 @@ fn settle<T: Threads + Wait + Sync + Abort>(
     (answer, writer)
 }
 
+// The first call that would fail comes right behind those that are needed.
 #[test]
 fn moves_a_text_byte_by_byte_for_each_number_of_workers(rt: HostRuntime) {
+    let behind = [DAY.len() + 2, REPORT.len() + 2];
     for workers in 1..9 {
-        let (answer, writer) = settle(&rt, rt.alloc(), workers, [0, 0]);
+        let (answer, writer) = settle(&rt, rt.alloc(), workers, behind);
         assert_eq!(rt; answer, Ok(()), "{workers} workers");
         assert_eq!(rt; writer.written(), REPORT.as_bytes(), "{workers} workers");
     }
@@ -123,10 +125,11 @@ fn reports_each_failed_write(rt: HostRuntime) {
     }
 }
 
-// Takes every byte, and fails to hand them on.
+// Takes every byte, and fails to hand them on at its first flush alone.
 #[derive(Drop)]
 struct Clogged {
     taken: usize,
+    flushes: usize,
 }
 
 impl Write for Clogged {
@@ -136,14 +139,21 @@ impl Write for Clogged {
     }
 
     fn flush(&mut self) -> io::Result<()> {
+        self.flushes = self.flushes.saturating_add(1);
+        if self.flushes > 1 {
+            return Ok(());
+        }
         Err(io::Error::from(io::ErrorKind::Other))
     }
 }
 
-// The plan of the day is `task,1,1` and `end`.
+// The plan of the day is `task,1,1` and `end`. A flush that failed is not tried again.
 #[test]
 fn reports_a_writer_of_which_the_flush_alone_fails(rt: HostRuntime) {
-    let mut clogged = Clogged { taken: 0 };
+    let mut clogged = Clogged {
+        taken: 0,
+        flushes: 0,
+    };
     let mut reader = Counted::new(DAY.as_bytes());
     let answer = run_plan(
         &rt,
@@ -153,4 +163,65 @@ fn reports_a_writer_of_which_the_flush_alone_fails(rt: HostRuntime) {
     );
     assert_eq!(rt; answer, Err(FrontFault::WriteFailed));
     assert_eq!(rt; clogged.taken, "task,1,1\nend\n".len());
+}
+
+#[test]
+fn hands_on_the_line_of_a_fault(rt: HostRuntime) {
+    let mut clogged = Clogged {
+        taken: 0,
+        flushes: 0,
+    };
+    tell_fault(FrontFault::Read, &mut Counted::new(&mut clogged));
+    assert_eq!(rt; clogged.taken, "read failed\n".len());
+    assert_eq!(rt; clogged.flushes, 1);
+}
+
+// A reader at its end and a writer, of which the first call alone fails, as one that a signal interrupts.
+#[derive(Drop)]
+struct Stumbling {
+    has_failed: bool,
+}
+
+impl Stumbling {
+    fn step(&mut self) -> io::Result<()> {
+        if self.has_failed {
+            return Ok(());
+        }
+        self.has_failed = true;
+        Err(io::Error::from(io::ErrorKind::Interrupted))
+    }
+}
+
+impl Read for Stumbling {
+    fn read(&mut self, _buf: &mut [u8]) -> io::Result<usize> {
+        self.step()?;
+        Ok(0)
+    }
+}
+
+impl Write for Stumbling {
+    fn write(&mut self, buf: &[u8]) -> io::Result<usize> {
+        self.step()?;
+        Ok(buf.len())
+    }
+
+    fn flush(&mut self) -> io::Result<()> {
+        self.step()
+    }
+}
+
+#[test]
+fn tries_no_failed_read_again(rt: HostRuntime) {
+    let mut reader = Counted::new(Stumbling { has_failed: false });
+    let mut writer = make_device(&rt, rt.alloc(), "", 0);
+    let answer = run_plan(&rt, rt.alloc(), &mut reader, &mut writer);
+    assert_eq!(rt; answer, Err(FrontFault::Read));
+}
+
+#[test]
+fn tries_no_failed_write_again(rt: HostRuntime) {
+    let mut reader = Counted::new(DAY.as_bytes());
+    let mut writer = Counted::new(Stumbling { has_failed: false });
+    let answer = run_plan(&rt, rt.alloc(), &mut reader, &mut writer);
+    assert_eq!(rt; answer, Err(FrontFault::WriteFailed));
 }
