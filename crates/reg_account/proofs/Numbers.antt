@@ -13,24 +13,31 @@ use Rattle.reg_account.specs.Laws.{counted, of_kind, NumberLaws}
 use Rattle.reg_account.proofs.RowFacts.{retired_pushed, retired_marked}
 use Rattle.reg_account.proofs.Changes.{unretired_found}
 
-raised : (h : Holdings) (own kind : AllowanceKind) (n : ℕ) → amount_of (with_amount h own (amount_of h own + n)) kind ≡ amount_of h kind + of_kind kind own n
+raised : (h : Holdings) (own kind : AllowanceKind) (n : ℕ) → amount_of (with_amount h own (amount_of h own + n)) kind
+    ≡ amount_of h kind + of_kind kind own n
 raised h General General n = refl
 raised h General Aviation n = omega arith
 raised h Aviation General n = omega arith
 raised h Aviation Aviation n = refl
 
-lowered : (h : Holdings) (own kind : AllowanceKind) (n : ℕ) → n ≤ amount_of h own → amount_of (with_amount h own (amount_of h own - n)) kind + of_kind kind own n ≡ amount_of h kind
+lowered : (h : Holdings) (own kind : AllowanceKind) (n : ℕ) → n ≤ amount_of h own
+    → amount_of (with_amount h own (amount_of h own - n)) kind + of_kind kind own n ≡ amount_of h kind
 lowered h General General n le = omega arith
 lowered h General Aviation n le = omega arith
 lowered h Aviation General n le = omega arith
 lowered h Aviation Aviation n le = omega arith
 
 -- a row that stands is either surrendered or deleted
-either-way : (kind : AllowanceKind) (row : RetirementRow) → row.reversed ≡ false → amount_in Surrendered kind row + amount_in Deleted kind row ≡ of_kind kind row.kind row.amount
+either-way : (kind : AllowanceKind) (row : RetirementRow) → row.reversed ≡ false
+    → amount_in Surrendered kind row + amount_in Deleted kind row ≡ of_kind kind row.kind row.amount
 either-way kind row stands =
-    ap (λ b. cond (is_same_retirement (retirement_of row.fate) Surrendered && (is_same_kind row.kind kind && not b)) row.amount 0 + cond (is_same_retirement (retirement_of row.fate) Deleted && (is_same_kind row.kind kind && not b)) row.amount 0) stands
+    ap (λ b. cond (is_same_retirement (retirement_of row.fate) Surrendered && (is_same_kind row.kind kind && not b))
+    row.amount 0 + cond (is_same_retirement (retirement_of row.fate) Deleted
+    && (is_same_kind row.kind kind && not b)) row.amount 0) stands
     ∙ go (retirement_of row.fate) (is_same_kind row.kind kind) where
-      go : (way : Retirement) (b : Bool) → cond (is_same_retirement way Surrendered && (b && true)) row.amount 0 + cond (is_same_retirement way Deleted && (b && true)) row.amount 0 ≡ cond b row.amount 0
+      go : (way : Retirement) (b : Bool)
+          → cond (is_same_retirement way Surrendered && (b && true)) row.amount 0
+          + cond (is_same_retirement way Deleted && (b && true)) row.amount 0 ≡ cond b row.amount 0
       go Surrendered true = omega arith
       go Surrendered false = refl
       go Deleted true = omega arith
@@ -49,6 +56,7 @@ number-laws = record {
       let e = raised a.held row.kind kind row.amount in
       let m = retired_marked a.rows number row Surrendered kind is.rows_fit.rise found in
       let w = either-way kind row can.stands in
-      let h : counted kind (unretired_row number a row) ≡ counted kind a + amount_in Deleted kind row = omega (arith, e, m, w) in
+      let h : counted kind (unretired_row number a row) ≡ counted kind a + amount_in Deleted kind row =
+      omega (arith, e, m, w) in
       ap (counted kind) (unretired_found a number row found) ∙ h;
 }

@@ -12,12 +12,14 @@ trust-laws = record {
       ap day (find_put (λ (t : TrustedEntry). t.account) 0 a.trusted new other (from_zero _ is.trusted_fit.rise))
       ∙ put (eqb new.account other) new (find (λ t. eqb t.account other) a.trusted);
   untrust = λ a gone other.
-      ap day (find_without (λ (t : TrustedEntry). t.account) gone other a.trusted) ∙ taken (eqb gone other) (find (λ t. eqb t.account other) a.trusted);
+      ap day (find_without (λ (t : TrustedEntry). t.account) gone other a.trusted)
+      ∙ taken (eqb gone other) (find (λ t. eqb t.account other) a.trusted);
 } where
   day : Option TrustedEntry → Option ℕ
   day o = option_map (λ t. t.effective) o
 
-  put : (b : Bool) (new : TrustedEntry) (o : Option TrustedEntry) → day (cond b (Some new) o) ≡ cond b (Some new.effective) (day o)
+  put : (b : Bool) (new : TrustedEntry) (o : Option TrustedEntry)
+      → day (cond b (Some new) o) ≡ cond b (Some new.effective) (day o)
   put true new o = refl
   put false new o = refl
 

@@ -1,5 +1,6 @@
 -- The value of one account, what is read of it, and the changes to it.
-use Rattle.std.specs.Prelude.{◌≡◌, ℕ, ◌+◌, ◌-◌, ◌<◌, ◌≤◌, ℤ, Bool, false, ◌==◌, ◌||◌, nat_lt, if◌then◌else◌, List, [], ◌∷◌, ◌++◌, find, length, Option, None, MatchOption}
+use Rattle.std.specs.Prelude.{◌≡◌, ℕ, ◌+◌, ◌-◌, ◌<◌, ◌≤◌, ℤ, Bool, false, ◌==◌, ◌||◌, nat_lt, if◌then◌else◌, List, []}
+use Rattle.std.specs.Prelude.{◌∷◌, ◌++◌, find, length, Option, None, MatchOption}
 use Rattle.std.specs.Option.{option_map_or}
 use Rattle.reg_base.specs.declared.limits.TheConstants.{MOST_HELD, MOST_RETIRED, MOST_TRUSTED, MOST_ROWS}
 use Rattle.reg_base.specs.declared.kinds.AccountKind.{AccountKind}
@@ -11,7 +12,8 @@ use Rattle.reg_account.specs.declared.parts.Holdings.{Holdings}
 use Rattle.reg_account.specs.declared.parts.AccountParts.{AccountParts}
 use Rattle.reg_account.specs.declared.parts.AccountFault.{AccountFault}
 use Rattle.reg_account.specs.declared.parts.AccountFault.TheVariants as fault
-use Rattle.reg_account.specs.declared.parts.AccountFault.TheVariants.{Holding, Users, Trusted, Rows, Retired, Emissions, Figures}
+use Rattle.reg_account.specs.declared.parts.AccountFault.TheVariants.{Holding, Users, Trusted, Rows, Retired, Emissions}
+use Rattle.reg_account.specs.declared.parts.AccountFault.TheVariants.{Figures}
 use Rattle.reg_account.specs.declared.corrections.Correction.{Correction}
 use Rattle.reg_account.specs.declared.users.Representative.{Representative}
 use Rattle.reg_account.specs.declared.trusted.TrustedEntry.{TrustedEntry}
@@ -23,8 +25,10 @@ pub use Rattle.reg_account.specs.Corrections.{CorrectionFits}
 use Rattle.reg_account.specs.Corrections.{factor_in, CorrectionsFit, is_factor_unfit, are_corrections_unfit}
 use Rattle.reg_account.specs.Users.{UsersFit, are_users_unfit}
 use Rattle.reg_account.specs.Trusted.{is_in_effect, with_entry, without_entry, TrustedFit, are_trusted_unfit}
-use Rattle.reg_account.specs.Rows.{retired_in, row_numbers, row_in, with_mark, retirement_of, AreBelow, RowsFit, RetiredFits, are_rows_unfit, is_too_much_retired}
-use Rattle.reg_account.specs.Years.{with_emission, with_figure, EmissionsFit, FiguresFit, are_emissions_unfit, are_figures_unfit}
+use Rattle.reg_account.specs.Rows.{retired_in, row_numbers, row_in, with_mark, retirement_of, AreBelow, RowsFit}
+use Rattle.reg_account.specs.Rows.{RetiredFits, are_rows_unfit, is_too_much_retired}
+use Rattle.reg_account.specs.Years.{with_emission, with_figure, EmissionsFit, FiguresFit, are_emissions_unfit}
+use Rattle.reg_account.specs.Years.{are_figures_unfit}
 
 -- an account as plain data; its correction is that of period 1, and its corrections are those of later periods
 pub record AccountValue : Type 0 where

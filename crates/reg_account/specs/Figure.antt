@@ -1,6 +1,7 @@
 -- The compliance status figure of a year: the allowances of both kinds surrendered for the period of the year, minus
 -- the emissions of the years from the first of the period up to this one, plus the correction factor of the period.
-use Rattle.std.specs.Prelude.{ℕ, ◌+◌, ◌-◌, ℤ, pos, ◌+ℤ◌, ◌-ℤ◌, Bool, false, not, ◌&&◌, List, [], find, Option, Some, None, Result, Ok, Err, unwrap_or, is_none, if◌then◌else◌}
+use Rattle.std.specs.Prelude.{ℕ, ◌+◌, ◌-◌, ℤ, pos, ◌+ℤ◌, ◌-ℤ◌, Bool, false, not, ◌&&◌, List, [], find, Option, Some}
+use Rattle.std.specs.Prelude.{None, Result, Ok, Err, unwrap_or, is_none, if◌then◌else◌}
 use Rattle.std.specs.List.{sum_by}
 use Rattle.std.specs.Option.{option_map_or}
 use Rattle.reg_base.specs.Rules.{RulesValue, period_of, period_with, is_year_of, is_in_period}

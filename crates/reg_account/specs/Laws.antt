@@ -12,8 +12,11 @@ use Rattle.reg_account.specs.declared.years.Figure.{Figure}
 use Rattle.reg_account.specs.declared.figure.FigureFault.{FigureFault}
 use Rattle.reg_account.specs.Trusted.{effective_in, EntryIsInRange}
 use Rattle.reg_account.specs.Rows.{is_same_kind, amount_in, row_in, FateFits, RowIsInRange}
-use Rattle.reg_account.specs.Years.{emissions_in, figure_in, FigureFits, EmissionFits, EmissionIsInRange, FigureIsInRange}
-use Rattle.reg_account.specs.Account.{AccountValue, held_by, retired_by, credited, debited, retired, unretired, with_trusted, without_trusted, with_status, with_emissions, with_determined, CanTrust, CanRetire, CanUnretire, CanUnretireRow, IsAccount}
+use Rattle.reg_account.specs.Years.{emissions_in, figure_in, FigureFits, EmissionFits, EmissionIsInRange}
+use Rattle.reg_account.specs.Years.{FigureIsInRange}
+use Rattle.reg_account.specs.Account.{AccountValue, held_by, retired_by, credited, debited, retired, unretired}
+use Rattle.reg_account.specs.Account.{with_trusted, without_trusted, with_status, with_emissions, with_determined}
+use Rattle.reg_account.specs.Account.{CanTrust, CanRetire, CanUnretire, CanUnretireRow, IsAccount}
 use Rattle.reg_account.specs.Figure.{figure_of, is_row_counted}
 
 -- each change keeps an account within its limits

@@ -1,5 +1,6 @@
 -- Surrenders and deletions, as rows by rising record number.
-use Rattle.std.specs.Prelude.{⊤, ℕ, ◌<◌, ◌≤◌, Bool, true, false, not, ◌==◌, ◌&&◌, ◌||◌, nat_lt, List, map, find, length, Option, if◌then◌else◌}
+use Rattle.std.specs.Prelude.{⊤, ℕ, ◌<◌, ◌≤◌, Bool, true, false, not, ◌==◌, ◌&&◌, ◌||◌, nat_lt, List, map, find, length}
+use Rattle.std.specs.Prelude.{Option, if◌then◌else◌}
 use Rattle.std.specs.List.{sum_by, list_any, AllByRecursion}
 use Rattle.reg_base.specs.declared.limits.TheConstants.{MOST_RETIRED, MOST_ROWS, MOST_PERIODS}
 use Rattle.reg_base.specs.declared.kinds.AllowanceKind.{AllowanceKind}

@@ -1,5 +1,6 @@
 -- Trusted account lists, by rising account number.
-use Rattle.std.specs.Prelude.{ℕ, ◌≤◌, Bool, false, not, ◌==◌, ◌||◌, nat_le, nat_lt, List, ◌∷◌, ◌++◌, map, find, filter, length, Option}
+use Rattle.std.specs.Prelude.{ℕ, ◌≤◌, Bool, false, not, ◌==◌, ◌||◌, nat_le, nat_lt, List, ◌∷◌, ◌++◌, map, find, filter}
+use Rattle.std.specs.Prelude.{length, Option}
 use Rattle.std.specs.Option.{option_map, option_map_or}
 use Rattle.std.specs.List.{AllByRecursion}
 use Rattle.reg_base.specs.declared.limits.TheConstants.{MOST_TRUSTED}

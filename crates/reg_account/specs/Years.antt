@@ -1,5 +1,6 @@
 -- What an account has for single years: its emissions and its determined figures, by rising year.
-use Rattle.std.specs.Prelude.{ℕ, ◌≤◌, ℤ, pos, ◌≤ℤ◌, ◌-ℤ◌, Bool, not, ◌==◌, ◌||◌, nat_lt, int_lt, List, ◌∷◌, ◌++◌, map, find, filter, Option}
+use Rattle.std.specs.Prelude.{ℕ, ◌≤◌, ℤ, pos, ◌≤ℤ◌, ◌-ℤ◌, Bool, not, ◌==◌, ◌||◌, nat_lt, int_lt, List, ◌∷◌, ◌++◌, map}
+use Rattle.std.specs.Prelude.{find, filter, Option}
 use Rattle.std.specs.Option.{option_map}
 use Rattle.std.specs.List.{AllByRecursion, list_any}
 use Rattle.reg_base.specs.declared.limits.TheConstants.{MOST_EMISSIONS, MOST_FIGURE}

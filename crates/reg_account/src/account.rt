@@ -46,7 +46,10 @@ impl Account {
     ghost use Rattle.reg_account.specs.Trusted.{effective_in, TrustedFit};
     ghost use Rattle.reg_account.specs.Rows.{row_in, surrendered_in, FateFits, RowsFit};
     ghost use Rattle.reg_account.specs.Years.{emissions_in, figure_in, EmissionsFit, FiguresFit, FigureFits};
-    ghost use Rattle.reg_account.specs.Account.{correction_of, held_by, retired_by, credited, debited, retired, unretired, trusts, with_trusted, without_trusted, with_status, with_emissions, with_determined, vacated, CanTrust, CanRetire, CanUnretire, IsAccount};
+    ghost use Rattle.reg_account.specs.Account.{correction_of, held_by, retired_by, credited, debited, retired};
+    ghost use Rattle.reg_account.specs.Account.{unretired, trusts, with_trusted, without_trusted, with_status};
+    ghost use Rattle.reg_account.specs.Account.{with_emissions, with_determined, vacated, CanTrust, CanRetire};
+    ghost use Rattle.reg_account.specs.Account.{CanUnretire, IsAccount};
     ghost use Rattle.reg_account.specs.Figure.{figure_of};
 
     /// The account with these parts, exactly if they have no fault. Takes no memory.

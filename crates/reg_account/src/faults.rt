@@ -3,11 +3,14 @@
 ghost use Rattle.std.specs.Prelude.{◌≡◌, ℤ};
 ghost use Rattle.std.specs.List.{list_any};
 ghost use Rattle.reg_base.specs.Rising.{is_rising_from};
-ghost use Rattle.reg_account.specs.Corrections.{correction_periods, is_factor_unfit, is_later_unfit, are_corrections_unfit};
+ghost use Rattle.reg_account.specs.Corrections.{correction_periods, is_factor_unfit, is_later_unfit};
+ghost use Rattle.reg_account.specs.Corrections.{are_corrections_unfit};
 ghost use Rattle.reg_account.specs.Users.{user_numbers, are_users_unfit};
 ghost use Rattle.reg_account.specs.Trusted.{trusted_numbers, are_trusted_unfit};
-ghost use Rattle.reg_account.specs.Rows.{row_numbers, is_fate_unfit, is_row_unfit, are_rows_unfit, is_too_much, is_too_much_retired};
-ghost use Rattle.reg_account.specs.Years.{emission_years, figure_years, is_emission_unfit, are_emissions_unfit, is_figure_unfit, are_figures_unfit};
+ghost use Rattle.reg_account.specs.Rows.{row_numbers, is_fate_unfit, is_row_unfit, are_rows_unfit, is_too_much};
+ghost use Rattle.reg_account.specs.Rows.{is_too_much_retired};
+ghost use Rattle.reg_account.specs.Years.{emission_years, figure_years, is_emission_unfit, are_emissions_unfit};
+ghost use Rattle.reg_account.specs.Years.{is_figure_unfit, are_figures_unfit};
 ghost use Rattle.reg_account.specs.Account.{account_of, account_has, first_account_fault};
 
 use crate::corrections::Correction;

@@ -5,7 +5,8 @@ ghost use Rattle.reg_base.specs.declared.limits.TheConstants.{MOST_RETIRED, MOST
 ghost use Rattle.reg_base.specs.Rising.{count_up};
 ghost use Rattle.reg_account.specs.Account.{CorrectionFits};
 ghost use Rattle.reg_account.specs.Years.{FigureFits};
-ghost use Rattle.reg_account.specs.Figure.{figure_of, years_counted, emitted_or_missing, surrendered_for, correction_added};
+ghost use Rattle.reg_account.specs.Figure.{figure_of, years_counted, emitted_or_missing, surrendered_for};
+ghost use Rattle.reg_account.specs.Figure.{correction_added};
 
 use crate::account::Account;
 use reg_base::{Rules, Year};

@@ -2,7 +2,8 @@
 
 ghost use Rattle.std.specs.Prelude.{◌≡◌, OnOk, OnErr, All};
 ghost use Rattle.reg_base.specs.Rising.{IsRising};
-ghost use Rattle.reg_account.specs.Trusted.{trusted_numbers, effective_in, is_in_effect, with_entry, without_entry, EntryIsInRange};
+ghost use Rattle.reg_account.specs.Trusted.{trusted_numbers, effective_in, is_in_effect, with_entry, without_entry};
+ghost use Rattle.reg_account.specs.Trusted.{EntryIsInRange};
 
 use reg_base::{AccountNo, Day, FIRST_DAY, NoMemory};
 use smallvec::SmallVec;

@@ -2,7 +2,8 @@
 
 ghost use Rattle.std.specs.Prelude.{◌≡◌, OnOk, OnErr};
 ghost use Rattle.reg_base.specs.Rising.{IsRising};
-ghost use Rattle.reg_account.specs.Years.{emission_years, figure_years, emissions_in, figure_in, with_emission, with_figure};
+ghost use Rattle.reg_account.specs.Years.{emission_years, figure_years, emissions_in, figure_in, with_emission};
+ghost use Rattle.reg_account.specs.Years.{with_figure};
 
 use reg_base::{NoMemory, Year};
 

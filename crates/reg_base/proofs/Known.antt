@@ -11,10 +11,11 @@ in-option test None = refl
 in-option test (Some x) = and-true (test x)
 
 -- the first, those that receive, and the one beside them
-pub in-parts : (test : ℕ → Bool) (first : ℕ) (shared : List Share) (other : Option ℕ)
+pub in-all-three : (test : ℕ → Bool) (first : ℕ) (shared : List Share) (other : Option ℕ)
     → list_all test ((first ∷ map (λ (share : Share). share.to) shared) ++ option_to_list other)
     ≡ ((test first && list_all (λ share. test share.to) shared) && option_map_or test other true)
-in-parts test first shared other =
+in-all-three test first shared other =
     list_all-append test (first ∷ map (λ (share : Share). share.to) shared) (option_to_list other)
-    ∙ ap (λ b. (test first && b) && list_all test (option_to_list other)) (list_all-map test (λ (share : Share). share.to) shared)
+    ∙ ap (λ b. (test first && b) && list_all test (option_to_list other))
+    (list_all-map test (λ (share : Share). share.to) shared)
     ∙ ap (λ b. (test first && list_all (λ share. test share.to) shared) && b) (in-option test other)

@@ -11,7 +11,8 @@ last_toucher-last d is a zero = record {
 }
 last_toucher-last d is a (suc j) = by (touches_at d is a j) refl (last_toucher-last d is a j)
   where
-    by : (b : Bool) → touches_at d is a j ≡ b → IsLastToucher d is a j (last_toucher d is a j) → IsLastToucher d is a (suc j) (cond b (suc j) (last_toucher d is a j))
+    by : (b : Bool) → touches_at d is a j ≡ b → IsLastToucher d is a j (last_toucher d is a j)
+        → IsLastToucher d is a (suc j) (cond b (suc j) (last_toucher d is a j))
     by true touched before = record {
       among = omega arith;
       toucher = λ k e. ap (touches_at d is a) (omega (arith, e)) ∙ touched;

@@ -1,9 +1,12 @@
 -- The accounts that an instruction reads or changes.
-use Rattle.std.specs.Prelude.{◌≡◌, ℕ, ◌+◌, ◌≤◌, Bool, IsTrue, not, ◌==◌, nat_eq, List, [], ◌∷◌, ◌++◌, map, length, filter, All, if◌then◌else◌}
+use Rattle.std.specs.Prelude.{◌≡◌, ℕ, ◌+◌, ◌≤◌, Bool, IsTrue, not, ◌==◌, nat_eq, List, [], ◌∷◌, ◌++◌, map, length}
+use Rattle.std.specs.Prelude.{filter, All, if◌then◌else◌}
 use Rattle.std.specs.Option.{option_to_list}
 use Rattle.std.specs.List.{list_all, list_any, IsDistinct}
 use Rattle.reg_base.specs.declared.act.Act.{Act}
-use Rattle.reg_base.specs.declared.act.Act.TheVariants.{Transfer, Surrender, Delete, ReturnExcess, Reverse, Create, CentralMove, Distribute, Trust, Untrust, SetStatus, EnterEmissions, Assess}
+use Rattle.reg_base.specs.declared.act.Act.TheVariants.{Transfer, Surrender, Delete, ReturnExcess, Reverse, Create}
+use Rattle.reg_base.specs.declared.act.Act.TheVariants.{CentralMove, Distribute, Trust, Untrust, SetStatus}
+use Rattle.reg_base.specs.declared.act.Act.TheVariants.{EnterEmissions, Assess}
 use Rattle.reg_base.specs.Acts.{shares, parties, also_known}
 use Rattle.reg_base.specs.Directory.{DirectoryValue, is_known}
 

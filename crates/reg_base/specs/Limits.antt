@@ -1,6 +1,10 @@
 -- The limits of this profile, each as a number.
 use Rattle.std.specs.Prelude.{◌≡◌, pos}
-use Rattle.reg_base.specs.declared.limits.TheConstants.{MOST_ACCOUNTS, MOST_INSTRUCTIONS, MOST_ADMINISTRATORS, MOST_NUMBER, MOST_RECORD, MOST_HELD, MOST_RETIRED, MOST_USERS, MOST_TRUSTED, MOST_ROWS, MOST_EMISSIONS, MOST_FIGURE, MOST_CORRECTION, MOST_LAG, FIRST_YEAR, LAST_YEAR, FIRST_DAY, LAST_DAY, MOST_SHARES, MOST_TOUCHED, MOST_PERIODS}
+use Rattle.reg_base.specs.declared.limits.TheConstants.{MOST_ACCOUNTS, MOST_INSTRUCTIONS, MOST_ADMINISTRATORS}
+use Rattle.reg_base.specs.declared.limits.TheConstants.{MOST_NUMBER, MOST_RECORD, MOST_HELD, MOST_RETIRED, MOST_USERS}
+use Rattle.reg_base.specs.declared.limits.TheConstants.{MOST_TRUSTED, MOST_ROWS, MOST_EMISSIONS, MOST_FIGURE}
+use Rattle.reg_base.specs.declared.limits.TheConstants.{MOST_CORRECTION, MOST_LAG, FIRST_YEAR, LAST_YEAR, FIRST_DAY}
+use Rattle.reg_base.specs.declared.limits.TheConstants.{LAST_DAY, MOST_SHARES, MOST_TOUCHED, MOST_PERIODS}
 
 -- law: each limit is this number
 pub record LimitsAreTheseNumbers : Type 0 where

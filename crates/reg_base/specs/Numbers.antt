@@ -1,6 +1,7 @@
 -- The ranges of the numbers that the registry uses.
 use Rattle.std.specs.Prelude.{ℕ, ◌≤◌}
-use Rattle.reg_base.specs.declared.limits.TheConstants.{MOST_NUMBER, MOST_RECORD, FIRST_DAY, LAST_DAY, FIRST_YEAR, LAST_YEAR}
+use Rattle.reg_base.specs.declared.limits.TheConstants.{MOST_NUMBER, MOST_RECORD, FIRST_DAY, LAST_DAY, FIRST_YEAR}
+use Rattle.reg_base.specs.declared.limits.TheConstants.{LAST_YEAR}
 
 -- the number is not below the lowest, and not above the highest
 pub record IsWithin (lowest highest n : ℕ) : Type 0 where

@@ -3,7 +3,8 @@
 ghost use Rattle.std.specs.Prelude.{◌≡◌, ◌<◌, ◌≤◌, ◌^◌, ◌==◌, [], ◌∷◌, ◌++◌, All, length, map};
 ghost use Rattle.std.specs.List.{list_any};
 ghost use Rattle.reg_base.specs.declared.limits.TheConstants.{MOST_SHARES};
-ghost use Rattle.reg_base.specs.Acts.{parties_of, other_known, amounts_of, amounts_named, tonnes_named, record_named, years_named, others_named};
+ghost use Rattle.reg_base.specs.Acts.{parties_of, other_known, amounts_of, amounts_named, tonnes_named, record_named};
+ghost use Rattle.reg_base.specs.Acts.{years_named, others_named};
 ghost use Rattle.reg_base.specs.Footprint.{each_once};
 ghost use Rattle.reg_base.specs.Numbers.{IsAccountNo, IsRecordNo, IsYearNo};
 

@@ -1,5 +1,6 @@
 -- Days one after another, by induction on the list of days.
-use Rattle.std.proofs.Common.{◌≡◌, ℕ, zero, suc, ◌+◌, ◌<◌, ◌≤◌, List, [], ◌∷◌, ◌++◌, take, length, Some, refl, sym, ap, subst, ◌∙◌, arith}
+use Rattle.std.proofs.Common.{◌≡◌, ℕ, zero, suc, ◌+◌, ◌<◌, ◌≤◌, List, [], ◌∷◌, ◌++◌, take, length, Some, refl, sym, ap}
+use Rattle.std.proofs.Common.{subst, ◌∙◌, arith}
 use Rattle.std.specs.Prelude.{All, slice_get}
 use Rattle.std.specs.Option.{option_map}
 use Rattle.std.proofs.lemmas.List.{map-append, take_all}
@@ -18,7 +19,9 @@ use Rattle.reg_book.specs.Fold.{state_after}
 use Rattle.reg_book.specs.Day.{Day, IsDay, setting, state_at, value_at, log_of, closing_state, settled_day}
 use Rattle.reg_book.specs.Laws.{CommittedIsClosing, ClosedStays, NumbersStay, StaysReady, SettledIsOfBook}
 use Rattle.reg_book.specs.Conservation.{created, deleted, undeleted, FoldConserves}
-use Rattle.reg_book.specs.Chains.{book_after, book_after_days, book_at, IsChain, IsChainByHand, MayBecome, instructions_in, log_of_days, created_in, deleted_in, undeleted_in, ChainLeavesABook, ChainKeepsAccounts, ChainLaws}
+use Rattle.reg_book.specs.Chains.{book_after, book_after_days, book_at, IsChain, IsChainByHand, MayBecome}
+use Rattle.reg_book.specs.Chains.{instructions_in, log_of_days, created_in, deleted_in, undeleted_in, ChainLeavesABook}
+use Rattle.reg_book.specs.Chains.{ChainKeepsAccounts, ChainLaws}
 use Rattle.reg_book.proofs.Folds.{size-rows_of, count-rows_of}
 use Rattle.reg_book.proofs.Overlays.{kept_after}
 
@@ -31,21 +34,27 @@ counted_on first zero more =
 counted_on first (suc some) more =
     let all : suc some + more ≡ suc (some + more) = omega arith in
     let same : first + 1 + some ≡ first + suc some = omega arith in
-    ap (λ n. count_up first n) all ∙ ap (λ ns. first ∷ ns) (counted_on (first + 1) some more ∙ ap (λ n. count_up (first + 1) some ++ count_up n more) same)
+    ap (λ n. count_up first n) all
+    ∙ ap (λ ns. first ∷ ns) (counted_on (first + 1) some more
+    ∙ ap (λ n. count_up (first + 1) some ++ count_up n more) same)
 
 -- what days add up to is what the first adds, and then the others
-instructions-first : (day : Day) (days : List Day) → instructions_in (day ∷ days) ≡ length day.batch.instructions + instructions_in days
+instructions-first : (day : Day) (days : List Day)
+    → instructions_in (day ∷ days) ≡ length day.batch.instructions + instructions_in days
 instructions-first day days = sum_by-cons (λ (d : Day). length d.batch.instructions) day days
 
 -- the log of a day has a number for each instruction, from the next record number on
-day-numbers : (day : Day) → IsDay day → record_numbers (log_of day) ≡ count_up day.book.next (length day.batch.instructions)
+day-numbers : (day : Day) → IsDay day
+    → record_numbers (log_of day) ≡ count_up day.book.next (length day.batch.instructions)
 day-numbers day kept =
     count-rows_of (setting day) day.book.accounts (day.batch.base + 1) day.batch.instructions
     ∙ ap (λ n. count_up n (length (log_of day))) kept.follows
-    ∙ ap (λ n. count_up day.book.next n) (size-rows_of (setting day) day.book.accounts (day.batch.base + 1) day.batch.instructions)
+    ∙ ap (λ n. count_up day.book.next n)
+    (size-rows_of (setting day) day.book.accounts (day.batch.base + 1) day.batch.instructions)
 
 -- the first days of a chain are one
-pub some-days : (book : BookValue) (days : List Day) (j : ℕ) → IsChainByHand book days → IsChainByHand book (take j days)
+pub some-days : (book : BookValue) (days : List Day) (j : ℕ) → IsChainByHand book days
+    → IsChainByHand book (take j days)
 some-days book [] zero chain = tt
 some-days book [] (suc j) chain = tt
 some-days book (day ∷ days) zero chain = tt
@@ -62,7 +71,8 @@ same-book left begun is = record {
 -- a chain without changes is one with them
 pub plain-chain : (book : BookValue) (days : List Day) → IsChain book days → IsChainByHand book days
 plain-chain book [] chain = tt
-plain-chain book (day ∷ days) chain = (chain.0, same-book book day.book chain.1, plain-chain (book_after day) days chain.2)
+plain-chain book (day ∷ days) chain =
+    (chain.0, same-book book day.book chain.1, plain-chain (book_after day) days chain.2)
 
 -- an account that is the same is closed like the other
 still_closed : (a : ℕ) (s t : State) → account t a ≡ account s a → status s a ≡ Some Closed → status t a ≡ Some Closed
@@ -76,7 +86,8 @@ module _ (closing : CommittedIsClosing) where
   next-after : (day : Day) → IsDay day → (book_after day).next ≡ day.book.next + length day.batch.instructions
   next-after day kept = ap (λ (b : BookValue). b.next) (closing day kept.book kept.follows)
 
-  numbered-days : (book : BookValue) (days : List Day) → IsChainByHand book days → record_numbers (log_of_days days) ≡ count_up book.next (instructions_in days)
+  numbered-days : (book : BookValue) (days : List Day) → IsChainByHand book days
+      → record_numbers (log_of_days days) ≡ count_up book.next (instructions_in days)
   numbered-days book [] chain = refl
   numbered-days book (day ∷ days) chain =
       let today = length day.batch.instructions in
@@ -84,10 +95,13 @@ module _ (closing : CommittedIsClosing) where
       let later : (book_after day).next ≡ book.next + today = next-after day chain.0 ∙ ap (λ n. n + today) from in
       map-append (λ (row : LogRow). row.number) (log_of day) (log_of_days days)
       ∙ ap (λ ns. ns ++ record_numbers (log_of_days days)) (day-numbers day chain.0 ∙ ap (λ n. count_up n today) from)
-      ∙ ap (λ ns. count_up book.next today ++ ns) (numbered-days (book_after day) days chain.2 ∙ ap (λ n. count_up n (instructions_in days)) later)
-      ∙ sym (ap (λ n. count_up book.next n) (instructions-first day days) ∙ counted_on book.next today (instructions_in days))
+      ∙ ap (λ ns. count_up book.next today ++ ns) (numbered-days (book_after day) days chain.2
+      ∙ ap (λ n. count_up n (instructions_in days)) later)
+      ∙ sym (ap (λ n. count_up book.next n) (instructions-first day days)
+      ∙ counted_on book.next today (instructions_in days))
 
-  next-days : (book : BookValue) (days : List Day) → IsChainByHand book days → (book_after_days book days).next ≡ book.next + instructions_in days
+  next-days : (book : BookValue) (days : List Day) → IsChainByHand book days
+      → (book_after_days book days).next ≡ book.next + instructions_in days
   next-days book [] chain = omega arith
   next-days book (day ∷ days) chain =
       let later = next-days (book_after day) days chain.2 in
@@ -103,32 +117,41 @@ module _ (closing : CommittedIsClosing) where
 
   module _ (stays : ClosedStays) where
     -- an account that some instruction left closed, or that was closed before, is so in the book that the day leaves
-    closed-day : (day : Day) → IsDay day → (a i : ℕ) → status (state_at day i) a ≡ Some Closed → account (book_after day).accounts a ≡ value_at day a i
+    closed-day : (day : Day) → IsDay day → (a i : ℕ) → status (state_at day i) a ≡ Some Closed
+        → account (book_after day).accounts a ≡ value_at day a i
     closed-day day kept a i closed =
         let is = day.batch.instructions in
         let all : closing_state day ≡ state_at day (i + length is) =
-        ap (state_after (setting day) day.book.accounts (day.batch.base + 1)) (take_all (length is) is (omega arith) ∙ sym (take_all (i + length is) is (omega arith))) in
-        ap (λ (s : State). account s a) (accounts-after day kept ∙ all) ∙ stays day a i (i + length is) (omega arith) closed
+        ap (state_after (setting day) day.book.accounts (day.batch.base + 1)) (take_all (length is) is (omega arith)
+        ∙ sym (take_all (i + length is) is (omega arith))) in
+        ap (λ (s : State). account s a) (accounts-after day kept ∙ all)
+        ∙ stays day a i (i + length is) (omega arith) closed
 
-    closed-days : (book : BookValue) (days : List Day) (a : ℕ) → IsChainByHand book days → status book.accounts a ≡ Some Closed
+    closed-days : (book : BookValue) (days : List Day) (a : ℕ) → IsChainByHand book days
+        → status book.accounts a ≡ Some Closed
         → account (book_after_days book days).accounts a ≡ account book.accounts a
     closed-days book [] a chain closed = refl
     closed-days book (day ∷ days) a chain closed =
         let begun = chain.1.closed a closed in
         let still = closed-day day chain.0 a 0 (still_closed a book.accounts day.book.accounts begun closed) in
-        closed-days (book_after day) days a chain.2 (still_closed a book.accounts (book_after day).accounts (still ∙ begun) closed) ∙ still ∙ begun
+        closed-days (book_after day) days a chain.2
+        (still_closed a book.accounts (book_after day).accounts (still ∙ begun) closed) ∙ still ∙ begun
 
-    closed-between : (book : BookValue) (days : List Day) (a i j : ℕ) → IsChainByHand book days → i ≤ j → status (book_at book days i).accounts a ≡ Some Closed
+    closed-between : (book : BookValue) (days : List Day) (a i j : ℕ) → IsChainByHand book days → i ≤ j
+        → status (book_at book days i).accounts a ≡ Some Closed
         → account (book_at book days j).accounts a ≡ account (book_at book days i).accounts a
     closed-between book [] a zero zero chain le closed = refl
     closed-between book [] a zero (suc j) chain le closed = refl
     closed-between book [] a (suc i) zero chain le closed = refl
     closed-between book [] a (suc i) (suc j) chain le closed = refl
-    closed-between book (day ∷ days) a zero j chain le closed = closed-days book (take j (day ∷ days)) a (some-days book (day ∷ days) j chain) closed
+    closed-between book (day ∷ days) a zero j chain le closed =
+        closed-days book (take j (day ∷ days)) a (some-days book (day ∷ days) j chain) closed
     closed-between book (day ∷ days) a (suc i) zero chain le closed = absurd (omega (arith, le))
-    closed-between book (day ∷ days) a (suc i) (suc j) chain le closed = closed-between (book_after day) days a i j chain.2 (omega (arith, le)) closed
+    closed-between book (day ∷ days) a (suc i) (suc j) chain le closed =
+        closed-between (book_after day) days a i j chain.2 (omega (arith, le)) closed
 
-    closed-from : (book : BookValue) (days : List Day) (k : ℕ) (day : Day) (a i j : ℕ) → IsChainByHand book days → slice_get days k ≡ Some day → k < j
+    closed-from : (book : BookValue) (days : List Day) (k : ℕ) (day : Day) (a i j : ℕ) → IsChainByHand book days
+        → slice_get days k ≡ Some day → k < j
         → status (state_at day i) a ≡ Some Closed → account (book_at book days j).accounts a ≡ value_at day a i
     closed-from book [] zero day a i j chain at le closed = absurd cc
     closed-from book [] (suc k) day a i j chain at le closed = absurd cc
@@ -137,17 +160,22 @@ module _ (closing : CommittedIsClosing) where
         let is : x ≡ day = same_Some x day at in
         let own : status (state_at x i) a ≡ Some Closed = ap (λ (d : Day). status (state_at d i) a) is ∙ closed in
         let left = closed-day x chain.0 a i own in
-        closed-days (book_after x) (take j days) a (some-days (book_after x) days j chain.2) (still_closed a (state_at x i) (book_after x).accounts left own)
+        closed-days (book_after x) (take j days) a (some-days (book_after x) days j chain.2)
+        (still_closed a (state_at x i) (book_after x).accounts left own)
         ∙ left ∙ ap (λ (d : Day). value_at d a i) is
-    closed-from book (x ∷ days) (suc k) day a i (suc j) chain at le closed = closed-from (book_after x) days k day a i j chain.2 at (omega (arith, le)) closed
+    closed-from book (x ∷ days) (suc k) day a i (suc j) chain at le closed =
+        closed-from (book_after x) days k day a i j chain.2 at (omega (arith, le)) closed
 
-  conserved-days : FoldConserves → (book : BookValue) (days : List Day) → IsChainByHand book days → (kind : AllowanceKind)
-      → number_of kind (book_after_days book days).accounts + deleted_in days kind ≡ number_of kind book.accounts + created_in days kind + undeleted_in days kind
+  conserved-days : FoldConserves → (book : BookValue) (days : List Day) → IsChainByHand book days
+      → (kind : AllowanceKind)
+      → number_of kind (book_after_days book days).accounts + deleted_in days kind
+      ≡ number_of kind book.accounts + created_in days kind + undeleted_in days kind
   conserved-days conserves book [] chain kind = omega arith
   conserved-days conserves book (day ∷ days) chain kind =
       let later = conserved-days conserves (book_after day) days chain.2 kind in
       let today = conserves day chain.0 kind in
-      let left : number_of kind (book_after day).accounts ≡ number_of kind (closing_state day) = ap (number_of kind) (accounts-after day chain.0) in
+      let left : number_of kind (book_after day).accounts ≡ number_of kind (closing_state day) =
+      ap (number_of kind) (accounts-after day chain.0) in
       let begun : number_of kind day.book.accounts ≡ number_of kind book.accounts = chain.1.allowances kind in
       let created_first = sum_by-cons (λ (d : Day). created d kind) day days in
       let deleted_first = sum_by-cons (λ (d : Day). deleted d kind) day days in
@@ -168,7 +196,8 @@ module _ (closing : CommittedIsClosing) where
     numbered = λ book days chain. numbered-days book days (plain-chain book days chain);
     next = λ book days chain. next-days book days (plain-chain book days chain);
     closed = λ book days a i j chain. closed-between stays book days a i j (plain-chain book days chain);
-    closed_within = λ book days k day a i j chain. closed-from stays book days k day a i j (plain-chain book days chain);
+    closed_within = λ book days k day a i j chain.
+        closed-from stays book days k day a i j (plain-chain book days chain);
     conserved = λ book days chain. conserved-days conserves book days (plain-chain book days chain);
   }
 
@@ -177,7 +206,8 @@ module _ (closing : CommittedIsClosing) where
   book-day ready of_book day kept =
       let is = day.batch.instructions in
       let settled = settled_day day in
-      let size : length (log_of day) ≡ length is = size-rows_of (setting day) day.book.accounts (day.batch.base + 1) is in
+      let size : length (log_of day) ≡ length is =
+      size-rows_of (setting day) day.book.accounts (day.batch.base + 1) is in
       let fits = of_book day kept in
       let after = day.batch.base + length (log_of day) + 1 in
       (kept_after day.book.accounts (book_after day).accounts settled.accounts _ day.book.next after
@@ -191,4 +221,5 @@ module _ (closing : CommittedIsClosing) where
 
   pub book-days : StaysReady → SettledIsOfBook → ChainLeavesABook
   book-days ready of_book book [] kept chain = kept
-  book-days ready of_book book (day ∷ days) kept chain = book-days ready of_book (book_after day) days (book-day ready of_book day chain.0) chain.2
+  book-days ready of_book book (day ∷ days) kept chain =
+      book-days ready of_book (book_after day) days (book-day ready of_book day chain.0) chain.2

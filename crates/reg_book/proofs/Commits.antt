@@ -1,5 +1,6 @@
 -- A book with the settled day committed is the state after the instructions.
-use Rattle.std.proofs.Common.{◌≡◌, ℕ, ◌+◌, Bool, true, false, cond, eqb, List, [], ◌∷◌, map, length, Option, Some, None, refl, sym, ap, subst, ◌∙◌, arith}
+use Rattle.std.proofs.Common.{◌≡◌, ℕ, ◌+◌, Bool, true, false, cond, eqb, List, [], ◌∷◌, map, length, Option, Some, None}
+use Rattle.std.proofs.Common.{refl, sym, ap, subst, ◌∙◌, arith}
 use Rattle.std.specs.Prelude.{option_map, unwrap_or}
 use Rattle.std.specs.List.{IsDistinct}
 use Rattle.reg_base.specs.declared.instruction.Instruction.{Instruction}
@@ -36,16 +37,20 @@ at_number others a None named = refl
 at_number others a (Some v) named = ap (λ n. option_map (unwrap_or (account others n)) (Some v)) (named v refl)
 
 -- a change that keeps each number is a change of what the numbers lead to
-account-map : (f : AccountValue → AccountValue) → ((v : AccountValue) → (f v).number ≡ v.number) → (s : State) (a : ℕ) → account (map f s) a ≡ option_map f (account s a)
+account-map : (f : AccountValue → AccountValue) → ((v : AccountValue) → (f v).number ≡ v.number) → (s : State) (a : ℕ)
+    → account (map f s) a ≡ option_map f (account s a)
 account-map f keeps [] a = refl
 account-map f keeps (v ∷ vs) a =
-    ap (λ n. cond (eqb n a) (Some (f v)) (account (map f vs) a)) (keeps v) ∙ go (eqb v.number a) (account-map f keeps vs a)
+    ap (λ n. cond (eqb n a) (Some (f v)) (account (map f vs) a)) (keeps v)
+    ∙ go (eqb v.number a) (account-map f keeps vs a)
   where
-    go : (b : Bool) → account (map f vs) a ≡ option_map f (account vs a) → cond b (Some (f v)) (account (map f vs) a) ≡ option_map f (cond b (Some v) (account vs a))
+    go : (b : Bool) → account (map f vs) a ≡ option_map f (account vs a) → cond b (Some (f v)) (account (map f vs) a)
+        ≡ option_map f (cond b (Some v) (account vs a))
     go true more = refl
     go false more = more
 
-pub account-overlay : (s others : State) (a : ℕ) → account (overlay s others) a ≡ option_map (unwrap_or (account others a)) (account s a)
+pub account-overlay : (s others : State) (a : ℕ)
+    → account (overlay s others) a ≡ option_map (unwrap_or (account others a)) (account s a)
 account-overlay s others a =
     account-map (λ v. unwrap_or (account others v.number) v) (placed_number others) s a
     ∙ at_number others a (account s a) (λ v e. (found_in s a v e).1)
@@ -57,24 +62,32 @@ module _ (laws : StepLaws) where
       same-state laws (overlay s (touched_of c.directory is (state_after c s n is))) (state_after c s n is)
       (subst (IsDistinct eqb) (sym (numbers-fold laws c s n is)) distinct)
       (numbers-overlay s (touched_of c.directory is (state_after c s n is)) ∙ sym (numbers-fold laws c s n is))
-      (λ a. account-overlay s (touched_of c.directory is (state_after c s n is)) a ∙ at a (is_touched c.directory is a) refl)
+      (λ a. account-overlay s (touched_of c.directory is (state_after c s n is)) a
+      ∙ at a (is_touched c.directory is a) refl)
     where
       at : (a : ℕ) (b : Bool) → is_touched c.directory is a ≡ b
-          → option_map (unwrap_or (account (touched_of c.directory is (state_after c s n is)) a)) (account s a) ≡ account (state_after c s n is) a
+          → option_map (unwrap_or (account (touched_of c.directory is (state_after c s n is)) a)) (account s a)
+          ≡ account (state_after c s n is) a
       at a true touched =
-          laid_over (account (state_after c s n is) a) (account s a) (account (touched_of c.directory is (state_after c s n is)) a)
+          laid_over (account (state_after c s n is) a) (account s a)
+          (account (touched_of c.directory is (state_after c s n is)) a)
           (listing-fold laws c s n is a) (touched-account c.directory is (state_after c s n is) a touched)
       at a false untouched =
-          left_alone (account s a) (account (touched_of c.directory is (state_after c s n is)) a) (untouched-account c.directory is (state_after c s n is) a untouched)
+          left_alone (account s a) (account (touched_of c.directory is (state_after c s n is)) a)
+          (untouched-account c.directory is (state_after c s n is) a untouched)
           ∙ sym (others-fold laws c s n is a untouched)
 
   pub committed-closing : CommittedIsClosing
   committed-closing day kept begins =
       let size = size-rows_of (setting day) day.book.accounts (day.batch.base + 1) day.batch.instructions in
-      let counted : day.batch.base + length (log_of day) + 1 ≡ day.book.next + length day.batch.instructions = omega (arith, size, begins) in
-      let laid : overlay day.book.accounts (touched_of (setting day).directory day.batch.instructions (closing_state day)) ≡ closing_state day =
-      ap (λ (s : State). overlay day.book.accounts (touched_of (setting day).directory day.batch.instructions s)) (closing-all day)
-      ∙ overlay-closing (setting day) day.book.accounts (day.batch.base + 1) day.batch.instructions (rising-distinct day.book.accounts kept.rising)
+      let counted : day.batch.base + length (log_of day) + 1 ≡ day.book.next + length day.batch.instructions =
+      omega (arith, size, begins) in
+      let laid : overlay day.book.accounts
+      (touched_of (setting day).directory day.batch.instructions (closing_state day)) ≡ closing_state day =
+      ap (λ (s : State). overlay day.book.accounts (touched_of (setting day).directory day.batch.instructions s))
+      (closing-all day)
+      ∙ overlay-closing (setting day) day.book.accounts (day.batch.base + 1) day.batch.instructions
+      (rising-distinct day.book.accounts kept.rising)
       ∙ sym (closing-all day) in
       λ i. record { accounts = laid i; next = counted i }
 

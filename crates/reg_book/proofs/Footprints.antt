@@ -1,5 +1,6 @@
 -- The accounts of an instruction are looked up once each: whether all are known, and where they stand.
-use Rattle.std.proofs.Common.{◌≡◌, ℕ, ◌+◌, ◌<◌, ◌&&◌, Bool, true, false, cond, eqb, not, List, [], ◌∷◌, filter, length, get_or, take, Option, Some, None, refl, sym, ap, ◌∙◌, arith}
+use Rattle.std.proofs.Common.{◌≡◌, ℕ, ◌+◌, ◌<◌, ◌&&◌, Bool, true, false, cond, eqb, not, List, [], ◌∷◌, filter, length}
+use Rattle.std.proofs.Common.{get_or, take, Option, Some, None, refl, sym, ap, ◌∙◌, arith}
 use Rattle.std.specs.Prelude.{option_map, is_some}
 use Rattle.std.specs.Option.{option_map_or, option_to_list}
 use Rattle.std.specs.List.{list_all}
@@ -21,30 +22,41 @@ use Rattle.reg_book.proofs.Standing.{StandsAt}
 pub known-there : (s : State) (p a : ℕ) → StandsAt s p a → is_known (directory_of s) a ≡ true
 known-there s p a there =
     let within : p < length (numbers s) = omega (arith, there.within, length-numbers s) in
-    known-among s a ∙ is_among-contained (numbers s) a (p, within, get_or_default (numbers s) p a 0 within ∙ there.has_number)
+    known-among s a ∙ is_among-contained (numbers s) a (
+      p,
+      within,
+      get_or_default (numbers s) p a 0 within
+          ∙ there.has_number,
+    )
 
 pub unknown-absent : (s : State) (a : ℕ) → account s a ≡ None → is_known (directory_of s) a ≡ false
-unknown-absent s a none = ap is_some (get-directory_of s a ∙ ap (λ (o : Option AccountValue). option_map listing o) none)
+unknown-absent s a none =
+    ap is_some (get-directory_of s a ∙ ap (λ (o : Option AccountValue). option_map listing o) none)
 
 -- one number more is known
 pub known-more : (s : State) (wanted : List ℕ) (j a p : ℕ) → j < length wanted → a ≡ get_or wanted j a → StandsAt s p a
-    → list_all (is_known (directory_of s)) (take j wanted) ≡ true → list_all (is_known (directory_of s)) (take (j + 1) wanted) ≡ true
+    → list_all (is_known (directory_of s)) (take j wanted) ≡ true
+    → list_all (is_known (directory_of s)) (take (j + 1) wanted) ≡ true
 known-more s wanted j a p lt at there so_far =
     list_all_more (is_known (directory_of s)) wanted j a lt
     ∙ ap (λ b. b && is_known (directory_of s) (get_or wanted j a)) so_far
     ∙ ap (is_known (directory_of s)) (sym at) ∙ known-there s p a there
 
 -- one that is not there is enough
-pub unknown-one : (s : State) (wanted : List ℕ) (j a : ℕ) → j < length wanted → a ≡ get_or wanted j a → account s a ≡ None → list_all (is_known (directory_of s)) wanted ≡ false
+pub unknown-one : (s : State) (wanted : List ℕ) (j a : ℕ) → j < length wanted → a ≡ get_or wanted j a
+    → account s a ≡ None → list_all (is_known (directory_of s)) wanted ≡ false
 unknown-one s wanted j a lt at none =
-    list_all_at (is_known (directory_of s)) wanted j a lt (ap (is_known (directory_of s)) (sym at) ∙ unknown-absent s a none)
+    list_all_at (is_known (directory_of s)) wanted j a lt (ap (is_known (directory_of s)) (sym at)
+    ∙ unknown-absent s a none)
 
-all-filter : (p : ℕ → Bool) (x : ℕ) → p x ≡ true → (ys : List ℕ) → list_all p (filter (λ y. not (eqb y x)) ys) ≡ list_all p ys
+all-filter : (p : ℕ → Bool) (x : ℕ) → p x ≡ true → (ys : List ℕ) → list_all p (filter (λ y. not (eqb y x)) ys)
+    ≡ list_all p ys
 all-filter p x passes [] = refl
 all-filter p x passes (y ∷ ys) = by (eqb y x) refl (all-filter p x passes ys)
   where
     by : (b : Bool) → eqb y x ≡ b → list_all p (filter (λ z. not (eqb z x)) ys) ≡ list_all p ys
-        → list_all p (cond (not b) (y ∷ filter (λ z. not (eqb z x)) ys) (filter (λ z. not (eqb z x)) ys)) ≡ (p y && list_all p ys)
+        → list_all p (cond (not b) (y ∷ filter (λ z. not (eqb z x)) ys) (filter (λ z. not (eqb z x)) ys))
+        ≡ (p y && list_all p ys)
     by true same more = more ∙ sym (ap (λ b. b && list_all p ys) (ap p (eqb-true y x same) ∙ passes))
     by false other more = ap (λ b. p y && b) more
 
@@ -53,7 +65,8 @@ all-each_once : (p : ℕ → Bool) (xs : List ℕ) → list_all p (each_once xs)
 all-each_once p [] = refl
 all-each_once p (x ∷ xs) = by (p x) refl (all-each_once p xs)
   where
-    by : (b : Bool) → p x ≡ b → list_all p (each_once xs) ≡ list_all p xs → (b && list_all p (filter (λ y. not (eqb y x)) (each_once xs))) ≡ (b && list_all p xs)
+    by : (b : Bool) → p x ≡ b → list_all p (each_once xs) ≡ list_all p xs
+        → (b && list_all p (filter (λ y. not (eqb y x)) (each_once xs))) ≡ (b && list_all p xs)
     by true passes more = all-filter p x passes (each_once xs) ∙ more
     by false fails more = refl
 
@@ -66,16 +79,23 @@ in_two p (Some a) = by (p a) where
   by true = refl
   by false = refl
 
-pub known-in_two : (d : DirectoryValue) (act : Act) → all_known d act ≡ (list_all (is_known d) (each_once (parties act)) && option_map_or (is_known d) (also_known act) true)
+pub known-in_two : (d : DirectoryValue) (act : Act)
+    → all_known d act ≡ (list_all (is_known d) (each_once (parties act))
+    && option_map_or (is_known d) (also_known act) true)
 known-in_two d act =
     list_all-append (is_known d) (parties act) (option_to_list (also_known act))
-    ∙ ap (λ b. b && list_all (is_known d) (option_to_list (also_known act))) (sym (all-each_once (is_known d) (parties act)))
+    ∙ ap (λ b. b && list_all (is_known d) (option_to_list (also_known act)))
+    (sym (all-each_once (is_known d) (parties act)))
     ∙ ap (λ b. list_all (is_known d) (each_once (parties act)) && b) (in_two (is_known d) (also_known act))
 
-pub footprint-known : (d : DirectoryValue) (act : Act) → option_map_or (is_known d) (also_known act) true ≡ true → list_all (is_known d) (each_once (parties act)) ≡ true → each_once (parties act) ≡ footprint d act
+pub footprint-known : (d : DirectoryValue) (act : Act) → option_map_or (is_known d) (also_known act) true ≡ true
+    → list_all (is_known d) (each_once (parties act)) ≡ true → each_once (parties act) ≡ footprint d act
 footprint-known d act other known =
-    sym (ap (λ b. cond b (each_once (parties act)) []) (known-in_two d act ∙ ap (λ b. b && option_map_or (is_known d) (also_known act) true) known ∙ other))
+    sym (ap (λ b. cond b (each_once (parties act)) []) (known-in_two d act
+    ∙ ap (λ b. b && option_map_or (is_known d) (also_known act) true) known ∙ other))
 
-pub footprint-unknown : (d : DirectoryValue) (act : Act) → list_all (is_known d) (each_once (parties act)) ≡ false → [] ≡ footprint d act
+pub footprint-unknown : (d : DirectoryValue) (act : Act) → list_all (is_known d) (each_once (parties act)) ≡ false
+    → [] ≡ footprint d act
 footprint-unknown d act unknown =
-    sym (ap (λ b. cond b (each_once (parties act)) []) (known-in_two d act ∙ ap (λ b. b && option_map_or (is_known d) (also_known act) true) unknown))
+    sym (ap (λ b. cond b (each_once (parties act)) []) (known-in_two d act
+    ∙ ap (λ b. b && option_map_or (is_known d) (also_known act) true) unknown))

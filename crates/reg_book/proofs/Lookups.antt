@@ -1,5 +1,6 @@
 -- Finding accounts in lists made from other lists, and what a list is after its slice was written.
-use Rattle.std.proofs.Common.{◌≡◌, ℕ, zero, suc, ◌<◌, Bool, true, false, cond, eqb, ◌||◌, List, [], ◌∷◌, ◌++◌, filter, length, take, drop, Option, Some, None, refl, ap, ◌∙◌, arith}
+use Rattle.std.proofs.Common.{◌≡◌, ℕ, zero, suc, ◌<◌, Bool, true, false, cond, eqb, ◌||◌, List, [], ◌∷◌, ◌++◌, filter}
+use Rattle.std.proofs.Common.{length, take, drop, Option, Some, None, refl, ap, ◌∙◌, arith}
 use Rattle.std.specs.Prelude.{Contains}
 use Rattle.std.proofs.lemmas.List.{append-nil, take_all, drop_all}
 use Rattle.std.proofs.lemmas.Map.Keys.{IsDistinct-cons}
@@ -15,16 +16,19 @@ pub account-append_left : (xs ys : State) (a : ℕ) → is_among (numbers xs) a 
 account-append_left [] ys a among = absurd cc
 account-append_left (x ∷ xs) ys a among = by (eqb x.number a) among (account-append_left xs ys a)
   where
-    by : (b : Bool) → (b || is_among (numbers xs) a) ≡ true → (is_among (numbers xs) a ≡ true → account (xs ++ ys) a ≡ account xs a)
+    by : (b : Bool) → (b || is_among (numbers xs) a) ≡ true
+        → (is_among (numbers xs) a ≡ true → account (xs ++ ys) a ≡ account xs a)
         → cond b (Some x) (account (xs ++ ys) a) ≡ cond b (Some x) (account xs a)
     by true h more = refl
     by false h more = more h
 
-pub account-append_right : (xs ys : State) (a : ℕ) → is_among (numbers xs) a ≡ false → account (xs ++ ys) a ≡ account ys a
+pub account-append_right : (xs ys : State) (a : ℕ) → is_among (numbers xs) a ≡ false
+    → account (xs ++ ys) a ≡ account ys a
 account-append_right [] ys a among = refl
 account-append_right (x ∷ xs) ys a among = by (eqb x.number a) among (account-append_right xs ys a)
   where
-    by : (b : Bool) → (b || is_among (numbers xs) a) ≡ false → (is_among (numbers xs) a ≡ false → account (xs ++ ys) a ≡ account ys a)
+    by : (b : Bool) → (b || is_among (numbers xs) a) ≡ false
+        → (is_among (numbers xs) a ≡ false → account (xs ++ ys) a ≡ account ys a)
         → cond b (Some x) (account (xs ++ ys) a) ≡ account ys a
     by true h more = absurd cc
     by false h more = more h
@@ -50,7 +54,8 @@ all_among P (n ∷ ns) holds = (
 )
 
 -- the accounts that pass a test of their numbers
-pub account-filter : (p : ℕ → Bool) (s : State) (a : ℕ) → account (filter (λ v. p v.number) s) a ≡ cond (p a) (account s a) None
+pub account-filter : (p : ℕ → Bool) (s : State) (a : ℕ) → account (filter (λ v. p v.number) s) a
+    ≡ cond (p a) (account s a) None
 account-filter p [] a = by (p a)
   where
     by : (b : Bool) → ◌≡◌ {A = Option AccountValue} None (cond b None None)
@@ -60,11 +65,14 @@ account-filter p (x ∷ xs) a = by (p x.number) (eqb x.number a) refl refl (p a)
   where
     by : (kept same : Bool) → p x.number ≡ kept → eqb x.number a ≡ same → (wanted : Bool) → p a ≡ wanted
         → account (filter (λ v. p v.number) xs) a ≡ cond wanted (account xs a) None
-        → account (cond kept (x ∷ filter (λ v. p v.number) xs) (filter (λ v. p v.number) xs)) a ≡ cond wanted (cond same (Some x) (account xs a)) None
+        → account (cond kept (x ∷ filter (λ v. p v.number) xs) (filter (λ v. p v.number) xs)) a
+        ≡ cond wanted (cond same (Some x) (account xs a)) None
     by true true k e true w more = rw e refl
-    by true true k e false w more = absurd (let n : x.number ≡ a = eqb-true x.number a e in let h : p x.number ≡ p a = ap p n in cc)
+    by true true k e false w more =
+        absurd (let n : x.number ≡ a = eqb-true x.number a e in let h : p x.number ≡ p a = ap p n in cc)
     by true false k e wanted w more = rw e more
-    by false true k e true w more = absurd (let n : x.number ≡ a = eqb-true x.number a e in let h : p x.number ≡ p a = ap p n in cc)
+    by false true k e true w more =
+        absurd (let n : x.number ≡ a = eqb-true x.number a e in let h : p x.number ≡ p a = ap p n in cc)
     by false true k e false w more = more
     by false false k e wanted w more = more
 
@@ -73,7 +81,8 @@ numbers-filter p [] = refl
 numbers-filter p (x ∷ xs) = by (p x.number) (numbers-filter p xs)
   where
     by : (b : Bool) → numbers (filter (λ v. p v.number) xs) ≡ filter p (numbers xs)
-        → numbers (cond b (x ∷ filter (λ v. p v.number) xs) (filter (λ v. p v.number) xs)) ≡ cond b (x.number ∷ filter p (numbers xs)) (filter p (numbers xs))
+        → numbers (cond b (x ∷ filter (λ v. p v.number) xs) (filter (λ v. p v.number) xs))
+        ≡ cond b (x.number ∷ filter p (numbers xs)) (filter p (numbers xs))
     by true more = ap (λ ns. x.number ∷ ns) more
     by false more = more
 
@@ -81,7 +90,8 @@ numbers-filter p (x ∷ xs) = by (p x.number) (numbers-filter p xs)
 pub is_among-contained : (ns : List ℕ) (a : ℕ) → Contains ns a → is_among ns a ≡ true
 is_among-contained [] a (k, lt, is) = absurd (omega arith)
 is_among-contained (n ∷ ns) a (zero, lt, is) = or_true_left (eqb n a) (is_among ns a) (eq-eqb n a is)
-is_among-contained (n ∷ ns) a (suc k, lt, is) = or_true_right (eqb n a) (is_among ns a) (is_among-contained ns a (k, omega arith, is))
+is_among-contained (n ∷ ns) a (suc k, lt, is) =
+    or_true_right (eqb n a) (is_among ns a) (is_among-contained ns a (k, omega arith, is))
 
 pub not_contained : (ns : List ℕ) (a : ℕ) → is_among ns a ≡ false → Contains ns a → ⊥
 not_contained ns a absent there = let h = is_among-contained ns a there in cc
@@ -102,7 +112,8 @@ pub rising-distinct : (s : State) → IsRising (numbers s) → IsDistinct eqb (n
 rising-distinct s rising = rises-distinct 0 (numbers s) (rises_from 0 (numbers s) rising (λ some. omega arith))
 
 -- a slice that was written as a whole
-pub written_whole : {X : Type 0} (now new : List X) (len : ℕ) → len ≡ length now → length new ≡ length now → take len (new ++ drop (length new) now) ≡ new
+pub written_whole : {X : Type 0} (now new : List X) (len : ℕ) → len ≡ length now → length new ≡ length now
+    → take len (new ++ drop (length new) now) ≡ new
 written_whole now new len size kept =
     ap (λ l. take len (new ++ l)) (drop_all (length new) now (omega (arith, kept)))
     ∙ ap (take len) (append-nil new) ∙ take_all len new (omega (arith, size, kept))

@@ -39,8 +39,13 @@ stands-at s p a holds = by (nat_lt p (length s)) refl
     by : (b : Bool) → nat_lt p (length s) ≡ b → StandsAt s p a
     by true h =
         let lt : p < length s = grind (arith, h) in
-        record { within = lt; has_number = get_or-map (λ (v : AccountValue). v.number) s p (numbered a) 0 lt ∙ holds (numbered a) }
+        record {
+          within = lt;
+          has_number = get_or-map (λ (v : AccountValue). v.number) s p (numbered a) 0 lt
+              ∙ holds (numbered a);
+        }
     by false h =
         let past : length s ≤ p = grind (arith, h) in
-        let other : suc a ≡ a = ap (λ (v : AccountValue). v.number) (sym (get_or_past s p (numbered (suc a)) past)) ∙ holds (numbered (suc a)) in
+        let other : suc a ≡ a = ap (λ (v : AccountValue). v.number) (sym (get_or_past s p (numbered (suc a)) past))
+        ∙ holds (numbered (suc a)) in
         absurd (omega (arith, other))

@@ -10,14 +10,19 @@ use Rattle.reg_rules.specs.Laws.{StepLaws}
 
 module _ (laws : StepLaws) where
   pub reply-local : (c : Setting) (s t : State) (n : ℕ) (i : Instruction)
-      → AllByRecursion (λ a. account s a ≡ account t a) (footprint c.directory i.act) → (step c s n i).1 ≡ (step c t n i).1
-  reply-local c s t n i same = (laws.local c s t n i (All-from_recursion (λ a. account s a ≡ account t a) (footprint c.directory i.act) same)).0
+      → AllByRecursion (λ a. account s a ≡ account t a) (footprint c.directory i.act)
+      → (step c s n i).1 ≡ (step c t n i).1
+  reply-local c s t n i same =
+      (laws.local c s t n i (All-from_recursion (λ a. account s a ≡ account t a) (footprint c.directory i.act) same)).0
 
   pub after-local : (c : Setting) (s t : State) (n : ℕ) (i : Instruction)
       → AllByRecursion (λ a. account s a ≡ account t a) (footprint c.directory i.act)
       → (a : ℕ) → account s a ≡ account t a → account (step c s n i).0 a ≡ account (step c t n i).0 a
-  after-local c s t n i same = (laws.local c s t n i (All-from_recursion (λ a. account s a ≡ account t a) (footprint c.directory i.act) same)).1
+  after-local c s t n i same =
+      (laws.local c s t n i (All-from_recursion (λ a. account s a ≡ account t a) (footprint c.directory i.act) same)).1
 
   -- states with the same numbers and the same accounts are one
-  pub one-state : (s t : State) → IsDistinct eqb (numbers s) → numbers s ≡ numbers t → AllByRecursion (λ a. account s a ≡ account t a) (numbers s) → s ≡ t
-  one-state s t distinct same agree = laws.same_state s t distinct same (All-from_recursion (λ a. account s a ≡ account t a) (numbers s) agree)
+  pub one-state : (s t : State) → IsDistinct eqb (numbers s) → numbers s ≡ numbers t
+      → AllByRecursion (λ a. account s a ≡ account t a) (numbers s) → s ≡ t
+  one-state s t distinct same agree =
+      laws.same_state s t distinct same (All-from_recursion (λ a. account s a ≡ account t a) (numbers s) agree)

@@ -1,9 +1,12 @@
 -- An instruction on accounts in another order, and on the first of them alone.
-use Rattle.std.proofs.Common.{Result, Ok, Err, ◌≡◌, ◌≢◌, ℕ, zero, suc, ◌+◌, ◌<◌, ◌≤◌, Bool, true, false, cond, eqb, List, [], ◌∷◌, ◌++◌, map, length, get_or, set, take, drop, refl, sym, ap, subst, ◌∙◌, inl, inr, arith}
+use Rattle.std.proofs.Common.{Result, Ok, Err, ◌≡◌, ◌≢◌, ℕ, zero, suc, ◌+◌, ◌<◌, ◌≤◌, Bool, true, false, cond, eqb}
+use Rattle.std.proofs.Common.{List, [], ◌∷◌, ◌++◌, map, length, get_or, set, take, drop, refl, sym, ap, subst, ◌∙◌, inl}
+use Rattle.std.proofs.Common.{inr, arith}
 use Rattle.std.specs.List.{IsDistinct, All, AllByRecursion, swap}
 use Rattle.std.proofs.lemmas.Bool.{cases_eq, eqb-true, eqb-false, ne_eqb}
 use Rattle.std.specs.Result.{IfOk}
-use Rattle.std.proofs.lemmas.List.{map-append, map-set, take-append-drop, take-map, take-set-le, take_more, append_assoc, same_lists, length-map, get_or-map}
+use Rattle.std.proofs.lemmas.List.{map-append, map-set, take-append-drop, take-map, take-set-le, take_more}
+use Rattle.std.proofs.lemmas.List.{append_assoc, same_lists, length-map, get_or-map}
 use Rattle.std.proofs.lemmas.List.Edits.{length-swap, swapped_from_swap, map_over_more}
 use Rattle.std.specs.Cmp.{nat_eq_equiv}
 use Rattle.std.proofs.lemmas.List.Sorted.{IsPermutation-swap, IsPermutation-map, All-permutation}
@@ -27,9 +30,11 @@ pair-of a b x y e h = λ i. (e i, h i)
 
 module _ (laws : StepLaws) where
   -- states with the same numbers and the same accounts are one
-  pub same-state : (s t : State) → IsDistinct eqb (numbers t) → numbers s ≡ numbers t → ((a : ℕ) → account s a ≡ account t a) → s ≡ t
+  pub same-state : (s t : State) → IsDistinct eqb (numbers t) → numbers s ≡ numbers t
+      → ((a : ℕ) → account s a ≡ account t a) → s ≡ t
   same-state s t distinct same agree =
-      one-state laws s t (subst (IsDistinct eqb) (sym same) distinct) same (all_among (λ a. account s a ≡ account t a) (numbers s) (λ a _. agree a))
+      one-state laws s t (subst (IsDistinct eqb) (sym same) distinct) same
+      (all_among (λ a. account s a ≡ account t a) (numbers s) (λ a _. agree a))
 
   -- the first accounts are those that the instruction touches: the others stay beside them
   pub turn-at_front : (c : Setting) (s own : State) (n : ℕ) (i : Instruction) (reply : Reply) (count : ℕ)
@@ -40,14 +45,18 @@ module _ (laws : StepLaws) where
   turn-at_front c s own n i reply count distinct touched stepped =
       let whole : front ++ back ≡ s = take-append-drop count s in
       let agree = all_among (λ a. account front a ≡ account s a) (footprint c.directory i.act)
-      (λ a h. sym (account-append_left front back a (ap (λ ns. is_among ns a) touched ∙ h)) ∙ ap (λ t. account t a) whole) in
-      let numbers_own : numbers own ≡ numbers front = ap (λ (r : State × Reply). numbers r.0) stepped ∙ laws.numbers_stay c front n i in
+      (λ a h. sym (account-append_left front back a (ap (λ ns. is_among ns a) touched ∙ h))
+      ∙ ap (λ t. account t a) whole) in
+      let numbers_own : numbers own ≡ numbers front =
+      ap (λ (r : State × Reply). numbers r.0) stepped ∙ laws.numbers_stay c front n i in
       let same_numbers : numbers (own ++ back) ≡ numbers (step c s n i).0 =
       map-append (λ (v : AccountValue). v.number) own back ∙ ap (λ ns. ns ++ numbers back) numbers_own
-      ∙ sym (map-append (λ (v : AccountValue). v.number) front back) ∙ ap numbers whole ∙ sym (laws.numbers_stay c s n i) in
+      ∙ sym (map-append (λ (v : AccountValue). v.number) front back) ∙ ap numbers whole
+      ∙ sym (laws.numbers_stay c s n i) in
       let distinct_after = subst (IsDistinct eqb) (sym (laws.numbers_stay c s n i)) distinct in
       pair-of (own ++ back) (step c s n i).0 reply (step c s n i).1
-      (same-state (own ++ back) (step c s n i).0 distinct_after same_numbers (λ a. at a (is_among (numbers front) a) refl agree numbers_own))
+      (same-state (own ++ back) (step c s n i).0 distinct_after same_numbers
+      (λ a. at a (is_among (numbers front) a) refl agree numbers_own))
       (ap (λ (r : State × Reply). r.1) stepped ∙ reply-local laws c front s n i agree)
     where
       front : State
@@ -61,7 +70,8 @@ module _ (laws : StepLaws) where
           → numbers own ≡ numbers front
           → account (own ++ back) a ≡ account (step c s n i).0 a
       at a true there agree numbers_own =
-          let here : account front a ≡ account s a = sym (account-append_left front back a there) ∙ ap (λ t. account t a) (take-append-drop count s) in
+          let here : account front a ≡ account s a =
+          sym (account-append_left front back a there) ∙ ap (λ t. account t a) (take-append-drop count s) in
           account-append_left own back a (ap (λ ns. is_among ns a) numbers_own ∙ there)
           ∙ ap (λ (r : State × Reply). account r.0 a) stepped
           ∙ after-local laws c front s n i agree a here
@@ -69,18 +79,21 @@ module _ (laws : StepLaws) where
           account-append_right own back a (ap (λ ns. is_among ns a) numbers_own ∙ gone)
           ∙ sym (account-append_right front back a gone)
           ∙ ap (λ t. account t a) (take-append-drop count s)
-          ∙ sym (laws.others_stay c s n i a (not_contained (footprint c.directory i.act) a (sym (ap (λ ns. is_among ns a) touched) ∙ gone)))
+          ∙ sym (laws.others_stay c s n i a
+          (not_contained (footprint c.directory i.act) a (sym (ap (λ ns. is_among ns a) touched) ∙ gone)))
 
   pub front-turn : {E : Type 0} (c : Setting) (s own : State) (n : ℕ) (i : Instruction) (r : Result Reply E) (count : ℕ)
       → IsDistinct eqb (numbers s) → take count (numbers s) ≡ footprint c.directory i.act
       → IfOk r (λ reply. ◌≡◌ {A = State × Reply} (own, reply) (step c (take count s) n i))
       → IfOk r (λ reply. ◌≡◌ {A = State × Reply} (own ++ drop count s, reply) (step c s n i))
   front-turn c s own n i (Ok reply) count distinct touched stepped =
-      turn-at_front c s own n i reply count distinct (sym (take-map (λ (v : AccountValue). v.number) count s) ∙ touched) stepped
+      turn-at_front c s own n i reply count distinct (sym (take-map (λ (v : AccountValue). v.number) count s)
+      ∙ touched) stepped
   front-turn c s own n i (Err e) count distinct touched stepped = tt
 
 -- a swap made twice is none
-swap-twice : {X : Type 0} (s t u : List X) (a b : ℕ) → a < length s → b < length s → t ≡ swap s a b → u ≡ swap t a b → u ≡ s
+swap-twice : {X : Type 0} (s t u : List X) (a b : ℕ) → a < length s → b < length s → t ≡ swap s a b → u ≡ swap t a b
+    → u ≡ s
 swap-twice s t u a b a_in b_in first second =
     let size : length t ≡ length s = ap length first ∙ length-swap s a b in
     same_lists u s (ap length second ∙ length-swap t a b ∙ size) (λ k d lt.
@@ -94,15 +107,18 @@ swap-twice s t u a b a_in b_in first second =
       ]
     ])
 
-map-swap : {X Y : Type 0} (f : X → Y) (xs : List X) (a b : ℕ) → a < length xs → b < length xs → map f (swap xs a b) ≡ swap (map f xs) a b
+map-swap : {X Y : Type 0} (f : X → Y) (xs : List X) (a b : ℕ) → a < length xs → b < length xs
+    → map f (swap xs a b) ≡ swap (map f xs) a b
 map-swap f [] a b a_in b_in = refl
 map-swap f (d ∷ ys) a b a_in b_in =
     map-set f (set (d ∷ ys) a (get_or (d ∷ ys) b d)) b (get_or (d ∷ ys) a d)
     ∙ ap (λ l. set l b (f (get_or (d ∷ ys) a d))) (map-set f (d ∷ ys) a (get_or (d ∷ ys) b d))
     ∙ ap (λ y. set (set (f d ∷ map f ys) a y) b (f (get_or (d ∷ ys) a d))) (sym (get_or-map f (d ∷ ys) b d (f d) b_in))
-    ∙ ap (λ y. set (set (f d ∷ map f ys) a (get_or (f d ∷ map f ys) b (f d))) b y) (sym (get_or-map f (d ∷ ys) a d (f d) a_in))
+    ∙ ap (λ y. set (set (f d ∷ map f ys) a (get_or (f d ∷ map f ys) b (f d))) b y)
+    (sym (get_or-map f (d ∷ ys) a d (f d) a_in))
 
-pub numbers-swap : (s t : State) (a b : ℕ) → a < length s → b < length s → t ≡ swap s a b → numbers t ≡ swap (numbers s) a b
+pub numbers-swap : (s t : State) (a b : ℕ) → a < length s → b < length s → t ≡ swap s a b
+    → numbers t ≡ swap (numbers s) a b
 numbers-swap s t a b a_in b_in is = ap numbers is ∙ map-swap (λ (v : AccountValue). v.number) s a b a_in b_in
 
 pub size-numbers : (s : State) → length (numbers s) ≡ length s
@@ -117,36 +133,51 @@ module _ (laws : StepLaws) where
       → ◌≡◌ {A = State × Reply} (after, reply) (step c s n i)
   turn-swapped c s t own after n i reply a b a_in b_in distinct there stepped back =
       let numbers_t : numbers t ≡ swap (numbers s) a b = numbers-swap s t a b a_in b_in there in
-      let numbers_own : numbers own ≡ numbers t = ap (λ (r : State × Reply). numbers r.0) stepped ∙ laws.numbers_stay c t n i in
-      let size : length own ≡ length s = sym (size-numbers own) ∙ ap length numbers_own ∙ size-numbers t ∙ ap length there ∙ length-swap s a b in
-      let numbers_after : numbers after ≡ swap (numbers t) a b = numbers-swap own after a b (omega (arith, size)) (omega (arith, size)) back ∙ ap (λ ns. swap ns a b) numbers_own in
-      let same_numbers : numbers after ≡ numbers s = swap-twice (numbers s) (numbers t) (numbers after) a b (omega (arith, size-numbers s)) (omega (arith, size-numbers s)) numbers_t numbers_after in
-      let found : (x : ℕ) → account s x ≡ account t x = account-permutation s t distinct (IsPermutation-swap s t a b a_in b_in there) in
+      let numbers_own : numbers own ≡ numbers t =
+      ap (λ (r : State × Reply). numbers r.0) stepped ∙ laws.numbers_stay c t n i in
+      let size : length own ≡ length s =
+      sym (size-numbers own) ∙ ap length numbers_own ∙ size-numbers t ∙ ap length there ∙ length-swap s a b in
+      let numbers_after : numbers after ≡ swap (numbers t) a b =
+      numbers-swap own after a b (omega (arith, size)) (omega (arith, size)) back
+      ∙ ap (λ ns. swap ns a b) numbers_own in
+      let same_numbers : numbers after
+      ≡ numbers s = swap-twice (numbers s) (numbers t) (numbers after) a b (omega (arith, size-numbers s))
+      (omega (arith, size-numbers s)) numbers_t numbers_after in
+      let found : (x : ℕ) → account s x ≡ account t x =
+      account-permutation s t distinct (IsPermutation-swap s t a b a_in b_in there) in
       let agree = all_among (λ x. account t x ≡ account s x) (footprint c.directory i.act) (λ x _. sym (found x)) in
       let distinct_own : IsDistinct eqb (numbers own) =
-      subst (IsDistinct eqb) (sym numbers_own) (IsDistinct-IsPermutation eqb (λ x y. nat_eq_equiv.symm x y) (numbers s) (numbers t)
+      subst (IsDistinct eqb) (sym numbers_own)
+      (IsDistinct-IsPermutation eqb (λ x y. nat_eq_equiv.symm x y) (numbers s) (numbers t)
       (IsPermutation-map (λ (v : AccountValue). v.number) s t (IsPermutation-swap s t a b a_in b_in there)) distinct) in
       let found_own : (x : ℕ) → account own x ≡ account after x =
-      account-permutation own after distinct_own (IsPermutation-swap own after a b (omega (arith, size)) (omega (arith, size)) back) in
+      account-permutation own after distinct_own
+      (IsPermutation-swap own after a b (omega (arith, size)) (omega (arith, size)) back) in
       let distinct_after = subst (IsDistinct eqb) (sym (laws.numbers_stay c s n i)) distinct in
       pair-of after (step c s n i).0 reply (step c s n i).1
       (same-state laws after (step c s n i).0 distinct_after (same_numbers ∙ sym (laws.numbers_stay c s n i)) (λ x.
-      sym (found_own x) ∙ ap (λ (r : State × Reply). account r.0 x) stepped ∙ after-local laws c t s n i agree x (sym (found x))))
+      sym (found_own x) ∙ ap (λ (r : State × Reply). account r.0 x) stepped
+      ∙ after-local laws c t s n i agree x (sym (found x))))
       (ap (λ (r : State × Reply). r.1) stepped ∙ reply-local laws c t s n i agree)
 
-  pub swapped-turn : {E : Type 0} (c : Setting) (s t own after : State) (n : ℕ) (i : Instruction) (r : Result Reply E) (a b : ℕ)
+  pub swapped-turn : {E : Type 0} (c : Setting) (s t own after : State) (n : ℕ) (i : Instruction) (r : Result Reply E)
+      (a b : ℕ)
       → a < length s → b < length s → IsDistinct eqb (numbers s) → t ≡ swap s a b
       → IfOk r (λ reply. ◌≡◌ {A = State × Reply} (own, reply) (step c t n i))
       → after ≡ swap own a b
       → IfOk r (λ reply. ◌≡◌ {A = State × Reply} (after, reply) (step c s n i))
-  swapped-turn c s t own after n i (Ok reply) a b a_in b_in distinct there stepped back = turn-swapped c s t own after n i reply a b a_in b_in distinct there stepped back
+  swapped-turn c s t own after n i (Ok reply) a b a_in b_in distinct there stepped back =
+      turn-swapped c s t own after n i reply a b a_in b_in distinct there stepped back
   swapped-turn c s t own after n i (Err e) a b a_in b_in distinct there stepped back = tt
 
 -- a swap keeps the numbers apart
-pub behind-swap : (n : ℕ) (s t : State) (a b : ℕ) → a < length s → b < length s → All (IsBehind n) s → t ≡ swap s a b → All (IsBehind n) t
-behind-swap n s t a b a_in b_in behind there = All-permutation (IsBehind n) s t (IsPermutation-swap s t a b a_in b_in there) behind
+pub behind-swap : (n : ℕ) (s t : State) (a b : ℕ) → a < length s → b < length s → All (IsBehind n) s → t ≡ swap s a b
+    → All (IsBehind n) t
+behind-swap n s t a b a_in b_in behind there =
+    All-permutation (IsBehind n) s t (IsPermutation-swap s t a b a_in b_in there) behind
 
-pub distinct-swap : (s t : State) (a b : ℕ) → a < length s → b < length s → IsDistinct eqb (numbers s) → t ≡ swap s a b → IsDistinct eqb (numbers t)
+pub distinct-swap : (s t : State) (a b : ℕ) → a < length s → b < length s → IsDistinct eqb (numbers s) → t ≡ swap s a b
+    → IsDistinct eqb (numbers t)
 distinct-swap s t a b a_in b_in distinct there =
     IsDistinct-IsPermutation eqb (λ x y. nat_eq_equiv.symm x y) (numbers s) (numbers t)
     (IsPermutation-map (λ (v : AccountValue). v.number) s t (IsPermutation-swap s t a b a_in b_in there)) distinct
@@ -163,15 +194,18 @@ eqb-flip : (x y : ℕ) → eqb x y ≡ eqb y x
 eqb-flip x y = nat_eq_equiv.symm x y
 
 -- what a swap does to the numbers at indexes
-moved-at : (ns ms : List ℕ) (k p q : ℕ) → k < length ns → p < length ns → ms ≡ swap ns k p → eqb p q ≡ false → get_or ms (renamed k p q) 0 ≡ get_or ns q 0
+moved-at : (ns ms : List ℕ) (k p q : ℕ) → k < length ns → p < length ns → ms ≡ swap ns k p → eqb p q ≡ false
+    → get_or ms (renamed k p q) 0 ≡ get_or ns q 0
 moved-at ns ms k p q k_in p_in there other = by (eqb q k) refl
   where
     by : (b : Bool) → eqb q k ≡ b → get_or ms (cond b p q) 0 ≡ get_or ns q 0
     by true same = (swapped_from_swap ns ms k p 0 k_in p_in there).1 ∙ ap (λ m. get_or ns m 0) (sym (eqb-true q k same))
     by false apart =
-        (swapped_from_swap ns ms k p 0 k_in p_in there).2 q (λ e. eqb-false q k apart e) (λ e. eqb-false p q other (sym e))
+        (swapped_from_swap ns ms k p 0 k_in p_in there).2 q (λ e. eqb-false q k apart e)
+        (λ e. eqb-false p q other (sym e))
 
-moved-each : (ns ms : List ℕ) (k p : ℕ) (qs : List ℕ) → k < length ns → p < length ns → ms ≡ swap ns k p → Others p qs → each_at ms (map (renamed k p) qs) ≡ each_at ns qs
+moved-each : (ns ms : List ℕ) (k p : ℕ) (qs : List ℕ) → k < length ns → p < length ns → ms ≡ swap ns k p → Others p qs
+    → each_at ms (map (renamed k p) qs) ≡ each_at ns qs
 moved-each ns ms k p [] k_in p_in there others = refl
 moved-each ns ms k p (q ∷ qs) k_in p_in there others =
     ap (λ x. x ∷ each_at ms (map (renamed k p) qs)) (moved-at ns ms k p q k_in p_in there others.0)
@@ -183,14 +217,16 @@ take-swap (x ∷ xs) k p le =
     take-set-le k (set (x ∷ xs) k (get_or (x ∷ xs) p x)) p (get_or (x ∷ xs) k x) le
     ∙ take-set-le k (x ∷ xs) k (get_or (x ∷ xs) p x) (omega arith)
 
-moved-front : (ns ms : List ℕ) (k p : ℕ) → k ≤ p → p < length ns → ms ≡ swap ns k p → take (k + 1) ms ≡ take k ns ++ get_or ns p 0 ∷ []
+moved-front : (ns ms : List ℕ) (k p : ℕ) → k ≤ p → p < length ns → ms ≡ swap ns k p
+    → take (k + 1) ms ≡ take k ns ++ get_or ns p 0 ∷ []
 moved-front ns ms k p le p_in there =
     take_more ms k 0 (omega (arith, p_in, ap length there ∙ length-swap ns k p))
     ∙ ap (λ x. take k ms ++ x ∷ []) ((swapped_from_swap ns ms k p 0 (omega arith) p_in there).0)
     ∙ ap (λ l. l ++ get_or ns p 0 ∷ []) (ap (take k) there ∙ take-swap ns k p le)
 
 -- the indexes that are left after a swap are indexes of their own, behind the front
-renamed-apart : (k p q y : ℕ) → eqb p q ≡ false → eqb p y ≡ false → eqb q y ≡ false → eqb (renamed k p q) (renamed k p y) ≡ false
+renamed-apart : (k p q y : ℕ) → eqb p q ≡ false → eqb p y ≡ false → eqb q y ≡ false
+    → eqb (renamed k p q) (renamed k p y) ≡ false
 renamed-apart k p q y pq py qy = by (eqb q k) (eqb y k) refl refl
   where
     by : (b c : Bool) → eqb q k ≡ b → eqb y k ≡ c → eqb (cond b p q) (cond c p y) ≡ false
@@ -199,7 +235,8 @@ renamed-apart k p q y pq py qy = by (eqb q k) (eqb y k) refl refl
     by false true e h = eqb-flip q p ∙ pq
     by false false e h = qy
 
-renamed-others : (k p q : ℕ) (ys : List ℕ) → eqb p q ≡ false → Others p ys → Others q ys → Others (renamed k p q) (map (renamed k p) ys)
+renamed-others : (k p q : ℕ) (ys : List ℕ) → eqb p q ≡ false → Others p ys → Others q ys
+    → Others (renamed k p q) (map (renamed k p) ys)
 renamed-others k p q [] pq py qy = tt
 renamed-others k p q (y ∷ ys) pq py qy = (renamed-apart k p q y pq py.0 qy.0, renamed-others k p q ys pq py.1 qy.1)
 
@@ -209,7 +246,8 @@ renamed-distinct k p [] others distinct = tt
 renamed-distinct k p (q ∷ qs) others distinct =
     (renamed-others k p q qs others.0 others.1 distinct.0, renamed-distinct k p qs others.1 distinct.1)
 
-renamed-left : (k n p : ℕ) (qs : List ℕ) → IsLeft k n p → Others p qs → AllByRecursion (IsLeft k n) qs → AllByRecursion (IsLeft (k + 1) n) (map (renamed k p) qs)
+renamed-left : (k n p : ℕ) (qs : List ℕ) → IsLeft k n p → Others p qs → AllByRecursion (IsLeft k n) qs
+    → AllByRecursion (IsLeft (k + 1) n) (map (renamed k p) qs)
 renamed-left k n p [] left others all = tt
 renamed-left k n p (q ∷ qs) left others all = (by (eqb q k) refl, renamed-left k n p qs left others.1 all.1)
   where
@@ -223,17 +261,21 @@ renamed-left k n p (q ∷ qs) left others all = (by (eqb q k) refl, renamed-left
         record { behind = omega (arith, all.0.behind, not_k); within = all.0.within }
 
 -- one account more is at the front
-pub left-more : (k : ℕ) (ns ms wanted : List ℕ) (p : ℕ) (qs : List ℕ) → ms ≡ swap ns k p → AreIndexesLeft k ns (p ∷ qs) wanted → AreIndexesLeft (k + 1) ms (map (renamed k p) qs) wanted
+pub left-more : (k : ℕ) (ns ms wanted : List ℕ) (p : ℕ) (qs : List ℕ) → ms ≡ swap ns k p
+    → AreIndexesLeft k ns (p ∷ qs) wanted → AreIndexesLeft (k + 1) ms (map (renamed k p) qs) wanted
 left-more k ns ms wanted p qs there left =
     let size : length ms ≡ length ns = ap length there ∙ length-swap ns k p in
     let first = left.are_left.0 in
     let (others, distinct) = apart-of p qs left.distinct in
     record {
       fits = omega (arith, size, first.behind, first.within);
-      are_left = subst (λ n. AllByRecursion (IsLeft (k + 1) n) (map (renamed k p) qs)) (sym size) (renamed-left k (length ns) p qs first others left.are_left.1);
+      are_left = subst (λ n. AllByRecursion (IsLeft (k + 1) n) (map (renamed k p) qs)) (sym size)
+          (renamed-left k (length ns) p qs first others left.are_left.1);
       distinct = renamed-distinct k p qs others distinct;
-      are_there = ap (λ l. l ++ each_at ms (map (renamed k p) qs)) (moved-front ns ms k p first.behind first.within there)
-          ∙ ap (λ l. (take k ns ++ get_or ns p 0 ∷ []) ++ l) (moved-each ns ms k p qs (omega (arith, first.behind, first.within)) first.within there others)
+      are_there = ap (λ l. l ++ each_at ms (map (renamed k p) qs))
+          (moved-front ns ms k p first.behind first.within there)
+          ∙ ap (λ l. (take k ns ++ get_or ns p 0 ∷ []) ++ l)
+          (moved-each ns ms k p qs (omega (arith, first.behind, first.within)) first.within there others)
           ∙ append_assoc (take k ns) (get_or ns p 0 ∷ []) (each_at ns qs)
           ∙ left.are_there;
     }
@@ -241,8 +283,10 @@ left-more k ns ms wanted p qs there left =
 -- indexes of different numbers differ
 indexes-others : (ns : List ℕ) (p : ℕ) (qs : List ℕ) → Others (get_or ns p 0) (each_at ns qs) → Others p qs
 indexes-others ns p [] others = tt
-indexes-others ns p (q ∷ qs) others =
-    (ne_eqb p q (λ e. eqb-false (get_or ns p 0) (get_or ns q 0) others.0 (ap (λ m. get_or ns m 0) e)), indexes-others ns p qs others.1)
+indexes-others ns p (q ∷ qs) others = (
+  ne_eqb p q (λ e. eqb-false (get_or ns p 0) (get_or ns q 0) others.0 (ap (λ m. get_or ns m 0) e)),
+  indexes-others ns p qs others.1,
+)
 
 indexes-distinct : (ns indexes : List ℕ) → IsDistinct eqb (each_at ns indexes) → IsDistinct eqb indexes
 unfolding IsDistinct
@@ -254,7 +298,8 @@ all-left n [] within = tt
 all-left n (p ∷ ps) within = (record { behind = omega arith; within = within.0 }, all-left n ps within.1)
 
 -- none is at the front yet
-pub left-all : (ns indexes wanted : List ℕ) → IsDistinct eqb wanted → StandAt ns indexes wanted → AreIndexesLeft 0 ns indexes wanted
+pub left-all : (ns indexes wanted : List ℕ) → IsDistinct eqb wanted → StandAt ns indexes wanted
+    → AreIndexesLeft 0 ns indexes wanted
 left-all ns indexes wanted distinct there = record {
   fits = omega arith;
   are_left = all-left (length ns) indexes there.within;
@@ -268,5 +313,8 @@ any_default (x ∷ xs) zero d e lt = refl
 any_default (x ∷ xs) (suc i) d e lt = any_default xs i d e (omega arith)
 
 -- one index more is renamed
-pub renamed-more : (f : ℕ → ℕ) (xs ys : List ℕ) (i r : ℕ) → i < length xs → i < length ys → ys ≡ map f (take i xs) ++ drop i xs → r ≡ f (get_or ys i 0) → set ys i r ≡ map f (take (i + 1) xs) ++ drop (i + 1) xs
-renamed-more f xs ys i r lt in_ys so_far is = ap (set ys i) is ∙ map_over_more f xs ys i (get_or ys i 0) lt so_far (any_default ys i 0 (get_or ys i 0) in_ys)
+pub renamed-more : (f : ℕ → ℕ) (xs ys : List ℕ) (i r : ℕ) → i < length xs → i < length ys
+    → ys ≡ map f (take i xs) ++ drop i xs → r ≡ f (get_or ys i 0)
+    → set ys i r ≡ map f (take (i + 1) xs) ++ drop (i + 1) xs
+renamed-more f xs ys i r lt in_ys so_far is =
+    ap (set ys i) is ∙ map_over_more f xs ys i (get_or ys i 0) lt so_far (any_default ys i 0 (get_or ys i 0) in_ys)

@@ -1,5 +1,6 @@
 -- A book: the accounts of a registry in the order of their numbers, and the next record number.
-use Rattle.std.specs.Prelude.{◌≡◌, ℕ, ◌+◌, ◌<◌, ◌≤◌, Bool, false, List, [], ◌∷◌, ◌++◌, All, map, find, length, slice_index, sum_by, nat_eq, nat_le, IsPermutation, Option, Some, None, unwrap_or}
+use Rattle.std.specs.Prelude.{◌≡◌, ℕ, ◌+◌, ◌<◌, ◌≤◌, Bool, false, List, [], ◌∷◌, ◌++◌, All, map, find, length}
+use Rattle.std.specs.Prelude.{slice_index, sum_by, nat_eq, nat_le, IsPermutation, Option, Some, None, unwrap_or}
 use Rattle.std.specs.List.{IsDistinct, list_any}
 use Rattle.std.specs.FinMap as fin
 use Rattle.reg_base.specs.declared.limits.TheConstants.{MOST_ACCOUNTS, MOST_RECORD}

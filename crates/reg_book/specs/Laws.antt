@@ -8,7 +8,8 @@ use Rattle.reg_rules.specs.Step.{step, row_of}
 use Rattle.reg_rules.specs.Laws.{IsReady}
 use Rattle.reg_book.specs.Book.{IsBook, IsBookKept, directory_of}
 use Rattle.reg_book.specs.Settled.{committed, IsSettled, IsOfBook}
-use Rattle.reg_book.specs.Day.{Day, IsDay, setting, state_at, value_at, log_of, replies_of, rows_replied, row_at, closing_state, settled_day}
+use Rattle.reg_book.specs.Day.{Day, IsDay, setting, state_at, value_at, log_of, replies_of, rows_replied, row_at}
+use Rattle.reg_book.specs.Day.{closing_state, settled_day}
 
 -- each instruction is carried out on what the ones before it left, and its record is that of this step
 pub record IsStepOf (day : Day) (k : ℕ) (i : Instruction) : Type 0 where

@@ -1,6 +1,7 @@
 //! A book in the making.
 
-ghost use Rattle.std.specs.Prelude.{◌≡◌, ◌<◌, [], ◌∷◌, ◌++◌, length, vec_len, vec_capacity, MatchResult, OnOk, OnErr, None, false, IsTrue, ◌↔◌, nat_eq, IsPermutation, IfErr, IfOk, true, if◌then◌else◌};
+ghost use Rattle.std.specs.Prelude.{◌≡◌, ◌<◌, [], ◌∷◌, ◌++◌, length, vec_len, vec_capacity, MatchResult, OnOk, OnErr};
+ghost use Rattle.std.specs.Prelude.{None, false, IsTrue, ◌↔◌, nat_eq, IsPermutation, IfErr, IfOk, true, if◌then◌else◌};
 ghost use Rattle.std.specs.List.{IsDistinct};
 ghost use Rattle.reg_base.specs.Rising.{IsRising};
 ghost use Rattle.reg_base.specs.Footprint.{is_among};

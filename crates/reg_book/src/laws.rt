@@ -3,7 +3,9 @@
 
 ghost use Rattle.reg_book.specs.Conservation.{FoldConserves};
 ghost use Rattle.reg_book.specs.Chains.{IsChain, IsChainByHand, ChainLeavesABook, ChainKeepsAccounts, ChainLaws};
-ghost use Rattle.reg_book.specs.Laws.{EachIsAStep, LogIsMadeAgain, NumbersStay, UntouchedStay, ValueIsLastTouchers, ClosedStays, ClosedIsNeverLeft, StaysReady, SettledAreTouched, CommittedIsClosing, ClosingIsABook, SettledIsInOrder, SettledIsOfBook};
+ghost use Rattle.reg_book.specs.Laws.{EachIsAStep, LogIsMadeAgain, NumbersStay, UntouchedStay, ValueIsLastTouchers};
+ghost use Rattle.reg_book.specs.Laws.{ClosedStays, ClosedIsNeverLeft, StaysReady, SettledAreTouched};
+ghost use Rattle.reg_book.specs.Laws.{CommittedIsClosing, ClosingIsABook, SettledIsInOrder, SettledIsOfBook};
 
 use reg_rules::{step_conserves, step_keeps_closed, step_laws};
 

@@ -1,5 +1,6 @@
 -- The last seat has all that was claimed and finished.
-use Rattle.std.proofs.Common.{◌≡◌, ℕ, ◌/◌, ◌<◌, ◌≤◌, true, List, [], ◌∷◌, length, get_or, refl, sym, ap, ◌∙◌, subst, arith, All, Contains}
+use Rattle.std.proofs.Common.{◌≡◌, ℕ, ◌/◌, ◌<◌, ◌≤◌, true, List, [], ◌∷◌, length, get_or, refl, sym, ap, ◌∙◌, subst}
+use Rattle.std.proofs.Common.{arith, All, Contains}
 use Rattle.std.proofs.lemmas.List.Elements.{recursion_from_All, All-weaker, All-contains_itself}
 use mathlib.Core.Option.{some, some-injective, some-ne-none}
 use lib.ListN.{get_elem?}
@@ -27,7 +28,8 @@ first-word : (ws : List ℕ) (found : ℕ) → get_elem? ws 0 ≡ some found →
 first-word [] found e = absurd (some-ne-none found (sym e))
 first-word (x ∷ xs) found e = some-injective x found e
 
-tally : (n id : ℕ) (words : List ℕ) (views : List View) (v : View) → v.share ≡ 16 → Counted n words views → get_elem? views id ≡ some v → Tallied n (get_or words 0 0) v
+tally : (n id : ℕ) (words : List ℕ) (views : List View) (v : View) → v.share ≡ 16 → Counted n words views
+    → get_elem? views id ≡ some v → Tallied n (get_or words 0 0) v
 tally n id words views v last k at =
     let shares = k.shares in
     let done = k.done in
@@ -46,12 +48,16 @@ tally n id words views v last k at =
       seen = mine.seen;
       stopped = λ o. is-odd (get_or words 0 0) (mine.stopped (odd-is v.seen o));
       no_repeat = times-distinct v.finished (λ p. let a = each p in let b = once-most n p in omega arith);
-      within = All-weaker (Contains v.finished) (λ p. (1 ≤ p) × (p ≤ n)) (λ p there. let a = contains-times v.finished p there in let b = each p in once-only n p (omega arith)) v.finished (All-contains_itself v.finished);
+      within = All-weaker (Contains v.finished) (λ p. (1 ≤ p) × (p ≤ n))
+          (λ p there. let a = contains-times v.finished p there in let b = each p in
+          once-only n p (omega arith)) v.finished (All-contains_itself v.finished);
       all = λ full p. length-full n v.finished each (omega arith) p;
     }
 
-pub tallied : (n id : ℕ) (v : View) (words : List ℕ) (slots : List (Unit {0})) (found : ℕ) → v.share ≡ 16 → Final (Seen (Holds n) id v) words slots → get_elem? words 0 ≡ some found → Tallied n found v
+pub tallied : (n id : ℕ) (v : View) (words : List ℕ) (slots : List (Unit {0})) (found : ℕ) → v.share ≡ 16
+    → Final (Seen (Holds n) id v) words slots → get_elem? words 0 ≡ some found → Tallied n found v
 tallied n id v words slots found last final at0 =
     let s : State (Unit {0}) View = final.0 in
     let is : get_or s.words 0 0 ≡ found = ap (λ w. get_or w 0 0) final.2 ∙ first-word words found at0 in
-    subst (λ (c : ℕ). Tallied n c v) is (tally n id s.words s.views v last (counted n s.words s.views final.1.0) final.1.1)
+    subst (λ (c : ℕ). Tallied n c v) is
+    (tally n id s.words s.views v last (counted n s.words s.views final.1.0) final.1.1)

@@ -1,5 +1,6 @@
 -- How often numbers stand in a list: in one without repeats, and in one of numbers from 1 to n.
-use Rattle.std.proofs.Common.{◌≡◌, ◌≢◌, ℕ, zero, suc, ◌+◌, ◌<◌, ◌≤◌, ◌==◌, ◌&&◌, nat_le, eqb, true, false, List, [], ◌∷◌, length, refl, sym, ◌∙◌, ap, arith, Contains}
+use Rattle.std.proofs.Common.{◌≡◌, ◌≢◌, ℕ, zero, suc, ◌+◌, ◌<◌, ◌≤◌, ◌==◌, ◌&&◌, nat_le, eqb, true, false, List, []}
+use Rattle.std.proofs.Common.{◌∷◌, length, refl, sym, ◌∙◌, ap, arith, Contains}
 use Rattle.std.specs.List.{IsDistinct, AllByRecursion}
 use Rattle.std.proofs.lemmas.Bool.Decides.{nat_tests}
 use mathlib.Core.Logic.{dite}
@@ -21,7 +22,8 @@ pub times-contains : (xs : List ℕ) (p : ℕ) → 0 < times p xs → Contains x
 times-contains [] p h = absurd (omega arith)
 times-contains (x ∷ xs) p h = dite (ℕ_discrete x p)
     (λ same. (0, omega arith, same))
-    (λ apart. let none = apart-none x p apart in let r = times-contains xs p (omega arith) in (suc r.0, omega arith, r.2))
+    (λ apart. let none = apart-none x p apart in let r = times-contains xs p (omega arith) in
+    (suc r.0, omega arith, r.2))
 
 absent : (x p : ℕ) (ys : List ℕ) → x ≡ p → AllByRecursion (λ y. eqb x y ≡ false) ys → times p ys ≡ 0
 absent x p [] e a = refl
@@ -63,19 +65,24 @@ once-past n p past = let t : (nat_le 1 p && nat_le p n) ≡ false = grind (arith
 
 pub once-only : (n p : ℕ) → 0 < once n p → (1 ≤ p) × (p ≤ n)
 once-only n zero h = absurd (omega arith)
-once-only n (suc p) h = dite (dec_le (suc p) n) (λ in_it. (omega arith, in_it)) (λ past. let none = once-past n (suc p) (omega arith) in absurd (omega arith))
+once-only n (suc p) h = dite (dec_le (suc p) n) (λ in_it. (omega arith, in_it))
+    (λ past. let none = once-past n (suc p) (omega arith) in absurd (omega arith))
 
 pub once-most : (n p : ℕ) → once n p ≤ 1
 once-most n zero = omega arith
-once-most n (suc p) = dite (dec_le (suc p) n) (λ in_it. let one = once-yes n (suc p) (omega arith) in_it in omega arith) (λ past. let none = once-past n (suc p) (omega arith) in omega arith)
+once-most n (suc p) = dite (dec_le (suc p) n) (λ in_it. let one = once-yes n (suc p) (omega arith) in_it in
+    omega arith) (λ past. let none = once-past n (suc p) (omega arith) in omega arith)
 
 once-more : (n p : ℕ) → once (suc n) p ≡ once n p + one_if (p == suc n)
 once-more n zero = let none = apart-none 0 (suc n) (λ e. absurd (omega arith)) in omega arith
 once-more n (suc p) = dite (ℕ_discrete (suc p) (suc n))
-    (λ same. let one = equal-one (suc p) (suc n) same in let a = once-yes (suc n) (suc p) (omega arith) (omega arith) in let b = once-past n (suc p) (omega arith) in omega arith)
+    (λ same. let one = equal-one (suc p) (suc n) same in let a = once-yes (suc n) (suc p) (omega arith) (omega arith) in
+    let b = once-past n (suc p) (omega arith) in omega arith)
     (λ apart. let none = apart-none (suc p) (suc n) apart in dite (dec_le (suc p) n)
-    (λ below. let a = once-yes (suc n) (suc p) (omega arith) (omega arith) in let b = once-yes n (suc p) (omega arith) below in omega arith)
-    (λ above. let a = once-past (suc n) (suc p) (omega arith) in let b = once-past n (suc p) (omega arith) in omega arith))
+    (λ below. let a = once-yes (suc n) (suc p) (omega arith) (omega arith) in
+    let b = once-yes n (suc p) (omega arith) below in omega arith)
+    (λ above. let a = once-past (suc n) (suc p) (omega arith) in let b = once-past n (suc p) (omega arith) in
+    omega arith))
 
 below-zero : (xs : List ℕ) → total (once 0) xs ≡ 0
 below-zero [] = refl
@@ -99,7 +106,8 @@ below-all n (x ∷ xs) h =
     let most = once-most n x in
     let r = below-all n xs (λ p some. h p (let a : 0 ≤ one_if (x == p) = omega arith in omega arith)) in omega arith
 
-below-full : (n : ℕ) (xs : List ℕ) → ((p : ℕ) → times p xs ≤ 1) → total (once n) xs ≡ n → (p : ℕ) → 1 ≤ p → p ≤ n → times p xs ≡ 1
+below-full : (n : ℕ) (xs : List ℕ) → ((p : ℕ) → times p xs ≤ 1) → total (once n) xs ≡ n → (p : ℕ) → 1 ≤ p → p ≤ n
+    → times p xs ≡ 1
 below-full zero xs h full p low high = absurd (omega arith)
 below-full (suc n) xs h full p low high =
     let more = below-more n xs in
@@ -116,10 +124,12 @@ length-most n xs h =
     let few = below-most n xs (λ p. let a = h p in let b = once-most n p in omega arith) in omega arith
 
 -- and if it has n, it has each
-pub length-full : (n : ℕ) (xs : List ℕ) → ((p : ℕ) → times p xs ≤ once n p) → length xs ≡ n → (p : ℕ) → times p xs ≡ once n p
+pub length-full : (n : ℕ) (xs : List ℕ) → ((p : ℕ) → times p xs ≤ once n p) → length xs ≡ n → (p : ℕ)
+    → times p xs ≡ once n p
 length-full n xs h full zero = let a = h 0 in omega arith
 length-full n xs h full (suc p) =
     let all = below-all n xs (λ q some. let most = h q in omega arith) in
     dite (dec_le (suc p) n)
-    (λ in_it. below-full n xs (λ q. let a = h q in let b = once-most n q in omega arith) (all ∙ full) (suc p) (omega arith) in_it ∙ sym (once-yes n (suc p) (omega arith) in_it))
+    (λ in_it. below-full n xs (λ q. let a = h q in let b = once-most n q in
+    omega arith) (all ∙ full) (suc p) (omega arith) in_it ∙ sym (once-yes n (suc p) (omega arith) in_it))
     (λ past. let none = once-past n (suc p) (omega arith) in let a = h (suc p) in omega arith)

@@ -1,6 +1,7 @@
 -- The rule of the claim table, which holds between any two steps. The word 0 is the count: twice the number of finished
 -- places, and 1 more after a stop. The word of a place, 1 to n, is 0 until the place is claimed.
-use Rattle.std.specs.Prelude.{◌≡◌, ◌≢◌, ◌↔◌, ℕ, ◌+◌, ◌/◌, ◌^◌, ◌≤◌, ◌<◌, eqb, true, false, List, length, slice_index, All, Contains}
+use Rattle.std.specs.Prelude.{◌≡◌, ◌≢◌, ◌↔◌, ℕ, ◌+◌, ◌/◌, ◌^◌, ◌≤◌, ◌<◌, eqb, true, false, List, length, slice_index}
+use Rattle.std.specs.Prelude.{All, Contains}
 use Rattle.std.specs.List.{IsDistinct}
 use Rattle.reg_counting.specs.Counting.{total}
 use Rattle.reg_claim.specs.declared.views.View.{View}

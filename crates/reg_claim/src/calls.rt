@@ -2,7 +2,8 @@
 
 ghost use Rattle.std.specs.Prelude.{◌≡◌, ◌+◌, ◌/◌, ◌≤◌, ◌<◌, ℕ, true, All, Contains, length, IfOk, MatchBool};
 ghost use Rattle.reg_counting.specs.Counting.{times, once};
-ghost use Rattle.reg_claim.specs.Views.{fresh, newcomer, with_claimed, with_finished, with_seen, with_less, joined_views, is_odd};
+ghost use Rattle.reg_claim.specs.Views.{fresh, newcomer, with_claimed, with_finished, with_seen, with_less};
+ghost use Rattle.reg_claim.specs.Views.{joined_views, is_odd};
 ghost use Rattle.reg_claim.specs.Claims.{HasNoRepeat};
 ghost use Rattle.reg_claim.specs.Steps.{SeesLater};
 ghost use Rattle.reg_claim.specs.Seats.{known, seat_table, places, IsSeatOf};

@@ -3,7 +3,8 @@ use Rattle.std.proofs.Common.{◌≡◌, ℕ, zero, suc, ◌+◌, List, [], ◌�
 use Rattle.std.specs.Prelude.{slice_get, slice_set, replicate}
 use Rattle.reg_counting.specs.Counting.{total}
 
-pub total-set : {X : Type 0} (f : X → ℕ) (xs : List X) (k : ℕ) (x y : X) → slice_get xs k ≡ Some x → total f (slice_set xs k y) + f x ≡ total f xs + f y
+pub total-set : {X : Type 0} (f : X → ℕ) (xs : List X) (k : ℕ) (x y : X) → slice_get xs k ≡ Some x
+    → total f (slice_set xs k y) + f x ≡ total f xs + f y
 total-set f [] k x y e = absurd cc
 total-set f (z ∷ zs) zero x y e = let same : z ≡ x = cc in rw same (omega arith)
 total-set f (z ∷ zs) (suc k) x y e = omega (arith, total-set f zs k x y e)

@@ -1,10 +1,13 @@
 -- One record after another: each takes bytes, so that the records of a text come to an end.
-use Rattle.std.proofs.Common.{Bor, ◌≡◌, ◌⊎◌, ℕ, zero, suc, ◌+◌, ◌<◌, ◌≤◌, Bool, true, false, cond, List, [], ◌∷◌, ◌++◌, length, Option, Some, None, refl, ap, ◌∙◌, arith, add-one, inl, inr}
+use Rattle.std.proofs.Common.{Bor, ◌≡◌, ◌⊎◌, ℕ, zero, suc, ◌+◌, ◌<◌, ◌≤◌, Bool, true, false, cond, List, [], ◌∷◌, ◌++◌}
+use Rattle.std.proofs.Common.{length, Option, Some, None, refl, ap, ◌∙◌, arith, add-one, inl, inr}
 use Rattle.std.specs.Prelude.{unwrap_or, IsSome, IsTrue}
 use Rattle.std.specs.Bool.{MatchBool}
 use Rattle.csv.specs.Machine.{Read, next_record, step, is_end, ends_at_end, fields_after, field_after}
-use Rattle.csv.specs.Reading.{Reached, ReadRecord, ExplainsRead, is_flexible, default_config, records_next, records_from, strip_bom, is_bom}
-use Rattle.reg_cuts.specs.Rows.{Record, known_rest, rest_of, records_in, rows_left, rows_in_text, IsBetweenRows, IsOfMemory}
+use Rattle.csv.specs.Reading.{Reached, ReadRecord, ExplainsRead, is_flexible, default_config, records_next}
+use Rattle.csv.specs.Reading.{records_from, strip_bom, is_bom}
+use Rattle.reg_cuts.specs.Rows.{Record, known_rest, rest_of, records_in, rows_left, rows_in_text, IsBetweenRows}
+use Rattle.reg_cuts.specs.Rows.{IsOfMemory}
 use Rattle.csv.specs.declared.error.ErrorKind.{ErrorKind}
 use Rattle.csv.specs.declared.error.ErrorKind.TheVariants as kind
 use Rattle.csv.specs.declared.parser.State.{State}
@@ -32,26 +35,42 @@ pub record Advances (s : State) (bytes : List ℕ) (p : Read) : Type 0 where
   pub no_longer : length p.2 ≤ length bytes
   pub shorter : ends_at_end s ≡ false → length p.2 < length bytes
 
-pub record-advances : (s : State) (fields : List (List ℕ)) (field : List ℕ) (bytes : List ℕ) (p : Read) → next_record default_config s fields field bytes ≡ Some p → Advances s bytes p
+pub record-advances : (s : State) (fields : List (List ℕ)) (field : List ℕ) (bytes : List ℕ) (p : Read)
+    → next_record default_config s fields field bytes ≡ Some p → Advances s bytes p
 unfolding next_record
 record-advances s fields field [] p e =
     elim (chosen (ends_at_end s) _ _ _ e) [
-      | inl h ↦ let same : (fields ++ field ∷ [], st.StartRecord, []) ≡ p = cc in record { between = rw (← same) refl; no_longer = rw (← same) (omega arith); shorter = λ no. absurd cc }
+      | inl h ↦ let same : (fields ++ field ∷ [], st.StartRecord, []) ≡ p = cc in
+          record { between = rw (← same) refl; no_longer = rw (← same) (omega arith); shorter = λ no. absurd cc }
       | inr h ↦ absurd cc
     ]
 record-advances s fields field (c ∷ rest) p e =
     elim (chosen (is_end (step default_config s c).1) _ _ _ e) [
-      | inl h ↦ let same : (fields_after (step default_config s c).1 fields field, (step default_config s c).0, rest) ≡ p = cc in record { between = rw (← same) (step-closes s c h.0); no_longer = rw (← same) (omega arith); shorter = λ no. rw (← same) (omega arith) }
-      | inr h ↦ let more = record-advances (step default_config s c).0 (fields_after (step default_config s c).1 fields field) (field_after (step default_config s c).1 c field) rest p h.1 in
-          record { between = more.between; no_longer = omega (arith, more.no_longer); shorter = λ no. omega (arith, more.no_longer) }
+      | inl h ↦ let same : (fields_after (step default_config s c).1 fields field, (step default_config s c).0, rest)
+          ≡ p = cc in record {
+            between = rw (← same) (step-closes s c h.0);
+            no_longer = rw (← same) (omega arith);
+            shorter = λ no. rw (← same) (omega arith);
+          }
+      | inr h ↦ let more = record-advances (step default_config s c).0
+          (fields_after (step default_config s c).1 fields field) (field_after (step default_config s c).1 c field) rest
+          p h.1 in
+          record {
+            between = more.between;
+            no_longer = omega (arith, more.no_longer);
+            shorter = λ no. omega (arith, more.no_longer);
+          }
     ]
 
 -- with enough turns it does not matter how many there are
-same_next : (n m : ℕ) (o : Option Read) → ((p : Read) → o ≡ Some p → records_from default_config n p.1 p.2 ≡ records_from default_config m p.1 p.2) → records_next (records_from default_config n) o ≡ records_next (records_from default_config m) o
+same_next : (n m : ℕ) (o : Option Read)
+    → ((p : Read) → o ≡ Some p → records_from default_config n p.1 p.2 ≡ records_from default_config m p.1 p.2)
+    → records_next (records_from default_config n) o ≡ records_next (records_from default_config m) o
 same_next n m None h = refl
 same_next n m (Some p) h = ap (λ (rs : List Record). p.0 ∷ rs) (h p refl)
 
-enough : (n m : ℕ) (s : State) (bytes : List ℕ) → ends_at_end s ≡ false → length bytes < n → length bytes < m → records_from default_config n s bytes ≡ records_from default_config m s bytes
+enough : (n m : ℕ) (s : State) (bytes : List ℕ) → ends_at_end s ≡ false → length bytes < n → length bytes < m
+    → records_from default_config n s bytes ≡ records_from default_config m s bytes
 unfolding records_from
 enough zero m s bytes b h k = absurd (omega arith)
 enough (suc n) zero s bytes b h k = absurd (omega arith)
@@ -62,26 +81,31 @@ enough (suc n) (suc m) s bytes b h k =
     enough n m p.1 p.2 a.between (omega arith) (omega arith))
 
 -- the records of some bytes are the first one, and those of what is left behind it
-pub records_in-some : (s : State) (bytes : List ℕ) (p : Read) → ends_at_end s ≡ false → next_record default_config s [] [] bytes ≡ Some p → records_in s bytes ≡ p.0 ∷ records_in p.1 p.2
+pub records_in-some : (s : State) (bytes : List ℕ) (p : Read) → ends_at_end s ≡ false
+    → next_record default_config s [] [] bytes ≡ Some p → records_in s bytes ≡ p.0 ∷ records_in p.1 p.2
 unfolding records_from
 records_in-some s bytes p b e =
     let a = record-advances s [] [] bytes p e in
     let less = a.shorter b in
-    rw (add-one, e) (ap (λ (rs : List Record). p.0 ∷ rs) (enough (length bytes) (length p.2 + 1) p.1 p.2 a.between less (omega arith)))
+    rw (add-one, e) (ap (λ (rs : List Record). p.0 ∷ rs)
+    (enough (length bytes) (length p.2 + 1) p.1 p.2 a.between less (omega arith)))
 
-pub records_in-none : (s : State) (bytes : List ℕ) → next_record default_config s [] [] bytes ≡ None → records_in s bytes ≡ []
+pub records_in-none : (s : State) (bytes : List ℕ) → next_record default_config s [] [] bytes ≡ None
+    → records_in s bytes ≡ []
 unfolding records_from
 records_in-none s bytes e = rw (add-one, e) refl
 
 -- there are at most as many records as turns
-length-next : (n : ℕ) (o : Option Read) → ((p : Read) → length (records_from default_config n p.1 p.2) ≤ n) → length (records_next (records_from default_config n) o) ≤ suc n
+length-next : (n : ℕ) (o : Option Read) → ((p : Read) → length (records_from default_config n p.1 p.2) ≤ n)
+    → length (records_next (records_from default_config n) o) ≤ suc n
 length-next n None h = omega arith
 length-next n (Some p) h = omega (arith, h p)
 
 pub length-records_from : (n : ℕ) (s : State) (bytes : List ℕ) → length (records_from default_config n s bytes) ≤ n
 unfolding records_from
 length-records_from zero s bytes = omega arith
-length-records_from (suc n) s bytes = length-next n (next_record default_config s [] [] bytes) (λ p. length-records_from n p.1 p.2)
+length-records_from (suc n) s bytes =
+    length-next n (next_record default_config s [] [] bytes) (λ p. length-records_from n p.1 p.2)
 
 -- ---- a reader
 
@@ -99,7 +123,8 @@ pub rest-is : (a : Source) (y : List ℕ) → known_rest a ≡ Some y → rest_o
 rest-is a y e = ap (λ (o : Option (List ℕ)). unwrap_or o []) e
 
 -- a record that was read is the first of those that were left
-pub one-row : (a b : Source) (f : Record) → IsBetweenRows a → ReadRecord known a b true f → b.first ≡ true → is_flexible b ≡ is_flexible a → IsBetweenRows b × (rows_left a ≡ f ∷ rows_left b)
+pub one-row : (a b : Source) (f : Record) → IsBetweenRows a → ReadRecord known a b true f → b.first ≡ true
+    → is_flexible b ≡ is_flexible a → IsBetweenRows b × (rows_left a ≡ f ∷ rows_left b)
 unfolding Reached
 one-row a b f ready read first bends =
     let y = there (known_rest a) ready.known in
@@ -108,8 +133,17 @@ one-row a b f ready read first bends =
     let adv = record-advances a.state [] [] y.0 p m.2.1 in
     let split = records_in-some a.state y.0 p ready.between m.2.1 in
     let now = rest-is a y.0 y.1 in
-    let new = rest-is b m.0 m.1 in
-    (record { flexible = bends ∙ ready.flexible; trims_nothing = read.3 ∙ ready.trims_nothing; ready = inl first; plain = read.2 ∙ ready.plain; known = rw m.1 refl; between = rw m.2.3.0 at adv.between }, (cc))
+    let new = rest-is b m.0 m.1 in (
+      record {
+        flexible = bends ∙ ready.flexible;
+        trims_nothing = read.3 ∙ ready.trims_nothing;
+        ready = inl first;
+        plain = read.2 ∙ ready.plain;
+        known = rw m.1 refl;
+        between = rw m.2.3.0 at adv.between;
+      },
+      (cc),
+    )
 
 -- a read that found no record has left none
 pub no-row : (a b : Source) (f : Record) → IsBetweenRows a → ReadRecord known a b false f → rows_left a ≡ []
@@ -119,7 +153,8 @@ no-row a b f ready read =
     ap (records_in a.state) (rest-is a y.0 y.1) ∙ records_in-none a.state y.0 none
 
 -- what a read left, whether it found a record or none
-pub row-or-none : (a b : Source) (found : Bool) (f : Record) → IsBetweenRows a → ReadRecord known a b found f → b.first ≡ true → is_flexible b ≡ is_flexible a
+pub row-or-none : (a b : Source) (found : Bool) (f : Record) → IsBetweenRows a → ReadRecord known a b found f
+    → b.first ≡ true → is_flexible b ≡ is_flexible a
     → (IsTrue found → IsBetweenRows b) × MatchBool found (rows_left a ≡ f ∷ rows_left b) (rows_left a ≡ [])
 row-or-none a b true f ready read first bends = let one = one-row a b f ready read first bends in (λ yes. one.0, one.1)
 row-or-none a b false f ready read first bends = (λ yes. absurd cc, no-row a b f ready read)
@@ -147,4 +182,8 @@ length-strip_bom (a ∷ b ∷ c ∷ rest) = shorter_or_same (is_bom a b c) rest 
 
 -- a text has at most one record more than it has bytes
 pub length-rows_of : (text : List ℕ) → length (rows_in_text text) ≤ length text + 1
-length-rows_of text = omega (arith, length-records_from (length (strip_bom text) + 1) st.StartRecord (strip_bom text), length-strip_bom text)
+length-rows_of text = omega (
+  arith,
+  length-records_from (length (strip_bom text) + 1) st.StartRecord (strip_bom text),
+  length-strip_bom text,
+)

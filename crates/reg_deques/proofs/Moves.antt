@@ -1,5 +1,7 @@
 -- Each kind of step keeps the rule of a deque.
-use Rattle.std.proofs.Common.{◌≡◌, ◌≢◌, ℕ, zero, suc, ◌+◌, true, false, true≢false, List, [], ◌∷◌, ◌++◌, length, set, drop, refl, sym, ap, ◌∙◌, subst, ⊎_elim, arith, append_assoc, length-append, Option, Some, None, MatchOption}
+use Rattle.std.proofs.Common.{◌≡◌, ◌≢◌, ℕ, zero, suc, ◌+◌, true, false, true≢false, List, [], ◌∷◌, ◌++◌, length, set}
+use Rattle.std.proofs.Common.{drop, refl, sym, ap, ◌∙◌, subst, ⊎_elim, arith, append_assoc, length-append, Option, Some}
+use Rattle.std.proofs.Common.{None, MatchOption}
 use Rattle.std.specs.Bool.{⊤}
 use Rattle.std.proofs.lemmas.List.{append-nil, drop-append-le, map-append, length-map, length-drop}
 use mathlib.Core.Option.{some, some-injective, some-ne-none}
@@ -15,7 +17,8 @@ use Rattle.reg_deques.specs.Views.{view, fresh_view, blank, table_of, with_table
 use Rattle.reg_deques.specs.Deques.{IsViewOf}
 use Rattle.reg_deques.specs.Queues.{Queued, places_of, queued, queue_of, AreTicketed, IsDeque}
 use Rattle.reg_deques.specs.Steps.{PutStep, TakesOwn, TakeStep, StealStep}
-use Rattle.reg_deques.proofs.Counts.{total_set, total_has, total_snoc, times_snoc, once_none, once_more, once_within, once_past, drop_first}
+use Rattle.reg_deques.proofs.Counts.{total_set, total_has, total_snoc, times_snoc, once_none, once_more, once_within}
+use Rattle.reg_deques.proofs.Counts.{once_past, drop_first}
 
 abbrev taken : ℕ → View → ℕ
 taken p v = times p v.took
@@ -24,25 +27,31 @@ known_set : (owner : ℕ) (put : List ℕ) (views : List View) (port : ℕ) (w :
     → ((j : ℕ) (u : View) → j ≢ port → get_elem? views j ≡ some u → IsViewOf owner put j u)
     → (j : ℕ) (u : View) → get_elem? (set views port w) j ≡ some u → IsViewOf owner put j u
 known_set owner put views port w mine others j u e =
-    ⊎_elim (λ (x : (j ≡ port) × (w ≡ u)). subst (λ (y : ℕ × View). IsViewOf owner put y.0 y.1) (λ i. (sym x.0 i, x.1 i)) mine)
+    ⊎_elim (λ (x : (j ≡ port) × (w ≡ u)).
+    subst (λ (y : ℕ × View). IsViewOf owner put y.0 y.1) (λ i. (sym x.0 i, x.1 i)) mine)
     (λ (x : (j ≢ port) × (get_elem? views j ≡ some u)). others j u x.0 x.1) (at_set views port j w u e)
 
 -- all views know the same table
 abbrev Same : List TableId → List View → Type 0
 Same table views = (port : ℕ) (v : View) → get_elem? views port ≡ some v → table_of v ≡ table
 
-same_set : (table : List TableId) (views : List View) (port : ℕ) (w : View) → table_of w ≡ table → Same table views → Same table (set views port w)
+same_set : (table : List TableId) (views : List View) (port : ℕ) (w : View) → table_of w ≡ table → Same table views
+    → Same table (set views port w)
 same_set table views port w mine others j u e =
-    ⊎_elim (λ (x : (j ≡ port) × (w ≡ u)). ap table_of (sym x.1) ∙ mine) (λ (x : (j ≢ port) × (get_elem? views j ≡ some u)). others j u x.1) (at_set views port j w u e)
+    ⊎_elim (λ (x : (j ≡ port) × (w ≡ u)). ap table_of (sym x.1) ∙ mine)
+    (λ (x : (j ≢ port) × (get_elem? views j ≡ some u)). others j u x.1) (at_set views port j w u e)
 
-same_snoc : (table : List TableId) (views : List View) (w : View) → table_of w ≡ table → Same table views → Same table (views ++ w ∷ [])
-same_snoc table views w mine others j u e = ⊎_elim (λ x. others j u x) (λ (x : w ≡ u). ap table_of (sym x) ∙ mine) (at_snoc views w u j e)
+same_snoc : (table : List TableId) (views : List View) (w : View) → table_of w ≡ table → Same table views
+    → Same table (views ++ w ∷ [])
+same_snoc table views w mine others j u e =
+    ⊎_elim (λ x. others j u x) (λ (x : w ≡ u). ap table_of (sym x) ∙ mine) (at_snoc views w u j e)
 
 same_one : (table : List TableId) (v : View) → table_of v ≡ table → Same table (v ∷ [])
 same_one table v mine zero u e = ap table_of (sym (some-injective v u e)) ∙ mine
 same_one table v mine (suc port) u e = absurd (some-ne-none u (sym e))
 
-ticketed_snoc : (table : List TableId) (k : ℕ) (ts : List Queued) (t : Queued) → AreTicketed table k ts → t.position ≡ suc (k + length ts) → t.table ∷ [] ≡ table → AreTicketed table k (ts ++ t ∷ [])
+ticketed_snoc : (table : List TableId) (k : ℕ) (ts : List Queued) (t : Queued) → AreTicketed table k ts
+    → t.position ≡ suc (k + length ts) → t.table ∷ [] ≡ table → AreTicketed table k (ts ++ t ∷ [])
 ticketed_snoc table k [] t h e same = (omega arith, same, tt)
 ticketed_snoc table k (x ∷ ts) t h e same = (h.0, h.1, ticketed_snoc table (suc k) ts t h.2 (omega arith) same)
 
@@ -61,7 +70,8 @@ owner_view table = record {
   reached = λ no. absurd (true≢false no);
 }
 
-first_known : (table : List TableId) (port : ℕ) (v : View) → get_elem? (view true [] [] [] table ∷ []) port ≡ some v → IsViewOf 0 [] port v
+first_known : (table : List TableId) (port : ℕ) (v : View) → get_elem? (view true [] [] [] table ∷ []) port ≡ some v
+    → IsViewOf 0 [] port v
 first_known table zero v e = subst (IsViewOf 0 [] 0) (some-injective (view true [] [] [] table) v e) (owner_view table)
 first_known table (suc port) v e = absurd (some-ne-none v (sym e))
 
@@ -77,7 +87,8 @@ begins = record {
   alone = λ e. refl;
 }
 
-single : (views : List View) (port : ℕ) (v : View) → length views ≡ 1 → get_elem? views port ≡ some v → (views ≡ v ∷ []) × (port ≡ 0)
+single : (views : List View) (port : ℕ) (v : View) → length views ≡ 1 → get_elem? views port ≡ some v → (views ≡ v ∷ [])
+    × (port ≡ 0)
 single [] port v one at = absurd (omega arith)
 single (x ∷ []) zero v one at = (ap (λ y. y ∷ []) (some-injective x v at), refl)
 single (x ∷ []) (suc port) v one at = absurd (some-ne-none v (sym at))
@@ -89,7 +100,8 @@ none_left (t ∷ ts) zero e = absurd cc
 none_left (t ∷ ts) (suc k) e = absurd cc
 
 -- the owner of a new deque is told the table of tickets
-pub telling_keeps : (tasks : List Queued) (views : List View) (port : ℕ) (table : TableId) → IsDeque tasks views → get_elem? views port ≡ some fresh_view
+pub telling_keeps : (tasks : List Queued) (views : List View) (port : ℕ) (table : TableId) → IsDeque tasks views
+    → get_elem? views port ≡ some fresh_view
     → IsDeque tasks (set views port (with_table table fresh_view) ++ blank (table ∷ []) ∷ [])
 telling_keeps tasks views port table h at =
     let mine = h.order.known port fresh_view at in
@@ -105,16 +117,20 @@ telling_keeps tasks views port table h at =
         within = omega arith;
         holds = refl;
         took = λ p. sym (once_none p);
-        known = λ j u e. ⊎_elim (λ x. first_known (table ∷ []) j u x) (λ (x : blank (table ∷ []) ≡ u). subst (IsViewOf 0 [] j) x (blank_view 0 [] (table ∷ []) j)) (at_snoc (view true [] [] [] (table ∷ []) ∷ []) (blank (table ∷ [])) u j e);
+        known = λ j u e. ⊎_elim (λ x. first_known (table ∷ []) j u x)
+            (λ (x : blank (table ∷ []) ≡ u). subst (IsViewOf 0 [] j) x (blank_view 0 [] (table ∷ []) j))
+            (at_snoc (view true [] [] [] (table ∷ []) ∷ []) (blank (table ∷ [])) u j e);
       };
-      same = same_snoc (table ∷ []) (view true [] [] [] (table ∷ []) ∷ []) (blank (table ∷ [])) refl (same_one (table ∷ []) (view true [] [] [] (table ∷ [])) refl);
+      same = same_snoc (table ∷ []) (view true [] [] [] (table ∷ []) ∷ []) (blank (table ∷ [])) refl
+          (same_one (table ∷ []) (view true [] [] [] (table ∷ [])) refl);
       ticketed = tt;
       alone = λ e. absurd cc;
     } in
     rw (none, here.0, here.1) now
 
 -- the owner makes a pass
-pub splitting_keeps : (tasks : List Queued) (views : List View) (port : ℕ) (v : View) (table : TableId) → IsDeque tasks views → get_elem? views port ≡ some v → table_of v ≡ table ∷ []
+pub splitting_keeps : (tasks : List Queued) (views : List View) (port : ℕ) (v : View) (table : TableId)
+    → IsDeque tasks views → get_elem? views port ≡ some v → table_of v ≡ table ∷ []
     → IsDeque tasks (set views port v ++ blank (table_of v) ∷ [])
 splitting_keeps tasks views port v table h at told =
     let mine = h.order.known port v at in
@@ -128,9 +144,11 @@ splitting_keeps tasks views port v table h at told =
       order = record {
         within = h.order.within;
         holds = h.order.holds;
-        took = λ p. let t = total_snoc (taken p) vs new in let s = total_set (taken p) views port v v at in let c = h.order.took p in omega arith;
+        took = λ p. let t = total_snoc (taken p) vs new in let s = total_set (taken p) views port v v at in
+            let c = h.order.took p in omega arith;
         known = λ j u e. ⊎_elim (λ x. known_set h.owner h.put views port v mine (λ i y _ z. h.order.known i y z) j u x)
-            (λ (x : new ≡ u). subst (IsViewOf h.owner h.put j) x (blank_view h.owner h.put (table_of v) j)) (at_snoc vs new u j e);
+            (λ (x : new ≡ u). subst (IsViewOf h.owner h.put j) x (blank_view h.owner h.put (table_of v) j))
+            (at_snoc vs new u j e);
       };
       same = same_snoc h.table vs new told_is (same_set h.table views port v told_is h.same);
       ticketed = h.ticketed;
@@ -142,15 +160,19 @@ set_length [] k x = refl
 set_length (y ∷ xs) zero x = refl
 set_length (y ∷ xs) (suc k) x = ap suc (set_length xs k x)
 
-pub putting_keeps : (tasks : List Queued) (views : List View) (port : ℕ) (v : View) (t : Queued) → IsDeque tasks views → get_elem? views port ≡ some v → v.owns ≡ true
-    → t.position ≡ suc (length v.put) → t.table ∷ [] ≡ table_of v → IsDeque (tasks ++ t ∷ []) (set views port (with_put (t.place ∷ []) v))
+pub putting_keeps : (tasks : List Queued) (views : List View) (port : ℕ) (v : View) (t : Queued) → IsDeque tasks views
+    → get_elem? views port ≡ some v → v.owns ≡ true
+    → t.position ≡ suc (length v.put) → t.table ∷ [] ≡ table_of v
+    → IsDeque (tasks ++ t ∷ []) (set views port (with_put (t.place ∷ []) v))
 putting_keeps tasks views port v t h at owns position table =
     let place : ℕ = t.place in
     let put : List ℕ = h.put ++ place ∷ [] in
     let w : View = with_put (place ∷ []) v in
     let mine = h.order.known port v at in
     let own = mine.owned owns in
-    let ends : h.k + length tasks ≡ length h.put = (let a = length-map tasks (λ (q : Queued). q.place) in let b = ap length h.order.holds in let c = length-drop h.k h.put in let d = h.order.within in omega arith) in
+    let ends : h.k + length tasks ≡ length h.put = (let a = length-map tasks (λ (q : Queued). q.place) in
+    let b = ap length h.order.holds in let c = length-drop h.k h.put in let d = h.order.within in
+    omega arith) in
     record {
       owner = h.owner;
       put = put;
@@ -158,22 +180,30 @@ putting_keeps tasks views port v t h at owns position table =
       table = h.table;
       order = record {
         within = (let b = h.order.within in omega (arith, length-append h.put (place ∷ [])));
-        holds = map-append (λ (q : Queued). q.place) tasks (t ∷ []) ∙ ap (λ l. l ++ place ∷ []) h.order.holds ∙ sym (drop-append-le h.k h.put (place ∷ []) h.order.within);
+        holds = map-append (λ (q : Queued). q.place) tasks (t ∷ []) ∙ ap (λ l. l ++ place ∷ []) h.order.holds
+            ∙ sym (drop-append-le h.k h.put (place ∷ []) h.order.within);
         took = λ p. let s = total_set (taken p) views port v w at in let c = h.order.took p in omega arith;
         known = known_set h.owner put views port w
-            (record { owned = λ _. (own.0, ap (λ l. l ++ place ∷ []) own.1); seen = λ no. absurd (true≢false (sym owns ∙ no)); reached = λ no. absurd (true≢false (sym owns ∙ no)) })
+            (record {
+              owned = λ _. (own.0, ap (λ l. l ++ place ∷ []) own.1);
+              seen = λ no. absurd (true≢false (sym owns ∙ no));
+              reached = λ no. absurd (true≢false (sym owns ∙ no));
+            })
             (λ j u other e. let theirs = h.order.known j u e in record {
               owned = λ yes. absurd (other ((theirs.owned yes).0 ∙ sym own.0));
-              seen = λ no. let s = theirs.seen no in (s.0 ++ place ∷ [], ap (λ l. l ++ place ∷ []) s.1 ∙ append_assoc u.seen s.0 (place ∷ []));
+              seen = λ no. let s = theirs.seen no in
+                  (s.0 ++ place ∷ [], ap (λ l. l ++ place ∷ []) s.1 ∙ append_assoc u.seen s.0 (place ∷ []));
               reached = theirs.reached;
             });
       };
       same = same_set h.table views port w (h.same port v at) h.same;
-      ticketed = ticketed_snoc h.table h.k tasks t h.ticketed (let a = ap length own.1 in omega arith) (table ∙ h.same port v at);
+      ticketed = ticketed_snoc h.table h.k tasks t h.ticketed (let a = ap length own.1 in
+          omega arith) (table ∙ h.same port v at);
       alone = λ e. set_length views port w ∙ h.alone e;
     }
 
-counts_more : (views : List View) (port : ℕ) (v : View) (k : ℕ) (seen : List ℕ) → get_elem? views port ≡ some v → ((p : ℕ) → total (taken p) views ≡ once k p)
+counts_more : (views : List View) (port : ℕ) (v : View) (k : ℕ) (seen : List ℕ) → get_elem? views port ≡ some v
+    → ((p : ℕ) → total (taken p) views ≡ once k p)
     → (p : ℕ) → total (taken p) (set views port (with_taken (suc k) seen v)) ≡ once (suc k) p
 counts_more views port v k seen at h p =
     let w : View = with_taken (suc k) seen v in
@@ -184,10 +214,13 @@ counts_more views port v k seen at h p =
     omega arith
 
 -- no view has the position of the first task yet
-new_position : (k : ℕ) (views : List View) (port : ℕ) (v : View) → get_elem? views port ≡ some v → ((p : ℕ) → total (taken p) views ≡ once k p) → times (suc k) v.took ≡ 0
-new_position k views port v at h = let t = total_has (taken (suc k)) views port v at in let c = h (suc k) in let o = once_past k in omega arith
+new_position : (k : ℕ) (views : List View) (port : ℕ) (v : View) → get_elem? views port ≡ some v
+    → ((p : ℕ) → total (taken p) views ≡ once k p) → times (suc k) v.took ≡ 0
+new_position k views port v at h = let t = total_has (taken (suc k)) views port v at in let c = h (suc k) in
+    let o = once_past k in omega arith
 
-pub taking_keeps : (t : Queued) (rest : List Queued) (views : List View) (port : ℕ) (v : View) → IsDeque (t ∷ rest) views → get_elem? views port ≡ some v → v.owns ≡ true
+pub taking_keeps : (t : Queued) (rest : List Queued) (views : List View) (port : ℕ) (v : View)
+    → IsDeque (t ∷ rest) views → get_elem? views port ≡ some v → v.owns ≡ true
     → (w : View) × IsDeque rest (set views port w) × TakesOwn v t.place w
 taking_keeps t rest views port v h at owns =
     let first = drop_first h.put h.k t.place (places_of rest) h.order.holds in
@@ -204,7 +237,11 @@ taking_keeps t rest views port v h at owns =
           holds = first.1;
           took = counts_more views port v h.k v.seen at h.order.took;
           known = known_set h.owner h.put views port w
-              (record { owned = λ _. own; seen = λ no. absurd (true≢false (sym owns ∙ no)); reached = λ no. absurd (true≢false (sym owns ∙ no)) })
+              (record {
+                owned = λ _. own;
+                seen = λ no. absurd (true≢false (sym owns ∙ no));
+                reached = λ no. absurd (true≢false (sym owns ∙ no));
+              })
               (λ j u other e. h.order.known j u e);
         };
         same = same_set h.table views port w (h.same port v at) h.same;
@@ -214,7 +251,8 @@ taking_keeps t rest views port v h at owns =
       (h.k, new_position h.k views port v at h.order.took, refl, rw own.1 first.2),
     )
 
-pub stealing_keeps : (t : Queued) (rest : List Queued) (views : List View) (port : ℕ) (v : View) → IsDeque (t ∷ rest) views → get_elem? views port ≡ some v → v.owns ≡ false
+pub stealing_keeps : (t : Queued) (rest : List Queued) (views : List View) (port : ℕ) (v : View)
+    → IsDeque (t ∷ rest) views → get_elem? views port ≡ some v → v.owns ≡ false
     → (w : View) × IsDeque rest (set views port w) × StealStep v (t ∷ []) w
 stealing_keeps t rest views port v h at owns =
     let first = drop_first h.put h.k t.place (places_of rest) h.order.holds in
@@ -247,38 +285,55 @@ stealing_keeps t rest views port v h at owns =
         ticketed = h.ticketed.2;
         alone = λ e. set_length views port w ∙ h.alone e;
       },
-      (h.k, new_position h.k views port v at h.order.took, refl, first.2, h.ticketed.0, h.ticketed.1 ∙ sym (h.same port v at)),
+      (
+        h.k,
+        new_position h.k views port v at h.order.took,
+        refl,
+        first.2,
+        h.ticketed.0,
+        h.ticketed.1
+            ∙ sym (h.same port v at),
+      ),
     )
 
 module _ {N : Type 0} {b : Ghosts N} where
   abbrev Held : List (Ticketed N b) → List View → Type 0
   Held items views = IsDeque (queue_of items) views
 
-  pub tells_table : (port : ℕ) (v : View) (table : TableId) → v ≡ fresh_view → Forks Held port v (with_table table v) (blank (table ∷ []))
-  tells_table port v table is items views h at = rw is (telling_keeps (queue_of items) views port table h (at ∙ ap some is))
+  pub tells_table : (port : ℕ) (v : View) (table : TableId) → v ≡ fresh_view
+      → Forks Held port v (with_table table v) (blank (table ∷ []))
+  tells_table port v table is items views h at =
+      rw is (telling_keeps (queue_of items) views port table h (at ∙ ap some is))
 
-  pub splits_deque : (port : ℕ) (v : View) (table : TableId) → table_of v ≡ table ∷ [] → Forks Held port v v (blank (table_of v))
+  pub splits_deque : (port : ℕ) (v : View) (table : TableId) → table_of v ≡ table ∷ []
+      → Forks Held port v v (blank (table_of v))
   splits_deque port v table told items views h at = splitting_keeps (queue_of items) views port v table h at told
 
-  pub puts_task : (port : ℕ) (v : View) (t : Ticketed N b) → v.owns ≡ true → length t.ticket.me.0.seen ≡ suc (length v.put) → t.ticket.table_id ∷ [] ≡ table_of v
+  pub puts_task : (port : ℕ) (v : View) (t : Ticketed N b) → v.owns ≡ true
+      → length t.ticket.me.0.seen ≡ suc (length v.put) → t.ticket.table_id ∷ [] ≡ table_of v
       → Pushes Held port v (t ∷ []) (λ w. PutStep v (queue_of (t ∷ [])) w)
   puts_task port v t owns position table items views h at = (
     with_put (t.task.place ∷ []) v,
-    rw (map-append queued items (t ∷ [])) (putting_keeps (queue_of items) views port v (queued t) h at owns position table),
+    rw (map-append queued items (t ∷ []))
+        (putting_keeps (queue_of items) views port v (queued t) h at owns position table),
     refl,
   )
 
   pub takes_task : (port : ℕ) (v : View) → v.owns ≡ true → Takes Held port v 1 (λ xs w. TakeStep v (queue_of xs) w)
   takes_task port v owns [] items views any few h at = absurd (omega arith)
-  takes_task port v owns (x ∷ []) items views any few h at = taking_keeps (queued x) (queue_of items) views port v h at owns
+  takes_task port v owns (x ∷ []) items views any few h at =
+      taking_keeps (queued x) (queue_of items) views port v h at owns
   takes_task port v owns (x ∷ y ∷ xs) items views any few h at = absurd (omega arith)
 
   pub steals_task : (port : ℕ) (v : View) → v.owns ≡ false → Takes Held port v 1 (λ xs w. StealStep v (queue_of xs) w)
   steals_task port v owns [] items views any few h at = absurd (omega arith)
-  steals_task port v owns (x ∷ []) items views any few h at = stealing_keeps (queued x) (queue_of items) views port v h at owns
+  steals_task port v owns (x ∷ []) items views any few h at =
+      stealing_keeps (queued x) (queue_of items) views port v h at owns
   steals_task port v owns (x ∷ y ∷ xs) items views any few h at = absurd (omega arith)
 
   -- what the owner's view keeps, whether it took a task or not
-  pub keeps_owner : (o : Option (Ticketed N b)) (v w : View) → MatchOption o ((w ≡ v) × ⊤) (λ x. TakeStep v (queue_of (x ∷ [])) w) → (w.owns ≡ v.owns) × (table_of w ≡ table_of v) × (w.put ≡ v.put)
+  pub keeps_owner : (o : Option (Ticketed N b)) (v w : View)
+      → MatchOption o ((w ≡ v) × ⊤) (λ x. TakeStep v (queue_of (x ∷ [])) w) → (w.owns ≡ v.owns)
+      × (table_of w ≡ table_of v) × (w.put ≡ v.put)
   keeps_owner (Some x) v w h = (ap (λ u. u.owns) h.2, ap table_of h.2, ap (λ u. u.put) h.2)
   keeps_owner None v w h = (ap (λ u. u.owns) h.0, ap table_of h.0, ap (λ u. u.put) h.0)

@@ -1,10 +1,12 @@
 //! What a worker does with the yard and its pass.
 
-ghost use Rattle.std.specs.Prelude.{◌≡◌, ◌≢◌, ◌<◌, ◌≤◌, ◌∷◌, [], All, Some, slice_get, vec_len, map, set, IfOk, IfSome, IfNone};
+ghost use Rattle.std.specs.Prelude.{◌≡◌, ◌≢◌, ◌<◌, ◌≤◌, ◌∷◌, [], All, Some, slice_get, vec_len, map, set, IfOk, IfSome};
+ghost use Rattle.std.specs.Prelude.{IfNone};
 ghost use Rattle.std.specs.List.{range_with_len};
 ghost use Rattle.reg_deques.specs.Passes.{stealer_id, deque_pass_id, ticket_view_of};
 ghost use Rattle.reg_deques.specs.Tickets.{empty_ticket_view};
-ghost use Rattle.reg_deques.specs.Yards.{worker_count, worker_of, deques, deques_of_pass, deques_of_owners, each_owned, views, IsNew, IsPassOf, IsBlank, StealsAt, AllJoin};
+ghost use Rattle.reg_deques.specs.Yards.{worker_count, worker_of, deques, deques_of_pass, deques_of_owners, each_owned};
+ghost use Rattle.reg_deques.specs.Yards.{views, IsNew, IsPassOf, IsBlank, StealsAt, AllJoin};
 
 use crate::owner::Owner;
 use crate::pass::{DequePass, Pass};

@@ -1,7 +1,8 @@
 //! What the owner of a deque does.
 
 ghost use Rattle.std.specs.Prelude.{◌≡◌, ◌≤◌, ◌∷◌, [], length, IfOk, IfErr, IfSome, IfNone, OnOk};
-ghost use Rattle.crossbeam_deque.specs.Handles.{worker_deque, worker_view, worker_flavor, worker_capacity, worker_index};
+ghost use Rattle.crossbeam_deque.specs.Handles.{worker_deque, worker_view, worker_flavor, worker_capacity};
+ghost use Rattle.crossbeam_deque.specs.Handles.{worker_index};
 ghost use Rattle.reg_deques.specs.Views.{fresh_view, with_table, with_put};
 ghost use Rattle.reg_deques.specs.Tickets.{empty_ticket_view};
 ghost use Rattle.reg_deques.specs.Steps.{TakesOwn};

@@ -15,17 +15,21 @@ of_failed (Ok x) failed p = absurd cc
 of_failed (Err e) failed p = p
 
 -- why the command could have a text to write
-write_fault : (command : Command) (day : Day) (text : List ℕ) (input : Option (List ℕ)) → IfSome input (λ bytes. IsReading (rows_in_text bytes) day)
-    → command_fault command day.book ≡ None → IsTextFor command day text → IfSome input (λ bytes. IsFault command bytes WriteFailed)
+write_fault : (command : Command) (day : Day) (text : List ℕ) (input : Option (List ℕ))
+    → IfSome input (λ bytes. IsReading (rows_in_text bytes) day)
+    → command_fault command day.book ≡ None → IsTextFor command day text
+    → IfSome input (λ bytes. IsFault command bytes WriteFailed)
 write_fault command day text None reading fine made = _
 write_fault command day text (Some bytes) reading fine made = (text, (day, reading, fine, made))
 
 -- the prefix of what was written is one of the text
 front_written : (command : Command) (day : Day) (text written : List ℕ) (input old new : Option (List ℕ))
-    → IfSome input (λ bytes. IsReading (rows_in_text bytes) day) → command_fault command day.book ≡ None → IsTextFor command day text
+    → IfSome input (λ bytes. IsReading (rows_in_text bytes) day) → command_fault command day.book ≡ None
+    → IsTextFor command day text
     → written ≡ text → AppendsFrontOf written old new → WritesFront command input old new
 front_written command day text written None old new reading fine made same took = _
-front_written command day text written (Some bytes) old new reading fine made same took = (text, (day, reading, fine, made), rw same at took)
+front_written command day text written (Some bytes) old new reading fine made same took =
+    (text, (day, reading, fine, made), rw same at took)
 
 -- the writer has failed after it took a prefix of the day's text
 pub failed_write : (command : Command) (day : Day) (text written : List ℕ) (input rest old new : Stream)
@@ -35,5 +39,9 @@ pub failed_write : (command : Command) (day : Day) (text written : List ℕ) (in
 failed_write command day text written input rest old new reading read fine made same took = record {
   why = write_fault command day text input.bytes reading fine made;
   read = read;
-  left = (took.failed, front_written command day text written input.bytes old.bytes new.bytes reading fine made same took.bytes);
+  left = (
+    took.failed,
+    front_written command day text written input.bytes old.bytes new.bytes reading fine made same
+        took.bytes,
+  );
 }

@@ -10,7 +10,8 @@ use Rattle.reg_text.specs.NextDays.{report_of}
 use Rattle.reg_text.specs.Report.{text_of, report_rows}
 
 -- it is the report of the day, if these are the book and the replies of the day
-pub reported : LogIsMadeAgain → (day : Day) (book : BookValue) (replies : List Reply) (text : List ℕ) → book ≡ book_after day → replies ≡ replies_of day
+pub reported : LogIsMadeAgain → (day : Day) (book : BookValue) (replies : List Reply) (text : List ℕ)
+    → book ≡ book_after day → replies ≡ replies_of day
     → text ≡ text_of (report_rows book (rows_replied day.batch replies)) → text ≡ report_of day
 reported again day book replies text closed replied made =
     made ∙ ap (λ (b : BookValue). text_of (report_rows b (rows_replied day.batch replies))) closed

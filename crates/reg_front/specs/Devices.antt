@@ -28,7 +28,7 @@ pub record FailsToRead (input rest : Stream) : Type 0 where
   pub given : ConsumesFront input.bytes rest.bytes
 
 -- a part of the input was read, and the reader has not failed
-pub record IsReadInPart (input rest : Stream) : Type 0 where
+pub record IsPartlyRead (input rest : Stream) : Type 0 where
   pub good : IsGood input rest
   pub given : ConsumesFront input.bytes rest.bytes
 

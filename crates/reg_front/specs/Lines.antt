@@ -3,7 +3,8 @@ use Rattle.std.specs.Prelude.{ℕ, List, [], ◌∷◌, ◌++◌, ◌⊎◌, cod
 use Rattle.reg_text.specs.Causes.{cause_name}
 use Rattle.reg_text.specs.declared.cause.Cause.{Cause}
 use Rattle.reg_front.specs.declared.fault.FrontFault.{FrontFault}
-use Rattle.reg_front.specs.declared.fault.FrontFault.TheVariants.{Row, Read, Workers, NoAccount, NoThread, NoMemory, WriteFailed}
+use Rattle.reg_front.specs.declared.fault.FrontFault.TheVariants.{Row, Read, Workers, NoAccount, NoThread, NoMemory}
+use Rattle.reg_front.specs.declared.fault.FrontFault.TheVariants.{WriteFailed}
 use Rattle.reg_front.specs.Streams.{Stream}
 use Rattle.reg_front.specs.Devices.{FailsToWrite, Writes}
 

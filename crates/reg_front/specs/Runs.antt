@@ -18,9 +18,10 @@ use Rattle.reg_text.specs.Statement.{statement_of, has_account}
 use Rattle.reg_front.specs.declared.command.Command.{Command}
 use Rattle.reg_front.specs.declared.command.Command.TheVariants.{Settle, Plan, Statement, Figures, Totals}
 use Rattle.reg_front.specs.declared.fault.FrontFault.{FrontFault}
-use Rattle.reg_front.specs.declared.fault.FrontFault.TheVariants.{Row, Read, Workers, NoAccount, NoThread, NoMemory, WriteFailed}
+use Rattle.reg_front.specs.declared.fault.FrontFault.TheVariants.{Row, Read, Workers, NoAccount, NoThread, NoMemory}
+use Rattle.reg_front.specs.declared.fault.FrontFault.TheVariants.{WriteFailed}
 use Rattle.reg_front.specs.Streams.{Stream, IsGood, HasFailed}
-use Rattle.reg_front.specs.Devices.{AppendsFrontOf, FailsToRead, IsReadInPart, IsReadWhole, IsTooLong, IsUntouched}
+use Rattle.reg_front.specs.Devices.{AppendsFrontOf, FailsToRead, IsPartlyRead, IsReadWhole, IsTooLong, IsUntouched}
 
 -- why the command is refused for a day with this book, if it is
 abbrev pub command_fault : Command → BookValue → Option FrontFault
@@ -100,8 +101,8 @@ Reads Workers input rest = IsReadWhole input rest
 Reads NoAccount input rest = IsReadWhole input rest
 Reads NoThread input rest = IsReadWhole input rest
 Reads WriteFailed input rest = IsReadWhole input rest
-Reads Read input rest = FailsToRead input rest ⊎ (IsReadInPart input rest × IsTooLong input)
-Reads NoMemory input rest = IsReadInPart input rest
+Reads Read input rest = FailsToRead input rest ⊎ (IsPartlyRead input rest × IsTooLong input)
+Reads NoMemory input rest = IsPartlyRead input rest
 
 -- the command has read the whole input and written its text, and no call of the reader or the writer has failed
 pub record IsDone (command : Command) (input rest old new : Stream) : Type 0 where

@@ -1,6 +1,7 @@
 //! Reading a whole input and writing a whole text.
 
-ghost use Rattle.std.specs.Prelude.{◌≡◌, ◌<◌, ◌≤◌, ◌+◌, [], IfErr, IfOk, IfSome, OnOk, OnErr, drop, length, take, vec_len};
+ghost use Rattle.std.specs.Prelude.{◌≡◌, ◌<◌, ◌≤◌, ◌+◌, [], IfErr, IfOk, IfSome, OnOk, OnErr, drop, length, take};
+ghost use Rattle.std.specs.Prelude.{vec_len};
 ghost use Rattle.std.specs.Io.KnownBytes.{Consumes, IsAtEnd, Keeps};
 ghost use Rattle.reg_front.specs.Streams.{CanFail, HasFailed, IsGood};
 ghost use Rattle.reg_front.specs.Devices.{FailsToWrite, IsReadWhole, Writes, most_input};

@@ -1,5 +1,6 @@
 -- What the parts of a world hold, as plain data.
-use Rattle.std.specs.Prelude.{◌≡◌, ◌≢◌, ◌≤◌, ◌<◌, ◌==◌, ℕ, List, [], ◌∷◌, ◌++◌, length, map, slice_get, Option, Some, None, Result, Err, IsOk, vec_capacity, if◌then◌else◌}
+use Rattle.std.specs.Prelude.{◌≡◌, ◌≢◌, ◌≤◌, ◌<◌, ◌==◌, ℕ, List, [], ◌∷◌, ◌++◌, length, map, slice_get, Option, Some}
+use Rattle.std.specs.Prelude.{None, Result, Err, IsOk, vec_capacity, if◌then◌else◌}
 use Rattle.std.specs.Option.{option_map}
 use Rattle.std.specs.declared.vec.Vec.{Vec}
 use Rattle.std.specs.declared.collections.vec_deque.VecDeque.{VecDeque}
@@ -19,7 +20,8 @@ use Rattle.reg_schedules.specs.declared.event.EventFault.TheVariants as fault
 use Rattle.reg_plan.specs.Plans.{PlanValue}
 use Rattle.reg_book.specs.Day.{Day}
 use Rattle.reg_schedules.specs.Pool.{footprint_at}
-use Rattle.reg_schedules.specs.World.{at_place, head_of, arrived, opened_at, dealt, before_some, moved, with_hand, with_list, HandValue, Holds, Carries, WorldValue}
+use Rattle.reg_schedules.specs.World.{at_place, head_of, arrived, opened_at, dealt, before_some, moved, with_hand}
+use Rattle.reg_schedules.specs.World.{with_list, HandValue, Holds, Carries, WorldValue}
 use Rattle.reg_schedules.specs.Docks.{ParcelValue, TaskValue, complete}
 
 -- this is why a run was not carried out: it is not possible, or it is, and memory ran out

@@ -1,6 +1,7 @@
 //! The event that puts a parcel into its dock.
 
-ghost use Rattle.std.specs.Prelude.{◌≡◌, ◌++◌, ◌≤◌, ◌<◌, Some, None, Ok, Err, [], ◌∷◌, length, slice_set, MatchResult, OnOk, OnErr, IfErr, IfSome, vec_len, vec_capacity};
+ghost use Rattle.std.specs.Prelude.{◌≡◌, ◌++◌, ◌≤◌, ◌<◌, Some, None, Ok, Err, [], ◌∷◌, length, slice_set, MatchResult};
+ghost use Rattle.std.specs.Prelude.{OnOk, OnErr, IfErr, IfSome, vec_len, vec_capacity};
 ghost use Rattle.std.specs.Option.{option_map, option_map_or};
 ghost use Rattle.reg_book.specs.Day.{Day};
 ghost use Rattle.reg_tasks.specs.Contexts.{the_day};
@@ -9,7 +10,8 @@ ghost use Rattle.reg_schedules.specs.Pool.{footprint_at};
 ghost use Rattle.reg_schedules.specs.World.{Carries, at_place, with_place, with_hand, delivered_by};
 ghost use Rattle.reg_tasks.specs.Parcels.{parcels_of};
 ghost use Rattle.reg_tasks.specs.Tasks.{task_of};
-ghost use Rattle.reg_graph.specs.WorldParts.{docks_of, DocksHaveRoom, world_of, first_head, task_with, FirstIsSent, FirstHasRoom, NextIsSent, NextHasRoom};
+ghost use Rattle.reg_graph.specs.WorldParts.{docks_of, DocksHaveRoom, world_of, first_head, task_with, FirstIsSent};
+ghost use Rattle.reg_graph.specs.WorldParts.{FirstHasRoom, NextIsSent, NextHasRoom};
 
 use crate::hand::Hand;
 use crate::parts::Parts;

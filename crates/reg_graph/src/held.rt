@@ -1,6 +1,7 @@
 //! The event that runs the task in a worker's hand.
 
-ghost use Rattle.std.specs.Prelude.{◌≡◌, ◌+◌, ◌++◌, ◌≤◌, ◌<◌, Ok, not, [], length, map, filter, slice_set, MatchResult, OnOk, OnErr, IfErr, vec_len, vec_capacity};
+ghost use Rattle.std.specs.Prelude.{◌≡◌, ◌+◌, ◌++◌, ◌≤◌, ◌<◌, Ok, not, [], length, map, filter, slice_set, MatchResult};
+ghost use Rattle.std.specs.Prelude.{OnOk, OnErr, IfErr, vec_len, vec_capacity};
 ghost use Rattle.reg_tasks.specs.Contexts.{the_day};
 ghost use Rattle.reg_schedules.specs.Pool.{leads_on};
 ghost use Rattle.reg_schedules.specs.World.{Holds, with_hand, run_by};

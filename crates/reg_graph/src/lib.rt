@@ -12,8 +12,8 @@
 //! use reg_graph::{Context, Event, Naming, World};
 //! use std::alloc::Global;
 //!
-//! /// Carries out these events of two workers. The day is settled if all instructions are done then, whatever the events
-//! /// were. `None` if an event is not possible, if something is left to do, or if memory ran out.
+//! /// Carries out these events of two workers. The day is settled if all instructions are done then, whatever the
+//! /// events were. `None` if an event is not possible, if something is left to do, or if memory ran out.
 //! pub fn run_schedule<N: Naming>(
 //!     alloc: Global,
 //!     context: &Context<N>,

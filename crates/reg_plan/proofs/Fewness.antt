@@ -9,7 +9,8 @@ abbrev pub EachFew : List (List ℕ) → Type 0
 EachFew lists = AllByRecursion (λ accounts. length accounts ≤ MOST_TOUCHED) lists
 
 -- one list more
-pub few_more : (lists : List (List ℕ)) (accounts : List ℕ) → EachFew lists → length accounts ≤ MOST_TOUCHED → EachFew (lists ++ accounts ∷ [])
+pub few_more : (lists : List (List ℕ)) (accounts : List ℕ) → EachFew lists → length accounts ≤ MOST_TOUCHED
+    → EachFew (lists ++ accounts ∷ [])
 few_more [] accounts few one = (one, tt)
 few_more (xs ∷ lists) accounts few one = (few.0, few_more lists accounts few.1 one)
 

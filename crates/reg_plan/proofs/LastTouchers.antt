@@ -1,5 +1,6 @@
 -- An arrow's tail is the last toucher of its account before the head.
-use Rattle.std.proofs.Common.{◌≡◌, ℕ, zero, suc, ◌-◌, ◌≤◌, inl, inr, Bool, true, false, List, arith, sym, ap, subst, ◌∙◌}
+use Rattle.std.proofs.Common.{◌≡◌, ℕ, zero, suc, ◌-◌, ◌≤◌, inl, inr, Bool, true, false, List, arith, sym, ap, subst}
+use Rattle.std.proofs.Common.{◌∙◌}
 use Rattle.std.proofs.lemmas.Bool.{cases_lt}
 use Rattle.reg_base.specs.declared.instruction.Instruction.{Instruction}
 use Rattle.reg_base.specs.Directory.{DirectoryValue}
@@ -20,22 +21,26 @@ module _ (d : DirectoryValue) (is : List Instruction) where
 
   same_place : (w : Arrow) (last : ℕ) → IsArrow d is w → IsLastToucher d is w.account (w.to - 1) last → w.from ≡ last
   same_place w last h l = elim (cases_lt last w.from) [
-    | inl early ↦ absurd (clash (sym (before_of w.account w.from one) ∙ h.tail) (l.none_later (w.from - 1) (omega arith) (omega (arith, h.forward, one))))
+    | inl early ↦ absurd (clash (sym (before_of w.account w.from one) ∙ h.tail)
+        (l.none_later (w.from - 1) (omega arith) (omega (arith, h.forward, one))))
     | inr le ↦ elim (cases_lt w.from last) [
       | inr same ↦ omega arith
       | inl late ↦
           let k : last ≡ suc (last - 1) = omega arith in
-          let on : touches_place d is w.account last ≡ true = before_of w.account last (omega arith) ∙ l.toucher (last - 1) k in
+          let on : touches_place d is w.account last ≡ true =
+          before_of w.account last (omega arith) ∙ l.toucher (last - 1) k in
           absurd (clash on (h.none_between last late (omega (arith, l.among, h.forward, one))))
     ]
   ] where
     one : 1 ≤ w.from
     one = (place_within d is w.account w.from h.tail).0
 
-  arrow_from_last : (w : Arrow) → LeadsFromLastToucher d is w → IsLastToucher d is w.account (w.to - 1) w.from → IsArrow d is w
+  arrow_from_last : (w : Arrow) → LeadsFromLastToucher d is w → IsLastToucher d is w.account (w.to - 1) w.from
+      → IsArrow d is w
   arrow_from_last w h l = record {
     forward = omega (arith, l.among, to_one);
-    tail = let k : w.from ≡ suc (w.from - 1) = omega (arith, h.is_one) in before_of w.account w.from h.is_one ∙ l.toucher (w.from - 1) k;
+    tail = let k : w.from ≡ suc (w.from - 1) = omega (arith, h.is_one) in
+        before_of w.account w.from h.is_one ∙ l.toucher (w.from - 1) k;
     head = h.head;
     none_between = λ place after before.
         before_of w.account place (omega arith) ∙ l.none_later (place - 1) (omega arith) (omega (arith, before, after));
@@ -50,5 +55,6 @@ tails_are_last last d is w = (
     tail = same_place d is w (last_toucher d is w.account (w.to - 1)) h (last d is w.account (w.to - 1));
     is_one = (place_within d is w.account w.from h.tail).0;
   }),
-  (λ h. arrow_from_last d is w h (subst (IsLastToucher d is w.account (w.to - 1)) (sym h.tail) (last d is w.account (w.to - 1)))),
+  (λ h. arrow_from_last d is w h
+      (subst (IsLastToucher d is w.account (w.to - 1)) (sym h.tail) (last d is w.account (w.to - 1)))),
 )

@@ -1,5 +1,7 @@
 -- A list has no fault exactly where it is a legal order.
-use Rattle.std.proofs.Common.{◌≡◌, ℕ, zero, suc, ◌+◌, ◌<◌, ◌≤◌, inl, inr, Bool, true, false, cond, ◌&&◌, ◌||◌, eqb, leb, List, [], ◌∷◌, ◌++◌, length, take, Option, Some, None, arith, refl, sym, ap, subst, ◌∙◌, append_assoc}
+use Rattle.std.proofs.Common.{◌≡◌, ℕ, zero, suc, ◌+◌, ◌<◌, ◌≤◌, inl, inr, Bool, true, false, cond, ◌&&◌, ◌||◌, eqb, leb}
+use Rattle.std.proofs.Common.{List, [], ◌∷◌, ◌++◌, length, take, Option, Some, None, arith, refl, sym, ap, subst, ◌∙◌}
+use Rattle.std.proofs.Common.{append_assoc}
 use Rattle.std.specs.Prelude.{slice_get, filter, find, not}
 use Rattle.std.specs.Option.{option_map, option_or}
 use Rattle.std.specs.List.{IsDistinct}
@@ -37,7 +39,8 @@ MayFollow arrows places before (x ∷ xs) = MayCome arrows places before x × Ma
 find_none : {X : Type 0} (p : X → Bool) (xs : List X) → find p xs ≡ None → (x : X) → In x xs → p x ≡ false
 find_none p [] e x m = absurd m
 find_none {X = X} p (y ∷ ys) e x m = by (p y) refl e m (find_none p ys) where
-  by : (b : Bool) → p y ≡ b → cond b (Some y) (find p ys) ≡ None → In x (y ∷ ys) → (find p ys ≡ None → (z : X) → In z ys → p z ≡ false) → p x ≡ false
+  by : (b : Bool) → p y ≡ b → cond b (Some y) (find p ys) ≡ None → In x (y ∷ ys)
+      → (find p ys ≡ None → (z : X) → In z ys → p z ≡ false) → p x ≡ false
   by true h e' n more = absurd cc
   by false h e' (inl same) more = ap p (sym same) ∙ h
   by false h e' (inr n) more = more e' x n
@@ -50,7 +53,8 @@ none_find p (y ∷ ys) h = ap (λ b. cond b (Some y) (find p ys)) (h y (inl refl
 pub of_filter : {X : Type 0} (p : X → Bool) (xs : List X) (x : X) → In x (filter p xs) → In x xs × (p x ≡ true)
 of_filter p [] x m = absurd m
 of_filter p (y ∷ ys) x m = by (p y) refl m (of_filter p ys x) where
-  by : (b : Bool) → p y ≡ b → In x (cond b (y ∷ filter p ys) (filter p ys)) → (In x (filter p ys) → In x ys × (p x ≡ true)) → In x (y ∷ ys) × (p x ≡ true)
+  by : (b : Bool) → p y ≡ b → In x (cond b (y ∷ filter p ys) (filter p ys))
+      → (In x (filter p ys) → In x ys × (p x ≡ true)) → In x (y ∷ ys) × (p x ≡ true)
   by true h (inl same) more = (inl same, ap p (sym same) ∙ h)
   by true h (inr n) more = let r : In x ys × (p x ≡ true) = more n in (inr r.0, r.1)
   by false h n more = let r : In x ys × (p x ≡ true) = more n in (inr r.0, r.1)
@@ -60,48 +64,69 @@ not_false true e = refl
 not_false false e = absurd cc
 
 module _ (arrows : List Arrow) (places : ℕ) where
-  may_come : (before : List ℕ) (position x : ℕ) → fault_at arrows places (is_among before) position x ≡ None → MayCome arrows places before x
-  may_come before position x none = by (is_among before x) refl (find (λ (w : Arrow). not (is_among before w.from)) (inward arrows x)) refl placed where
-    place : (1 ≤ x) × (x ≤ places)
-    place = no_fault_place arrows places (is_among before) position x none
+  may_come : (before : List ℕ) (position x : ℕ) → fault_at arrows places (is_among before) position x ≡ None
+      → MayCome arrows places before x
+  may_come before position x none =
+      by (is_among before x) refl (find (λ (w : Arrow). not (is_among before w.from)) (inward arrows x)) refl
+      placed where
+        place : (1 ≤ x) × (x ≤ places)
+        place = no_fault_place arrows places (is_among before) position x none
 
-    placed : cond (is_among before x) (Some (Repeated position)) (option_map waits (find (λ (w : Arrow). not (is_among before w.from)) (inward arrows x))) ≡ None
-    placed =
-        sym (ap (λ b. cond b (cond (is_among before x) (Some (Repeated position)) (option_map waits (find (λ (w : Arrow). not (is_among before w.from)) (inward arrows x)))) (Some (Number position)))
-        (ap (λ a. a && leb x places) (le-leb 1 x place.0) ∙ le-leb x places place.1))
-        ∙ none
+        placed : cond (is_among before x) (Some (Repeated position))
+            (option_map waits (find (λ (w : Arrow). not (is_among before w.from)) (inward arrows x))) ≡ None
+        placed =
+            sym (ap (λ b. cond b (cond (is_among before x) (Some (Repeated position))
+            (option_map waits (find (λ (w : Arrow). not (is_among before w.from)) (inward arrows x))))
+            (Some (Number position)))
+            (ap (λ a. a && leb x places) (le-leb 1 x place.0) ∙ le-leb x places place.1))
+            ∙ none
 
-    by : (b : Bool) → is_among before x ≡ b → (o : Option Arrow) → find (λ (w : Arrow). not (is_among before w.from)) (inward arrows x) ≡ o → cond b (Some (Repeated position)) (option_map waits o) ≡ None → MayCome arrows places before x
-    by true eb o eo h = absurd cc
-    by false eb (Some w) eo h = absurd cc
-    by false eb None eo h = record {
-      low = place.0;
-      high = place.1;
-      fresh = eb;
-      tails = λ w m e. not_false (is_among before w.from) (find_none (λ (w' : Arrow). not (is_among before w'.from)) (inward arrows x) eo w (in_filter (λ (w' : Arrow). eqb w'.to x) arrows w (eq-eqb w.to x e) m));
-    }
+        by : (b : Bool) → is_among before x ≡ b → (o : Option Arrow)
+            → find (λ (w : Arrow). not (is_among before w.from)) (inward arrows x) ≡ o
+            → cond b (Some (Repeated position)) (option_map waits o) ≡ None → MayCome arrows places before x
+        by true eb o eo h = absurd cc
+        by false eb (Some w) eo h = absurd cc
+        by false eb None eo h = record {
+          low = place.0;
+          high = place.1;
+          fresh = eb;
+          tails = λ w m e. not_false (is_among before w.from)
+              (find_none (λ (w' : Arrow). not (is_among before w'.from)) (inward arrows x) eo w
+              (in_filter (λ (w' : Arrow). eqb w'.to x) arrows w (eq-eqb w.to x e) m));
+        }
 
-  no_fault : (before : List ℕ) (position x : ℕ) → MayCome arrows places before x → fault_at arrows places (is_among before) position x ≡ None
+  no_fault : (before : List ℕ) (position x : ℕ) → MayCome arrows places before x
+      → fault_at arrows places (is_among before) position x ≡ None
   no_fault before position x h =
-      ap (λ b. cond b (cond (is_among before x) (Some (Repeated position)) (option_map waits (find (λ (w : Arrow). not (is_among before w.from)) (inward arrows x)))) (Some (Number position)))
+      ap (λ b. cond b (cond (is_among before x) (Some (Repeated position))
+      (option_map waits (find (λ (w : Arrow). not (is_among before w.from)) (inward arrows x))))
+      (Some (Number position)))
       (ap (λ a. a && leb x places) (le-leb 1 x h.low) ∙ le-leb x places h.high)
-      ∙ ap (λ b. cond b (Some (Repeated position)) (option_map waits (find (λ (w : Arrow). not (is_among before w.from)) (inward arrows x)))) h.fresh
+      ∙ ap (λ b. cond b (Some (Repeated position))
+      (option_map waits (find (λ (w : Arrow). not (is_among before w.from)) (inward arrows x)))) h.fresh
       ∙ ap (option_map waits) (none_find (λ (w : Arrow). not (is_among before w.from)) (inward arrows x) (λ w m.
       let r : In w arrows × (eqb w.to x ≡ true) = of_filter (λ (w' : Arrow). eqb w'.to x) arrows w m in
       ap not (h.tails w r.0 (eqb-true w.to x r.1))))
 
-  may_follow : (before xs : List ℕ) → first_fault_after arrows places before xs ≡ None → MayFollow arrows places before xs
+  may_follow : (before xs : List ℕ) → first_fault_after arrows places before xs ≡ None
+      → MayFollow arrows places before xs
   may_follow before [] none = tt
-  may_follow before (x ∷ xs) none = by (fault_at arrows places (is_among before) (suc (length before)) x) refl none (may_follow (before ++ x ∷ []) xs) where
-    by : (o : Option OrderFault) → fault_at arrows places (is_among before) (suc (length before)) x ≡ o → option_or o (first_fault_after arrows places (before ++ x ∷ []) xs) ≡ None
-        → (first_fault_after arrows places (before ++ x ∷ []) xs ≡ None → MayFollow arrows places (before ++ x ∷ []) xs) → MayFollow arrows places before (x ∷ xs)
-    by None e h more = (may_come before (suc (length before)) x e, more h)
-    by (Some f) e h more = absurd cc
+  may_follow before (x ∷ xs) none = by (fault_at arrows places (is_among before) (suc (length before)) x) refl none
+      (may_follow (before ++ x ∷ []) xs) where
+        by : (o : Option OrderFault) → fault_at arrows places (is_among before) (suc (length before)) x ≡ o
+            → option_or o (first_fault_after arrows places (before ++ x ∷ []) xs) ≡ None
+            → (first_fault_after arrows places (before ++ x ∷ []) xs ≡ None
+            → MayFollow arrows places (before ++ x ∷ []) xs)
+            → MayFollow arrows places before (x ∷ xs)
+        by None e h more = (may_come before (suc (length before)) x e, more h)
+        by (Some f) e h more = absurd cc
 
-  none_after : (before xs : List ℕ) → MayFollow arrows places before xs → first_fault_after arrows places before xs ≡ None
+  none_after : (before xs : List ℕ) → MayFollow arrows places before xs → first_fault_after arrows places before xs
+      ≡ None
   none_after before [] h = refl
   none_after before (x ∷ xs) h =
-      ap (λ o. option_or o (first_fault_after arrows places (before ++ x ∷ []) xs)) (no_fault before (suc (length before)) x h.0)
+      ap (λ o. option_or o (first_fault_after arrows places (before ++ x ∷ []) xs))
+      (no_fault before (suc (length before)) x h.0)
       ∙ none_after (before ++ x ∷ []) xs h.1
 
   -- numbers that follow are places, and differ from those before
@@ -114,14 +139,17 @@ module _ (arrows : List Arrow) (places : ℕ) where
   or_none true b e = absurd cc
   or_none false b e = (refl, e)
 
-  among_more : (before : List ℕ) (x y : ℕ) → is_among (before ++ x ∷ []) y ≡ false → (is_among before y ≡ false) × (eqb x y ≡ false)
+  among_more : (before : List ℕ) (x y : ℕ) → is_among (before ++ x ∷ []) y ≡ false → (is_among before y ≡ false)
+      × (eqb x y ≡ false)
   among_more before x y e =
-      let r : (is_among before y ≡ false) × ((eqb x y || false) ≡ false) = or_none (is_among before y) (eqb x y || false) (sym (list_any-append (λ m. eqb m y) before (x ∷ [])) ∙ e) in
+      let r : (is_among before y ≡ false) × ((eqb x y || false) ≡ false) =
+      or_none (is_among before y) (eqb x y || false) (sym (list_any-append (λ m. eqb m y) before (x ∷ [])) ∙ e) in
       (r.0, (or_none (eqb x y) false r.1).0)
 
   each_stands : (before xs : List ℕ) → MayFollow arrows places before xs → (y : ℕ) → In y xs → Stands before y
   each_stands before [] h y m = absurd m
-  each_stands before (x ∷ xs) h y (inl e) = subst (Stands before) e (record { low = h.0.low; high = h.0.high; fresh = h.0.fresh })
+  each_stands before (x ∷ xs) h y (inl e) =
+      subst (Stands before) e (record { low = h.0.low; high = h.0.high; fresh = h.0.fresh })
   each_stands before (x ∷ xs) h y (inr m) =
       let s : Stands (before ++ x ∷ []) y = each_stands (before ++ x ∷ []) xs h.1 y m in
       record { low = s.low; high = s.high; fresh = (among_more before x y s.fresh).0 }
@@ -130,7 +158,8 @@ module _ (arrows : List Arrow) (places : ℕ) where
   unfolding IsDistinct
   distinct before [] h = tt
   distinct before (x ∷ xs) h = (
-    of_each_member (λ y. eqb x y ≡ false) xs (λ y m. (among_more before x y (each_stands (before ++ x ∷ []) xs h.1 y m).fresh).1),
+    of_each_member (λ y. eqb x y ≡ false) xs
+        (λ y m. (among_more before x y (each_stands (before ++ x ∷ []) xs h.1 y m).fresh).1),
     distinct (before ++ x ∷ []) xs h.1,
   )
 
@@ -139,7 +168,8 @@ module _ (arrows : List Arrow) (places : ℕ) where
   in_at (x ∷ xs) zero y e = inl (cc)
   in_at (x ∷ xs) (suc p) y e = inr (in_at xs p y e)
 
-  tail_first : (w : Arrow) → In w arrows → (before xs : List ℕ) (p q : ℕ) → MayFollow arrows places before xs → is_among before w.from ≡ false
+  tail_first : (w : Arrow) → In w arrows → (before xs : List ℕ) (p q : ℕ) → MayFollow arrows places before xs
+      → is_among before w.from ≡ false
       → slice_get xs p ≡ Some w.from → slice_get xs q ≡ Some w.to → p < q
   tail_first w m before [] p q h fresh tail head = absurd cc
   tail_first w m before (x ∷ xs) p zero h fresh tail head =
@@ -148,16 +178,21 @@ module _ (arrows : List Arrow) (places : ℕ) where
       absurd (cc)
   tail_first w m before (x ∷ xs) zero (suc q) h fresh tail head = omega arith
   tail_first w m before (x ∷ xs) (suc p) (suc q) h fresh tail head =
-      let s : Stands (before ++ x ∷ []) w.from = each_stands (before ++ x ∷ []) xs h.1 w.from (in_at xs p w.from tail) in
+      let s : Stands (before ++ x ∷ []) w.from =
+      each_stands (before ++ x ∷ []) xs h.1 w.from (in_at xs p w.from tail) in
       let lt : p < q = tail_first w m (before ++ x ∷ []) xs p q h.1 s.fresh tail head in
       omega (arith, lt)
 
   -- the other way round: by each place of the list
-  by_indexes : (before xs : List ℕ) → ((k x : ℕ) → slice_get xs k ≡ Some x → MayCome arrows places (before ++ take k xs) x) → MayFollow arrows places before xs
+  by_indexes : (before xs : List ℕ)
+      → ((k x : ℕ) → slice_get xs k ≡ Some x → MayCome arrows places (before ++ take k xs) x)
+      → MayFollow arrows places before xs
   by_indexes before [] h = tt
   by_indexes before (x ∷ xs) h = (
     subst (λ b. MayCome arrows places b x) (append-nil before) (h 0 x refl),
-    by_indexes (before ++ x ∷ []) xs (λ k y e. subst (λ b. MayCome arrows places b y) (sym (append_assoc before (x ∷ []) (take k xs))) (h (suc k) y e)),
+    by_indexes (before ++ x ∷ []) xs
+        (λ k y e. subst (λ b. MayCome arrows places b y) (sym (append_assoc before (x ∷ []) (take k xs)))
+        (h (suc k) y e)),
   )
 
   index_of : (xs : List ℕ) (y : ℕ) → In y xs → (p : ℕ) × (slice_get xs p ≡ Some y)
@@ -168,48 +203,70 @@ module _ (arrows : List Arrow) (places : ℕ) where
   among_before : (xs : List ℕ) (p k y : ℕ) → slice_get xs p ≡ Some y → p < k → is_among (take k xs) y ≡ true
   among_before [] p k y e lt = absurd cc
   among_before (x ∷ xs) p zero y e lt = absurd (omega arith)
-  among_before (x ∷ xs) zero (suc k) y e lt = let same : x ≡ y = cc in ap (λ b. b || is_among (take k xs) y) (eq-eqb x y same)
-  among_before (x ∷ xs) (suc p) (suc k) y e lt = or_more (eqb x y) (is_among (take k xs) y) (among_before xs p k y e (omega arith)) where
-    or_more : (a b : Bool) → b ≡ true → (a || b) ≡ true
-    or_more true b h = refl
-    or_more false b h = h
+  among_before (x ∷ xs) zero (suc k) y e lt = let same : x ≡ y = cc in
+      ap (λ b. b || is_among (take k xs) y) (eq-eqb x y same)
+  among_before (x ∷ xs) (suc p) (suc k) y e lt =
+      or_more (eqb x y) (is_among (take k xs) y) (among_before xs p k y e (omega arith)) where
+        or_more : (a b : Bool) → b ≡ true → (a || b) ≡ true
+        or_more true b h = refl
+        or_more false b h = h
 
   fresh_at : (xs : List ℕ) (k y : ℕ) → IsDistinct eqb xs → slice_get xs k ≡ Some y → is_among (take k xs) y ≡ false
   fresh_at [] k y d e = absurd cc
   fresh_at (x ∷ xs) zero y d e = refl
   fresh_at (x ∷ xs) (suc k) y d e =
-      ap (λ b. b || is_among (take k xs) y) (of_member (λ z. eqb x z ≡ false) xs y (IsDistinct-head eqb x xs d) (in_at xs k y e))
+      ap (λ b. b || is_among (take k xs) y)
+      (of_member (λ z. eqb x z ≡ false) xs y (IsDistinct-head eqb x xs d) (in_at xs k y e))
       ∙ fresh_at xs k y (IsDistinct-tail eqb x xs d) e
 
 pub legal_orders : NoFaultIsALegalOrder
 legal_orders d is plan order made = (
-  (λ none. let both : (length order ≡ length plan.levels) × (first_fault_after plan.arrows (length plan.levels) [] order ≡ None) = right_length (eqb (length order) (length plan.levels)) refl none in
-      let follow : MayFollow plan.arrows (length plan.levels) [] order = may_follow plan.arrows (length plan.levels) [] order both.1 in
+  (λ none. let both : (length order ≡ length plan.levels)
+      × (first_fault_after plan.arrows (length plan.levels) [] order ≡ None) =
+      right_length (eqb (length order) (length plan.levels)) refl none in
+      let follow : MayFollow plan.arrows (length plan.levels) [] order =
+      may_follow plan.arrows (length plan.levels) [] order both.1 in
       record {
-        permutation = all_places (length plan.levels) order both.0 (distinct plan.arrows (length plan.levels) [] order follow) (λ x m.
-            let s : Stands plan.arrows (length plan.levels) [] x = each_stands plan.arrows (length plan.levels) [] order follow x m in (s.low, s.high));
-        tails_first = λ w c p q tail head. tail_first plan.arrows (length plan.levels) w (in_from plan.arrows w c) [] order p q follow refl tail head;
+        permutation = all_places (length plan.levels) order both.0
+            (distinct plan.arrows (length plan.levels) [] order follow) (λ x m.
+            let s : Stands plan.arrows (length plan.levels) [] x =
+            each_stands plan.arrows (length plan.levels) [] order follow x m in (s.low, s.high));
+        tails_first = λ w c p q tail head.
+            tail_first plan.arrows (length plan.levels) w (in_from plan.arrows w c) [] order p q follow refl tail head;
       }),
   (λ legal.
-      ap (λ b. cond b (first_fault_after plan.arrows (length plan.levels) [] order) (Some Length)) (eq-eqb (length order) (length plan.levels) (length_permutation (count_up 1 (length plan.levels)) order legal.permutation ∙ length_count 1 (length plan.levels)))
-      ∙ none_after plan.arrows (length plan.levels) [] order (by_indexes plan.arrows (length plan.levels) [] order (λ k x at. comes legal k x at))),
+      ap (λ b. cond b (first_fault_after plan.arrows (length plan.levels) [] order) (Some Length))
+      (eq-eqb (length order) (length plan.levels)
+      (length_permutation (count_up 1 (length plan.levels)) order legal.permutation
+      ∙ length_count 1 (length plan.levels)))
+      ∙ none_after plan.arrows (length plan.levels) [] order
+      (by_indexes plan.arrows (length plan.levels) [] order (λ k x at. comes legal k x at))),
 ) where
-  right_length : (b : Bool) → eqb (length order) (length plan.levels) ≡ b → cond b (first_fault_after plan.arrows (length plan.levels) [] order) (Some Length) ≡ None
+  right_length : (b : Bool) → eqb (length order) (length plan.levels) ≡ b
+      → cond b (first_fault_after plan.arrows (length plan.levels) [] order) (Some Length) ≡ None
       → (length order ≡ length plan.levels) × (first_fault_after plan.arrows (length plan.levels) [] order ≡ None)
   right_length true e h = (eqb-true (length order) (length plan.levels) e, h)
   right_length false e h = absurd cc
 
   placed : IsLegalOrder plan order → (x : ℕ) → In x order → (1 ≤ x) × (x < 1 + length plan.levels)
-  placed legal x m = of_count 1 (length plan.levels) x (in_moved_back (count_up 1 (length plan.levels)) order x legal.permutation m)
+  placed legal x m = of_count 1 (length plan.levels) x
+      (in_moved_back (count_up 1 (length plan.levels)) order x legal.permutation m)
 
-  comes : IsLegalOrder plan order → (k x : ℕ) → slice_get order k ≡ Some x → MayCome plan.arrows (length plan.levels) (take k order) x
+  comes : IsLegalOrder plan order → (k x : ℕ) → slice_get order k ≡ Some x
+      → MayCome plan.arrows (length plan.levels) (take k order) x
   comes legal k x at = record {
     low = (placed legal x (in_at plan.arrows (length plan.levels) order k x at)).0;
     high = omega (arith, (placed legal x (in_at plan.arrows (length plan.levels) order k x at)).1);
-    fresh = fresh_at plan.arrows (length plan.levels) order k x (IsDistinct-IsPermutation eqb eqb-sym (count_up 1 (length plan.levels)) order legal.permutation (distinct_count 1 (length plan.levels))) at;
+    fresh = fresh_at plan.arrows (length plan.levels) order k x
+        (IsDistinct-IsPermutation eqb eqb-sym (count_up 1 (length plan.levels)) order legal.permutation
+        (distinct_count 1 (length plan.levels))) at;
     tails = λ w m e.
-        let b : IsBetween (length is) w = arrow_between_places d is w ((made.arrows.exactly w).0 (contains_from plan.arrows w m)) in
-        let there : In w.from order = in_moved (count_up 1 (length plan.levels)) order w.from legal.permutation (in_count 1 (length plan.levels) w.from b.from_one (omega (arith, b.forward, b.within, made.places))) in
-        let p : (i : ℕ) × (slice_get order i ≡ Some w.from) = index_of plan.arrows (length plan.levels) order w.from there in
-        among_before plan.arrows (length plan.levels) order p.0 k w.from p.1 (legal.tails_first w (contains_from plan.arrows w m) p.0 k p.1 (at ∙ ap (λ y. Some y) (sym e)));
+        let b : IsBetween (length is) w =
+        arrow_between_places d is w ((made.arrows.exactly w).0 (contains_from plan.arrows w m)) in
+        let there : In w.from order = in_moved (count_up 1 (length plan.levels)) order w.from legal.permutation
+        (in_count 1 (length plan.levels) w.from b.from_one (omega (arith, b.forward, b.within, made.places))) in
+        let p : (i : ℕ) × (slice_get order i ≡ Some w.from) =
+        index_of plan.arrows (length plan.levels) order w.from there in
+        among_before plan.arrows (length plan.levels) order p.0 k w.from p.1
+        (legal.tails_first w (contains_from plan.arrows w m) p.0 k p.1 (at ∙ ap (λ y. Some y) (sym e)));
   }

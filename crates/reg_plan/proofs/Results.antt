@@ -1,5 +1,6 @@
 -- The arrows and openings of sorted touches are those of the batch.
-use Rattle.std.proofs.Common.{◌≡◌, ℕ, zero, suc, ◌≤◌, inl, inr, Bool, true, false, eqb, List, length, arith, refl, sym, subst, ◌&&◌, [], ◌∷◌}
+use Rattle.std.proofs.Common.{◌≡◌, ℕ, zero, suc, ◌≤◌, inl, inr, Bool, true, false, eqb, List, length, arith, refl, sym}
+use Rattle.std.proofs.Common.{subst, ◌&&◌, [], ◌∷◌}
 use Rattle.std.specs.Prelude.{All}
 use Rattle.std.specs.Cmp.{nat_eq_equiv}
 use Rattle.std.proofs.lemmas.Bool.{cases_lt}
@@ -17,7 +18,8 @@ use Rattle.reg_plan.specs.Plans.{AreOpenings, IsBetween}
 use Rattle.reg_plan.specs.TouchList.{touches_from, arrows_of, openings_of, same_touch, AreTouches, AreSorted}
 use Rattle.reg_base.specs.Footprints.{footprints}
 use Rattle.reg_plan.proofs.Members.{In, in_from, contains_from, in_moved, in_moved_back, of_each_member}
-use Rattle.reg_plan.proofs.Links.{touch, Rises, IsLink, IsFirst, links_of_are, each_link_of, openings_of_are, each_opening_of, distinct_arrows, openings_of_rise, rises-sorted}
+use Rattle.reg_plan.proofs.Links.{touch, Rises, IsLink, IsFirst, links_of_are, each_link_of, openings_of_are}
+use Rattle.reg_plan.proofs.Links.{each_opening_of, distinct_arrows, openings_of_rise, rises-sorted}
 use Rattle.reg_plan.proofs.Touchings.{touched-place, place-touched, distinct_touches}
 
 not_true : (b : Bool) → (b ≡ true → ⊥) → b ≡ false
@@ -34,7 +36,8 @@ same_arrow-sym : (x y : Arrow) → same_arrow x y ≡ same_arrow y x
 same_arrow-sym x y = λ i. (flip_and x.account y.account i) && ((flip_and x.from y.from i) && (flip_and x.to y.to i))
 
 -- a place that touches an account is one of the batch
-pub place_within : (d : DirectoryValue) (is : List Instruction) (a place : ℕ) → touches_place d is a place ≡ true → (1 ≤ place) × (place ≤ length is)
+pub place_within : (d : DirectoryValue) (is : List Instruction) (a place : ℕ) → touches_place d is a place ≡ true
+    → (1 ≤ place) × (place ≤ length is)
 place_within d is a zero e = absurd cc
 place_within d is a (suc k) e = (omega arith, go is k e) where
   go : (js : List Instruction) (k : ℕ) → touches_at d js a k ≡ true → suc k ≤ length js
@@ -42,16 +45,20 @@ place_within d is a (suc k) e = (omega arith, go is k e) where
   go (j ∷ js) zero e = omega arith
   go (j ∷ js) (suc k) e = omega (arith, go js k e)
 
-pub arrow_between_places : (d : DirectoryValue) (is : List Instruction) (w : Arrow) → IsArrow d is w → IsBetween (length is) w
+pub arrow_between_places : (d : DirectoryValue) (is : List Instruction) (w : Arrow) → IsArrow d is w
+    → IsBetween (length is) w
 arrow_between_places d is w h = record {
   from_one = (place_within d is w.account w.from h.tail).0;
   forward = h.forward;
   within = (place_within d is w.account w.to h.head).1;
 }
 
-module _ (sound : EachFootprintIsSound) (d : DirectoryValue) (is : List Instruction) (ts : List Touch) (touches : AreTouches (footprints d is) ts) where
+module _ (sound : EachFootprintIsSound) (d : DirectoryValue) (is : List Instruction) (ts : List Touch)
+    (touches : AreTouches (footprints d is) ts) where
   rises : Rises ts
-  rises = rises-sorted ts touches.sorted (IsDistinct-IsPermutation same_touch same_touch-sym (touches_from d 1 is) ts touches.each (distinct_touches sound d 1 is))
+  rises = rises-sorted ts touches.sorted
+      (IsDistinct-IsPermutation same_touch same_touch-sym (touches_from d 1 is) ts touches.each
+      (distinct_touches sound d 1 is))
 
   touched : (t : Touch) → In t ts → touches_place d is t.account t.place ≡ true
   touched t m = touched-place d is t (in_moved_back (touches_from d 1 is) ts t touches.each m)
@@ -64,10 +71,11 @@ module _ (sound : EachFootprintIsSound) (d : DirectoryValue) (is : List Instruct
     forward = h.forward;
     tail = touched (touch w.account w.from) h.tail;
     head = touched (touch w.account w.to) h.head;
-    none_between = λ place after before. not_true (touches_place d is w.account place) (λ e. elim (h.apart place (is_there w.account place e)) [
-      | inl early ↦ omega arith
-      | inr late ↦ omega arith
-    ]);
+    none_between = λ place after before.
+        not_true (touches_place d is w.account place) (λ e. elim (h.apart place (is_there w.account place e)) [
+          | inl early ↦ omega arith
+          | inr late ↦ omega arith
+        ]);
   }
 
   link_of_arrow : (w : Arrow) → IsArrow d is w → IsLink ts w
@@ -89,17 +97,22 @@ module _ (sound : EachFootprintIsSound) (d : DirectoryValue) (is : List Instruct
   pub are_arrows : (arrows : List Arrow) → AreSorted ts arrows → AreArrows d is arrows
   are_arrows arrows made = record {
     exactly = λ w. (
-      (λ c. arrow_of_link w (links_of_are ts rises w (in_moved_back (arrows_of ts) arrows w made.each (in_from arrows w c)))),
-      (λ h. contains_from arrows w (in_moved (arrows_of ts) arrows w made.each (each_link_of ts rises w (link_of_arrow w h)))),
+      (λ c. arrow_of_link w (links_of_are ts rises w
+          (in_moved_back (arrows_of ts) arrows w made.each (in_from arrows w c)))),
+      (λ h. contains_from arrows w
+          (in_moved (arrows_of ts) arrows w made.each (each_link_of ts rises w (link_of_arrow w h)))),
     );
     sorted = made.sorted;
-    once = IsDistinct-IsPermutation same_arrow same_arrow-sym (arrows_of ts) arrows made.each (distinct_arrows ts rises);
+    once = IsDistinct-IsPermutation same_arrow same_arrow-sym (arrows_of ts) arrows made.each
+        (distinct_arrows ts rises);
   }
 
   opening_of_first : (o : Opening) → IsFirst ts o → IsOpening d is o
   opening_of_first o h = record {
     toucher = touched (touch o.account o.first) h.at;
-    none_before = λ place before. not_true (touches_place d is o.account place) (λ e. omega (arith, before, h.least place (is_there o.account place e)));
+    none_before = λ place before.
+        not_true (touches_place d is o.account place)
+        (λ e. omega (arith, before, h.least place (is_there o.account place e)));
   }
 
   first_of_opening : (o : Opening) → IsOpening d is o → IsFirst ts o
@@ -123,5 +136,7 @@ module _ (sound : EachFootprintIsSound) (d : DirectoryValue) (is : List Instruct
   })
 
   pub all_between : (arrows : List Arrow) → AreSorted ts arrows → All (IsBetween (length is)) arrows
-  all_between arrows made = All-from_recursion (IsBetween (length is)) arrows (of_each_member (IsBetween (length is)) arrows (λ w m.
-      arrow_between_places d is w (arrow_of_link w (links_of_are ts rises w (in_moved_back (arrows_of ts) arrows w made.each m)))))
+  all_between arrows made =
+      All-from_recursion (IsBetween (length is)) arrows (of_each_member (IsBetween (length is)) arrows (λ w m.
+      arrow_between_places d is w
+      (arrow_of_link w (links_of_are ts rises w (in_moved_back (arrows_of ts) arrows w made.each m)))))

@@ -20,7 +20,8 @@ pub record IsArrow (directory : DirectoryValue) (is : List Instruction) (arrow :
   pub forward : arrow.from < arrow.to
   pub tail : touches_place directory is arrow.account arrow.from ≡ true
   pub head : touches_place directory is arrow.account arrow.to ≡ true
-  pub none_between : (place : ℕ) → arrow.from < place → place < arrow.to → touches_place directory is arrow.account place ≡ false
+  pub none_between : (place : ℕ) → arrow.from < place → place < arrow.to
+      → touches_place directory is arrow.account place ≡ false
 
 -- an opening: the first instruction that touches the account
 pub record IsOpening (directory : DirectoryValue) (is : List Instruction) (opening : Opening) : Type 0 where
@@ -29,7 +30,8 @@ pub record IsOpening (directory : DirectoryValue) (is : List Instruction) (openi
 
 -- the order of arrows: by head, then tail, then account
 abbrev pub arrow_order : Arrow → Arrow → Ordering
-arrow_order x y = ordering_then (nat_cmp x.to y.to) (ordering_then (nat_cmp x.from y.from) (nat_cmp x.account y.account))
+arrow_order x y = ordering_then (nat_cmp x.to y.to)
+    (ordering_then (nat_cmp x.from y.from) (nat_cmp x.account y.account))
 
 -- the two arrows are one
 abbrev pub same_arrow : Arrow → Arrow → Bool

@@ -16,4 +16,5 @@ with_end end arrows place = filter (λ arrow. end_at end arrow == place) arrows
 
 -- so many arrows have this end before the place, and no later arrow does
 abbrev pub AreBefore : End → ℕ → List Arrow → ℕ → Type 0
-AreBefore end place arrows count = IsPartitionPoint (λ arrow. end_at end arrow < place) (λ arrow. place ≤ end_at end arrow) arrows count
+AreBefore end place arrows count =
+    IsPartitionPoint (λ arrow. end_at end arrow < place) (λ arrow. place ≤ end_at end arrow) arrows count

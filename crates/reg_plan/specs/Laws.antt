@@ -1,5 +1,6 @@
 -- What follows for plans and orders, in the words of their definitions.
-use Rattle.std.specs.Prelude.{◌≡◌, ℕ, ◌-◌, ◌<◌, ◌≤◌, true, List, [], length, slice_index, take, Contains, Some, None, ◌↔◌}
+use Rattle.std.specs.Prelude.{◌≡◌, ℕ, ◌-◌, ◌<◌, ◌≤◌, true, List, [], length, slice_index, take, Contains, Some, None}
+use Rattle.std.specs.Prelude.{◌↔◌}
 use Rattle.reg_base.specs.declared.instruction.Instruction.{Instruction}
 use Rattle.reg_base.specs.Directory.{DirectoryValue}
 use Rattle.reg_base.specs.Touches.{last_toucher}
@@ -16,7 +17,8 @@ EachBatchHasAPlan = (directory : DirectoryValue) (is : List Instruction) → (pl
 
 -- law: a list of numbers has no fault exactly where it is a legal order
 abbrev pub NoFaultIsALegalOrder : Type 0
-NoFaultIsALegalOrder = (directory : DirectoryValue) (is : List Instruction) (plan : PlanValue) (order : List ℕ) → IsPlan directory is plan → (first_order_fault plan order ≡ None) ↔ IsLegalOrder plan order
+NoFaultIsALegalOrder = (directory : DirectoryValue) (is : List Instruction) (plan : PlanValue) (order : List ℕ)
+    → IsPlan directory is plan → (first_order_fault plan order ≡ None) ↔ IsLegalOrder plan order
 
 -- the fault names this position, and its number is no place
 pub record IsNoPlace (plan : PlanValue) (position number at : ℕ) : Type 0 where
@@ -42,7 +44,8 @@ Says plan before position number (Number at) = IsNoPlace plan position number at
 Says plan before position number (Repeated at) = HasCome before position number at
 Says plan before position number (Waits from to) = IsEarly plan before number from to
 
--- the numbers before this position, counted from 1, have no fault; with the number at it they have exactly this one; and
+-- the numbers before this position, counted from 1, have no fault; with the number at it they have exactly this one;
+-- and
 -- what the fault says of that number is so
 pub record IsAtPosition (plan : PlanValue) (order : List ℕ) (fault : OrderFault) (position : ℕ) : Type 0 where
   pub from_one : 1 ≤ position
@@ -53,11 +56,15 @@ pub record IsAtPosition (plan : PlanValue) (order : List ℕ) (fault : OrderFaul
 
 -- law: a fault, unless it is a wrong length, is that of the first position that has one
 abbrev pub FaultIsAtFirstPosition : Type 0
-FaultIsAtFirstPosition = (plan : PlanValue) (order : List ℕ) (fault : OrderFault) → first_order_fault plan order ≡ Some fault → ¬ (fault ≡ Length) → (position : ℕ) × IsAtPosition plan order fault position
+FaultIsAtFirstPosition = (plan : PlanValue) (order : List ℕ) (fault : OrderFault)
+    → first_order_fault plan order ≡ Some fault → ¬ (fault ≡ Length)
+    → (position : ℕ) × IsAtPosition plan order fault position
 
 -- law: every tail's level is below its head's
 abbrev pub LevelsRiseAlongArrows : Type 0
-LevelsRiseAlongArrows = (directory : DirectoryValue) (is : List Instruction) (plan : PlanValue) (arrow : Arrow) → IsPlan directory is plan → Contains plan.arrows arrow → level_at plan.levels arrow.from < level_at plan.levels arrow.to
+LevelsRiseAlongArrows = (directory : DirectoryValue) (is : List Instruction) (plan : PlanValue) (arrow : Arrow)
+    → IsPlan directory is plan → Contains plan.arrows arrow
+    → level_at plan.levels arrow.from < level_at plan.levels arrow.to
 
 -- the arrow's head touches its account, and its tail is the last toucher before the head
 pub record LeadsFromLastToucher (directory : DirectoryValue) (is : List Instruction) (arrow : Arrow) : Type 0 where
@@ -67,4 +74,5 @@ pub record LeadsFromLastToucher (directory : DirectoryValue) (is : List Instruct
 
 -- law: that is what an arrow is
 abbrev pub TailsAreLastTouchers : Type 0
-TailsAreLastTouchers = (directory : DirectoryValue) (is : List Instruction) (arrow : Arrow) → IsArrow directory is arrow ↔ LeadsFromLastToucher directory is arrow
+TailsAreLastTouchers = (directory : DirectoryValue) (is : List Instruction) (arrow : Arrow) → IsArrow directory is arrow
+    ↔ LeadsFromLastToucher directory is arrow

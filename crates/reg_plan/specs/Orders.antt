@@ -1,5 +1,7 @@
 -- Orders of the instructions: which keep to the arrows, and what is wrong with one that does not.
-use Rattle.std.specs.Prelude.{◌≡◌, ℕ, suc, ◌-◌, ◌<◌, Bool, false, not, ◌&&◌, ◌==◌, nat_le, List, [], ◌∷◌, ◌++◌, length, slice_get, slice_index_or, find, Contains, IsPermutation, Option, Some, None, if◌then◌else◌}
+use Rattle.std.specs.Prelude.{◌≡◌, ℕ, suc, ◌-◌, ◌<◌, Bool, false, not, ◌&&◌, ◌==◌, nat_le, List, [], ◌∷◌, ◌++◌, length}
+use Rattle.std.specs.Prelude.{slice_get, slice_index_or, find, Contains, IsPermutation, Option, Some, None}
+use Rattle.std.specs.Prelude.{if◌then◌else◌}
 use Rattle.std.specs.Option.{option_map, option_or}
 use Rattle.reg_base.specs.Footprint.{is_among}
 use Rattle.reg_base.specs.Rising.{count_up}
@@ -11,7 +13,8 @@ use Rattle.reg_plan.specs.Plans.{PlanValue, inward}
 -- a permutation of the places, with each arrow's tail before its head
 pub record IsLegalOrder (plan : PlanValue) (order : List ℕ) : Type 0 where
   pub permutation : IsPermutation (count_up 1 (length plan.levels)) order
-  pub tails_first : (arrow : Arrow) → Contains plan.arrows arrow → (p q : ℕ) → slice_get order p ≡ Some arrow.from → slice_get order q ≡ Some arrow.to → p < q
+  pub tails_first : (arrow : Arrow) → Contains plan.arrows arrow → (p q : ℕ) → slice_get order p ≡ Some arrow.from
+      → slice_get order q ≡ Some arrow.to → p < q
 
 -- the fault that says that this arrow's tail has not come
 abbrev pub waits : Arrow → OrderFault
@@ -22,18 +25,22 @@ waits arrow = Waits arrow.from arrow.to
 abbrev pub fault_at : List Arrow → ℕ → (ℕ → Bool) → ℕ → ℕ → Option OrderFault
 fault_at arrows places has_come position number =
     if nat_le 1 number && nat_le number places
-    then (if has_come number then Some (Repeated position) else option_map waits (find (λ arrow. not (has_come arrow.from)) (inward arrows number)))
+    then (if has_come number then Some (Repeated position) else option_map waits
+    (find (λ arrow. not (has_come arrow.from)) (inward arrows number)))
     else Some (Number position)
 
 -- what is wrong first with numbers after others
 abbrev pub first_fault_after : List Arrow → ℕ → List ℕ → List ℕ → Option OrderFault
 first_fault_after arrows places before [] = None
-first_fault_after arrows places before (x ∷ xs) = option_or (fault_at arrows places (is_among before) (suc (length before)) x) (first_fault_after arrows places (before ++ x ∷ []) xs)
+first_fault_after arrows places before (x ∷ xs) =
+    option_or (fault_at arrows places (is_among before) (suc (length before)) x)
+    (first_fault_after arrows places (before ++ x ∷ []) xs)
 
 -- what is wrong first with a list as an order
 abbrev pub first_order_fault : PlanValue → List ℕ → Option OrderFault
 first_order_fault plan order =
-    if length order == length plan.levels then first_fault_after plan.arrows (length plan.levels) [] order else Some Length
+    if length order == length plan.levels then first_fault_after plan.arrows (length plan.levels) [] order else Some
+    Length
 
 -- an order is refused for what is wrong first with it, or, where it has the right length, because a growth was refused
 abbrev pub IsOrderFault : PlanValue → List ℕ → OrderFault → Type 0

@@ -1,5 +1,6 @@
 -- A plan as plain data: arrows, openings, levels and touched accounts, and what holds of them.
-use Rattle.std.specs.Prelude.{◌≡◌, ℕ, ◌+◌, ◌-◌, ◌<◌, ◌≤◌, ◌==◌, max, List, [], ◌∷◌, length, slice_index, map, filter, Contains, All, ◌↔◌}
+use Rattle.std.specs.Prelude.{◌≡◌, ℕ, ◌+◌, ◌-◌, ◌<◌, ◌≤◌, ◌==◌, max, List, [], ◌∷◌, length, slice_index, map, filter}
+use Rattle.std.specs.Prelude.{Contains, All, ◌↔◌}
 use Rattle.std.specs.List.Sorted.{IsNonDecreasingBy}
 use Rattle.reg_base.specs.declared.limits.TheConstants.{MOST_INSTRUCTIONS}
 use Rattle.reg_base.specs.declared.instruction.Instruction.{Instruction}
@@ -11,7 +12,8 @@ use Rattle.reg_plan.specs.Arrows.{IsOpening, AreArrows}
 use Rattle.reg_base.specs.Footprints.{footprints}
 use Rattle.reg_plan.specs.Touched.{AreFew}
 
--- the arrows in the order of head, tail and account; the openings; the level of each place; the accounts that the instruction
+-- the arrows in the order of head, tail and account; the openings; the level of each place; the accounts that the
+-- instruction
 -- at each place touches
 pub record PlanValue : Type 0 where
   pub arrows : List Arrow
@@ -38,7 +40,8 @@ greatest_tail levels (arrow ∷ arrows) = max (level_at levels arrow.from) (grea
 
 -- each place has the level 1 without an inward arrow, else 1 more than the greatest level of a tail
 abbrev pub AreLevels : List Arrow → List ℕ → Type 0
-AreLevels arrows levels = (place : ℕ) → 1 ≤ place → place ≤ length levels → level_at levels place ≡ 1 + greatest_tail levels (inward arrows place)
+AreLevels arrows levels = (place : ℕ) → 1 ≤ place → place ≤ length levels
+    → level_at levels place ≡ 1 + greatest_tail levels (inward arrows place)
 
 -- the arrow leads forward between two of so many places
 pub record IsBetween (places : ℕ) (arrow : Arrow) : Type 0 where
@@ -46,7 +49,8 @@ pub record IsBetween (places : ℕ) (arrow : Arrow) : Type 0 where
   pub forward : arrow.from < arrow.to
   pub within : arrow.to ≤ places
 
--- what a plan keeps: its arrows once by head and once by tail, each between two of its places, and few accounts for each place
+-- what a plan keeps: its arrows once by head and once by tail, each between two of its places, and few accounts for
+-- each place
 pub record IsKept (arrows by_tail : List Arrow) (levels : List ℕ) (lists : List (List ℕ)) : Type 0 where
   pub by_head : IsNonDecreasingBy (λ arrow. arrow.to) arrows
   pub tails : IsNonDecreasingBy (λ arrow. arrow.from) by_tail

@@ -42,7 +42,8 @@ opening_at x = record { account = x.account; first = x.place }
 -- the arrows of touches after one more
 abbrev pub arrows_after : Touch → List Touch → List Arrow
 arrows_after before [] = []
-arrows_after before (x ∷ xs) = if before.account == x.account then arrow_between before x ∷ arrows_after x xs else arrows_after x xs
+arrows_after before (x ∷ xs) =
+    if before.account == x.account then arrow_between before x ∷ arrows_after x xs else arrows_after x xs
 
 abbrev pub arrows_of : List Touch → List Arrow
 arrows_of [] = []
@@ -51,7 +52,8 @@ arrows_of (x ∷ xs) = arrows_after x xs
 -- the openings of touches after one more
 abbrev pub openings_after : Touch → List Touch → List Opening
 openings_after before [] = []
-openings_after before (x ∷ xs) = if before.account == x.account then openings_after x xs else opening_at x ∷ openings_after x xs
+openings_after before (x ∷ xs) =
+    if before.account == x.account then openings_after x xs else opening_at x ∷ openings_after x xs
 
 abbrev pub openings_of : List Touch → List Opening
 openings_of [] = []

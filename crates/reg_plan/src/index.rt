@@ -27,8 +27,8 @@ impl End {
     }
 }
 
-/// For each place, how many arrows have this end before it. Nothing is promised of them: whoever takes one tests whether it
-/// is right.
+/// For each place, how many arrows have this end before it. Nothing is promised of them: whoever takes one tests
+/// whether it is right.
 ///
 /// # Errors
 /// `NoMemory` if memory ran out.
@@ -88,8 +88,8 @@ fn count_before(arrows: &[Arrow], end: End, place: u64, likely: usize) -> usize
     arrows.partition_point(|arrow| u64::from(end.of(arrow)) < place)
 }
 
-/// The arrows that have this end at the place, among arrows that are sorted by it. `likely` are the likely counts of the
-/// places; if they are right, the time does not depend on the number of arrows, and else it is logarithmic in it.
+/// The arrows that have this end at the place, among arrows that are sorted by it. `likely` are the likely counts of
+/// the places; if they are right, the time does not depend on the number of arrows, and else it is logarithmic in it.
 pub(crate) fn with_end<'a>(arrows: &'a [Arrow], end: End, likely: &[u32], place: u32) -> &'a [Arrow]
     requires { IsNonDecreasingBy (end_at end) arrows.now }
     ensures { result.now ≡ with_end end arrows.now place }

@@ -1,7 +1,8 @@
 //! Laws of the definitions. Each is the contract of a function that does nothing; whoever needs a law calls its
 //! function.
 
-ghost use Rattle.reg_plan.specs.Laws.{EachBatchHasAPlan, FaultIsAtFirstPosition, NoFaultIsALegalOrder, LevelsRiseAlongArrows, TailsAreLastTouchers};
+ghost use Rattle.reg_plan.specs.Laws.{EachBatchHasAPlan, FaultIsAtFirstPosition, NoFaultIsALegalOrder};
+ghost use Rattle.reg_plan.specs.Laws.{LevelsRiseAlongArrows, TailsAreLastTouchers};
 
 use reg_base::laws::{each_footprint_is_sound, last_toucher_is_last};
 

@@ -5,8 +5,8 @@ use crate::touched::Touched;
 use reg_base::NoMemory;
 use std::alloc::Global;
 
-/// Places among the openings of a plan, counted from 0, of the accounts that an instruction touches, in their order. Nothing
-/// is promised of them: whoever takes one tests whether it is the account's.
+/// Places among the openings of a plan, counted from 0, of the accounts that an instruction touches, in their order.
+/// Nothing is promised of them: whoever takes one tests whether it is the account's.
 #[derive(Clone, Copy)]
 pub struct LikelySlots<'a> {
     slots: &'a [u32],

@@ -42,8 +42,8 @@ pub enum OrderFault {
     },
 }
 
-// Checks an order number by number, and marks each number that has come. `heads` are the likely counts of arrows by their
-// heads.
+// Checks an order number by number, and marks each number that has come. `heads` are the likely counts of arrows by
+// their heads.
 pub(crate) fn check_numbers(
     arrows: &[Arrow],
     heads: &[u32],

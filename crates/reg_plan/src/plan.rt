@@ -18,8 +18,8 @@ use std::alloc::Global;
 use std::marker::Model;
 use std::thread::Threads;
 
-/// Which instructions of a batch have to wait for which others, and which accounts each of them touches. A clause sees the
-/// plan as plain data.
+/// Which instructions of a batch have to wait for which others, and which accounts each of them touches. A clause sees
+/// the plan as plain data.
 #[derive(Debug, Drop)]
 pub struct Plan {
     arrows: Vec<Arrow>,
@@ -37,7 +37,12 @@ impl Model for Plan {
 
     ghost Value = { PlanValue };
 
-    ghost view = { λ p. record { arrows = p.arrows.items; openings = p.openings.items; levels = p.levels.items; footprints = p.touched } };
+    ghost view = { λ p. record {
+      arrows = p.arrows.items;
+      openings = p.openings.items;
+      levels = p.levels.items;
+      footprints = p.touched;
+    } };
 
     ghost invariant = { λ p. IsKept p.arrows.items p.by_tail.items p.levels.items p.touched };
 }
@@ -61,8 +66,8 @@ impl Plan {
         Plan::of_found(alloc, batch, directory, found)
     }
 
-    /// The same as [`Plan::of`], by at most so many threads: each looks up the accounts of a run of `least` instructions or
-    /// more. If a thread can't be started, the calling thread does its work.
+    /// The same as [`Plan::of`], by at most so many threads: each looks up the accounts of a run of `least`
+    /// instructions or more. If a thread can't be started, the calling thread does its work.
     ///
     /// # Errors
     /// `NoMemory` where a growth was refused.
@@ -162,7 +167,8 @@ impl Plan {
         &self.levels
     }
 
-    /// The accounts that the instruction at a place touches, in the order of its footprint. The place is counted from 1.
+    /// The accounts that the instruction at a place touches, in the order of its footprint. The place is counted from
+    /// 1.
     pub fn touched_at(&self, place: u32) -> &[AccountNo]
         requires from_one { 1 ≤ place }
         requires within { place ≤ length self.now.levels }
@@ -172,8 +178,8 @@ impl Plan {
         self.touched.at(place)
     }
 
-    /// The likely places, among the openings, of the accounts that the instruction at a place touches, in the order of its
-    /// footprint. The place is counted from 1; of any other place the answer is of no use.
+    /// The likely places, among the openings, of the accounts that the instruction at a place touches, in the order of
+    /// its footprint. The place is counted from 1; of any other place the answer is of no use.
     pub fn likely_slots(&self, place: u32) -> LikelySlots<'_> {
         LikelySlots::from(&self.slots, self.touched.likely_begin(place))
     }

@@ -56,15 +56,16 @@ fn append(front: Found, back: Found) -> Result<Found, NoMemory>
     })
 }
 
-/// The number of runs of so many instructions, at most the wanted one: each of several runs has `least` instructions or more.
+/// The number of runs of so many instructions, at most the wanted one: each of several runs has `least` instructions or
+/// more.
 pub(crate) fn count_runs(instructions: u32, wanted: u32, least: u32) -> u32
     ensures { 1 ≤ result }
 {
     (instructions / least.max(1)).min(wanted).max(1)
 }
 
-/// The same as `find_run`, in so many runs, each in a thread of its own where one can be started. The last one is found by the
-/// calling thread.
+/// The same as `find_run`, in so many runs, each in a thread of its own where one can be started. The last one is found
+/// by the calling thread.
 pub(crate) fn find_by_runs<R: Threads + Sync>(
     rt: &R,
     alloc: Global,

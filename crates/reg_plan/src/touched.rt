@@ -1,6 +1,7 @@
 //! The accounts that each instruction of a batch touches.
 
-ghost use Rattle.std.specs.Prelude.{◌≡◌, ℕ, ◌-◌, ◌<◌, ◌≤◌, [], ◌∷◌, ◌++◌, length, take, drop, slice_index_or, IfOk, OnOk};
+ghost use Rattle.std.specs.Prelude.{◌≡◌, ℕ, ◌-◌, ◌<◌, ◌≤◌, [], ◌∷◌, ◌++◌, length, take, drop, slice_index_or, IfOk};
+ghost use Rattle.std.specs.Prelude.{OnOk};
 ghost use Rattle.reg_plan.specs.Touched.{moved_by};
 
 use crate::arrow::Touch;
@@ -8,8 +9,8 @@ use reg_base::{AccountNo, Directory, Instruction, NoMemory};
 use std::alloc::Global;
 use std::marker::Model;
 
-/// The accounts that each instruction of a batch touches, so that they are looked up in the directory once. They are kept
-/// one instruction after another, with the place behind those of each. A contract sees a list of accounts for each
+/// The accounts that each instruction of a batch touches, so that they are looked up in the directory once. They are
+/// kept one instruction after another, with the place behind those of each. A contract sees a list of accounts for each
 /// instruction.
 #[derive(Debug, Drop)]
 pub(crate) struct Touched {
@@ -97,8 +98,8 @@ impl Touched {
         self.accounts.len()
     }
 
-    /// Where the accounts of a place likely begin among all, counted from 0. The place is counted from 1. Nothing is promised
-    /// of it.
+    /// Where the accounts of a place likely begin among all, counted from 0. The place is counted from 1. Nothing is
+    /// promised of it.
     pub(crate) fn likely_begin(&self, place: u32) -> usize {
         let index = (place as usize).saturating_sub(1);
         if index < self.ends.len() {

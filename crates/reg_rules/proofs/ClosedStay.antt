@@ -30,7 +30,8 @@ abbrev is-there_open : Option AccountValue → Bool
 is-there_open o = passes (λ v. is_not_closed v.status) o
 
 -- what the first account's status allows, as a source and as a receiver, closed does not
-not-closed : (rule : StatusRule) (own : Status) → fits_source rule own ≡ true → fits_first_receiver rule own ≡ true → is_not_closed own ≡ true
+not-closed : (rule : StatusRule) (own : Status) → fits_source rule own ≡ true → fits_first_receiver rule own ≡ true
+    → is_not_closed own ≡ true
 not-closed rule Opened source receiver = refl
 not-closed rule Blocked source receiver = refl
 not-closed rule Excluded source receiver = refl
@@ -39,40 +40,56 @@ not-closed OpenedOrBlocked Closed source receiver = source
 not-closed NotClosed Closed source receiver = source
 not-closed AsReceiver Closed source receiver = receiver
 
-first-open : (rule : StatusRule) (o : Option AccountValue) → passes (λ v. fits_source rule v.status) o ≡ true → passes (λ v. fits_first_receiver rule v.status) o ≡ true → is-there_open o ≡ true
+first-open : (rule : StatusRule) (o : Option AccountValue) → passes (λ v. fits_source rule v.status) o ≡ true
+    → passes (λ v. fits_first_receiver rule v.status) o ≡ true → is-there_open o ≡ true
 first-open rule None source receiver = source
 first-open rule (Some v) source receiver = not-closed rule v.status source receiver
 
-receivers-open : (s : State) (shared : List Share) → list_all (λ (r : Receiver). is-there_open r.account) (map (λ share. record { account = account s share.to; amount = share.amount }) shared) ≡ true
+receivers-open : (s : State) (shared : List Share)
+    → list_all (λ (r : Receiver). is-there_open r.account)
+    (map (λ share. record { account = account s share.to; amount = share.amount }) shared) ≡ true
     → AllByRecursion (λ a. is-there_open (account s a) ≡ true) (map (λ share. share.to) shared)
 receivers-open s [] all = tt
 receivers-open s (x ∷ xs) all =
-    let parts = and_parts (is-there_open (account s x.to)) (list_all (λ (r : Receiver). is-there_open r.account) (map (λ share. record { account = account s share.to; amount = share.amount }) xs)) all in
+    let parts = and_parts (is-there_open (account s x.to))
+    (list_all (λ (r : Receiver). is-there_open r.account)
+    (map (λ share. record { account = account s share.to; amount = share.amount }) xs)) all in
     (parts.0, receivers-open s xs parts.1)
 
 -- each account of an accepted act is there, and not closed
-parties-open : (c : Setting) (s : State) (i : Instruction) → refusal c s i ≡ None → AllByRecursion (λ a. is-there_open (account s a) ≡ true) (parties i.act)
+parties-open : (c : Setting) (s : State) (i : Instruction) → refusal c s i ≡ None
+    → AllByRecursion (λ a. is-there_open (account s a) ≡ true) (parties i.act)
 parties-open c s i none =
     let source = not-false (source_allows (rule_of i.act) (seen s i.act)) (passed c s i SourceStatus none refl) in
-    let destination = not-false (destination_allows (rule_of i.act) (seen s i.act)) (passed c s i DestinationStatus none refl) in
-    let parts = and_parts (passes (λ v. fits_first_receiver (rule_of i.act).status v.status) (account s (first i.act))) (list_all (λ (r : Receiver). is-there_open r.account) (seen s i.act).receivers) destination in
-    (first-open (rule_of i.act).status (account s (first i.act)) source parts.0, receivers-open s (shares i.act) parts.1)
+    let destination = not-false (destination_allows (rule_of i.act) (seen s i.act))
+    (passed c s i DestinationStatus none refl) in
+    let parts = and_parts (passes (λ v. fits_first_receiver (rule_of i.act).status v.status) (account s (first i.act)))
+    (list_all (λ (r : Receiver). is-there_open r.account) (seen s i.act).receivers) destination in (
+      first-open (rule_of i.act).status (account s (first i.act)) source parts.0,
+      receivers-open s (shares i.act) parts.1,
+    )
 
-open-apart : (o : Option AccountValue) → is-there_open o ≡ true → option_map (λ (v : AccountValue). v.status) o ≡ Some Closed → ⊥
+open-apart : (o : Option AccountValue) → is-there_open o ≡ true → option_map (λ (v : AccountValue). v.status) o
+    ≡ Some Closed → ⊥
 open-apart None there closed = absurd (none-some Closed closed)
-open-apart (Some v) there closed = let e : false ≡ true = sym (ap is_not_closed (same_Some v.status Closed closed)) ∙ there in absurd (cc)
+open-apart (Some v) there closed = let e : false ≡ true =
+    sym (ap is_not_closed (same_Some v.status Closed closed)) ∙ there in absurd (cc)
 
 pub done-on_none : NothingIsDoneOnClosed
 done-on_none c s i a none touched closed =
     let all = All-from_recursion (λ m. is-there_open (account s m) ≡ true) (footprint c.directory i.act)
-    (subst (AllByRecursion (λ m. is-there_open (account s m) ≡ true)) (sym (footprint-passed c s i none)) (parties-open c s i none)) in
-    open-apart (account s a) (All-contains (λ m. is-there_open (account s m) ≡ true) (footprint c.directory i.act) a all touched) closed
+    (subst (AllByRecursion (λ m. is-there_open (account s m) ≡ true)) (sym (footprint-passed c s i none))
+    (parties-open c s i none)) in
+    open-apart (account s a) (All-contains (λ m. is-there_open (account s m) ≡ true)
+    (footprint c.directory i.act) a all touched) closed
 
 pub closed-stays : ClosedStaysInStep
 closed-stays c s n i a closed = go (refusal c s i) refl where
   go : (r : Option Refusal) → refusal c s i ≡ r → account (step_by c s n i r).0 a ≡ account s a
-  go None none = ap (λ r. account (step_by c s n i r).0 a) (sym none) ∙ other-stays c s n i a (λ touched. done-on_none c s i a none touched closed)
+  go None none = ap (λ r. account (step_by c s n i r).0 a) (sym none)
+      ∙ other-stays c s n i a (λ touched. done-on_none c s i a none touched closed)
   go (Some q) refused = refl
 
 pub closed-never_left : ClosedIsNeverLeftInStep
-closed-never_left c s n i a closed = ap (option_map (λ (v : AccountValue). v.status)) (closed-stays c s n i a closed) ∙ closed
+closed-never_left c s n i a closed = ap (option_map (λ (v : AccountValue). v.status)) (closed-stays c s n i a closed)
+    ∙ closed

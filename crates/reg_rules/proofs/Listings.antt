@@ -37,7 +37,9 @@ trusts laws c s n i a other is ready none =
     let at = one.1 in
     let own = found-all IsAccount s a v ready.fit at.was in
     let dated = is-there (effective_day c)
-    (ap (λ act. has_no_effective_day c (change_of act)) (sym is) ∙ or-right (is_none (due_day c (seen s i.act) i)) (has_no_effective_day c (change_of i.act)) (passed c s i OutsideCalendar none refl)) in
+    (ap (λ act. has_no_effective_day c (change_of act)) (sym is)
+    ∙ or-right (is_none (due_day c (seen s i.act) i)) (has_no_effective_day c (change_of i.act))
+    (passed c s i OutsideCalendar none refl)) in
     let missing : effective_in v.trusted other ≡ None = is-absent (effective_in v.trusted other)
     (ap (λ o. is_already_trusted (change_of (Trust a other)) (record { first = o; receivers = [] })) (sym at.was)
     ∙ ap (λ act. is_already_trusted (change_of act) (seen s act)) (sym is) ∙ passed c s i AlreadyTrusted none refl) in
@@ -50,16 +52,25 @@ trusts laws c s n i a other is ready none =
         dated.1,
         record {
           absent = ap (λ o. option_map_or (λ (u : AccountValue). effective_in u.trusted other) o None) at.was ∙ missing;
-          added = ap (λ o. option_map_or (λ (u : AccountValue). effective_in u.trusted other) o None) now ∙ laws.trust v new other own ∙ set-here other (Some day) (effective_in v.trusted other);
+          added = ap (λ o. option_map_or (λ (u : AccountValue). effective_in u.trusted other) o None) now
+              ∙ laws.trust v new other own ∙ set-here other (Some day) (effective_in v.trusted other);
           other_entries = λ b apart.
-              ap (λ o. option_map_or (λ (u : AccountValue). effective_in u.trusted b) o None) now ∙ laws.trust v new b own ∙ set-elsewhere other b (Some day) (effective_in v.trusted b) apart
+              ap (λ o. option_map_or (λ (u : AccountValue). effective_in u.trusted b) o None) now
+              ∙ laws.trust v new b own ∙ set-elsewhere other b (Some day) (effective_in v.trusted b) apart
               ∙ sym (ap (λ o. option_map_or (λ (u : AccountValue). effective_in u.trusted b) o None) at.was);
           other_accounts = at.others;
-          holdings_stay = λ b kind. stays s t a v w (λ o. option_map_or (λ (u : AccountValue). held_by u kind) o 0) at.was now at.others refl b;
-          rows_stay = stays s t a v w (λ o. option_map_or (λ (u : AccountValue). u.rows) o []) at.was now at.others refl;
-          emissions_stay = λ b year. stays s t a v w (λ o. option_map_or (λ (u : AccountValue). emissions_in u.emissions year) o None) at.was now at.others refl b;
-          figures_stay = λ b year. stays s t a v w (λ o. option_map_or (λ (u : AccountValue). figure_in u.figures year) o None) at.was now at.others refl b;
-          statuses_stay = stays s t a v w (λ o. option_map (λ (u : AccountValue). u.status) o) at.was now at.others refl;
+          holdings_stay = λ b kind.
+              stays s t a v w (λ o. option_map_or (λ (u : AccountValue). held_by u kind) o 0) at.was now at.others refl
+              b;
+          rows_stay = stays s t a v w (λ o. option_map_or (λ (u : AccountValue). u.rows) o []) at.was now at.others
+              refl;
+          emissions_stay = λ b year.
+              stays s t a v w (λ o. option_map_or (λ (u : AccountValue). emissions_in u.emissions year) o None) at.was
+              now at.others refl b;
+          figures_stay = λ b year. stays s t a v w
+              (λ o. option_map_or (λ (u : AccountValue). figure_in u.figures year) o None) at.was now at.others refl b;
+          statuses_stay = stays s t a v w (λ o. option_map (λ (u : AccountValue). u.status) o) at.was now at.others
+              refl;
           rest_stays = stays s t a v w (λ o. option_map set_aside o) at.was now at.others refl;
         },
       ),
@@ -77,16 +88,26 @@ untrusts laws c s n i a other is none =
     let w = without_trusted v other in
     let now : account t a ≡ Some w = at.now in
     record {
-      present = (found.0, ap (λ o. option_map_or (λ (u : AccountValue). effective_in u.trusted other) o None) at.was ∙ found.1);
-      removed = ap (λ o. option_map_or (λ (u : AccountValue). effective_in u.trusted other) o None) now ∙ laws.untrust v other other ∙ set-here other None (effective_in v.trusted other);
+      present = (
+        found.0,
+        ap (λ o. option_map_or (λ (u : AccountValue). effective_in u.trusted other) o None) at.was
+            ∙ found.1,
+      );
+      removed = ap (λ o. option_map_or (λ (u : AccountValue). effective_in u.trusted other) o None) now
+          ∙ laws.untrust v other other ∙ set-here other None (effective_in v.trusted other);
       other_entries = λ b apart.
-          ap (λ o. option_map_or (λ (u : AccountValue). effective_in u.trusted b) o None) now ∙ laws.untrust v other b ∙ set-elsewhere other b None (effective_in v.trusted b) apart
+          ap (λ o. option_map_or (λ (u : AccountValue). effective_in u.trusted b) o None) now ∙ laws.untrust v other b
+          ∙ set-elsewhere other b None (effective_in v.trusted b) apart
           ∙ sym (ap (λ o. option_map_or (λ (u : AccountValue). effective_in u.trusted b) o None) at.was);
       other_accounts = at.others;
-      holdings_stay = λ b kind. stays s t a v w (λ o. option_map_or (λ (u : AccountValue). held_by u kind) o 0) at.was now at.others refl b;
+      holdings_stay = λ b kind.
+          stays s t a v w (λ o. option_map_or (λ (u : AccountValue). held_by u kind) o 0) at.was now at.others refl b;
       rows_stay = stays s t a v w (λ o. option_map_or (λ (u : AccountValue). u.rows) o []) at.was now at.others refl;
-      emissions_stay = λ b year. stays s t a v w (λ o. option_map_or (λ (u : AccountValue). emissions_in u.emissions year) o None) at.was now at.others refl b;
-      figures_stay = λ b year. stays s t a v w (λ o. option_map_or (λ (u : AccountValue). figure_in u.figures year) o None) at.was now at.others refl b;
+      emissions_stay = λ b year.
+          stays s t a v w (λ o. option_map_or (λ (u : AccountValue). emissions_in u.emissions year) o None) at.was now
+          at.others refl b;
+      figures_stay = λ b year. stays s t a v w
+          (λ o. option_map_or (λ (u : AccountValue). figure_in u.figures year) o None) at.was now at.others refl b;
       statuses_stay = stays s t a v w (λ o. option_map (λ (u : AccountValue). u.status) o) at.was now at.others refl;
       rest_stays = stays s t a v w (λ o. option_map set_aside o) at.was now at.others refl;
     }
@@ -102,10 +123,15 @@ sets c s n i a new is none =
     record {
       now_set = ap (λ o. option_map (λ (u : AccountValue). u.status) o) now;
       other_accounts = at.others;
-      holdings_stay = λ b kind. stays s t a v w (λ o. option_map_or (λ (u : AccountValue). held_by u kind) o 0) at.was now at.others refl b;
+      holdings_stay = λ b kind.
+          stays s t a v w (λ o. option_map_or (λ (u : AccountValue). held_by u kind) o 0) at.was now at.others refl b;
       rows_stay = stays s t a v w (λ o. option_map_or (λ (u : AccountValue). u.rows) o []) at.was now at.others refl;
-      emissions_stay = λ b year. stays s t a v w (λ o. option_map_or (λ (u : AccountValue). emissions_in u.emissions year) o None) at.was now at.others refl b;
-      figures_stay = λ b year. stays s t a v w (λ o. option_map_or (λ (u : AccountValue). figure_in u.figures year) o None) at.was now at.others refl b;
-      lists_stay = λ b other. stays s t a v w (λ o. option_map_or (λ (u : AccountValue). effective_in u.trusted other) o None) at.was now at.others refl b;
+      emissions_stay = λ b year.
+          stays s t a v w (λ o. option_map_or (λ (u : AccountValue). emissions_in u.emissions year) o None) at.was now
+          at.others refl b;
+      figures_stay = λ b year. stays s t a v w
+          (λ o. option_map_or (λ (u : AccountValue). figure_in u.figures year) o None) at.was now at.others refl b;
+      lists_stay = λ b other. stays s t a v w
+          (λ o. option_map_or (λ (u : AccountValue). effective_in u.trusted other) o None) at.was now at.others refl b;
       rest_stays = stays s t a v w (λ o. option_map set_aside o) at.was now at.others refl;
     }

@@ -1,5 +1,6 @@
 -- Accounts by their numbers: where each number stands once, it leads to its account.
-use Rattle.std.proofs.Common.{◌≡◌, ℕ, Bool, true, false, cond, eqb, List, [], ◌∷◌, map, Option, Some, refl, sym, ap, ◌∙◌, subst}
+use Rattle.std.proofs.Common.{◌≡◌, ℕ, Bool, true, false, cond, eqb, List, [], ◌∷◌, map, Option, Some, refl, sym, ap}
+use Rattle.std.proofs.Common.{◌∙◌, subst}
 use Rattle.std.specs.Option.{option_map}
 use Rattle.std.specs.List.{IsDistinct, AllByRecursion}
 use Rattle.std.proofs.lemmas.Bool.{cond_both, eqb-true, eq-eqb}
@@ -17,7 +18,9 @@ account-number (x ∷ xs) a v e =
     (λ _ found. more found) e
 
 -- an account put before a list does not change what the other numbers find
-behind : (x : AccountValue) (xs ys : State) → AllByRecursion (λ n. eqb x.number n ≡ false) (numbers ys) → AllByRecursion (λ v. account xs v.number ≡ Some v) ys → AllByRecursion (λ v. account (x ∷ xs) v.number ≡ Some v) ys
+behind : (x : AccountValue) (xs ys : State) → AllByRecursion (λ n. eqb x.number n ≡ false) (numbers ys)
+    → AllByRecursion (λ v. account xs v.number ≡ Some v) ys
+    → AllByRecursion (λ v. account (x ∷ xs) v.number ≡ Some v) ys
 behind x xs [] others found = tt
 behind x xs (y ∷ ys) others found =
     (ap (λ b. cond b (Some x) (account xs y.number)) others.0 ∙ found.0, behind x xs ys others.1 found.1)
@@ -26,31 +29,39 @@ behind x xs (y ∷ ys) others found =
 pub found-by_number : (s : State) → IsDistinct eqb (numbers s) → AllByRecursion (λ v. account s v.number ≡ Some v) s
 unfolding IsDistinct
 found-by_number [] d = tt
-found-by_number (x ∷ xs) d =
-    (ap (λ b. cond b (Some x) (account xs x.number)) (eq-eqb x.number x.number refl), behind x xs xs d.0 (found-by_number xs d.1))
+found-by_number (x ∷ xs) d = (
+  ap (λ b. cond b (Some x) (account xs x.number)) (eq-eqb x.number x.number refl),
+  behind x xs xs d.0 (found-by_number xs d.1),
+)
 
 -- what is said of a state by its numbers is said of its accounts
-pub map-by_number : {Y : Type 0} (f : ℕ → Option AccountValue → Y) (g : AccountValue → Y) → ((v : AccountValue) → f v.number (Some v) ≡ g v)
+pub map-by_number : {Y : Type 0} (f : ℕ → Option AccountValue → Y) (g : AccountValue → Y)
+    → ((v : AccountValue) → f v.number (Some v) ≡ g v)
     → (s : State) → IsDistinct eqb (numbers s) → map (λ a. f a (account s a)) (numbers s) ≡ map g s
 map-by_number {Y} f g same s d = go s (found-by_number s d) where
-  go : (ys : State) → AllByRecursion (λ v. account s v.number ≡ Some v) ys → map (λ a. f a (account s a)) (numbers ys) ≡ map g ys
+  go : (ys : State) → AllByRecursion (λ v. account s v.number ≡ Some v) ys → map (λ a. f a (account s a)) (numbers ys)
+      ≡ map g ys
   go [] found = refl
   go (y ∷ ys) found = let here : f y.number (account s y.number) ≡ g y = ap (f y.number) found.0 ∙ same y in
       ap (λ z. z ∷ map (λ a. f a (account s a)) (numbers ys)) here ∙ ap (λ zs. g y ∷ zs) (go ys found.1)
 
 -- a change that keeps each number is a change of what the numbers lead to
-pub account-map : (f : AccountValue → AccountValue) → ((v : AccountValue) → (f v).number ≡ v.number) → (s : State) (a : ℕ) → account (map f s) a ≡ option_map f (account s a)
+pub account-map : (f : AccountValue → AccountValue) → ((v : AccountValue) → (f v).number ≡ v.number)
+    → (s : State) (a : ℕ) → account (map f s) a ≡ option_map f (account s a)
 account-map f keeps [] a = refl
 account-map f keeps (x ∷ xs) a =
-    ap (λ n. cond (eqb n a) (Some (f x)) (account (map f xs) a)) (keeps x) ∙ go (eqb x.number a) (account-map f keeps xs a) where
+    ap (λ n. cond (eqb n a) (Some (f x)) (account (map f xs) a)) (keeps x)
+    ∙ go (eqb x.number a) (account-map f keeps xs a) where
       go : (b : Bool) → account (map f xs) a ≡ option_map f (account xs a)
           → cond b (Some (f x)) (account (map f xs) a) ≡ option_map f (cond b (Some x) (account xs a))
       go true more = refl
       go false more = more
 
-pub numbers-map : (f : AccountValue → AccountValue) → ((v : AccountValue) → (f v).number ≡ v.number) → (s : State) → numbers (map f s) ≡ numbers s
+pub numbers-map : (f : AccountValue → AccountValue) → ((v : AccountValue) → (f v).number ≡ v.number) → (s : State)
+    → numbers (map f s) ≡ numbers s
 numbers-map f keeps [] = refl
-numbers-map f keeps (x ∷ xs) = ap (λ n. n ∷ numbers (map f xs)) (keeps x) ∙ ap (λ ns. x.number ∷ ns) (numbers-map f keeps xs)
+numbers-map f keeps (x ∷ xs) =
+    ap (λ n. n ∷ numbers (map f xs)) (keeps x) ∙ ap (λ ns. x.number ∷ ns) (numbers-map f keeps xs)
 
 some-each : (xs ys : State) → map (λ v. Some v) xs ≡ map (λ v. Some v) ys → xs ≡ ys
 some-each [] [] same = refl
@@ -61,12 +72,15 @@ some-each (x ∷ xs) (y ∷ ys) same =
     let here : Some x ≡ Some y = cc in
     ap (λ v. v ∷ xs) (same_Some x y here) ∙ ap (λ vs. y ∷ vs) (some-each xs ys more)
 
-map-agree : (s t : State) (ns : List ℕ) → AllByRecursion (λ a. account s a ≡ account t a) ns → map (account s) ns ≡ map (account t) ns
+map-agree : (s t : State) (ns : List ℕ) → AllByRecursion (λ a. account s a ≡ account t a) ns
+    → map (account s) ns ≡ map (account t) ns
 map-agree s t [] same = refl
-map-agree s t (n ∷ ns) same = ap (λ o. o ∷ map (account s) ns) same.0 ∙ ap (λ os. account t n ∷ os) (map-agree s t ns same.1)
+map-agree s t (n ∷ ns) same =
+    ap (λ o. o ∷ map (account s) ns) same.0 ∙ ap (λ os. account t n ∷ os) (map-agree s t ns same.1)
 
 -- a state is known by its numbers and by what they lead to
-pub one-state : (s t : State) → IsDistinct eqb (numbers s) → numbers s ≡ numbers t → AllByRecursion (λ a. account s a ≡ account t a) (numbers s) → s ≡ t
+pub one-state : (s t : State) → IsDistinct eqb (numbers s) → numbers s ≡ numbers t
+    → AllByRecursion (λ a. account s a ≡ account t a) (numbers s) → s ≡ t
 one-state s t d same agree =
     some-each s t
     (sym (map-by_number (λ a o. o) (λ v. Some v) (λ v. refl) s d)

@@ -19,5 +19,6 @@ none-fails p t (y ∷ ys) x none found = go (p y) (t y) refl none found (none-fa
   go false false e none' found' more = more none' found'
 
 -- the check q did not fail, for each q of the table: `passed c s i q none refl`
-pub passed : (c : Setting) (s : State) (i : Instruction) (q : Refusal) → refusal c s i ≡ None → find (λ r. eqb (code_of r) (code_of q)) checks ≡ Some q → fails c (seen s i.act) i q ≡ false
+pub passed : (c : Setting) (s : State) (i : Instruction) (q : Refusal) → refusal c s i ≡ None
+    → find (λ r. eqb (code_of r) (code_of q)) checks ≡ Some q → fails c (seen s i.act) i q ≡ false
 passed c s i q none asked = none-fails (fails c (seen s i.act) i) (λ r. eqb (code_of r) (code_of q)) checks q none asked

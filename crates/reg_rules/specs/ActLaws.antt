@@ -4,7 +4,9 @@ use Rattle.std.specs.List.{All}
 use Rattle.reg_base.specs.declared.kinds.AllowanceKind.{AllowanceKind}
 use Rattle.reg_base.specs.declared.kinds.Status.{Status}
 use Rattle.reg_base.specs.declared.act.Act.{Act}
-use Rattle.reg_base.specs.declared.act.Act.TheVariants.{Transfer, Surrender, Delete, ReturnExcess, Reverse, Create, CentralMove, Distribute, Trust, Untrust, SetStatus, EnterEmissions, Assess}
+use Rattle.reg_base.specs.declared.act.Act.TheVariants.{Transfer, Surrender, Delete, ReturnExcess, Reverse, Create}
+use Rattle.reg_base.specs.declared.act.Act.TheVariants.{CentralMove, Distribute, Trust, Untrust, SetStatus}
+use Rattle.reg_base.specs.declared.act.Act.TheVariants.{EnterEmissions, Assess}
 use Rattle.reg_base.specs.declared.shares.Share.{Share}
 use Rattle.reg_base.specs.declared.instruction.Instruction.{Instruction}
 use Rattle.reg_base.specs.Acts.{total_of}
@@ -17,7 +19,8 @@ use Rattle.reg_account.specs.declared.rows.RetirementRow.{RetirementRow}
 use Rattle.reg_account.specs.Rows.{amount_in}
 use Rattle.reg_account.specs.Account.{AccountValue}
 use Rattle.reg_account.specs.Figure.{figure_of}
-use Rattle.reg_rules.specs.State.{State, Setting, account, held, rows, retirement_row, retired_at, emitted, determined, status, listed}
+use Rattle.reg_rules.specs.State.{State, Setting, account, held, rows, retirement_row, retired_at, emitted, determined}
+use Rattle.reg_rules.specs.State.{status, listed}
 use Rattle.reg_rules.specs.Checks.{refusal}
 use Rattle.reg_rules.specs.Laws.{after_step, account_aside, IsReady}
 

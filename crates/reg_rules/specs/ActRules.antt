@@ -5,9 +5,13 @@ use Rattle.reg_base.specs.declared.kinds.AccountKind.TheVariants.{Total, Allocat
 use Rattle.reg_base.specs.declared.kinds.Status.{Status}
 use Rattle.reg_base.specs.declared.kinds.Status.TheVariants.{Opened, Blocked, Excluded, Closed}
 use Rattle.reg_base.specs.declared.act.Act.{Act}
-use Rattle.reg_base.specs.declared.act.Act.TheVariants.{Transfer, Surrender, Delete, ReturnExcess, Reverse, Create, CentralMove, Distribute, Trust, Untrust, SetStatus, EnterEmissions, Assess}
+use Rattle.reg_base.specs.declared.act.Act.TheVariants.{Transfer, Surrender, Delete, ReturnExcess, Reverse, Create}
+use Rattle.reg_base.specs.declared.act.Act.TheVariants.{CentralMove, Distribute, Trust, Untrust, SetStatus}
+use Rattle.reg_base.specs.declared.act.Act.TheVariants.{EnterEmissions, Assess}
 use Rattle.reg_rules.specs.declared.rule.KindRule.{KindRule}
-use Rattle.reg_rules.specs.declared.rule.KindRule.TheVariants.{HolderToHolder, OperatorToAllocation, AllocationToOperator, Central, OfHolder, OfOperator, OfTotal}
+use Rattle.reg_rules.specs.declared.rule.KindRule.TheVariants.{HolderToHolder, OperatorToAllocation}
+use Rattle.reg_rules.specs.declared.rule.KindRule.TheVariants.{AllocationToOperator, Central, OfHolder, OfOperator}
+use Rattle.reg_rules.specs.declared.rule.KindRule.TheVariants.{OfTotal}
 use Rattle.reg_rules.specs.declared.rule.StatusRule.{StatusRule}
 use Rattle.reg_rules.specs.declared.rule.StatusRule.TheVariants.{IsOpened, OpenedOrBlocked, NotClosed, AsReceiver}
 use Rattle.reg_rules.specs.declared.rule.Who.{Who}

@@ -1,5 +1,7 @@
 -- The table of checks. The first that fails names the refusal.
-use Rattle.std.specs.Prelude.{ℕ, ◌+◌, ◌≤◌, ℤ, pos, Bool, IsTrue, true, false, not, ◌==◌, ◌&&◌, ◌||◌, nat_le, nat_lt, int_lt, List, [], ◌∷◌, find, reverse, length, Contains, Option, None, is_none, MatchOption, Result, Ok, Err, if◌then◌else◌}
+use Rattle.std.specs.Prelude.{ℕ, ◌+◌, ◌≤◌, ℤ, pos, Bool, IsTrue, true, false, not, ◌==◌, ◌&&◌, ◌||◌, nat_le, nat_lt}
+use Rattle.std.specs.Prelude.{int_lt, List, [], ◌∷◌, find, reverse, length, Contains, Option, None, is_none}
+use Rattle.std.specs.Prelude.{MatchOption, Result, Ok, Err, if◌then◌else◌}
 use Rattle.std.specs.Option.{option_map_or}
 use Rattle.std.specs.List.{list_all, list_any}
 use Rattle.reg_base.specs.declared.limits.TheConstants.{MOST_HELD, MOST_RETIRED, MOST_ROWS, MOST_EMISSIONS}
@@ -31,10 +33,12 @@ use Rattle.reg_account.specs.Account.{AccountValue, held_by, retired_by, unretir
 use Rattle.reg_account.specs.Figure.{is_row_counted, figure_of}
 use Rattle.reg_rules.specs.declared.rule.KindRule.{KindRule}
 use Rattle.reg_rules.specs.declared.rule.ActRule.{ActRule}
-use Rattle.reg_rules.specs.ActRules.{rule_of, fits_first, fits_receiver, fits_source, fits_first_receiver, is_not_closed}
+use Rattle.reg_rules.specs.ActRules.{rule_of, fits_first, fits_receiver, fits_source, fits_first_receiver}
+use Rattle.reg_rules.specs.ActRules.{is_not_closed}
 use Rattle.reg_rules.specs.State.{State, Setting, Receiver, Seen, seen, passes}
 use Rattle.reg_rules.specs.Entitlements.{is_not_proposer, is_same_representative, is_not_approver}
-use Rattle.reg_rules.specs.Trust.{due_day, lacks_approval, is_not_trusted, has_no_effective_day, is_already_trusted, is_not_on_list, is_list_full}
+use Rattle.reg_rules.specs.Trust.{due_day, lacks_approval, is_not_trusted, has_no_effective_day, is_already_trusted}
+use Rattle.reg_rules.specs.Trust.{is_not_on_list, is_list_full}
 
 -- some number occurs twice
 abbrev pub has_repeat : List ℕ → Bool

@@ -1,11 +1,13 @@
 -- What an accepted act makes of the accounts.
-use Rattle.std.specs.Prelude.{◌≡◌, ℕ, ◌+◌, ◌≤◌, ℤ, false, ◌==◌, List, map, find, Option, Some, None, MatchOption, Result, Ok, Err, if◌then◌else◌}
+use Rattle.std.specs.Prelude.{◌≡◌, ℕ, ◌+◌, ◌≤◌, ℤ, false, ◌==◌, List, map, find, Option, Some, None, MatchOption}
+use Rattle.std.specs.Prelude.{Result, Ok, Err, if◌then◌else◌}
 use Rattle.std.specs.Option.{option_map_or}
 use Rattle.reg_base.specs.declared.limits.TheConstants.{MOST_HELD, MOST_EMISSIONS}
 use Rattle.reg_base.specs.declared.kinds.AllowanceKind.{AllowanceKind}
 use Rattle.reg_base.specs.declared.shares.Share.{Share}
 use Rattle.reg_base.specs.declared.movement.Change.{Change}
-use Rattle.reg_base.specs.declared.movement.Change.TheVariants.{Debit, Credit, Retire, Unretire, Trust, Untrust, SetStatus, SetEmissions, Determine}
+use Rattle.reg_base.specs.declared.movement.Change.TheVariants.{Debit, Credit, Retire, Unretire, Trust, Untrust}
+use Rattle.reg_base.specs.declared.movement.Change.TheVariants.{SetStatus, SetEmissions, Determine}
 use Rattle.reg_base.specs.declared.act.Act.{Act}
 use Rattle.reg_base.specs.declared.instruction.Instruction.{Instruction}
 use Rattle.reg_base.specs.Acts.{movement_of, change_of, first, shares}
@@ -17,7 +19,9 @@ use Rattle.reg_account.specs.declared.rows.Fate.TheVariants as fate
 use Rattle.reg_account.specs.declared.rows.RetirementRow.{RetirementRow}
 use Rattle.reg_account.specs.declared.figure.FigureFault.{FigureFault}
 use Rattle.reg_account.specs.Rows.{row_numbers, AreBelow}
-use Rattle.reg_account.specs.Account.{AccountValue, held_by, credited, debited, retired, unretired, with_emissions, with_determined, with_trusted, without_trusted, with_status, CanRetire, CanUnretire, CanTrust}
+use Rattle.reg_account.specs.Account.{AccountValue, held_by, credited, debited, retired, unretired, with_emissions}
+use Rattle.reg_account.specs.Account.{with_determined, with_trusted, without_trusted, with_status, CanRetire}
+use Rattle.reg_account.specs.Account.{CanUnretire, CanTrust}
 use Rattle.reg_account.specs.Figure.{figure_of}
 use Rattle.reg_rules.specs.State.{State, Setting}
 use Rattle.reg_rules.specs.Trust.{effective_day}
@@ -67,8 +71,8 @@ abbrev pub given : AllowanceKind → List Share → AccountValue → AccountValu
 given kind shares v = option_map_or (λ share. credited v kind share.amount) (share_of shares v.number) v
 
 -- an account after the act: the first after its own change, and each other one with its share
-abbrev pub by_part : Setting → ℕ → Act → AccountValue → AccountValue
-by_part c number act v =
+abbrev pub after_act : Setting → ℕ → Act → AccountValue → AccountValue
+after_act c number act v =
     if v.number == first act then first_after c number act v else given (movement_of act).kind (shares act) v
 
 -- the first account, with all that acts change taken from the second: no act changes more of an account than this
@@ -84,7 +88,7 @@ with_changes v w = record v {
 
 -- an account after the act, which is carried out under this record number
 abbrev pub changed_by : Setting → ℕ → Act → AccountValue → AccountValue
-changed_by c number act v = with_changes v (by_part c number act v)
+changed_by c number act v = with_changes v (after_act c number act v)
 
 -- the state after the instruction
 abbrev pub effect : Setting → State → ℕ → Instruction → State

@@ -6,7 +6,8 @@ ghost use Rattle.reg_base.specs.declared.limits.TheConstants.{MOST_HELD, MOST_RE
 ghost use Rattle.reg_base.specs.Rules.{may_surrender};
 ghost use Rattle.reg_account.specs.Account.{retired_by};
 ghost use Rattle.reg_rules.specs.State.{account, held, seen_by, passes};
-ghost use Rattle.reg_rules.specs.Checks.{is_kind_not_allowed, row_to_reverse, is_short, overfills, overfills_first, overfills_some, is_retired_too_large, are_rows_full};
+ghost use Rattle.reg_rules.specs.Checks.{is_kind_not_allowed, row_to_reverse, is_short, overfills, overfills_first};
+ghost use Rattle.reg_rules.specs.Checks.{overfills_some, is_retired_too_large, are_rows_full};
 
 use crate::parties::find_account;
 use reg_account::{Account, RetirementRow};

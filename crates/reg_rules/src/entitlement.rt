@@ -4,7 +4,8 @@ ghost use Rattle.std.specs.Prelude.{◌≡◌, false};
 ghost use Rattle.std.specs.Option.{option_map_or};
 ghost use Rattle.reg_account.specs.Users.{right_in};
 ghost use Rattle.reg_rules.specs.State.{account, seen_by};
-ghost use Rattle.reg_rules.specs.Entitlements.{includes, is_entitled, is_not_proposer, is_same_representative, is_not_approver};
+ghost use Rattle.reg_rules.specs.Entitlements.{includes, is_entitled, is_not_proposer, is_same_representative};
+ghost use Rattle.reg_rules.specs.Entitlements.{is_not_approver};
 
 use crate::parties::find_account;
 use crate::rule::{Role, Who, rule_of};

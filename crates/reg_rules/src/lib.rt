@@ -18,8 +18,8 @@
 //! use reg_rules::{LogRow, Setting, execute, log_row};
 //! use std::alloc::Global;
 //!
-//! /// Carries an instruction out on the accounts that it touches, or refuses it, and answers its row in the log. If it is
-//! /// refused, the accounts stay as they are.
+//! /// Carries an instruction out on the accounts that it touches, or refuses it, and answers its row in the log. If it
+//! /// is refused, the accounts stay as they are.
 //! ///
 //! /// # Errors
 //! /// `NoMemory` if memory ran out. The accounts stay as they are.

@@ -7,7 +7,9 @@ ghost use Rattle.reg_account.specs.Rows.{row_in};
 ghost use Rattle.reg_account.specs.Figure.{is_for_year};
 ghost use Rattle.reg_account.specs.Laws.{lowered_by};
 ghost use Rattle.reg_rules.specs.State.{seen_by};
-ghost use Rattle.reg_rules.specs.Checks.{is_reversal, row_to_reverse, is_past_window, counted_amount, is_compliant, is_negative, becomes_negative, becomes_negative_in, becomes_negative_by, loses_compliance, would_become_non_compliant};
+ghost use Rattle.reg_rules.specs.Checks.{is_reversal, row_to_reverse, is_past_window, counted_amount, is_compliant};
+ghost use Rattle.reg_rules.specs.Checks.{is_negative, becomes_negative, becomes_negative_in, becomes_negative_by};
+ghost use Rattle.reg_rules.specs.Checks.{loses_compliance, would_become_non_compliant};
 
 use crate::parties::find_account;
 use crate::setting::Setting;

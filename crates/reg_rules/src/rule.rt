@@ -1,7 +1,10 @@
 //! The table of acts: what each asks of its accounts, who proposes and approves it, and how long it waits.
 
 ghost use Rattle.std.specs.Prelude.{◌≡◌};
-ghost use Rattle.reg_rules.specs.ActRules.{act_row, rule_of, is_holder_kind, is_operator_kind, is_allocation_kind, is_total_kind, is_central_kind, may_go_central, fits_first, fits_receiver, is_opened, is_opened_or_blocked, is_not_closed, fits_source, fits_first_receiver};
+ghost use Rattle.reg_rules.specs.ActRules.{act_row, rule_of, is_holder_kind, is_operator_kind, is_allocation_kind};
+ghost use Rattle.reg_rules.specs.ActRules.{is_total_kind, is_central_kind, may_go_central, fits_first, fits_receiver};
+ghost use Rattle.reg_rules.specs.ActRules.{is_opened, is_opened_or_blocked, is_not_closed, fits_source};
+ghost use Rattle.reg_rules.specs.ActRules.{fits_first_receiver};
 
 use reg_base::{AccountKind, Act, Status};
 

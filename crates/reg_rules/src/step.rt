@@ -10,7 +10,9 @@ ghost use Rattle.reg_account.specs.Account.{held_by, debited, CanTrust};
 ghost use Rattle.reg_account.specs.Rows.{FateFits};
 ghost use Rattle.reg_rules.specs.Trust.{effective_day};
 ghost use Rattle.reg_rules.specs.Checks.{refusal};
-ghost use Rattle.reg_rules.specs.Effect.{share_of, given, made_by, with_changes, changed_by, fate_of, new_row as row_of_today, assessed, listed_from, CanMake, CanReceive, CanChange, IsBehind};
+ghost use Rattle.reg_rules.specs.Effect.{share_of, given, made_by, with_changes, changed_by, fate_of};
+ghost use Rattle.reg_rules.specs.Effect.{new_row as row_of_today, assessed, listed_from, CanMake, CanReceive};
+ghost use Rattle.reg_rules.specs.Effect.{CanChange, IsBehind};
 ghost use Rattle.reg_rules.specs.Step.{step, holdings_of, figure_made};
 
 use crate::checks::first_failing;

@@ -7,7 +7,9 @@ ghost use Rattle.reg_base.specs.Calendar.{due};
 ghost use Rattle.reg_account.specs.Account.{trusts};
 ghost use Rattle.reg_rules.specs.ActRules.{rule_of};
 ghost use Rattle.reg_rules.specs.State.{account, seen_by, passes};
-ghost use Rattle.reg_rules.specs.Trust.{trusts_receivers, lag_by, is_waived, lacks_approval, is_not_trusted, effective_day, has_no_effective_day, is_already_trusted, is_not_on_list, is_list_full};
+ghost use Rattle.reg_rules.specs.Trust.{trusts_receivers, lag_by, is_waived, lacks_approval, is_not_trusted};
+ghost use Rattle.reg_rules.specs.Trust.{effective_day, has_no_effective_day, is_already_trusted, is_not_on_list};
+ghost use Rattle.reg_rules.specs.Trust.{is_list_full};
 
 use crate::parties::find_account;
 use crate::rule::{LagRule, rule_of};

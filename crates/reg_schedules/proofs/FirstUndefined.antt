@@ -18,12 +18,15 @@ is-undefined : {X : Type 0} (o : Option X) → is_none o ≡ true → o ≡ None
 is-undefined None e = refl
 is-undefined (Some x) e = absurd cc
 
-pub first-undefined : UndefinedAtFirstFault → (day : Day) (plan : PlanValue) (order : List ℕ) (fault : OrderFault) → IsPlanOf day plan → (position : ℕ)
+pub first-undefined : UndefinedAtFirstFault → (day : Day) (plan : PlanValue) (order : List ℕ) (fault : OrderFault)
+    → IsPlanOf day plan → (position : ℕ)
     → IsAtPosition plan order fault position → IsFirstUndefined day plan order fault position
 first-undefined undefined day plan order fault made position at = record {
   is_at = at;
-  defined_before = is-defined (meaning_of day plan before) (undefined day plan before made ∙ ap is_some (places before) ∙ ap is_some at.none_before);
-  undefined_with_it = is-undefined (meaning_of day plan with_it) (undefined day plan with_it made ∙ ap is_some (places with_it) ∙ ap is_some at.with_it);
+  defined_before = is-defined (meaning_of day plan before) (undefined day plan before made ∙ ap is_some (places before)
+      ∙ ap is_some at.none_before);
+  undefined_with_it = is-undefined (meaning_of day plan with_it) (undefined day plan with_it made
+      ∙ ap is_some (places with_it) ∙ ap is_some at.with_it);
 }
   where
     before : List ℕ
@@ -32,5 +35,6 @@ first-undefined undefined day plan order fault made position at = record {
     with_it : List ℕ
     with_it = take position order
 
-    places : (xs : List ℕ) → first_fault_after plan.arrows (length day.batch.instructions) [] xs ≡ first_fault_after plan.arrows (length plan.levels) [] xs
+    places : (xs : List ℕ) → first_fault_after plan.arrows (length day.batch.instructions) [] xs
+        ≡ first_fault_after plan.arrows (length plan.levels) [] xs
     places xs = ap (λ n. first_fault_after plan.arrows n [] xs) (sym made.places)

@@ -1,5 +1,6 @@
 -- Members of a list, one by one from its head, and what tests and filters say of them.
-use Rattle.std.proofs.Common.{◌≡◌, ℕ, zero, suc, ◌<◌, ◌⊎◌, inl, inr, Bool, true, false, cond, ◌||◌, eqb, List, [], ◌∷◌, ◌++◌, length, get_or, Some, None, arith, refl, sym, ap, ◌∙◌}
+use Rattle.std.proofs.Common.{◌≡◌, ℕ, zero, suc, ◌<◌, ◌⊎◌, inl, inr, Bool, true, false, cond, ◌||◌, eqb, List, [], ◌∷◌}
+use Rattle.std.proofs.Common.{◌++◌, length, get_or, Some, None, arith, refl, sym, ap, ◌∙◌}
 use Rattle.std.specs.Prelude.{Contains, filter, find}
 use Rattle.std.specs.List.{list_any, AllByRecursion}
 use Rattle.std.proofs.lemmas.Bool.{eq-eqb, eqb-true}
@@ -36,7 +37,8 @@ in_filter p (y ∷ ys) x e (inr m) = by (p y) (in_filter p ys x e m) where
 pub of_filter : {X : Type 0} (p : X → Bool) (xs : List X) (x : X) → In x (filter p xs) → In x xs × (p x ≡ true)
 of_filter p [] x m = absurd m
 of_filter p (y ∷ ys) x m = by (p y) refl m (of_filter p ys x) where
-  by : (b : Bool) → p y ≡ b → In x (cond b (y ∷ filter p ys) (filter p ys)) → (In x (filter p ys) → In x ys × (p x ≡ true)) → In x (y ∷ ys) × (p x ≡ true)
+  by : (b : Bool) → p y ≡ b → In x (cond b (y ∷ filter p ys) (filter p ys))
+      → (In x (filter p ys) → In x ys × (p x ≡ true)) → In x (y ∷ ys) × (p x ≡ true)
   by true h (inl same) more = (inl same, ap p (sym same) ∙ h)
   by true h (inr n) more = let r : In x ys × (p x ≡ true) = more n in (inr r.0, r.1)
   by false h n more = let r : In x ys × (p x ≡ true) = more n in (inr r.0, r.1)
@@ -55,13 +57,21 @@ pub record Missing {X : Type 0} (p : X → Bool) (xs : List X) : Type 0 where
 pub search_of : {X : Type 0} (p : X → Bool) (xs : List X) → Missing p xs ⊎ ((x : X) × Found p xs x)
 search_of p [] = inl (record { none = refl; each_fails = λ x m. absurd m })
 search_of {X = X} p (y ∷ ys) = by (p y) refl (search_of p ys) where
-  by : (b : Bool) → p y ≡ b → Missing p ys ⊎ ((x : X) × Found p ys x) → Missing p (y ∷ ys) ⊎ ((x : X) × Found p (y ∷ ys) x)
+  by : (b : Bool) → p y ≡ b → Missing p ys ⊎ ((x : X) × Found p ys x) → Missing p (y ∷ ys)
+      ⊎ ((x : X) × Found p (y ∷ ys) x)
   by true h any = inr (y, record { found = ap (λ b. cond b (Some y) (find p ys)) h; there = inl refl; passes = h })
   by false h (inl missing) = inl (record {
     none = ap (λ b. cond b (Some y) (find p ys)) h ∙ missing.none;
     each_fails = λ x m. elim m [ inl e ↦ ap p (sym e) ∙ h | inr n ↦ missing.each_fails x n ];
   })
-  by false h (inr more) = inr (more.0, record { found = ap (λ b. cond b (Some y) (find p ys)) h ∙ more.1.found; there = inr more.1.there; passes = more.1.passes })
+  by false h (inr more) = inr (
+    more.0,
+    record {
+      found = ap (λ b. cond b (Some y) (find p ys)) h ∙ more.1.found;
+      there = inr more.1.there;
+      passes = more.1.passes;
+    },
+  )
 
 pub any_in : {X : Type 0} (p : X → Bool) (xs : List X) (x : X) → In x xs → p x ≡ true → list_any p xs ≡ true
 any_in p [] x m e = absurd m
@@ -74,7 +84,8 @@ any_in p (y ∷ ys) x (inr m) e = by (p y) (any_in p ys x m e) where
 pub of_any : {X : Type 0} (p : X → Bool) (xs : List X) → list_any p xs ≡ true → (x : X) × In x xs × (p x ≡ true)
 of_any p [] e = absurd cc
 of_any {X = X} p (y ∷ ys) e = by (p y) refl e (of_any p ys) where
-  by : (b : Bool) → p y ≡ b → (b || list_any p ys) ≡ true → (list_any p ys ≡ true → (x : X) × In x ys × (p x ≡ true)) → (x : X) × In x (y ∷ ys) × (p x ≡ true)
+  by : (b : Bool) → p y ≡ b → (b || list_any p ys) ≡ true → (list_any p ys ≡ true → (x : X) × In x ys × (p x ≡ true))
+      → (x : X) × In x (y ∷ ys) × (p x ≡ true)
   by true h e more = (y, inl refl, h)
   by false h e more = let r : (x : X) × In x ys × (p x ≡ true) = more e in (r.0, inr r.1, r.2)
 

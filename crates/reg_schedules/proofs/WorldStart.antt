@@ -1,5 +1,6 @@
 -- The world at the start: each place is in its dock, or dealt to a worker.
-use Rattle.std.proofs.Common.{◌≡◌, ℕ, zero, suc, ◌+◌, ◌<◌, ◌≤◌, Bool, true, false, eqb, List, [], ◌∷◌, ◌++◌, length, Option, Some, None, arith, refl, ap, ◌∙◌}
+use Rattle.std.proofs.Common.{◌≡◌, ℕ, zero, suc, ◌+◌, ◌<◌, ◌≤◌, Bool, true, false, eqb, List, [], ◌∷◌, ◌++◌, length}
+use Rattle.std.proofs.Common.{Option, Some, None, arith, refl, ap, ◌∙◌}
 use Rattle.std.specs.Prelude.{slice_get, slice_set, ◌≢◌, is_some, replicate, ◌&&◌, if◌then◌else◌}
 use Rattle.std.specs.Option.{option_map_or}
 use Rattle.std.proofs.lemmas.Bool.{eq-eqb, eqb-true}
@@ -8,7 +9,8 @@ use Rattle.reg_rules.specs.declared.reply.LogRow.{LogRow}
 use Rattle.reg_plan.specs.Plans.{PlanValue}
 use Rattle.reg_book.specs.Day.{Day}
 use Rattle.reg_schedules.specs.Docks.{ParcelValue, TaskValue, complete}
-use Rattle.reg_schedules.specs.World.{empty, at_place, opened_at, docks_from, ready_from, before_some, pushed_to, dealt, at_start}
+use Rattle.reg_schedules.specs.World.{empty, at_place, opened_at, docks_from, ready_from, before_some, pushed_to, dealt}
+use Rattle.reg_schedules.specs.World.{at_start}
 use Rattle.reg_counting.specs.Counting.{one_if, total}
 use Rattle.reg_schedules.specs.Schedules.{times_found}
 use Rattle.reg_schedules.proofs.Tails.{clash}
@@ -17,9 +19,11 @@ use Rattle.reg_schedules.proofs.WorldSums.{get-within}
 use Rattle.reg_schedules.proofs.WorldCounts.{in_list, in_hand_once, Stands, complete-place}
 
 -- a deal gives each task to one list
-length-dealt : (worker : ℕ) (tasks : List TaskValue) (lists : List (List TaskValue)) → length (dealt worker tasks lists) ≡ length lists
+length-dealt : (worker : ℕ) (tasks : List TaskValue) (lists : List (List TaskValue))
+    → length (dealt worker tasks lists) ≡ length lists
 length-dealt worker [] lists = refl
-length-dealt worker (t ∷ ts) lists = length-dealt (if eqb (suc worker) (length lists) then 0 else suc worker) ts (pushed_to worker t lists) ∙ length-set lists worker _
+length-dealt worker (t ∷ ts) lists = length-dealt (if eqb (suc worker) (length lists) then 0 else suc worker) ts
+    (pushed_to worker t lists) ∙ length-set lists worker _
 
 pub next_worker : (worker many : ℕ) → worker < many → (if eqb (suc worker) many then 0 else suc worker) < many
 next_worker worker many lt = by (eqb (suc worker) many) refl
@@ -31,13 +35,15 @@ next_worker worker many lt = by (eqb (suc worker) many) refl
         under : suc worker ≢ many → suc worker < many
         under ne = grind (arith, lt, ne)
 
-pub total-dealt : (f : TaskValue → ℕ) (worker : ℕ) (tasks : List TaskValue) (lists : List (List TaskValue)) → worker < length lists → total (total f) (dealt worker tasks lists) ≡ total (total f) lists + total f tasks
+pub total-dealt : (f : TaskValue → ℕ) (worker : ℕ) (tasks : List TaskValue) (lists : List (List TaskValue))
+    → worker < length lists → total (total f) (dealt worker tasks lists) ≡ total (total f) lists + total f tasks
 total-dealt f worker [] lists lt = omega arith
 total-dealt f worker (t ∷ ts) lists lt =
     let l = get-within lists worker lt in
     let more : pushed_to worker t lists ≡ slice_set lists worker (l.0 ++ t ∷ []) = rw l.1 refl in
     let long = length-set lists worker (l.0 ++ t ∷ []) in
-    let next = total-dealt f (if eqb (suc worker) (length lists) then 0 else suc worker) ts (slice_set lists worker (l.0 ++ t ∷ [])) (rw long (next_worker worker (length lists) lt)) in
+    let next = total-dealt f (if eqb (suc worker) (length lists) then 0 else suc worker) ts
+    (slice_set lists worker (l.0 ++ t ∷ [])) (rw long (next_worker worker (length lists) lt)) in
     rw more (omega (arith, next, total-set (total f) lists worker l.0 (l.0 ++ t ∷ []) l.1, total-append f l.0 (t ∷ [])))
 
 module _ (day : Day) (plan : PlanValue) where
@@ -46,10 +52,12 @@ module _ (day : Day) (plan : PlanValue) where
   length-docks place (suc more) = omega (arith, length-docks (suc place) more)
 
   -- the tasks of these places, with one more in front of them
-  in-front : (q place : ℕ) (o : Option TaskValue) (rest : List TaskValue) → complete day plan place (opened_at day plan place) ≡ o
+  in-front : (q place : ℕ) (o : Option TaskValue) (rest : List TaskValue)
+      → complete day plan place (opened_at day plan place) ≡ o
       → total (in_list q) (before_some o rest) ≡ one_if (is_some o && eqb place q) + total (in_list q) rest
   in-front q place None rest e = omega arith
-  in-front q place (Some t) rest e = omega (arith, ap (λ n. one_if (eqb n q)) (complete-place day plan place (opened_at day plan place) t e))
+  in-front q place (Some t) rest e =
+      omega (arith, ap (λ n. one_if (eqb n q)) (complete-place day plan place (opened_at day plan place) t e))
 
   apart : (b : Bool) (m n : ℕ) → m ≢ n → one_if (b && eqb m n) ≡ 0
   apart b m n ne = by b (eqb m n) refl
@@ -66,7 +74,8 @@ module _ (day : Day) (plan : PlanValue) where
       omega (
         arith,
         none-before q (suc place) more (omega (arith, lt)),
-        in-front q place (complete day plan place (opened_at day plan place)) (ready_from day plan (suc place) more) refl,
+        in-front q place (complete day plan place (opened_at day plan place)) (ready_from day plan (suc place) more)
+            refl,
         apart (is_some (complete day plan place (opened_at day plan place))) place q (λ e. omega (arith, lt, e)),
       )
 
@@ -78,24 +87,29 @@ module _ (day : Day) (plan : PlanValue) where
 
   -- each of these places has an open dock or a task
   pub dock-or-task : (k place more q : ℕ) → k < more → place + k ≡ q
-      → one_if (option_map_or is_some (slice_get (docks_from day plan place more) k) false) + total (in_list q) (ready_from day plan place more) ≡ 1
+      → one_if (option_map_or is_some (slice_get (docks_from day plan place more) k) false) + total (in_list q)
+      (ready_from day plan place more) ≡ 1
   dock-or-task k place zero q lt e = absurd (omega (arith, lt))
   dock-or-task zero place (suc more) q lt e =
       omega (
         arith,
         none-before q (suc place) more (omega (arith, e)),
-        in-front q place (complete day plan place (opened_at day plan place)) (ready_from day plan (suc place) more) refl,
-        either (complete day plan place (opened_at day plan place)) (opened_at day plan place) place q (omega (arith, e)),
+        in-front q place (complete day plan place (opened_at day plan place)) (ready_from day plan (suc place) more)
+            refl,
+        either (complete day plan place (opened_at day plan place)) (opened_at day plan place) place q
+            (omega (arith, e)),
       )
   dock-or-task (suc k) place (suc more) q lt e =
       omega (
         arith,
         dock-or-task k (suc place) more q (omega (arith, lt)) (omega (arith, e)),
-        in-front q place (complete day plan place (opened_at day plan place)) (ready_from day plan (suc place) more) refl,
+        in-front q place (complete day plan place (opened_at day plan place)) (ready_from day plan (suc place) more)
+            refl,
         apart (is_some (complete day plan place (opened_at day plan place))) place q (λ f. omega (arith, e, f)),
       )
 
-pub start-stands : (day : Day) (plan : PlanValue) (workers : ℕ) → 1 ≤ workers → Stands (length day.batch.instructions) workers (at_start day plan workers)
+pub start-stands : (day : Day) (plan : PlanValue) (workers : ℕ) → 1 ≤ workers
+    → Stands (length day.batch.instructions) workers (at_start day plan workers)
 start-stands day plan workers some = record {
   docks = length-docks day plan 1 n;
   rows = length-replicate n None;
@@ -125,6 +139,14 @@ start-stands day plan workers some = record {
     once : (q : ℕ) → 1 ≤ q → q ≤ n → times_found (at_start day plan workers) q ≡ 1
     once zero low high = absurd (omega (arith, low))
     once (suc k) low high =
-        let deal = total-dealt (in_list (suc k)) 0 (ready_from day plan 1 n) (replicate workers []) (omega (arith, some, long)) in
+        let deal = total-dealt (in_list (suc k)) 0 (ready_from day plan 1 n) (replicate workers [])
+        (omega (arith, some, long)) in
         let here = dock-or-task day plan k 1 n (suc k) (omega (arith, high)) (omega arith) in
-        omega (arith, deal, here, total-replicate (total (in_list (suc k))) workers [] refl, total-replicate (in_hand_once (suc k)) workers empty refl, undone n (suc k))
+        omega (
+          arith,
+          deal,
+          here,
+          total-replicate (total (in_list (suc k))) workers [] refl,
+          total-replicate (in_hand_once (suc k)) workers empty refl,
+          undone n (suc k),
+        )

@@ -1,12 +1,14 @@
 -- Lists with one item replaced: what is found at each place, and sums over them.
-use Rattle.std.proofs.Common.{◌≡◌, ℕ, zero, suc, ◌<◌, ◌≤◌, Bool, true, false, not, List, [], ◌∷◌, length, Some, arith, refl, ap}
+use Rattle.std.proofs.Common.{◌≡◌, ℕ, zero, suc, ◌<◌, ◌≤◌, Bool, true, false, not, List, [], ◌∷◌, length, Some, arith}
+use Rattle.std.proofs.Common.{refl, ap}
 use Rattle.std.specs.Prelude.{slice_get, slice_set, ◌≢◌}
 use Rattle.std.proofs.lemmas.List.{length-set}
 use Rattle.std.proofs.lemmas.Option.{slice_get_within}
 use Rattle.reg_counting.specs.Counting.{one_if, total}
 use Rattle.reg_schedules.specs.World.{at_place, with_place}
 
-pub get-there : {X : Type 0} (xs : List X) (k : ℕ) (x y : X) → slice_get xs k ≡ Some x → slice_get (slice_set xs k y) k ≡ Some y
+pub get-there : {X : Type 0} (xs : List X) (k : ℕ) (x y : X) → slice_get xs k ≡ Some x
+    → slice_get (slice_set xs k y) k ≡ Some y
 get-there [] k x y e = absurd cc
 get-there (z ∷ zs) zero x y e = refl
 get-there (z ∷ zs) (suc k) x y e = get-there zs k x y e
@@ -25,16 +27,19 @@ get-within (x ∷ xs) (suc k) lt = get-within xs k (omega (arith, lt))
 
 -- ---- by place
 
-pub place-there : {X : Type 0} (xs : List X) (place : ℕ) (x y : X) → at_place xs place ≡ Some x → at_place (with_place xs place y) place ≡ Some y
+pub place-there : {X : Type 0} (xs : List X) (place : ℕ) (x y : X) → at_place xs place ≡ Some x
+    → at_place (with_place xs place y) place ≡ Some y
 place-there xs zero x y e = absurd cc
 place-there xs (suc k) x y e = get-there xs k x y e
 
-pub place-else : {X : Type 0} (xs : List X) (place other : ℕ) (y : X) → place ≢ other → at_place (with_place xs place y) other ≡ at_place xs other
+pub place-else : {X : Type 0} (xs : List X) (place other : ℕ) (y : X) → place ≢ other
+    → at_place (with_place xs place y) other ≡ at_place xs other
 place-else xs zero other y ne = refl
 place-else xs (suc k) zero y ne = refl
 place-else xs (suc k) (suc j) y ne = get-else xs k j y (λ e. ne (ap suc e))
 
-pub place-within : {X : Type 0} (xs : List X) (place : ℕ) → 1 ≤ place → place ≤ length xs → (x : X) × (at_place xs place ≡ Some x)
+pub place-within : {X : Type 0} (xs : List X) (place : ℕ) → 1 ≤ place → place ≤ length xs
+    → (x : X) × (at_place xs place ≡ Some x)
 place-within xs zero low high = absurd (omega (arith, low))
 place-within xs (suc k) low high = get-within xs k (omega (arith, high))
 
@@ -42,7 +47,8 @@ pub length-place : {X : Type 0} (xs : List X) (place : ℕ) (y : X) → length (
 length-place xs zero y = refl
 length-place xs (suc k) y = length-set xs k y
 
-pub at_within : {X : Type 0} (xs : List X) (place : ℕ) (x : X) → at_place xs place ≡ Some x → (1 ≤ place) × (place ≤ length xs)
+pub at_within : {X : Type 0} (xs : List X) (place : ℕ) (x : X) → at_place xs place ≡ Some x
+    → (1 ≤ place) × (place ≤ length xs)
 at_within xs zero x e = absurd cc
 at_within xs (suc k) x e = (omega arith, omega (arith, slice_get_within xs k x e))
 

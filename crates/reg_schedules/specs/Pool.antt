@@ -1,6 +1,7 @@
 -- What an order of the instructions means. Each instruction takes the values that it needs from a pool, is carried out
 -- on them alone, and puts back what it made of them.
-use Rattle.std.specs.Prelude.{◌≡◌, ℕ, zero, suc, ◌+◌, ◌≤◌, ◌==◌, Bool, ◌&&◌, true, not, List, [], ◌∷◌, length, slice_get, find, Option, Some, None, is_some, if◌then◌else◌}
+use Rattle.std.specs.Prelude.{◌≡◌, ℕ, zero, suc, ◌+◌, ◌≤◌, ◌==◌, Bool, ◌&&◌, true, not, List, [], ◌∷◌, length}
+use Rattle.std.specs.Prelude.{slice_get, find, Option, Some, None, is_some, if◌then◌else◌}
 use Rattle.std.specs.Option.{option_map, option_map_or}
 use Rattle.std.specs.List.{list_any}
 use Rattle.reg_base.specs.Directory.{DirectoryValue}

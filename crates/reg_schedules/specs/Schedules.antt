@@ -1,5 +1,6 @@
 -- What is true of every schedule: of the events of workers, one after another, each possible in its turn.
-use Rattle.std.specs.Prelude.{◌≡◌, ℕ, zero, suc, ◌+◌, ◌*◌, ◌≤◌, Bool, true, false, not, ◌&&◌, nat_eq, List, [], ◌∷◌, ◌++◌, length, map, slice_get, Option, Some, None, is_some, is_ok, IsOk}
+use Rattle.std.specs.Prelude.{◌≡◌, ℕ, zero, suc, ◌+◌, ◌*◌, ◌≤◌, Bool, true, false, not, ◌&&◌, nat_eq, List, [], ◌∷◌}
+use Rattle.std.specs.Prelude.{◌++◌, length, map, slice_get, Option, Some, None, is_some, is_ok, IsOk}
 use Rattle.std.specs.Option.{option_map_or}
 use Rattle.std.specs.List.{AllByRecursion, IsDistinct}
 use Rattle.reg_base.specs.Footprint.{is_among}
@@ -17,7 +18,8 @@ use Rattle.reg_schedules.specs.declared.event.Event.{Event}
 use Rattle.reg_schedules.specs.declared.event.Event.TheVariants.{Run, Deliver, Push}
 use Rattle.reg_schedules.specs.declared.event.TheConstants.{MOST_WORKERS}
 use Rattle.reg_schedules.specs.Docks.{ParcelValue, is_name, name_of, is_not_awaited}
-use Rattle.reg_schedules.specs.World.{HandValue, Holds, Carries, WorldValue, at_place, empty, head_of, arrived, after_event, world_after, is_task, is_in_hand, is_in_dock, is_done, is_over}
+use Rattle.reg_schedules.specs.World.{HandValue, Holds, Carries, WorldValue, at_place, empty, head_of, arrived}
+use Rattle.reg_schedules.specs.World.{after_event, world_after, is_task, is_in_hand, is_in_dock, is_done, is_over}
 
 -- the parcels of a dock, a list, a hand
 abbrev pub in_dock : Option (List ParcelValue) → List ParcelValue

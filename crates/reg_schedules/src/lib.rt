@@ -13,8 +13,8 @@
 //!
 //! use reg_schedules::laws::every_order;
 //!
-//! /// Two legal orders of a day's instructions leave the same accounts. This function does nothing: a function whose proof
-//! /// needs the law calls it, as this one calls `every_order`.
+//! /// Two legal orders of a day's instructions leave the same accounts. This function does nothing: a function whose
+//! /// proof needs the law calls it, as this one calls `every_order`.
 //! pub fn orders_agree()
 //!     ensures { (day : Day) (plan : PlanValue) (one other : List ℕ) (p q : Progress) → IsPlanOf day plan
 //!         → IsLegalOrder plan one → IsLegalOrder plan other

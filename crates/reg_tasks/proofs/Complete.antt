@@ -1,5 +1,6 @@
 -- A complete task has the values that its instruction needs.
-use Rattle.std.proofs.Common.{◌≡◌, ℕ, ◌-◌, ◌≤◌, Bool, true, false, ◌||◌, eqb, List, [], ◌∷◌, length, refl, sym, ap, subst, ◌∙◌}
+use Rattle.std.proofs.Common.{◌≡◌, ℕ, ◌-◌, ◌≤◌, Bool, true, false, ◌||◌, eqb, List, [], ◌∷◌, length, refl, sym, ap}
+use Rattle.std.proofs.Common.{subst, ◌∙◌}
 use Rattle.std.proofs.lemmas.Bool.{eq-eqb}
 use Rattle.std.proofs.Props.{props}
 use mathlib.Core.Logic.{∥∥₁_elim}
@@ -23,17 +24,28 @@ or_later true c e = refl
 or_later false c e = e
 
 module _ (tails : TailsAreLastTouchers) (last : LastToucherIsLast) (day : Day) (plan : PlanValue) where
-  needed_of : IsPlan (directory day) day.batch.instructions plan → (place : ℕ) (accounts : List ℕ) → ((a : ℕ) → is_among accounts a ≡ true → Touches (directory day) day.batch.instructions a place)
+  needed_of : IsPlan (directory day) day.batch.instructions plan → (place : ℕ) (accounts : List ℕ)
+      → ((a : ℕ) → is_among accounts a ≡ true → Touches (directory day) day.batch.instructions a place)
       → names_needed (inward plan.arrows place) accounts ≡ before_place day place accounts
   needed_of made place [] on = refl
   needed_of made place (a ∷ more) on =
-      ap (λ t. (a, t) ∷ names_needed (inward plan.arrows place) more) (tail_is_last tails last (directory day) day.batch.instructions plan made a place (on a (or_here (eqb a a) (is_among more a) (eq-eqb a a refl))))
-      ∙ ap (λ ns. (a, last_toucher (directory day) day.batch.instructions a (place - 1)) ∷ ns) (needed_of made place more (λ b e. on b (or_later (eqb a b) (is_among more b) e)))
+      ap (λ t. (a, t) ∷ names_needed (inward plan.arrows place) more)
+      (tail_is_last tails last (directory day) day.batch.instructions plan made a place
+      (on a (or_here (eqb a a) (is_among more a) (eq-eqb a a refl))))
+      ∙ ap (λ ns. (a, last_toucher (directory day) day.batch.instructions a (place - 1)) ∷ ns)
+      (needed_of made place more (λ b e. on b (or_later (eqb a b) (is_among more b) e)))
 
-  pub needed_before : ∥ IsPlan (directory day) day.batch.instructions plan ∥₁ → (place : ℕ) → names_needed (inward plan.arrows place) (footprint_at day place) ≡ before_place day place (footprint_at day place)
-  needed_before planned place = ∥∥₁_elim planned (Prim.hlevel props) (λ made. needed_of made place (footprint_at day place) (λ a e. sym (footprint_touches day place a) ∙ e))
+  pub needed_before : ∥ IsPlan (directory day) day.batch.instructions plan ∥₁ → (place : ℕ)
+      → names_needed (inward plan.arrows place) (footprint_at day place)
+      ≡ before_place day place (footprint_at day place)
+  needed_before planned place =
+      ∥∥₁_elim planned (Prim.hlevel props)
+      (λ made. needed_of made place (footprint_at day place) (λ a e. sym (footprint_touches day place a) ∙ e))
 
-  pub complete_from : ∥ IsPlan (directory day) day.batch.instructions plan ∥₁ → (place : ℕ) (names : List (ℕ × ℕ)) → 1 ≤ place → place ≤ length day.batch.instructions
-      → names ≡ names_needed (inward plan.arrows place) (footprint_at day place) → (d : Day) → day ≡ d → AreNeeded d place names
+  pub complete_from : ∥ IsPlan (directory day) day.batch.instructions plan ∥₁ → (place : ℕ) (names : List (ℕ × ℕ))
+      → 1 ≤ place → place ≤ length day.batch.instructions
+      → names ≡ names_needed (inward plan.arrows place) (footprint_at day place) → (d : Day) → day ≡ d
+      → AreNeeded d place names
   complete_from planned place names low high is d same =
-      subst (λ (x : Day). AreNeeded x place names) same (record { low = low; high = high; names_are = is ∙ needed_before planned place })
+      subst (λ (x : Day). AreNeeded x place names) same
+      (record { low = low; high = high; names_are = is ∙ needed_before planned place })

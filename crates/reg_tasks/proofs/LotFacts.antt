@@ -1,5 +1,6 @@
 -- What stays true of the accounts of a vault when one of them is taken out or laid back.
-use Rattle.std.proofs.Common.{◌≡◌, ℕ, zero, suc, ◌<◌, inl, inr, true, false, List, [], ◌∷◌, length, get_or, set, replicate, Option, Some, refl, sym, ap, subst, ◌∙◌, arith}
+use Rattle.std.proofs.Common.{◌≡◌, ℕ, zero, suc, ◌<◌, inl, inr, true, false, List, [], ◌∷◌, length, get_or, set}
+use Rattle.std.proofs.Common.{replicate, Option, Some, refl, sym, ap, subst, ◌∙◌, arith}
 use Rattle.std.specs.Prelude.{slice_get}
 use Rattle.std.proofs.lemmas.Bool.{cases_eq}
 use Rattle.std.proofs.lemmas.List.{length-set}
@@ -33,7 +34,8 @@ get-other (y ∷ ys) zero (suc j) x ne = refl
 get-other (y ∷ ys) (suc k) zero x ne = refl
 get-other (y ∷ ys) (suc k) (suc j) x ne = get-other ys k j x (λ e. ne (ap suc e))
 
-pub numbers-set : (s : State) (k : ℕ) (v : AccountValue) → get_or (numbers s) k 0 ≡ v.number → k < length s → numbers (set s k v) ≡ numbers s
+pub numbers-set : (s : State) (k : ℕ) (v : AccountValue) → get_or (numbers s) k 0 ≡ v.number → k < length s
+    → numbers (set s k v) ≡ numbers s
 numbers-set [] k v is lt = refl
 numbers-set (w ∷ ws) zero v is lt = ap (λ n. n ∷ numbers ws) (sym is)
 numbers-set (w ∷ ws) (suc k) v is lt = ap (λ ns. w.number ∷ ns) (numbers-set ws k v is (omega (arith, lt)))
@@ -59,7 +61,8 @@ abbrev pub number_of_account : AccountValue → ℕ
 number_of_account v = v.number
 
 -- where numbers rise, what stands at a place is what its number leads to
-pub at-number : (s : State) (k a : ℕ) → IsRising (numbers s) → k < length s → get_or (numbers s) k 0 ≡ a → slice_get s k ≡ account s a
+pub at-number : (s : State) (k a : ℕ) → IsRising (numbers s) → k < length s → get_or (numbers s) k 0 ≡ a
+    → slice_get s k ≡ account s a
 at-number s k a rising lt is =
     let r : (v : AccountValue) × (slice_get s k ≡ Some v) = get-there s k lt in
     let found = account_in s r.0 (up_rising number_of_account s rising) (in_get s k r.0 r.1) in
@@ -102,7 +105,9 @@ pub record IsKept (name : Option Day) (accounts : State) (lots : List Lot) : Typ
   pub touched : AreTouched name accounts lots
   pub back : AreBack name accounts lots
 
-module _ (name : Option Day) (accounts : State) (lots : List Lot) (k : ℕ) (v : AccountValue) (lot : Lot) (within : k < length accounts) (size : length lots ≡ length accounts) (same : get_or (numbers accounts) k 0 ≡ v.number) where
+module _ (name : Option Day) (accounts : State) (lots : List Lot) (k : ℕ) (v : AccountValue) (lot : Lot)
+    (within : k < length accounts) (size : length lots ≡ length accounts) (same : get_or (numbers accounts) k 0
+    ≡ v.number) where
   marked : slice_get (set lots k lot) k ≡ Some lot
   marked = get-set lots k lot (omega (arith, within, size))
 
@@ -120,11 +125,13 @@ module _ (name : Option Day) (accounts : State) (lots : List Lot) (k : ℕ) (v :
 
   pub then-here : is_here lot ≡ false → AreHere name accounts lots → AreHere name (set accounts k v) (set lots k lot)
   then-here gone here d e j at = elim (cases_eq j k) [
-    | inl j_is ↦ absurd (clash (ap is_here (sym (same_Some Here lot (sym at ∙ ap (slice_get (set lots k lot)) j_is ∙ marked)))) gone)
+    | inl j_is ↦ absurd (clash
+        (ap is_here (sym (same_Some Here lot (sym at ∙ ap (slice_get (set lots k lot)) j_is ∙ marked)))) gone)
     | inr ne ↦ get-other accounts k j v ne ∙ here d e j (sym (get-other lots k j lot ne) ∙ at)
   ]
 
-  pub then-touched : ((d : Day) → name ≡ Some d → is_touched (directory d) d.batch.instructions v.number ≡ true) → AreTouched name accounts lots → AreTouched name (set accounts k v) (set lots k lot)
+  pub then-touched : ((d : Day) → name ≡ Some d → is_touched (directory d) d.batch.instructions v.number ≡ true)
+      → AreTouched name accounts lots → AreTouched name (set accounts k v) (set lots k lot)
   then-touched now touched d e j at = elim (cases_eq j k) [
     | inl j_is ↦
         ap (λ ns. is_touched (directory d) d.batch.instructions (get_or ns j 0)) same_numbers
@@ -135,7 +142,8 @@ module _ (name : Option Day) (accounts : State) (lots : List Lot) (k : ℕ) (v :
         ∙ touched d e j (ap was_taken (sym (get-other lots k j lot ne)) ∙ at)
   ]
 
-  pub then-back : ((d : Day) → name ≡ Some d → is_back lot ≡ true → Some v ≡ slice_get (closing_state d) k) → AreBack name accounts lots → AreBack name (set accounts k v) (set lots k lot)
+  pub then-back : ((d : Day) → name ≡ Some d → is_back lot ≡ true → Some v ≡ slice_get (closing_state d) k)
+      → AreBack name accounts lots → AreBack name (set accounts k v) (set lots k lot)
   then-back now back d e j at = elim (cases_eq j k) [
     | inl j_is ↦
         ap (slice_get (set accounts k v)) j_is ∙ get-set accounts k v within
@@ -144,7 +152,8 @@ module _ (name : Option Day) (accounts : State) (lots : List Lot) (k : ℕ) (v :
     | inr ne ↦ get-other accounts k j v ne ∙ back d e j (sym (get-other lots k j lot ne) ∙ at)
   ]
 
-pub changed : (name : Option Day) (accounts : State) (lots : List Lot) (k : ℕ) (v : AccountValue) (lot : Lot) → k < length accounts → get_or (numbers accounts) k 0 ≡ v.number
+pub changed : (name : Option Day) (accounts : State) (lots : List Lot) (k : ℕ) (v : AccountValue) (lot : Lot)
+    → k < length accounts → get_or (numbers accounts) k 0 ≡ v.number
     → ((d : Day) → name ≡ Some d → is_touched (directory d) d.batch.instructions v.number ≡ true) → is_here lot ≡ false
     → ((d : Day) → name ≡ Some d → is_back lot ≡ true → Some v ≡ slice_get (closing_state d) k)
     → IsKept name accounts lots → IsKept name (set accounts k v) (set lots k lot)
@@ -157,11 +166,14 @@ changed name accounts lots k v lot within same touched gone back was = record {
   back = then-back name accounts lots k v lot within was.size same back was.back;
 }
 
-pub kept-as : (name : Option Day) {accounts now : State} {lots marks : List Lot} → now ≡ accounts → marks ≡ lots → IsKept name accounts lots → IsKept name now marks
-kept-as name {accounts} {now} {lots} {marks} same so kept = subst (λ (s : State). IsKept name s marks) (sym same) (subst (IsKept name accounts) (sym so) kept)
+pub kept-as : (name : Option Day) {accounts now : State} {lots marks : List Lot} → now ≡ accounts → marks ≡ lots
+    → IsKept name accounts lots → IsKept name now marks
+kept-as name {accounts} {now} {lots} {marks} same so kept =
+    subst (λ (s : State). IsKept name s marks) (sym same) (subst (IsKept name accounts) (sym so) kept)
 
 -- what is taken out has its opening value
-pub taken-value : (name : Option Day) (accounts : State) (lots : List Lot) (k : ℕ) (v : AccountValue) → IsRising (numbers accounts) → HaveNumbers name accounts → AreHere name accounts lots
+pub taken-value : (name : Option Day) (accounts : State) (lots : List Lot) (k : ℕ) (v : AccountValue)
+    → IsRising (numbers accounts) → HaveNumbers name accounts → AreHere name accounts lots
     → slice_get lots k ≡ Some Here → slice_get accounts k ≡ Some v → IsValue name v 0
 taken-value name accounts lots k v rising have here lot at d e =
     account_in d.book.accounts v (up_rising number_of_account d.book.accounts (subst IsRising (have d e) rising))

@@ -1,5 +1,6 @@
 -- Opening values.
-use Rattle.std.proofs.Common.{Bor, IsSome, ◌≡◌, ℕ, true, List, [], ◌∷◌, length, map, arith, Option, Some, None, refl, ap, sym, subst, ◌∙◌}
+use Rattle.std.proofs.Common.{Bor, IsSome, ◌≡◌, ℕ, true, List, [], ◌∷◌, length, map, arith, Option, Some, None, refl}
+use Rattle.std.proofs.Common.{ap, sym, subst, ◌∙◌}
 use Rattle.std.specs.Prelude.{All}
 use Rattle.std.proofs.lemmas.List.Elements.{All-from_recursion}
 use Rattle.reg_base.specs.Footprint.{EachFootprintIsSound}
@@ -26,10 +27,12 @@ some_copied None (Some v) e h = absurd cc
 some_copied (Some r) x e h = refl
 
 -- the opening value of an account
-pub opened : (name : Option Day) (book : BookValue) (rules : RulesValue) (batch : BatchValue) (a : ℕ) (value : AccountValue)
+pub opened : (name : Option Day) (book : BookValue) (rules : RulesValue) (batch : BatchValue) (a : ℕ)
+    (value : AccountValue)
     → IsNamed name book rules batch → account book.accounts a ≡ Some value → IsValue name value 0
 opened name book rules batch a value named found = λ day e.
-    subst (λ (d : Day). value_at d value.number 0 ≡ Some value) (named day e) (ap (account book.accounts) (number_found book.accounts a value found) ∙ found)
+    subst (λ (d : Day). value_at d value.number 0 ≡ Some value) (named day e)
+    (ap (account book.accounts) (number_found book.accounts a value found) ∙ found)
 
 -- an instruction to which no arrow leads needs opening values
 pub needed_none : (accounts : List ℕ) → names_needed [] accounts ≡ map (λ a. (a, 0)) accounts
@@ -41,12 +44,16 @@ no_arrows [] e = refl
 no_arrows (x ∷ xs) e = absurd (omega (arith, e))
 
 -- the accounts that an instruction touches are in the book
-pub all_known : EachFootprintIsSound → (day : Day) (place : ℕ) → All (λ a. is_some (account day.book.accounts a) ≡ true) (footprint_at day place)
+pub all_known : EachFootprintIsSound → (day : Day) (place : ℕ)
+    → All (λ a. is_some (account day.book.accounts a) ≡ true) (footprint_at day place)
 all_known sound day place =
-    All-from_recursion _ _ (all_among (λ a. is_some (account day.book.accounts a) ≡ true) (footprint_at day place) (λ a e. touched_known sound day place a (sym (footprint_touches day place a) ∙ e)))
+    All-from_recursion _ _ (all_among (λ a. is_some (account day.book.accounts a) ≡ true) (footprint_at day place)
+    (λ a e. touched_known sound day place a (sym (footprint_touches day place a) ∙ e)))
 
 -- and some instruction touches each of them
-pub all_touched_at : (day : Day) (place : ℕ) → All (λ a. is_touched (directory day) day.batch.instructions a ≡ true) (footprint_at day place)
+pub all_touched_at : (day : Day) (place : ℕ)
+    → All (λ a. is_touched (directory day) day.batch.instructions a ≡ true) (footprint_at day place)
 all_touched_at day place =
-    All-from_recursion _ _ (all_among (λ a. is_touched (directory day) day.batch.instructions a ≡ true) (footprint_at day place)
+    All-from_recursion _ _ (all_among (λ a. is_touched (directory day) day.batch.instructions a ≡ true)
+    (footprint_at day place)
     (λ a e. touched_from (directory day) day.batch.instructions a place (sym (footprint_touches day place a) ∙ e)))

@@ -1,5 +1,6 @@
 -- Accounts that were laid back, and that all of them are the accounts after the day.
-use Rattle.std.proofs.Common.{◌≡◌, ℕ, zero, suc, ◌<◌, ◌≤◌, inl, inr, Bool, true, false, cond, List, [], ◌∷◌, eqb, length, get_or, set, Option, Some, None, refl, sym, ap, subst, ◌∙◌, arith}
+use Rattle.std.proofs.Common.{◌≡◌, ℕ, zero, suc, ◌<◌, ◌≤◌, inl, inr, Bool, true, false, cond, List, [], ◌∷◌, eqb}
+use Rattle.std.proofs.Common.{length, get_or, set, Option, Some, None, refl, sym, ap, subst, ◌∙◌, arith}
 use Rattle.std.specs.Prelude.{filter, slice_get}
 use Rattle.std.proofs.Props.{props}
 use Rattle.std.proofs.lemmas.Bool.{and_parts, cases_lt, eq-eqb, or_left, or_right}
@@ -40,9 +41,11 @@ size-same s t e = sym (size-numbers s) ∙ ap length e ∙ size-numbers t
 
 -- ---- what is laid back
 
-module _ (tails : TailsAreLastTouchers) (last : LastToucherIsLast) (day : Day) (plan : PlanValue) (planned : ∥ IsPlan (directory day) day.batch.instructions plan ∥₁) where
+module _ (tails : TailsAreLastTouchers) (last : LastToucherIsLast) (day : Day) (plan : PlanValue)
+    (planned : ∥ IsPlan (directory day) day.batch.instructions plan ∥₁) where
   -- some instruction touches it
-  pub last-touched : (a place : ℕ) → is_last day plan (a, place) ≡ true → is_touched (directory day) day.batch.instructions a ≡ true
+  pub last-touched : (a place : ℕ) → is_last day plan (a, place) ≡ true
+      → is_touched (directory day) day.batch.instructions a ≡ true
   last-touched a place e =
       let both = and_parts (is_among (footprint_at day place) a) _ e in
       touched_from (directory day) day.batch.instructions a place (sym (footprint_touches day place a) ∙ both.0)
@@ -55,7 +58,8 @@ module _ (tails : TailsAreLastTouchers) (last : LastToucherIsLast) (day : Day) (
       record { touched = on; last = is }
 
 -- a last value is as the day leaves it
-pub last-value : NumbersStay → ValueIsLastTouchers → (day : Day) (accounts : State) (k : ℕ) (v : AccountValue) (after : ℕ)
+pub last-value : NumbersStay → ValueIsLastTouchers
+    → (day : Day) (accounts : State) (k : ℕ) (v : AccountValue) (after : ℕ)
     → IsRising (numbers accounts) → numbers accounts ≡ numbers day.book.accounts → k < length accounts
     → get_or (numbers accounts) k 0 ≡ v.number → value_at day v.number after ≡ Some v → IsLastName day (v.number, after)
     → Some v ≡ slice_get (closing_state day) k
@@ -87,35 +91,45 @@ laid-there s k v rising lt same =
 
 -- ---- counting those that are back
 
-counted : (lots : List Lot) (ns : List ℕ) (p : ℕ → Bool) → length lots ≡ length ns → ((k : ℕ) → was_taken (slice_get lots k) ≡ true → p (get_or ns k 0) ≡ true) → back_count lots ≤ length (filter p ns)
+counted : (lots : List Lot) (ns : List ℕ) (p : ℕ → Bool) → length lots ≡ length ns
+    → ((k : ℕ) → was_taken (slice_get lots k) ≡ true → p (get_or ns k 0) ≡ true)
+    → back_count lots ≤ length (filter p ns)
 counted [] ns p size taken = omega arith
 counted (l ∷ ls) [] p size taken = absurd (omega (arith, size))
-counted (l ∷ ls) (n ∷ ns) p size taken = by l (p n) (taken 0) (counted ls ns p (omega (arith, size)) (λ k t. taken (suc k) t)) where
-  by : (l : Lot) (b : Bool) → (was_taken (Some l) ≡ true → b ≡ true) → back_count ls ≤ length (filter p ns) → back_count (l ∷ ls) ≤ length (cond b (n ∷ filter p ns) (filter p ns))
-  by Here true t le = omega (arith, le)
-  by Here false t le = le
-  by Out true t le = omega (arith, le)
-  by Out false t le = le
-  by Back true t le = omega (arith, le)
-  by Back false t le = absurd (clash (t refl) refl)
+counted (l ∷ ls) (n ∷ ns) p size taken =
+    by l (p n) (taken 0) (counted ls ns p (omega (arith, size)) (λ k t. taken (suc k) t)) where
+      by : (l : Lot) (b : Bool) → (was_taken (Some l) ≡ true → b ≡ true) → back_count ls ≤ length (filter p ns)
+          → back_count (l ∷ ls) ≤ length (cond b (n ∷ filter p ns) (filter p ns))
+      by Here true t le = omega (arith, le)
+      by Here false t le = le
+      by Out true t le = omega (arith, le)
+      by Out false t le = le
+      by Back true t le = omega (arith, le)
+      by Back false t le = absurd (clash (t refl) refl)
 
 -- if as many are back as there may be, each that may be is
-each-back : (lots : List Lot) (ns : List ℕ) (p : ℕ → Bool) → length lots ≡ length ns → ((k : ℕ) → was_taken (slice_get lots k) ≡ true → p (get_or ns k 0) ≡ true)
-    → back_count lots ≡ length (filter p ns) → (k : ℕ) → k < length ns → p (get_or ns k 0) ≡ true → slice_get lots k ≡ Some Back
+each-back : (lots : List Lot) (ns : List ℕ) (p : ℕ → Bool) → length lots ≡ length ns
+    → ((k : ℕ) → was_taken (slice_get lots k) ≡ true → p (get_or ns k 0) ≡ true)
+    → back_count lots ≡ length (filter p ns) → (k : ℕ) → k < length ns → p (get_or ns k 0) ≡ true
+    → slice_get lots k ≡ Some Back
 each-back [] ns p size taken all k lt on = absurd (omega (arith, size, lt))
 each-back (l ∷ ls) [] p size taken all k lt on = absurd (omega (arith, lt))
-each-back (l ∷ ls) (n ∷ ns) p size taken all zero lt on = by l (p n) all on (counted ls ns p (omega (arith, size)) (λ k t. taken (suc k) t)) where
-  by : (l : Lot) (b : Bool) → back_count (l ∷ ls) ≡ length (cond b (n ∷ filter p ns) (filter p ns)) → b ≡ true → back_count ls ≤ length (filter p ns) → Some l ≡ Some Back
-  by Here true all on le = absurd (omega (arith, all, le))
-  by Here false all on le = absurd cc
-  by Out true all on le = absurd (omega (arith, all, le))
-  by Out false all on le = absurd cc
-  by Back b all on le = refl
+each-back (l ∷ ls) (n ∷ ns) p size taken all zero lt on =
+    by l (p n) all on (counted ls ns p (omega (arith, size)) (λ k t. taken (suc k) t)) where
+      by : (l : Lot) (b : Bool) → back_count (l ∷ ls) ≡ length (cond b (n ∷ filter p ns) (filter p ns)) → b ≡ true
+          → back_count ls ≤ length (filter p ns) → Some l ≡ Some Back
+      by Here true all on le = absurd (omega (arith, all, le))
+      by Here false all on le = absurd cc
+      by Out true all on le = absurd (omega (arith, all, le))
+      by Out false all on le = absurd cc
+      by Back b all on le = refl
 each-back (l ∷ ls) (n ∷ ns) p size taken all (suc k) lt on =
     each-back ls ns p (omega (arith, size)) (λ j t. taken (suc j) t)
     (by l (p n) all (taken 0) (counted ls ns p (omega (arith, size)) (λ j t. taken (suc j) t))) k (omega (arith, lt)) on
   where
-    by : (l : Lot) (b : Bool) → back_count (l ∷ ls) ≡ length (cond b (n ∷ filter p ns) (filter p ns)) → (was_taken (Some l) ≡ true → b ≡ true) → back_count ls ≤ length (filter p ns) → back_count ls ≡ length (filter p ns)
+    by : (l : Lot) (b : Bool) → back_count (l ∷ ls) ≡ length (cond b (n ∷ filter p ns) (filter p ns))
+        → (was_taken (Some l) ≡ true → b ≡ true) → back_count ls ≤ length (filter p ns)
+        → back_count ls ≡ length (filter p ns)
     by Here true all t le = absurd (omega (arith, all, le))
     by Here false all t le = all
     by Out true all t le = absurd (omega (arith, all, le))
@@ -140,32 +154,46 @@ ext-get : {X : Type 0} (xs ys : List X) → ((k : ℕ) → slice_get xs k ≡ sl
 ext-get [] [] same = refl
 ext-get [] (y ∷ ys) same = let bad : ◌≡◌ {A = Option _} None (Some y) = same 0 in absurd cc
 ext-get (x ∷ xs) [] same = let bad : ◌≡◌ {A = Option _} (Some x) None = same 0 in absurd cc
-ext-get (x ∷ xs) (y ∷ ys) same = ap (λ z. z ∷ xs) (same_Some x y (same 0)) ∙ ap (λ zs. y ∷ zs) (ext-get xs ys (λ k. same (suc k)))
+ext-get (x ∷ xs) (y ∷ ys) same =
+    ap (λ z. z ∷ xs) (same_Some x y (same 0)) ∙ ap (λ zs. y ∷ zs) (ext-get xs ys (λ k. same (suc k)))
 
-module _ (tails : TailsAreLastTouchers) (last : LastToucherIsLast) (sound : EachFootprintIsSound) (day : Day) (plan : PlanValue) (planned : ∥ IsPlan (directory day) day.batch.instructions plan ∥₁) where
-  opened-are : (accounts : State) → IsRising (numbers accounts) → numbers accounts ≡ numbers day.book.accounts → opened_accounts plan.openings ≡ filter (λ a. is_touched (directory day) day.batch.instructions a) (numbers accounts)
+module _ (tails : TailsAreLastTouchers) (last : LastToucherIsLast) (sound : EachFootprintIsSound) (day : Day)
+    (plan : PlanValue) (planned : ∥ IsPlan (directory day) day.batch.instructions plan ∥₁) where
+  opened-are : (accounts : State) → IsRising (numbers accounts) → numbers accounts ≡ numbers day.book.accounts
+      → opened_accounts plan.openings
+      ≡ filter (λ a. is_touched (directory day) day.batch.instructions a) (numbers accounts)
   opened-are accounts rising have =
-      same_rising (λ n. n) (opened_accounts plan.openings) (filter (λ a. is_touched (directory day) day.batch.instructions a) (numbers accounts))
+      same_rising (λ n. n) (opened_accounts plan.openings)
+      (filter (λ a. is_touched (directory day) day.batch.instructions a) (numbers accounts))
       (up_keys number_of plan.openings (up_rising number_of plan.openings opened))
-      (up-filter (λ n. n) (λ a. is_touched (directory day) day.batch.instructions a) (numbers accounts) (up_keys (λ (v : AccountValue). v.number) accounts (up_rising (λ (v : AccountValue). v.number) accounts rising)))
-      (λ a m. let on = sym (opened_touched tails last day plan planned a) ∙ number_in (opened_accounts plan.openings) a m in
+      (up-filter (λ n. n) (λ a. is_touched (directory day) day.batch.instructions a) (numbers accounts)
+      (up_keys (λ (v : AccountValue). v.number) accounts
+      (up_rising (λ (v : AccountValue). v.number) accounts rising)))
+      (λ a m. let on = sym (opened_touched tails last day plan planned a)
+      ∙ number_in (opened_accounts plan.openings) a m in
       in_filter (λ b. is_touched (directory day) day.batch.instructions b) (numbers accounts) a on
-      (in_number (numbers accounts) a (ap (λ ns. is_among ns a) have ∙ sym (found_among day.book.accounts a) ∙ touched_account sound day a on)))
-      (λ a m. in_number (opened_accounts plan.openings) a (opened_touched tails last day plan planned a ∙ (of_filter (λ b. is_touched (directory day) day.batch.instructions b) (numbers accounts) a m).1))
+      (in_number (numbers accounts) a (ap (λ ns. is_among ns a) have ∙ sym (found_among day.book.accounts a)
+      ∙ touched_account sound day a on)))
+      (λ a m. in_number (opened_accounts plan.openings) a (opened_touched tails last day plan planned a
+      ∙ (of_filter (λ b. is_touched (directory day) day.batch.instructions b) (numbers accounts) a m).1))
     where
       opened : IsRising (opened_accounts plan.openings)
       opened = ∥∥₁_elim planned (Prim.hlevel props) (λ made. made.openings.rising)
 
   -- if as many are back as there are openings, all accounts are as the day leaves them
-  pub all-closing : NumbersStay → UntouchedStay → (accounts : State) (lots : List Lot) → IsRising (numbers accounts) → length lots ≡ length accounts → numbers accounts ≡ numbers day.book.accounts
+  pub all-closing : NumbersStay → UntouchedStay → (accounts : State) (lots : List Lot) → IsRising (numbers accounts)
+      → length lots ≡ length accounts → numbers accounts ≡ numbers day.book.accounts
       → ((k : ℕ) → slice_get lots k ≡ Some Here → slice_get accounts k ≡ slice_get day.book.accounts k)
-      → ((k : ℕ) → was_taken (slice_get lots k) ≡ true → is_touched (directory day) day.batch.instructions (get_or (numbers accounts) k 0) ≡ true)
+      → ((k : ℕ) → was_taken (slice_get lots k) ≡ true
+      → is_touched (directory day) day.batch.instructions (get_or (numbers accounts) k 0) ≡ true)
       → ((k : ℕ) → slice_get lots k ≡ Some Back → slice_get accounts k ≡ slice_get (closing_state day) k)
       → back_count lots ≡ length plan.openings → accounts ≡ closing_state day
-  all-closing stay untouched accounts lots rising size have here taken back count = ext-get accounts (closing_state day) (λ k. elim (cases_lt k (length accounts)) [
-    | inl lt ↦ by k lt (is_touched (directory day) day.batch.instructions (get_or (numbers accounts) k 0)) refl
-    | inr le ↦ slice_get_past accounts k le ∙ sym (slice_get_past (closing_state day) k (omega (arith, le, size_closing)))
-  ])
+  all-closing stay untouched accounts lots rising size have here taken back count =
+      ext-get accounts (closing_state day) (λ k. elim (cases_lt k (length accounts)) [
+        | inl lt ↦ by k lt (is_touched (directory day) day.batch.instructions (get_or (numbers accounts) k 0)) refl
+        | inr le ↦ slice_get_past accounts k le
+            ∙ sym (slice_get_past (closing_state day) k (omega (arith, le, size_closing)))
+      ])
     where
       n : ℕ
       n = length day.batch.instructions
@@ -179,25 +207,37 @@ module _ (tails : TailsAreLastTouchers) (last : LastToucherIsLast) (sound : Each
       size_book : length day.book.accounts ≡ length accounts
       size_book = size-same day.book.accounts accounts (sym have)
 
-      all : back_count lots ≡ length (filter (λ a. is_touched (directory day) day.batch.instructions a) (numbers accounts))
+      all : back_count lots ≡ length
+          (filter (λ a. is_touched (directory day) day.batch.instructions a) (numbers accounts))
       all = count ∙ sym (size-opened plan.openings) ∙ ap length (opened-are accounts rising have)
 
       size_lots : length lots ≡ length (numbers accounts)
       size_lots = size ∙ sym (size-numbers accounts)
 
-      stays : (k : ℕ) → k < length accounts → is_touched (directory day) day.batch.instructions (get_or (numbers accounts) k 0) ≡ false → slice_get day.book.accounts k ≡ slice_get (closing_state day) k
+      stays : (k : ℕ) → k < length accounts
+          → is_touched (directory day) day.batch.instructions (get_or (numbers accounts) k 0) ≡ false
+          → slice_get day.book.accounts k ≡ slice_get (closing_state day) k
       stays k lt not_touched =
-          at-number day.book.accounts k (get_or (numbers accounts) k 0) (subst IsRising have rising) (omega (arith, lt, size_book)) (ap (λ ns. get_or ns k 0) (sym have))
+          at-number day.book.accounts k (get_or (numbers accounts) k 0) (subst IsRising have rising)
+          (omega (arith, lt, size_book)) (ap (λ ns. get_or ns k 0) (sym have))
           ∙ sym (untouched day (get_or (numbers accounts) k 0) not_touched (length day.batch.instructions))
-          ∙ sym (at-number (closing_state day) k (get_or (numbers accounts) k 0) (subst IsRising (sym numbers_closing) rising) (omega (arith, lt, size_closing)) (ap (λ ns. get_or ns k 0) numbers_closing))
+          ∙ sym (at-number (closing_state day) k (get_or (numbers accounts) k 0)
+          (subst IsRising (sym numbers_closing) rising) (omega (arith, lt, size_closing))
+          (ap (λ ns. get_or ns k 0) numbers_closing))
 
-      still : (k : ℕ) (l : Lot) → slice_get lots k ≡ Some l → is_touched (directory day) day.batch.instructions (get_or (numbers accounts) k 0) ≡ false → slice_get lots k ≡ Some Here
+      still : (k : ℕ) (l : Lot) → slice_get lots k ≡ Some l
+          → is_touched (directory day) day.batch.instructions (get_or (numbers accounts) k 0) ≡ false
+          → slice_get lots k ≡ Some Here
       still k Here e not_touched = e
       still k Out e not_touched = absurd (clash (taken k (ap was_taken e)) not_touched)
       still k Back e not_touched = absurd (clash (taken k (ap was_taken e)) not_touched)
 
-      by : (k : ℕ) → k < length accounts → (b : Bool) → is_touched (directory day) day.batch.instructions (get_or (numbers accounts) k 0) ≡ b → slice_get accounts k ≡ slice_get (closing_state day) k
-      by k lt true on = back k (each-back lots (numbers accounts) (λ a. is_touched (directory day) day.batch.instructions a) size_lots taken all k (omega (arith, lt, size_lots, size)) on)
+      by : (k : ℕ) → k < length accounts → (b : Bool)
+          → is_touched (directory day) day.batch.instructions (get_or (numbers accounts) k 0) ≡ b
+          → slice_get accounts k ≡ slice_get (closing_state day) k
+      by k lt true on = back k (each-back lots (numbers accounts)
+          (λ a. is_touched (directory day) day.batch.instructions a) size_lots taken all k
+          (omega (arith, lt, size_lots, size)) on)
       by k lt false off =
           let r : (l : Lot) × (slice_get lots k ≡ Some l) = get-there lots k (omega (arith, lt, size)) in
           here k (still k r.0 r.1 off) ∙ stays k lt off

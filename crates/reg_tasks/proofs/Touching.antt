@@ -9,13 +9,16 @@ use Rattle.reg_base.specs.Footprints.{footprints}
 use Rattle.reg_book.specs.Day.{Day}
 use Rattle.reg_schedules.specs.Pool.{directory, footprint_at}
 
-kept_from : (d : DirectoryValue) (is : List Instruction) (k : ℕ) → get_or (footprints d is) k [] ≡ option_map_or (λ i. footprint d i.act) (slice_get is k) []
+kept_from : (d : DirectoryValue) (is : List Instruction) (k : ℕ)
+    → get_or (footprints d is) k [] ≡ option_map_or (λ i. footprint d i.act) (slice_get is k) []
 kept_from d [] k = refl
 kept_from d (i ∷ is) zero = refl
 kept_from d (i ∷ is) (suc k) = kept_from d is k
 
-pub kept_at : (day : Day) (place : ℕ) → 1 ≤ place → get_or (footprints (directory day) day.batch.instructions) (place - 1) [] ≡ footprint_at day place
+pub kept_at : (day : Day) (place : ℕ) → 1 ≤ place
+    → get_or (footprints (directory day) day.batch.instructions) (place - 1) [] ≡ footprint_at day place
 kept_at day zero low = absurd (omega (arith, low))
 kept_at day (suc k) low =
     let same : suc k - 1 ≡ k = omega arith in
-    ap (λ n. get_or (footprints (directory day) day.batch.instructions) n []) same ∙ kept_from (directory day) day.batch.instructions k
+    ap (λ n. get_or (footprints (directory day) day.batch.instructions) n []) same
+    ∙ kept_from (directory day) day.batch.instructions k

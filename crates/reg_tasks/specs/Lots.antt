@@ -1,5 +1,6 @@
 -- The accounts of a book that was given away, and what became of each of them.
-use Rattle.std.specs.Prelude.{◌≡◌, ℕ, ◌+◌, Bool, true, false, List, [], ◌∷◌, slice_get, slice_index_or, Option, Some, None}
+use Rattle.std.specs.Prelude.{◌≡◌, ℕ, ◌+◌, Bool, true, false, List, [], ◌∷◌, slice_get, slice_index_or, Option, Some}
+use Rattle.std.specs.Prelude.{None}
 use Rattle.reg_base.specs.Touches.{is_touched}
 use Rattle.reg_rules.specs.State.{State, numbers}
 use Rattle.reg_book.specs.Day.{Day, closing_state}

@@ -1,5 +1,6 @@
 -- What a name says of the values and the places that belong to its day.
-use Rattle.std.specs.Prelude.{◌≡◌, ℕ, ◌+◌, ◌-◌, ◌≤◌, ◌<◌, Bool, true, false, MatchOption, slice_index_or, ◌&&◌, ◌==◌, List, [], ◌∷◌, length, map, Option, Some}
+use Rattle.std.specs.Prelude.{◌≡◌, ℕ, ◌+◌, ◌-◌, ◌≤◌, ◌<◌, Bool, true, false, MatchOption, slice_index_or, ◌&&◌, ◌==◌}
+use Rattle.std.specs.Prelude.{List, [], ◌∷◌, length, map, Option, Some}
 use Rattle.std.specs.List.{list_all, list_any, AllByRecursion}
 use Rattle.std.specs.Option.{option_map}
 use Rattle.reg_base.specs.declared.limits.TheConstants.{MOST_TOUCHED}

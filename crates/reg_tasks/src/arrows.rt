@@ -87,8 +87,8 @@ impl<N: Naming> Context<'_, N> {
     {
         first_in(self.openings(), parcel.account(), parcel.likely_slot())
     }
-    /// The parcel as a last one, exactly if no later instruction needs it: the instruction after which it stands touches
-    /// its account, and no arrow leads on from there.
+    /// The parcel as a last one, exactly if no later instruction needs it: the instruction after which it stands
+    /// touches its account, and no arrow leads on from there.
     ///
     /// # Errors
     /// The parcel as it was, if it is no last one.

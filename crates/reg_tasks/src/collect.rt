@@ -4,7 +4,8 @@ ghost use Rattle.std.specs.Prelude.{◌≡◌, ◌≤◌, Some, length, map, IfO
 ghost use Rattle.std.specs.List.Sorted.{IsNonDecreasingBy};
 ghost use Rattle.reg_tasks.specs.Contexts.{the_day};
 ghost use Rattle.reg_tasks.specs.Parcels.{names_of};
-ghost use Rattle.reg_tasks.specs.Gathering.{AreWithin, places_of, row_replied, rows_in, counts_up, are_each, have_accounts, are_outcomes};
+ghost use Rattle.reg_tasks.specs.Gathering.{AreWithin, places_of, row_replied, rows_in, counts_up, are_each};
+ghost use Rattle.reg_tasks.specs.Gathering.{have_accounts, are_outcomes};
 ghost use Rattle.reg_tasks.specs.LastParcels.{parcels_in};
 ghost use Rattle.reg_tasks.specs.Slots.{opened_accounts};
 

@@ -49,8 +49,8 @@ impl<'a, N: Naming> Context<'a, N> {
     /// The time is linear in the instructions, sorting apart.
     ///
     /// # Errors
-    /// `WrongBase` if the first record number of the batch is not the book's next record number. Otherwise `NoMemory` if
-    /// memory ran out.
+    /// `WrongBase` if the first record number of the batch is not the book's next record number. Otherwise `NoMemory`
+    /// if memory ran out.
     pub fn of(
         alloc: Global,
         book: &'a Book,
@@ -59,7 +59,8 @@ impl<'a, N: Naming> Context<'a, N> {
     ) -> Result<Context<'a, N>, SettleFault>
         requires day { IsNamed N.day book.now rules.now batch.now }
         ensures answer { MatchResult result
-            (λ c. (batch.now.base + 1 ≡ book.now.next) × (c.book ≡ book.now) × (c.rules.now ≡ rules.now) × (c.batch.now ≡ batch.now))
+            (λ c. (batch.now.base + 1 ≡ book.now.next) × (c.book ≡ book.now) × (c.rules.now ≡ rules.now)
+            × (c.batch.now ≡ batch.now))
             (IsSettleFault book.now batch.now) }
     {
         let book = BookOf::kept(book);
@@ -67,15 +68,15 @@ impl<'a, N: Naming> Context<'a, N> {
         Context::over(book, rules, batch, plan)
     }
 
-    /// The context of the named day while its instructions are settled on the accounts of its book, which were given away:
-    /// the directory and the next record number are those of the book. It opens no account: a [`Vault`](crate::Vault) does. At
-    /// most so many threads make the plan of a large batch.
+    /// The context of the named day while its instructions are settled on the accounts of its book, which were given
+    /// away: the directory and the next record number are those of the book. It opens no account: a
+    /// [`Vault`](crate::Vault) does. At most so many threads make the plan of a large batch.
     ///
     /// The time is linear in the instructions, sorting apart.
     ///
     /// # Errors
-    /// `WrongBase` if the first record number of the batch is not the book's next record number. Otherwise `NoMemory` if
-    /// memory ran out.
+    /// `WrongBase` if the first record number of the batch is not the book's next record number. Otherwise `NoMemory`
+    /// if memory ran out.
     pub fn of_lent<R: Threads + Sync>(
         rt: &R,
         alloc: Global,
@@ -88,7 +89,8 @@ impl<'a, N: Naming> Context<'a, N> {
         requires lent { AreOfBook (lent_book N.day) directory.now next }
         requires day { IsNamed N.day (lent_book N.day) rules.now batch.now }
         ensures answer { MatchResult result
-            (λ c. (batch.now.base + 1 ≡ next) × (c.book ≡ lent_book N.day) × (c.rules.now ≡ rules.now) × (c.batch.now ≡ batch.now))
+            (λ c. (batch.now.base + 1 ≡ next) × (c.book ≡ lent_book N.day) × (c.rules.now ≡ rules.now)
+            × (c.batch.now ≡ batch.now))
             (IsSettleFault (lent_book N.day) batch.now) }
     {
         let book = BookOf::lent(directory, next);
@@ -106,7 +108,8 @@ impl<'a, N: Naming> Context<'a, N> {
         requires day { IsNamed N.day book rules.now batch.now }
         requires planned { IfOk plan (IsPlan (directory_of book.accounts) batch.now.instructions) }
         ensures answer { MatchResult result
-            (λ c. (batch.now.base + 1 ≡ book.entry.next) × (c.book ≡ book.entry) × (c.rules.now ≡ rules.now) × (c.batch.now ≡ batch.now))
+            (λ c. (batch.now.base + 1 ≡ book.entry.next) × (c.book ≡ book.entry) × (c.rules.now ≡ rules.now)
+            × (c.batch.now ≡ batch.now))
             (IsSettleFault book.entry batch.now) }
     {
         let next = book.next_record();
@@ -204,8 +207,8 @@ impl<'a, N: Naming> Context<'a, N> {
         self.plan.outward(place)
     }
 
-    // The value of an account of the book, which is likely to have this slot. If the accounts of the book were given away, there
-    // is none: nobody asks then.
+    // The value of an account of the book, which is likely to have this slot. If the accounts of the book were given
+    // away, there is none: nobody asks then.
     pub(crate) fn open(
         &self,
         alloc: Global,
@@ -230,7 +233,8 @@ impl<'a, N: Naming> Context<'a, N> {
         number: AccountNo,
         likely_slot: u32,
     ) -> Result<Parcel<N>, NoMemory>
-        requires touched { IsTrue (is_touched (directory_of self.now.book.accounts) self.now.batch.now.instructions number) }
+        requires touched { IsTrue
+            (is_touched (directory_of self.now.book.accounts) self.now.batch.now.instructions number) }
         ensures value { IfOk result (λ p. account self.now.book.accounts number ≡ Some p.value) }
         ensures after { IfOk result (λ p. p.after ≡ 0) }
     {
@@ -244,7 +248,8 @@ impl<'a, N: Naming> Context<'a, N> {
     /// # Errors
     /// `NoMemory` if memory ran out, or if the accounts of the book were given away.
     pub fn opening(&self, alloc: Global, number: AccountNo) -> Result<Parcel<N>, NoMemory>
-        requires touched { IsTrue (is_touched (directory_of self.now.book.accounts) self.now.batch.now.instructions number) }
+        requires touched { IsTrue
+            (is_touched (directory_of self.now.book.accounts) self.now.batch.now.instructions number) }
         ensures value { IfOk result (λ p. account self.now.book.accounts number ≡ Some p.value) }
         ensures after { IfOk result (λ p. p.after ≡ 0) }
     {

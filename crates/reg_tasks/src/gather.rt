@@ -1,6 +1,7 @@
 //! Gathering the settled day from the outcomes of all instructions.
 
-ghost use Rattle.std.specs.Prelude.{◌≡◌, ◌≢◌, ℕ, ◌+◌, ◌^◌, ◌<◌, ◌≤◌, ◌↔◌, false, Some, None, length, IfOk, IfErr, IfSome, IsTrue, MatchOption, IsPermutation};
+ghost use Rattle.std.specs.Prelude.{◌≡◌, ◌≢◌, ℕ, ◌+◌, ◌^◌, ◌<◌, ◌≤◌, ◌↔◌, false, Some, None, length, IfOk, IfErr};
+ghost use Rattle.std.specs.Prelude.{IfSome, IsTrue, MatchOption, IsPermutation};
 ghost use Rattle.std.specs.List.{AllByRecursion};
 ghost use Rattle.std.specs.List.Sorted.{IsNonDecreasingBy};
 ghost use Rattle.std.specs.FinMap as fin;
@@ -11,7 +12,9 @@ ghost use Rattle.reg_book.specs.Settled.{IsOfBook};
 ghost use Rattle.reg_book.specs.Day.{Day, log_of, settled_day};
 ghost use Rattle.reg_tasks.specs.Contexts.{the_day};
 ghost use Rattle.reg_tasks.specs.Parcels.{names_of, values_of};
-ghost use Rattle.reg_tasks.specs.Gathering.{AreRows, AreFirstRows, AreClosing, AreNotAll, IsGathered, IsCommittable, IsWhole, are_counted, are_outcomes, have_accounts, places_of, replies_by_number, replies_from};
+ghost use Rattle.reg_tasks.specs.Gathering.{AreRows, AreFirstRows, AreClosing, AreNotAll, IsGathered, IsCommittable};
+ghost use Rattle.reg_tasks.specs.Gathering.{IsWhole, are_counted, are_outcomes, have_accounts, places_of};
+ghost use Rattle.reg_tasks.specs.Gathering.{replies_by_number, replies_from};
 ghost use Rattle.reg_tasks.specs.LastParcels.{parcels_in};
 ghost use Rattle.reg_tasks.specs.Slots.{LacksFor, opened_accounts};
 ghost use Rattle.reg_schedules.specs.Schedules.{AreLastValues};

@@ -1,6 +1,7 @@
 //! The opening values of accounts.
 
-ghost use Rattle.std.specs.Prelude.{◌≡◌, ◌==◌, ◌<◌, ◌≤◌, true, not, All, Some, is_some, map, length, slice_index, IfOk, IfSome};
+ghost use Rattle.std.specs.Prelude.{◌≡◌, ◌==◌, ◌<◌, ◌≤◌, true, not, All, Some, is_some, map, length, slice_index, IfOk};
+ghost use Rattle.std.specs.Prelude.{IfSome};
 ghost use Rattle.reg_rules.specs.State.{account};
 ghost use Rattle.reg_tasks.specs.Parcels.{names_of};
 

@@ -1,6 +1,7 @@
 //! Slots for parcels: one for each touched account, in the order of a plan's openings.
 
-ghost use Rattle.std.specs.Prelude.{◌≡◌, ℕ, ◌==◌, true, false, Some, None, nat_eq, length, map, is_some, MatchOption, OnOk, OnErr, IfOk, IfErr, if◌then◌else◌};
+ghost use Rattle.std.specs.Prelude.{◌≡◌, ℕ, ◌==◌, true, false, Some, None, nat_eq, length, map, is_some, MatchOption};
+ghost use Rattle.std.specs.Prelude.{OnOk, OnErr, IfOk, IfErr, if◌then◌else◌};
 ghost use Rattle.std.specs.Option.{option_map};
 ghost use Rattle.std.specs.List.{IsDistinct, list_all};
 ghost use Rattle.reg_base.specs.Footprint.{is_among};

@@ -40,7 +40,8 @@ impl<'c, 'a, N: Naming> Slots<'c, 'a, N> {
     ghost use Rattle.reg_tasks.specs.Gathering.{places_of, is_last_there, AreFirstRows};
     ghost use Rattle.reg_tasks.specs.Names.{IsRowOfDay};
     ghost use Rattle.reg_tasks.specs.Parcels.{names_of};
-    ghost use Rattle.reg_tasks.specs.Slots.{AreOpened, AreTaken, AreLaid, StandAsBefore, IsAtEnd, LacksFor, have_slots, is_ready, name_of};
+    ghost use Rattle.reg_tasks.specs.Slots.{AreOpened, AreTaken, AreLaid, StandAsBefore, IsAtEnd, LacksFor, have_slots};
+    ghost use Rattle.reg_tasks.specs.Slots.{is_ready, name_of};
     ghost use Rattle.reg_tasks.specs.Standing.{stands};
     ghost use Rattle.reg_tasks.specs.declared.lack.Lack.TheVariants.{Foreign};
 
@@ -178,7 +179,9 @@ impl<'c, 'a, N: Naming> Slots<'c, 'a, N> {
     /// # Errors
     /// `Foreign` if a slot is empty, or if what stands in it is not what the last instruction left.
     pub fn lay_back(self, vault: &mut Vault<N>) -> Result<(), Lack>
-        ensures last { OnOk result (list_all (is_last_there (the_day self.entry.context.now) self.entry.context.now.plan) (map (option_map name_of) self.entry.slots.items) ≡ true) }
+        ensures last { OnOk result
+            (list_all (is_last_there (the_day self.entry.context.now) self.entry.context.now.plan)
+            (map (option_map name_of) self.entry.slots.items) ≡ true) }
         ensures lack { IfErr result (λ lack. lack ≡ Foreign) }
     {
         let Slots { context, slots, .. } = self;

@@ -1,6 +1,7 @@
 //! Opening values that are taken out of a vault, and last values that are laid back.
 
-ghost use Rattle.std.specs.Prelude.{◌≡◌, ◌==◌, ◌<◌, ◌≤◌, true, All, Some, is_some, map, length, slice_index, IfOk, IfErr, IfSome, OnOk, IsTrue};
+ghost use Rattle.std.specs.Prelude.{◌≡◌, ◌==◌, ◌<◌, ◌≤◌, true, All, Some, is_some, map, length, slice_index, IfOk};
+ghost use Rattle.std.specs.Prelude.{IfErr, IfSome, OnOk, IsTrue};
 ghost use Rattle.std.specs.List.{list_all};
 ghost use Rattle.std.specs.Option.{option_map};
 ghost use Rattle.reg_base.specs.Touches.{is_touched};
@@ -78,7 +79,9 @@ pub(crate) fn lay_slots<N: Naming>(
     vault: &mut Vault<N>,
     slots: Vec<Option<Parcel<N>>>,
 ) -> Result<(), Lack>
-    ensures last { OnOk result (list_all (is_last_there (the_day context.now) context.now.plan) (map (option_map name_of) slots.items) ≡ true) }
+    ensures last { OnOk result
+        (list_all (is_last_there (the_day context.now) context.now.plan) (map (option_map name_of) slots.items)
+        ≡ true) }
     ensures lack { IfErr result (λ lack. lack ≡ Foreign) }
 {
     for slot in slots {

@@ -28,7 +28,8 @@ pub struct Task<N: Naming> {
 }
 
 impl<N: Naming> Task<N> {
-    ghost use Rattle.std.specs.Prelude.{◌≤◌, ◌==◌, true, Some, None, length, map, is_ok, is_some, IfOk, IfErr, IfSome, MatchResult, IsPermutation};
+    ghost use Rattle.std.specs.Prelude.{◌≤◌, ◌==◌, true, Some, None, length, map, is_ok, is_some, IfOk, IfErr, IfSome};
+    ghost use Rattle.std.specs.Prelude.{MatchResult, IsPermutation};
     ghost use Rattle.reg_rules.specs.State.{account};
     ghost use Rattle.reg_plan.specs.Plans.{inward};
     ghost use Rattle.reg_book.specs.Day.{Day};

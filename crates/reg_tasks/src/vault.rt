@@ -20,8 +20,8 @@ use std::alloc::Global;
 use std::marker::PhantomData;
 
 /// The accounts of a book that was given away, by rising number, while its day is settled on them. One that is taken
-/// out leaves a vacant one in its place, with the same number, until it is laid back as its last instruction left it. So
-/// indexes never change, and no account is copied.
+/// out leaves a vacant one in its place, with the same number, until it is laid back as its last instruction left it.
+/// So indexes never change, and no account is copied.
 #[derive(Drop)]
 pub struct Vault<N: Naming> {
     accounts: Vec<Account>,
@@ -36,7 +36,8 @@ pub struct Vault<N: Naming> {
 }
 
 impl<N: Naming> Vault<N> {
-    ghost use Rattle.std.specs.Prelude.{◌==◌, ◌<◌, true, All, Some, is_some, slice_get, slice_index, IfErr, IfOk, IfSome, OnOk, IsTrue};
+    ghost use Rattle.std.specs.Prelude.{◌==◌, ◌<◌, true, All, Some, is_some, slice_get, slice_index, IfErr, IfOk};
+    ghost use Rattle.std.specs.Prelude.{IfSome, OnOk, IsTrue};
     ghost use Rattle.reg_base.specs.Footprint.{is_among};
     ghost use Rattle.reg_base.specs.Touches.{is_touched};
     ghost use Rattle.reg_rules.specs.State.{account};

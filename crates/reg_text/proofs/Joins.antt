@@ -1,11 +1,16 @@
 -- Rows that begin with that of an account add the same behind any rows with the same heading: what they say depends on
 -- the draft before them only through its heading, its last account number and how many accounts it has.
-use Rattle.std.proofs.Common.{◌≡◌, ℕ, ◌+◌, ◌<◌, ◌≤◌, Bool, true, false, List, [], ◌∷◌, ◌++◌, ◌⊎◌, inl, inr, length, rules, Option, Some, None, Ok, refl, sym, ap, subst, ◌∙◌, arith, append_assoc, length-append}
+use Rattle.std.proofs.Common.{◌≡◌, ℕ, ◌+◌, ◌<◌, ◌≤◌, Bool, true, false, List, [], ◌∷◌, ◌++◌, ◌⊎◌, inl, inr, length}
+use Rattle.std.proofs.Common.{rules, Option, Some, None, Ok, refl, sym, ap, subst, ◌∙◌, arith, append_assoc}
+use Rattle.std.proofs.Common.{length-append}
 use Rattle.std.specs.Prelude.{option_map}
 use Rattle.std.proofs.lemmas.Bool.{lt-ltb}
 use Rattle.std.proofs.lemmas.List.{append-nil}
-use Rattle.reg_text.proofs.Names.{MOST_ACCOUNTS, AccountValue, AccountHead, Tag, Version, One, Two, Scope, Record, field, ◌>>=◌, test, option_to_list, named, all_tags, tag_word, stages, stage, tag_stage, last_item, may_follow, tag_after, Said, row, is_above}
-use Rattle.reg_text.proofs.Names.{DraftValue, accounts_in, account_count, scope_of, is_text_over, with, in_order, has_space, placed, with_row, next_draft, drafted}
+use Rattle.reg_text.proofs.Names.{MOST_ACCOUNTS, AccountValue, AccountHead, Tag, Version, One, Two, Scope, Record}
+use Rattle.reg_text.proofs.Names.{field, ◌>>=◌, test, option_to_list, named, all_tags, tag_word, stages, stage}
+use Rattle.reg_text.proofs.Names.{tag_stage, last_item, may_follow, tag_after, Said, row, is_above}
+use Rattle.reg_text.proofs.Names.{DraftValue, accounts_in, account_count, scope_of, is_text_over, with, in_order}
+use Rattle.reg_text.proofs.Names.{has_space, placed, with_row, next_draft, drafted}
 use Rattle.reg_text.specs.declared.cause.Cause.TheVariants as cause
 use Rattle.reg_text.specs.declared.reading.tag.Tag.TheVariants as tag
 use Rattle.reg_text.specs.Joining.{number_in, IsHeading, HasHeading, IsPart, AccountsMayFollow, joined_drafts}
@@ -13,7 +18,8 @@ use Rattle.reg_text.proofs.Binds.{bind_ok, test_ok, unless_ok, ok_is}
 use Rattle.reg_text.proofs.TagLaws.{stage-of, goes_on}
 use Rattle.reg_text.proofs.DraftSteps.{count-accounts}
 
-placed-passes : {A : Type 0} (ordered space : Bool) (x y : A) → placed ordered space x ≡ Ok y → (ordered ≡ true) × (space ≡ true) × (x ≡ y)
+placed-passes : {A : Type 0} (ordered space : Bool) (x y : A) → placed ordered space x ≡ Ok y → (ordered ≡ true)
+    × (space ≡ true) × (x ≡ y)
 placed-passes true true x y e = (refl, refl, ok_is x y e)
 placed-passes true false x y e = absurd cc
 placed-passes false space x y e = absurd cc
@@ -35,11 +41,14 @@ pub taken : (d e : DraftValue) (r : Record) → next_draft d r ≡ Ok e → IsTa
 unfolding with_row
 taken d e r eq =
     let version = (scope_of d).version in
-    let on = unless_ok (is_text_over d.last) cause.End (tag_after version d.last (field r 0) >>= λ t. with_row t d r) e eq in
+    let on = unless_ok (is_text_over d.last) cause.End (tag_after version d.last (field r 0) >>= λ t. with_row t d r) e
+    eq in
     let t = bind_ok (tag_after version d.last (field r 0)) (λ t. with_row t d r) e on.1 in
-    let n = bind_ok (named cause.Tag tag_word all_tags (field r 0)) (λ u. test (may_follow version d.last u) cause.Tag u) t.0 t.1 in
+    let n = bind_ok (named cause.Tag tag_word all_tags (field r 0))
+    (λ u. test (may_follow version d.last u) cause.Tag u) t.0 t.1 in
     let m = test_ok (may_follow version d.last n.0) cause.Tag n.0 t.0 n.2 in
-    let x = bind_ok ((row (scope_of d) t.0).read r) (λ y. placed (in_order t.0 d y) (has_space t.0 d y) (with t.0 d y)) e t.2 in
+    let x = bind_ok ((row (scope_of d) t.0).read r) (λ y. placed (in_order t.0 d y) (has_space t.0 d y) (with t.0 d y))
+    e t.2 in
     let p = placed-passes (in_order t.0 d x.0) (has_space t.0 d x.0) (with t.0 d x.0) e x.2 in
     record {
       tag = t.0;
@@ -63,11 +72,13 @@ takes d e r k = rw (k.goes, k.named_by, k.stands, k.reads, k.ordered, k.space) (
 abbrev pub behind : List AccountValue → DraftValue → DraftValue
 behind before d = record d { accounts = before ++ d.accounts }
 
-order-behind : (before : List AccountValue) (t : Tag) (d : DraftValue) (x : Said t) → in_order t (behind before d) x ≡ in_order t d x
+order-behind : (before : List AccountValue) (t : Tag) (d : DraftValue) (x : Said t)
+    → in_order t (behind before d) x ≡ in_order t d x
 order-behind before tag.Format d x = refl
 order-behind before t d x = refl
 
-with-behind : (before : List AccountValue) (t : Tag) (d : DraftValue) (x : Said t) → with t (behind before d) x ≡ behind before (with t d x)
+with-behind : (before : List AccountValue) (t : Tag) (d : DraftValue) (x : Said t)
+    → with t (behind before d) x ≡ behind before (with t d x)
 with-behind before tag.Account d x = rw append_assoc refl
 with-behind before tag.Format d x = refl
 with-behind before t d x = refl
@@ -78,14 +89,19 @@ count-with tag.Account d x = omega (arith, count-accounts d.accounts d.head d.li
 count-with tag.Format d x = omega arith
 count-with t d x = omega arith
 
-space-behind : (before : List AccountValue) (t : Tag) (d : DraftValue) (x : Said t) → length before + account_count (with t d x) ≤ MOST_ACCOUNTS → has_space t d x ≡ true → has_space t (behind before d) x ≡ true
-space-behind before tag.Account d x few space = lt-ltb _ _ (omega (arith, few, count-accounts d.accounts d.head d.lists, length-append before d.accounts))
+space-behind : (before : List AccountValue) (t : Tag) (d : DraftValue) (x : Said t)
+    → length before + account_count (with t d x) ≤ MOST_ACCOUNTS → has_space t d x ≡ true
+    → has_space t (behind before d) x ≡ true
+space-behind before tag.Account d x few space =
+    lt-ltb _ _ (omega (arith, few, count-accounts d.accounts d.head d.lists, length-append before d.accounts))
 space-behind before tag.Format d x few space = space
 space-behind before t d x few space = space
 
-row-behind : (before : List AccountValue) (d e : DraftValue) (r : Record) → IsTaken d r e → length before + account_count e ≤ MOST_ACCOUNTS → IsTaken (behind before d) r (behind before e)
+row-behind : (before : List AccountValue) (d e : DraftValue) (r : Record) → IsTaken d r e
+    → length before + account_count e ≤ MOST_ACCOUNTS → IsTaken (behind before d) r (behind before e)
 row-behind before d e r k few =
-    let fewer : length before + account_count (with k.tag d k.says) ≤ MOST_ACCOUNTS = subst (λ (x : DraftValue). length before + account_count x ≤ MOST_ACCOUNTS) (sym k.gives) few in
+    let fewer : length before + account_count (with k.tag d k.says) ≤ MOST_ACCOUNTS =
+    subst (λ (x : DraftValue). length before + account_count x ≤ MOST_ACCOUNTS) (sym k.gives) few in
     record {
       tag = k.tag;
       says = k.says;
@@ -108,12 +124,14 @@ count-drafted (r ∷ rows) d e eq =
     omega (arith, count-taken d x.0 r (taken d x.0 r x.1), count-drafted rows x.0 e x.2)
 
 -- the rows of a draft, behind other accounts
-pub rows-behind : (before : List AccountValue) (rows : List Record) (d e : DraftValue) → drafted d rows ≡ Ok e → length before + account_count e ≤ MOST_ACCOUNTS → drafted (behind before d) rows ≡ Ok (behind before e)
+pub rows-behind : (before : List AccountValue) (rows : List Record) (d e : DraftValue) → drafted d rows ≡ Ok e
+    → length before + account_count e ≤ MOST_ACCOUNTS → drafted (behind before d) rows ≡ Ok (behind before e)
 rows-behind before [] d e eq few = ap (λ (x : DraftValue). Ok (behind before x)) (ok_is d e eq)
 rows-behind before (r ∷ rows) d e eq few =
     let x = bind_ok (next_draft d r) (λ y. drafted y rows) e eq in
     let fewer = count-drafted rows x.0 e x.2 in
-    let step = takes (behind before d) (behind before x.0) r (row-behind before d x.0 r (taken d x.0 r x.1) (omega (arith, few, fewer))) in
+    let step = takes (behind before d) (behind before x.0) r
+    (row-behind before d x.0 r (taken d x.0 r x.1) (omega (arith, few, fewer))) in
     rw step (rows-behind before rows x.0 e x.2 few)
 
 -- ---- the heading stays as it is
@@ -140,14 +158,17 @@ early-stands One t e = grind arith
 early-stands Two tag.Format e = grind arith
 early-stands Two t e = grind arith
 
-early : (version : Version) (last : Option Tag) (t : Tag) → is_early t ≡ true → may_follow version last t ≡ true → 80 ≤ stage last → ⊥
-early version last t e may begun = let p = stage-of version last t may in let low = early-stands version t e in omega (arith, p.high, low, begun)
+early : (version : Version) (last : Option Tag) (t : Tag) → is_early t ≡ true → may_follow version last t ≡ true
+    → 80 ≤ stage last → ⊥
+early version last t e may begun = let p = stage-of version last t may in let low = early-stands version t e in
+    omega (arith, p.high, low, begun)
 
 late-stands : (t : Tag) → (is_early t ≡ true) ⊎ (80 ≤ tag_stage t)
 late-stands tag.Format = search rules
 late-stands t = search rules
 
-pub heading-with : (h : DraftValue) (t : Tag) (d : DraftValue) (x : Said t) → may_follow (scope_of d).version d.last t ≡ true → 80 ≤ stage d.last → HasHeading h d → HasHeading h (with t d x)
+pub heading-with : (h : DraftValue) (t : Tag) (d : DraftValue) (x : Said t) → may_follow (scope_of d).version d.last t
+    ≡ true → 80 ≤ stage d.last → HasHeading h d → HasHeading h (with t d x)
 heading-with h tag.Format d x may begun k = absurd (early (scope_of d).version d.last tag.Format refl may begun)
 heading-with h tag.Day d x may begun k = absurd (early (scope_of d).version d.last tag.Day refl may begun)
 heading-with h tag.Period d x may begun k = absurd (early (scope_of d).version d.last tag.Period refl may begun)
@@ -156,15 +177,26 @@ heading-with h tag.Lags d x may begun k = absurd (early (scope_of d).version d.l
 heading-with h tag.Surrender d x may begun k = absurd (early (scope_of d).version d.last tag.Surrender refl may begun)
 heading-with h tag.Admin d x may begun k = absurd (early (scope_of d).version d.last tag.Admin refl may begun)
 heading-with h tag.Work d x may begun k = absurd (early (scope_of d).version d.last tag.Work refl may begun)
-heading-with h t d x may begun k = record { versions = k.versions; days = k.days; periods = k.periods; current = k.current; lags = k.lags; surrender = k.surrender; admins = k.admins; work = k.work }
+heading-with h t d x may begun k = record {
+  versions = k.versions;
+  days = k.days;
+  periods = k.periods;
+  current = k.current;
+  lags = k.lags;
+  surrender = k.surrender;
+  admins = k.admins;
+  work = k.work;
+}
 
-begun-with : (t : Tag) (d : DraftValue) (x : Said t) → may_follow (scope_of d).version d.last t ≡ true → 80 ≤ stage d.last → 80 ≤ stage (with t d x).last
+begun-with : (t : Tag) (d : DraftValue) (x : Said t) → may_follow (scope_of d).version d.last t ≡ true
+    → 80 ≤ stage d.last → 80 ≤ stage (with t d x).last
 begun-with t d x may begun = elim (late-stands t) [
   | inl e ↦ absurd (early (scope_of d).version d.last t e may begun)
   | inr late ↦ late
 ]
 
-pub heading-kept : (h : DraftValue) (rows : List Record) (d e : DraftValue) → drafted d rows ≡ Ok e → 80 ≤ stage d.last → HasHeading h d → HasHeading h e
+pub heading-kept : (h : DraftValue) (rows : List Record) (d e : DraftValue) → drafted d rows ≡ Ok e → 80 ≤ stage d.last
+    → HasHeading h d → HasHeading h e
 heading-kept h [] d e eq begun k = subst (HasHeading h) (ok_is d e eq) k
 heading-kept h (r ∷ rows) d e eq begun k =
     let x = bind_ok (next_draft d r) (λ y. drafted y rows) e eq in
@@ -175,7 +207,8 @@ heading-kept h (r ∷ rows) d e eq begun k =
 
 -- ---- the seam
 
-last-head : (head : Option AccountHead) → option_map (λ (a : AccountHead). a.number) (last_item (option_to_list head)) ≡ number_in head
+last-head : (head : Option AccountHead) → option_map (λ (a : AccountHead). a.number) (last_item (option_to_list head))
+    ≡ number_in head
 last-head None = refl
 last-head (Some a) = refl
 
@@ -183,8 +216,11 @@ pub same-scope : (h d : DraftValue) → HasHeading h d → scope_of h ≡ scope_
 same-scope h d k = rw (k.versions, k.periods) refl
 
 -- the row of an account that is taken behind a heading is taken behind what has the same heading
-seam-at : (t : Tag) (h d o : DraftValue) (r : Record) (x : Said t) (first : ℕ) → IsHeading h → HasHeading h d → d.instructions ≡ [] → may_follow (scope_of d).version d.last tag.Account ≡ true → is_above (number_in d.head) first ≡ true → account_count d < MOST_ACCOUNTS
-    → named cause.Tag tag_word all_tags (field r 0) ≡ Ok t → (row (scope_of h) t).read r ≡ Ok x → with t h x ≡ o → o.last ≡ Some tag.Account → number_in o.head ≡ Some first → IsTaken d r (behind (accounts_in d) o)
+seam-at : (t : Tag) (h d o : DraftValue) (r : Record) (x : Said t) (first : ℕ) → IsHeading h → HasHeading h d
+    → d.instructions ≡ [] → may_follow (scope_of d).version d.last tag.Account ≡ true
+    → is_above (number_in d.head) first ≡ true → account_count d < MOST_ACCOUNTS
+    → named cause.Tag tag_word all_tags (field r 0) ≡ Ok t → (row (scope_of h) t).read r ≡ Ok x → with t h x ≡ o
+    → o.last ≡ Some tag.Account → number_in o.head ≡ Some first → IsTaken d r (behind (accounts_in d) o)
 seam-at tag.Account h d o r x first is k none may order few named reads gives last first_is =
     let after_first : number_in (Some x) ≡ Some first = ap (λ (y : DraftValue). number_in y.head) gives ∙ first_is in
     let number : x.number ≡ first = cc in
@@ -197,33 +233,84 @@ seam-at tag.Account h d o r x first is k none may order few named reads gives la
       reads = subst (λ (s : Scope). (row s tag.Account).read r ≡ Ok x) (same-scope h d k) reads;
       ordered = rw (last-head d.head, number) order;
       space = lt-ltb _ _ few;
-      gives = subst (λ (y : DraftValue). with tag.Account d x ≡ behind (accounts_in d) y) gives (rw (is.no_accounts, is.no_head, is.no_instructions, k.versions, k.days, k.periods, k.current, k.lags, k.surrender, k.admins, k.work, none, append-nil) refl);
+      gives = subst (λ (y : DraftValue). with tag.Account d x ≡ behind (accounts_in d) y) gives
+          (rw (
+            is.no_accounts,
+            is.no_head,
+            is.no_instructions,
+            k.versions,
+            k.days,
+            k.periods,
+            k.current,
+            k.lags,
+            k.surrender,
+            k.admins,
+            k.work,
+            none,
+            append-nil,
+          ) refl);
     }
 seam-at t h d o r x first is k none may order few named reads gives last first_is =
-    let other : Some t ≡ Some tag.Account = sym (last-with t h x) ∙ ap (λ (y : DraftValue). y.last) gives ∙ last in absurd cc
+    let other : Some t ≡ Some tag.Account = sym (last-with t h x) ∙ ap (λ (y : DraftValue). y.last) gives ∙ last in
+    absurd cc
 
 -- the row that begins an account changes no heading
 heading-at : (t : Tag) (h o : DraftValue) (x : Said t) → with t h x ≡ o → o.last ≡ Some tag.Account → HasHeading h o
-heading-at tag.Account h o x gives last = subst (HasHeading h) gives (record { versions = refl; days = refl; periods = refl; current = refl; lags = refl; surrender = refl; admins = refl; work = refl })
-heading-at t h o x gives last = let other : Some t ≡ Some tag.Account = sym (last-with t h x) ∙ ap (λ (y : DraftValue). y.last) gives ∙ last in absurd cc
+heading-at tag.Account h o x gives last =
+    subst (HasHeading h) gives
+    (record {
+      versions = refl;
+      days = refl;
+      periods = refl;
+      current = refl;
+      lags = refl;
+      surrender = refl;
+      admins = refl;
+      work = refl;
+    })
+heading-at t h o x gives last = let other : Some t ≡ Some tag.Account =
+    sym (last-with t h x) ∙ ap (λ (y : DraftValue). y.last) gives ∙ last in absurd cc
 
 one-head : (head : Option AccountHead) (first : ℕ) → number_in head ≡ Some first → length (option_to_list head) ≡ 1
 one-head None first e = absurd cc
 one-head (Some h) first e = refl
 
 -- a draft with the same heading, and accounts before its own, is both drafts joined
-behind-joined : (h d e : DraftValue) (first : ℕ) → HasHeading h d → HasHeading h e → behind (accounts_in d) e ≡ joined_drafts (Some first) d e
-behind-joined h d e first k l = rw (k.versions, k.days, k.periods, k.current, k.lags, k.surrender, k.admins, k.work, l.versions, l.days, l.periods, l.current, l.lags, l.surrender, l.admins, l.work) refl
+behind-joined : (h d e : DraftValue) (first : ℕ) → HasHeading h d → HasHeading h e
+    → behind (accounts_in d) e ≡ joined_drafts (Some first) d e
+behind-joined h d e first k l = rw (
+  k.versions,
+  k.days,
+  k.periods,
+  k.current,
+  k.lags,
+  k.surrender,
+  k.admins,
+  k.work,
+  l.versions,
+  l.days,
+  l.periods,
+  l.current,
+  l.lags,
+  l.surrender,
+  l.admins,
+  l.work,
+) refl
 
 -- the rows of a part that begins with an account, read behind the draft before it, give both drafts joined
-pub accounts-join : (h d e : DraftValue) (rows : List Record) (first : ℕ) → IsHeading h → HasHeading h d → AccountsMayFollow first d e → IsPart h rows (Some first) e → drafted d rows ≡ Ok (joined_drafts (Some first) d e)
+pub accounts-join : (h d e : DraftValue) (rows : List Record) (first : ℕ) → IsHeading h → HasHeading h d
+    → AccountsMayFollow first d e → IsPart h rows (Some first) e → drafted d rows ≡ Ok (joined_drafts (Some first) d e)
 accounts-join h d e rows first is same m p =
     let k = taken h p.after_first p.row p.takes_first in
     let one = one-head p.after_first.head first p.begins.1 in
     let more = count-drafted p.others p.after_first e p.goes_on in
     let few = m.few in
     let begun : 80 ≤ stage p.after_first.last = rw p.begins.0 (omega arith) in
-    let kept = heading-kept h p.others p.after_first e p.goes_on begun (heading-at k.tag h p.after_first k.says k.gives p.begins.0) in
-    let seam = takes d (behind (accounts_in d) p.after_first) p.row (seam-at k.tag h d p.after_first p.row k.says first is same m.no_instructions m.stands m.ordered (omega arith) k.named_by k.reads k.gives p.begins.0 p.begins.1) in
-    let behind_it = rows-behind (accounts_in d) p.others p.after_first e p.goes_on (omega (arith, count-accounts d.accounts d.head d.lists)) in
+    let kept = heading-kept h p.others p.after_first e p.goes_on begun
+    (heading-at k.tag h p.after_first k.says k.gives p.begins.0) in
+    let seam = takes d (behind (accounts_in d) p.after_first) p.row
+    (seam-at k.tag h d p.after_first p.row k.says first is same m.no_instructions m.stands m.ordered
+    (omega arith) k.named_by k.reads k.gives p.begins.0 p.begins.1) in
+    let behind_it = rows-behind (accounts_in d) p.others p.after_first e p.goes_on
+    (omega (arith, count-accounts d.accounts d.head d.lists)) in
     rw (p.rows_are, seam) behind_it ∙ ap (λ (x : DraftValue). Ok x) (behind-joined h d e first same kept)

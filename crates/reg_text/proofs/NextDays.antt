@@ -1,5 +1,6 @@
 -- The report of a day, put into the text of the next day, is read as the book that the day left.
-use Rattle.std.proofs.Common.{◌≡◌, ℕ, ◌+◌, ◌≤◌, Bool, true, false, cond, eqb, List, [], ◌∷◌, ◌++◌, map, take, length, Option, Some, None, Result, Ok, Err, refl, sym, ap, subst, ◌∙◌, arith, append_assoc}
+use Rattle.std.proofs.Common.{◌≡◌, ℕ, ◌+◌, ◌≤◌, Bool, true, false, cond, eqb, List, [], ◌∷◌, ◌++◌, map, take, length}
+use Rattle.std.proofs.Common.{Option, Some, None, Result, Ok, Err, refl, sym, ap, subst, ◌∙◌, arith, append_assoc}
 use Rattle.std.specs.Prelude.{ℤ}
 use Rattle.std.specs.Option.{option_map_or}
 use Rattle.std.specs.List.{AllByRecursion}
@@ -9,7 +10,8 @@ use Rattle.reg_base.specs.declared.kinds.AllowanceKind.{AllowanceKind}
 use Rattle.reg_base.specs.declared.kinds.Retirement.{Retirement}
 use Rattle.reg_base.specs.declared.kinds.Retirement.TheVariants.{Surrendered, Deleted}
 use Rattle.reg_base.specs.declared.movement.Change.{Change}
-use Rattle.reg_base.specs.declared.movement.Change.TheVariants.{Debit, Credit, Retire, Unretire, Trust, Untrust, SetStatus, SetEmissions, Determine}
+use Rattle.reg_base.specs.declared.movement.Change.TheVariants.{Debit, Credit, Retire, Unretire, Trust, Untrust}
+use Rattle.reg_base.specs.declared.movement.Change.TheVariants.{SetStatus, SetEmissions, Determine}
 use Rattle.reg_base.specs.declared.refusals.Refusal.{Refusal}
 use Rattle.reg_base.specs.declared.shares.Share.{Share}
 use Rattle.reg_base.specs.declared.act.Act.{Act}
@@ -49,7 +51,8 @@ use Rattle.reg_text.proofs.ReadAgain.{text-append, book-text-parts}
 abbrev pub AreOfPeriods : ℕ → List RetirementRow → Type 0
 AreOfPeriods count rows = AllByRecursion (λ row. FateIsOf count row.fate) rows
 
-marked-of : (count number : ℕ) (rows : List RetirementRow) → AreOfPeriods count rows → AreOfPeriods count (with_mark number rows)
+marked-of : (count number : ℕ) (rows : List RetirementRow) → AreOfPeriods count rows
+    → AreOfPeriods count (with_mark number rows)
 marked-of count number [] own = tt
 marked-of count number (row ∷ rows) own = (by (eqb row.number number), marked-of count number rows own.1)
   where
@@ -57,15 +60,18 @@ marked-of count number (row ∷ rows) own = (by (eqb row.number number), marked-
     by true = own.0
     by false = own.0
 
-unretired-of : (count number : ℕ) (v : AccountValue) (found : Option RetirementRow) → AreOfPeriods count v.rows → AreOfPeriods count (option_map_or (unretired_row number v) found v).rows
+unretired-of : (count number : ℕ) (v : AccountValue) (found : Option RetirementRow) → AreOfPeriods count v.rows
+    → AreOfPeriods count (option_map_or (unretired_row number v) found v).rows
 unretired-of count number v None own = own
 unretired-of count number v (Some row) own = marked-of count number v.rows own
 
-listed-of : (count other : ℕ) (v : AccountValue) (day : Option ℕ) → AreOfPeriods count v.rows → AreOfPeriods count (listed_from v other day).rows
+listed-of : (count other : ℕ) (v : AccountValue) (day : Option ℕ) → AreOfPeriods count v.rows
+    → AreOfPeriods count (listed_from v other day).rows
 listed-of count other v None own = own
 listed-of count other v (Some day) own = own
 
-assessed-of : (count year : ℕ) (v : AccountValue) (figure : Result ℤ FigureFault) → AreOfPeriods count v.rows → AreOfPeriods count (assessed v year figure).rows
+assessed-of : (count year : ℕ) (v : AccountValue) (figure : Result ℤ FigureFault) → AreOfPeriods count v.rows
+    → AreOfPeriods count (assessed v year figure).rows
 assessed-of count year v (Ok figure) own = own
 assessed-of count year v (Err fault) own = own
 
@@ -79,10 +85,12 @@ module _ (count : ℕ) (c : Setting) (current : c.rules.current ≤ count) where
   fate-of Surrendered = current
   fate-of Deleted = tt
 
-  made-of : (number : ℕ) (made : Change) (v : AccountValue) → AreOfPeriods count v.rows → AreOfPeriods count (made_by c number made v).rows
+  made-of : (number : ℕ) (made : Change) (v : AccountValue) → AreOfPeriods count v.rows
+      → AreOfPeriods count (made_by c number made v).rows
   made-of number (Debit kind amount) v own = own
   made-of number (Credit kind amount) v own = own
-  made-of number (Retire way kind amount) v own = all-push (λ (row : RetirementRow). FateIsOf count row.fate) v.rows (new_row c number way kind amount) own (fate-of way)
+  made-of number (Retire way kind amount) v own = all-push (λ (row : RetirementRow). FateIsOf count row.fate) v.rows
+      (new_row c number way kind amount) own (fate-of way)
   made-of number (Unretire reversed) v own = unretired-of count reversed v (row_in v.rows reversed) own
   made-of number (Trust other) v own = listed-of count other v (effective_day c) own
   made-of number (Untrust other) v own = own
@@ -90,27 +98,33 @@ module _ (count : ℕ) (c : Setting) (current : c.rules.current ≤ count) where
   made-of number (SetEmissions year tonnes) v own = own
   made-of number (Determine year) v own = assessed-of count year v (figure_of c.rules v year) own
 
-  changed-of : (number : ℕ) (act : Act) (v : AccountValue) → IsOfPeriods count v → IsOfPeriods count (changed_by c number act v)
+  changed-of : (number : ℕ) (act : Act) (v : AccountValue) → IsOfPeriods count v
+      → IsOfPeriods count (changed_by c number act v)
   changed-of number act v own = record { corrections = own.corrections; rows = by (eqb v.number (first act)) }
     where
-      by : (b : Bool) → AreOfPeriods count (cond b (made_by c number (change_of act) v) (given (movement_of act).kind (shares act) v)).rows
+      by : (b : Bool) → AreOfPeriods count
+          (cond b (made_by c number (change_of act) v) (given (movement_of act).kind (shares act) v)).rows
       by true = made-of number (change_of act) v own.rows
       by false = given-of count (movement_of act).kind v (share_of (shares act) v.number) own.rows
 
-  effect-of : (number : ℕ) (act : Act) (s : State) → AllByRecursion (IsOfPeriods count) s → AllByRecursion (IsOfPeriods count) (map (changed_by c number act) s)
+  effect-of : (number : ℕ) (act : Act) (s : State) → AllByRecursion (IsOfPeriods count) s
+      → AllByRecursion (IsOfPeriods count) (map (changed_by c number act) s)
   effect-of number act [] all = tt
   effect-of number act (v ∷ vs) all = (changed-of number act v all.0, effect-of number act vs all.1)
 
-  step-of : (number : ℕ) (s : State) (i : Instruction) (r : Option Refusal) → AllByRecursion (IsOfPeriods count) s → AllByRecursion (IsOfPeriods count) (step_by c s number i r).0
+  step-of : (number : ℕ) (s : State) (i : Instruction) (r : Option Refusal) → AllByRecursion (IsOfPeriods count) s
+      → AllByRecursion (IsOfPeriods count) (step_by c s number i r).0
   step-of number s i None all = effect-of number i.act s all
   step-of number s i (Some q) all = all
 
-  fold-of : (number : ℕ) (s : State) (is : List Instruction) → AllByRecursion (IsOfPeriods count) s → AllByRecursion (IsOfPeriods count) (state_after c s number is)
+  fold-of : (number : ℕ) (s : State) (is : List Instruction) → AllByRecursion (IsOfPeriods count) s
+      → AllByRecursion (IsOfPeriods count) (state_after c s number is)
   fold-of number s [] all = all
   fold-of number s (i ∷ is) all = fold-of (number + 1) (step c s number i).0 is (step-of number s i (refusal c s i) all)
 
 -- more periods
-more-corrections : (count more : ℕ) (cs : List Correction) → count ≤ more → AllByRecursion (λ (k : Correction). k.period ≤ count) cs → AllByRecursion (λ (k : Correction). k.period ≤ more) cs
+more-corrections : (count more : ℕ) (cs : List Correction) → count ≤ more
+    → AllByRecursion (λ (k : Correction). k.period ≤ count) cs → AllByRecursion (λ (k : Correction). k.period ≤ more) cs
 more-corrections count more [] le all = tt
 more-corrections count more (k ∷ ks) le all = (omega (arith, le, all.0), more-corrections count more ks le all.1)
 
@@ -121,21 +135,31 @@ more-fates count more row le own = by row.fate own
     by (fate.Surrendered period) h = omega (arith, le, h)
     by fate.Deleted h = tt
 
-more-rows : (count more : ℕ) (rows : List RetirementRow) → count ≤ more → AreOfPeriods count rows → AreOfPeriods more rows
+more-rows : (count more : ℕ) (rows : List RetirementRow) → count ≤ more → AreOfPeriods count rows
+    → AreOfPeriods more rows
 more-rows count more [] le all = tt
 more-rows count more (row ∷ rows) le all = (more-fates count more row le all.0, more-rows count more rows le all.1)
 
-more-accounts : (count more : ℕ) (s : State) → count ≤ more → AllByRecursion (IsOfPeriods count) s → AllByRecursion (IsOfPeriods more) s
+more-accounts : (count more : ℕ) (s : State) → count ≤ more → AllByRecursion (IsOfPeriods count) s
+    → AllByRecursion (IsOfPeriods more) s
 more-accounts count more [] le all = tt
-more-accounts count more (v ∷ vs) le all =
-    (record { corrections = more-corrections count more v.corrections le all.0.corrections; rows = more-rows count more v.rows le all.0.rows }, more-accounts count more vs le all.1)
+more-accounts count more (v ∷ vs) le all = (
+  record {
+    corrections = more-corrections count more v.corrections le all.0.corrections;
+    rows = more-rows count more v.rows le all.0.rows;
+  },
+  more-accounts count more vs le all.1,
+)
 
 module _ (closing : CommittedIsClosing) (leaves : ChainLeavesABook) where
   -- the book that a day leaves is of its periods
-  periods-after : (day : Day) → CanBeSaid day → AllByRecursion (IsOfPeriods (length day.rules.periods)) (book_after day).accounts
+  periods-after : (day : Day) → CanBeSaid day
+      → AllByRecursion (IsOfPeriods (length day.rules.periods)) (book_after day).accounts
   periods-after day said =
-      subst (λ (b : BookValue). AllByRecursion (IsOfPeriods (length day.rules.periods)) b.accounts) (sym (closing day said.day.book said.day.follows))
-      (fold-of (length day.rules.periods) (setting day) said.day.rules.fit.current_fits.high (day.batch.base + 1) day.book.accounts (take (length day.batch.instructions) day.batch.instructions)
+      subst (λ (b : BookValue). AllByRecursion (IsOfPeriods (length day.rules.periods)) b.accounts)
+      (sym (closing day said.day.book said.day.follows))
+      (fold-of (length day.rules.periods) (setting day) said.day.rules.fit.current_fits.high
+      (day.batch.base + 1) day.book.accounts (take (length day.batch.instructions) day.batch.instructions)
       (recursion_from_All (IsOfPeriods (length day.rules.periods)) day.book.accounts said.periods))
 
   can-go_on : (before day : Day) → CanBeSaid before → IsNextDay before day → CanBeSaid day
@@ -143,10 +167,16 @@ module _ (closing : CommittedIsClosing) (leaves : ChainLeavesABook) where
       let left : IsBook (book_after before) = leaves before.book (before ∷ []) said.day.book (said.day, refl, tt) in
       let count = length day.rules.periods in
       record {
-        day = record { book = subst IsBook (sym next.book) left; rules = next.rules; batch = next.batch; follows = next.begins };
+        day = record {
+          book = subst IsBook (sym next.book) left;
+          rules = next.rules;
+          batch = next.batch;
+          follows = next.begins;
+        };
         periods = All-from_recursion (IsOfPeriods count) day.book.accounts
             (subst (λ (b : BookValue). AllByRecursion (IsOfPeriods count) b.accounts) (sym next.book)
-            (more-accounts (length before.rules.periods) count (book_after before).accounts next.periods (periods-after before said)));
+            (more-accounts (length before.rules.periods) count (book_after before).accounts next.periods
+            (periods-after before said)));
         shares = next.shares;
         pairs = next.pairs;
         pairs_rise = next.pairs_rise;
@@ -175,36 +205,52 @@ copied-are day blocks stand =
     let book = book_after day in
     let before = text_of (log_rows (log_of day)) ++ book_line book in
     append_cancel_left before blocks (accounts_text book)
-    (append_cancel_right (before ++ blocks) (before ++ accounts_text book) (text_of (rows_behind book)) (sym stand ∙ report-parts day))
+    (append_cancel_right (before ++ blocks) (before ++ accounts_text book) (text_of (rows_behind book))
+    (sym stand ∙ report-parts day))
 
 -- so they are those of the book
-are-blocks : (day : Day) (book : BookValue) (blocks : List ℕ) → book ≡ book_after day → StandInReport day blocks → IsBlocks book blocks
-are-blocks day book blocks is stand =
-    (text_of (written_book book), refl, book-text-parts book ∙ ap (λ (t : List ℕ). book_line book ++ t) (ap accounts_text is ∙ sym (copied-are day blocks stand)))
+are-blocks : (day : Day) (book : BookValue) (blocks : List ℕ) → book ≡ book_after day → StandInReport day blocks
+    → IsBlocks book blocks
+are-blocks day book blocks is stand = (
+  text_of (written_book book),
+  refl,
+  book-text-parts book
+      ∙ ap (λ (t : List ℕ). book_line book ++ t) (ap accounts_text is ∙ sym (copied-are day blocks stand)),
+)
 
 -- ---- the texts
 
 module _ (again : BookIsReadAgain) where
-  read-text : (day : Day) (blocks text : List ℕ) → CanBeSaid day → IsBlocks day.book blocks → IsTextOf day blocks text → day_of_rows (rows_in_text text) ≡ Ok day
+  read-text : (day : Day) (blocks text : List ℕ) → CanBeSaid day → IsBlocks day.book blocks → IsTextOf day blocks text
+      → day_of_rows (rows_in_text text) ≡ Ok day
   read-text day blocks text said are of =
-      ap (λ (t : List ℕ). day_of_rows (rows_in_text t)) of.made ∙ again.again of.version day of.front blocks of.back of.is_known said of.heading are of.closing
+      ap (λ (t : List ℕ). day_of_rows (rows_in_text t)) of.made
+      ∙ again.again of.version day of.front blocks of.back of.is_known said of.heading are of.closing
 
   module _ (closing : CommittedIsClosing) (leaves : ChainLeavesABook) where
-    read-days : (day : Day) (days : List Day) (blocks : List ℕ) (texts : List (List ℕ)) → CanBeSaid day → GoOn day days → IsBlocks day.book blocks → AreTexts blocks (day ∷ days) texts
+    read-days : (day : Day) (days : List Day) (blocks : List ℕ) (texts : List (List ℕ)) → CanBeSaid day → GoOn day days
+        → IsBlocks day.book blocks → AreTexts blocks (day ∷ days) texts
         → map (λ (text : List ℕ). day_of_rows (rows_in_text text)) texts ≡ map Ok (day ∷ days)
     read-days day days blocks [] said on are texts = absurd texts
-    read-days day [] blocks (text ∷ []) said on are texts = ap (λ r. r ∷ []) (read-text day blocks text said are texts.0)
+    read-days day [] blocks (text ∷ []) said on are texts =
+        ap (λ r. r ∷ []) (read-text day blocks text said are texts.0)
     read-days day [] blocks (text ∷ more ∷ rest) said on are texts = let (copied, stand, none) = texts.1 in absurd none
     read-days day (next ∷ days) blocks (text ∷ rest) said on are texts =
         let (copied, stand, later) = texts.1 in
-        ap (λ r. r ∷ map (λ (t : List ℕ). day_of_rows (rows_in_text t)) rest) (read-text day blocks text said are texts.0)
-        ∙ ap (λ rs. Ok day ∷ rs) (read-days next days copied rest (can-go_on closing leaves day next said on.0) on.1 (are-blocks day next.book copied on.0.book stand) later)
+        ap (λ r. r ∷ map (λ (t : List ℕ). day_of_rows (rows_in_text t)) rest)
+        (read-text day blocks text said are texts.0)
+        ∙ ap (λ rs. Ok day ∷ rs) (read-days next days copied rest (can-go_on closing leaves day next said on.0) on.1
+        (are-blocks day next.book copied on.0.book stand) later)
 
     pub reports-read : ReportsAreReadOn
     reports-read = record {
       has_accounts = λ day. (accounts_text (book_after day), report-parts day);
       can_be_said = can-go_on closing leaves;
-      next_day = λ before day blocks text said next stand of. read-text day blocks text (can-go_on closing leaves before day said next) (are-blocks before day.book blocks next.book stand) of;
-      chain = λ first days blocks texts said on are of.
-          (read-days first days blocks texts said on are of, (said.day, refl, chain-days closing leaves first days said on));
+      next_day = λ before day blocks text said next stand of.
+          read-text day blocks text (can-go_on closing leaves before day said next)
+          (are-blocks before day.book blocks next.book stand) of;
+      chain = λ first days blocks texts said on are of. (
+        read-days first days blocks texts said on are of,
+        (said.day, refl, chain-days closing leaves first days said on),
+      );
     }

@@ -12,8 +12,15 @@ pub no-fault : {F : Type 0} (o : Option F) (f : F) → Some f ≡ o → o ≡ No
 no-fault o f e none = cc
 
 -- an account whose number is above all others has no fault if there is space, and no row of it is ahead
-pub no-book-fault : (b : BookValue) (a : AccountValue) → IsRising (map (λ (v : AccountValue). v.number) (b.accounts ++ a ∷ [])) → length b.accounts < MOST_ACCOUNTS → has_row_ahead b.next a ≡ false → first_fault b a ≡ None
+pub no-book-fault : (b : BookValue) (a : AccountValue)
+    → IsRising (map (λ (v : AccountValue). v.number) (b.accounts ++ a ∷ [])) → length b.accounts < MOST_ACCOUNTS
+    → has_row_ahead b.next a ≡ false → first_fault b a ≡ None
 no-book-fault b a rises space behind =
     let accounts = b.accounts in
-    let new : is_among (numbers accounts) a.number ≡ false = false_from_ne_true _ (λ e. not-there (numbers accounts) a.number (subst IsRising (map-append (λ (v : AccountValue). v.number) accounts (a ∷ [])) rises) (Contains-from_any {eq = λ q n. eqb n q} (λ x y same. sym (eqb-true y x same)) a.number (numbers accounts) e)) in
+    let new : is_among (numbers accounts) a.number
+    ≡ false = false_from_ne_true _
+    (λ e. not-there (numbers accounts) a.number
+    (subst IsRising (map-append (λ (v : AccountValue). v.number) accounts (a ∷ [])) rises)
+    (Contains-from_any {eq = λ q n. eqb n q} (λ x y same. sym (eqb-true y x same)) a.number
+    (numbers accounts) e)) in
     rw (new, behind, lt-leb _ _ space) refl

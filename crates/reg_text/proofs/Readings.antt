@@ -1,12 +1,19 @@
 -- The laws of reading: the rows read as a day exactly where they are its spelling.
-use Rattle.std.proofs.Common.{◌≡◌, ℕ, ◌+◌, ◌^◌, ◌<◌, ◌≤◌, length, Bool, true, false, cond, List, [], ◌∷◌, ◌++◌, Option, Some, None, Result, Ok, Err, refl, sym, ap, subst, ◌∙◌, arith, append_assoc}
+use Rattle.std.proofs.Common.{◌≡◌, ℕ, ◌+◌, ◌^◌, ◌<◌, ◌≤◌, length, Bool, true, false, cond, List, [], ◌∷◌, ◌++◌, Option}
+use Rattle.std.proofs.Common.{Some, None, Result, Ok, Err, refl, sym, ap, subst, ◌∙◌, arith, append_assoc}
 use Rattle.std.proofs.lemmas.Bool.{leb-true}
 use Rattle.std.proofs.lemmas.List.{append-nil}
 use mathlib.Core.List.{map-id}
 use Rattle.std.specs.Prelude.{All, unwrap_or, if◌then◌else◌}
 use Rattle.std.proofs.lemmas.List.Elements.{All-from_recursion}
 use Rattle.std.specs.List.{AllByRecursion}
-use Rattle.reg_text.proofs.Names.{IsRising, IsWithin, IsSection, SectionStandsAt, Instruction, IsShared, Cause, Tag, Version, One, Two, Record, stage, is_in_version, Said, row, option_to_list, items_said, scope_of, version_in, current_said, current_rows, Fits, IsOfPeriods, IsYearNo, IsVersionOf, DraftValue, accounts_in, with_block_over, nothing_read, Day, day_with, is_text_over, day_said, day_text, IsUserNo, IsDayNo, IsInstruction, AccountValue, IsAccount, IsBehind, IsPair, CanBeSaid, IsReading, FitsSoFar, IsDraft, next_draft, at_row, at_end, after_rows}
+use Rattle.reg_text.proofs.Names.{IsRising, IsWithin, IsSection, SectionStandsAt, Instruction, IsShared, Cause, Tag}
+use Rattle.reg_text.proofs.Names.{Version, One, Two, Record, stage, is_in_version, Said, row, option_to_list}
+use Rattle.reg_text.proofs.Names.{items_said, scope_of, version_in, current_said, current_rows, Fits, IsOfPeriods}
+use Rattle.reg_text.proofs.Names.{IsYearNo, IsVersionOf, DraftValue, accounts_in, with_block_over, nothing_read, Day}
+use Rattle.reg_text.proofs.Names.{day_with, is_text_over, day_said, day_text, IsUserNo, IsDayNo, IsInstruction}
+use Rattle.reg_text.proofs.Names.{AccountValue, IsAccount, IsBehind, IsPair, CanBeSaid, IsReading, FitsSoFar, IsDraft}
+use Rattle.reg_text.proofs.Names.{next_draft, at_row, at_end, after_rows}
 use Rattle.reg_text.proofs.Names.{day_of_rows}
 use Rattle.reg_text.specs.Day.{day_headed}
 use Rattle.reg_text.specs.declared.reading.tag.Tag.TheVariants as tag
@@ -28,7 +35,10 @@ the-one (x ∷ []) some few = (x, refl)
 the-one (x ∷ y ∷ xs) some few = absurd (omega arith)
 
 -- the row of the current period has come if the version has one
-current-came : (version : Version) (current : List ℕ) → (is_in_version version tag.Current ≡ true → (n : ℕ) × (current ≡ n ∷ [])) → (is_in_version version tag.Current ≡ false → current ≡ []) → (n : ℕ) × (current_said version current ≡ Some n) × (current ≡ current_rows version n)
+current-came : (version : Version) (current : List ℕ)
+    → (is_in_version version tag.Current ≡ true → (n : ℕ) × (current ≡ n ∷ []))
+    → (is_in_version version tag.Current ≡ false → current ≡ []) → (n : ℕ) × (current_said version current ≡ Some n)
+    × (current ≡ current_rows version n)
 current-came One current come none = (1, refl, none refl)
 current-came Two current come none = let one = come refl in (one.0, rw one.1 refl, one.1)
 
@@ -49,13 +59,17 @@ pub record IsHeaded (d : DraftValue) : Type 0 where
 pub headed : (d : DraftValue) → FitsSoFar d → is_text_over d.last ≡ true → IsHeaded d
 headed d h over =
     let at : stage d.last ≡ 100 = ap stage (over-last d.last over) in
-    let of : (t : Tag) → SectionStandsAt (scope_of d).version (stage d.last) (Some t, items_said t d) = λ t. at-tag (SectionStandsAt (scope_of d).version (stage d.last)) d t h.stand in
+    let of : (t : Tag) → SectionStandsAt (scope_of d).version (stage d.last) (Some t, items_said t d) =
+    λ t. at-tag (SectionStandsAt (scope_of d).version (stage d.last)) d t h.stand in
     let f = the-one d.versions ((of tag.Format).come (omega (arith, at)) refl) ((of tag.Format).once refl) in
     let a = the-one d.days ((of tag.Day).come (omega (arith, at)) refl) ((of tag.Day).once refl) in
     let p = (of tag.Period).come (omega (arith, at)) refl in
-    let l = the-one d.lags ((of tag.Lags).come (omega (arith, at)) refl) (once-lags (scope_of d).version d (of tag.Lags)) in
+    let l = the-one d.lags ((of tag.Lags).come (omega (arith, at)) refl)
+    (once-lags (scope_of d).version d (of tag.Lags)) in
     let same : (scope_of d).version ≡ f.0 = ap version_in f.1 in
-    let c = current-came (scope_of d).version d.current (λ known. the-one d.current ((of tag.Current).come (omega (arith, at)) known) (once-current (scope_of d).version d known (of tag.Current))) (of tag.Current).known in
+    let c = current-came (scope_of d).version d.current
+    (λ known. the-one d.current ((of tag.Current).come (omega (arith, at)) known)
+    (once-current (scope_of d).version d known (of tag.Current))) (of tag.Current).known in
     record {
       version = f.0;
       day = a.0;
@@ -69,15 +83,18 @@ headed d h over =
       said = rw (sym same) c.1;
       current_is = rw (sym same) c.2;
     } where
-      once-lags : (version : Version) (d : DraftValue) → SectionStandsAt version (stage d.last) (Some tag.Lags, d.lags) → length d.lags ≤ 1
+      once-lags : (version : Version) (d : DraftValue) → SectionStandsAt version (stage d.last) (Some tag.Lags, d.lags)
+          → length d.lags ≤ 1
       once-lags One d s = s.once refl
       once-lags Two d s = s.once refl
 
-      once-current : (version : Version) (d : DraftValue) → is_in_version version tag.Current ≡ true → SectionStandsAt version (stage d.last) (Some tag.Current, d.current) → length d.current ≤ 1
+      once-current : (version : Version) (d : DraftValue) → is_in_version version tag.Current ≡ true
+          → SectionStandsAt version (stage d.last) (Some tag.Current, d.current) → length d.current ≤ 1
       once-current One d known s = absurd cc
       once-current Two d known s = s.once refl
 
-      once-period : (version : Version) (d : DraftValue) → version ≡ One → SectionStandsAt version (stage d.last) (Some tag.Period, d.periods) → length d.periods ≤ 1
+      once-period : (version : Version) (d : DraftValue) → version ≡ One
+          → SectionStandsAt version (stage d.last) (Some tag.Period, d.periods) → length d.periods ≤ 1
       once-period One d is s = s.once refl
       once-period Two d is s = absurd cc
 
@@ -86,14 +103,18 @@ each-one : {X : Type 0} (P Q : X → Type 0) → ((x : X) → P x → Q x) → (
 each-one P Q follow xs h = All-from_recursion Q xs (all-weaker P Q follow xs h)
 
 -- the current period is one of so many
-pub current-within : (version : Version) (current : List ℕ) (n count : ℕ) → 1 ≤ count → AllByRecursion (λ (m : ℕ). IsWithin 1 count m × (m < 2 ^ 64)) current → current_said version current ≡ Some n → IsWithin 1 count n
-current-within One current n count some h e = let same : 1 ≡ n = cc in rw (← same) (record { low = omega arith; high = some })
+pub current-within : (version : Version) (current : List ℕ) (n count : ℕ) → 1 ≤ count
+    → AllByRecursion (λ (m : ℕ). IsWithin 1 count m × (m < 2 ^ 64)) current → current_said version current ≡ Some n
+    → IsWithin 1 count n
+current-within One current n count some h e = let same : 1 ≡ n = cc in
+    rw (← same) (record { low = omega arith; high = some })
 current-within Two [] n count some h e = absurd cc
 current-within Two (m ∷ []) n count some h e = let same : m ≡ n = cc in rw (← same) h.0.0
 current-within Two (m ∷ k ∷ ms) n count some h e = absurd cc
 
 -- it says a day within the limits
-pub says-a-day : (d : DraftValue) (h : FitsSoFar d) (k : IsHeaded d) → CanBeSaid (day_with k.day d.periods k.current k.lags (accounts_in d) d)
+pub says-a-day : (d : DraftValue) (h : FitsSoFar d) (k : IsHeaded d)
+    → CanBeSaid (day_with k.day d.periods k.current k.lags (accounts_in d) d)
 says-a-day d h k =
     let scope = scope_of d in
     let of : (t : Tag) → IsSection scope (Some t, items_said t d) = λ t. at-tag (IsSection scope) d t h.within in
@@ -109,17 +130,40 @@ says-a-day d h k =
     let recorded = rw k.one_day at over.recorded in
     record {
       day = record {
-        book = record { rising = h.rising; few = omega (arith, over.few); within_limits = each-one (Fits scope None) IsAccount (λ a f. f.0) (accounts_in d) blocks; next = record { from_one = day.1.low; to_the_end = day.1.high }; behind = All-from_recursion (IsBehind k.day.1) (accounts_in d) recorded.whole };
+        book = record {
+          rising = h.rising;
+          few = omega (arith, over.few);
+          within_limits = each-one (Fits scope None) IsAccount (λ a f. f.0) (accounts_in d) blocks;
+          next = record { from_one = day.1.low; to_the_end = day.1.high };
+          behind =
+              All-from_recursion (IsBehind k.day.1) (accounts_in d) recorded.whole;
+        };
         rules = record {
-          working_days = record { rising = subst IsRising (map-id d.work) work.listed.ordered; each_day = All-from_recursion IsDayNo d.work work.fits };
+          working_days = record {
+            rising = subst IsRising (map-id d.work) work.listed.ordered;
+            each_day = All-from_recursion IsDayNo d.work work.fits;
+          };
           each_admin = All-from_recursion IsUserNo d.admins (of tag.Admin).fits;
-          each_year = each-one (row scope tag.Period).Fits (λ (p : ℕ × ℕ). IsYearNo p.0 × IsYearNo p.1) (λ p f. f.0) d.periods periods.fits;
+          each_year = each-one (row scope tag.Period).Fits (λ (p : ℕ × ℕ). IsYearNo p.0 × IsYearNo p.1)
+              (λ p f. f.0) d.periods periods.fits;
           fit = record {
             few_admins = (of tag.Admin).listed.few;
             admins_rise = subst IsRising (map-id d.admins) (of tag.Admin).listed.ordered;
-            lags_fit = record { trusted = lags.trusted; other = lags.other; listed = lags.listed; reversal = lags.reversal };
-            periods_fit = record { some = k.some_periods; few = periods.listed.few; each = all-weaker (row scope tag.Period).Fits (λ (p : ℕ × ℕ). p.0 ≤ p.1) (λ p f. leb-true p.0 p.1 f.1) d.periods periods.fits; rise = periods.listed.ordered };
-            current_fits = current-within k.version d.current k.current (length d.periods) k.some_periods (of tag.Current).fits k.said;
+            lags_fit = record {
+              trusted = lags.trusted;
+              other = lags.other;
+              listed = lags.listed;
+              reversal = lags.reversal;
+            };
+            periods_fit = record {
+              some = k.some_periods;
+              few = periods.listed.few;
+              each = all-weaker (row scope tag.Period).Fits (λ (p : ℕ × ℕ). p.0 ≤ p.1)
+                  (λ p f. leb-true p.0 p.1 f.1) d.periods periods.fits;
+              rise = periods.listed.ordered;
+            };
+            current_fits = current-within k.version d.current k.current (length d.periods) k.some_periods
+                (of tag.Current).fits k.said;
           };
         };
         batch = record {
@@ -131,7 +175,8 @@ says-a-day d h k =
         follows = omega arith;
       };
       periods = each-one (Fits scope None) (IsOfPeriods (length d.periods)) (λ a f. f.1) (accounts_in d) blocks;
-      shares = each-one (row scope tag.Do).Fits (λ (i : Instruction). IsShared i.act) instruction-shared d.instructions due.fits;
+      shares = each-one (row scope tag.Do).Fits (λ (i : Instruction). IsShared i.act) instruction-shared d.instructions
+          due.fits;
       pairs = each-one (row scope tag.Surrender).Fits IsPair (λ p f. f.1) d.surrender (of tag.Surrender).fits;
       pairs_rise = (of tag.Surrender).listed.ordered;
     }
@@ -143,14 +188,21 @@ pub record Closes (d : DraftValue) : Type 0 where
   pub reading : IsReading (rows_so_far d) day
 
 -- what a draft says whose heading is this, and what it stands for
-pub said-in : (d : DraftValue) (accounts : List AccountValue) (last : Option Tag) (versions : List Version) (days : List (ℕ × ℕ)) (current : List ℕ) (lags : List (Said tag.Lags)) (version : Version) (day : ℕ × ℕ) (n : ℕ) (one : Said tag.Lags) → last ≡ Some tag.End → versions ≡ version ∷ [] → days ≡ day ∷ [] → lags ≡ one ∷ [] → current_said version current ≡ Some n
-    → (if is_text_over last then day_headed versions days (current_said (version_in versions) current) lags accounts d else None) ≡ Some (day_with day d.periods n one accounts d)
+pub said-in : (d : DraftValue) (accounts : List AccountValue) (last : Option Tag) (versions : List Version)
+    (days : List (ℕ × ℕ)) (current : List ℕ) (lags : List (Said tag.Lags)) (version : Version) (day : ℕ × ℕ) (n : ℕ)
+    (one : Said tag.Lags) → last ≡ Some tag.End → versions ≡ version ∷ [] → days ≡ day ∷ [] → lags ≡ one ∷ []
+    → current_said version current ≡ Some n
+    → (if is_text_over last then day_headed versions days (current_said (version_in versions) current) lags accounts d
+    else None) ≡ Some (day_with day d.periods n one accounts d)
 said-in d accounts last versions days current lags version day n one over v a l said = rw (over, v, a, l, said) refl
 
-said-by : (d : DraftValue) (k : IsHeaded d) → d.last ≡ Some tag.End → day_said d ≡ Some (day_with k.day d.periods k.current k.lags (accounts_in d) d)
-said-by d k over = said-in d (accounts_in d) d.last d.versions d.days d.current d.lags k.version k.day k.current k.lags over k.one_version k.one_day k.one_lags k.said
+said-by : (d : DraftValue) (k : IsHeaded d) → d.last ≡ Some tag.End
+    → day_said d ≡ Some (day_with k.day d.periods k.current k.lags (accounts_in d) d)
+said-by d k over = said-in d (accounts_in d) d.last d.versions d.days d.current d.lags k.version k.day k.current k.lags
+    over k.one_version k.one_day k.one_lags k.said
 
-stands-by : (d : DraftValue) (k : IsHeaded d) → d.last ≡ Some tag.End → rows_so_far (with_block_over d) ≡ day_text k.version (day_with k.day d.periods k.current k.lags (accounts_in d) d)
+stands-by : (d : DraftValue) (k : IsHeaded d) → d.last ≡ Some tag.End
+    → rows_so_far (with_block_over d) ≡ day_text k.version (day_with k.day d.periods k.current k.lags (accounts_in d) d)
 stands-by d k over = rw (over, k.one_version, k.one_day, k.current_is, k.one_lags) refl
 
 -- the draft with all blocks over says the same
@@ -158,8 +210,10 @@ pub over-says : (d : DraftValue) → FitsSoFar d → is_text_over d.last ≡ tru
 over-says d h over =
     let k = headed d h over in
     let last = over-last d.last over in
-    let all = ap (λ (l : List AccountValue). Some (day_with k.day d.periods k.current k.lags l d)) (append-nil (accounts_in d)) in
-    said-in (with_block_over d) (accounts_in (with_block_over d)) d.last d.versions d.days d.current d.lags k.version k.day k.current k.lags last k.one_version k.one_day k.one_lags k.said ∙ all ∙ sym (said-by d k last)
+    let all = ap (λ (l : List AccountValue). Some (day_with k.day d.periods k.current k.lags l d))
+    (append-nil (accounts_in d)) in
+    said-in (with_block_over d) (accounts_in (with_block_over d)) d.last d.versions d.days d.current d.lags k.version
+    k.day k.current k.lags last k.one_version k.one_day k.one_lags k.said ∙ all ∙ sym (said-by d k last)
 
 version-of : (version : Version) (v : Day) → (version ≡ One → length v.rules.periods ≡ 1) → IsVersionOf v version
 version-of One v one = one refl
@@ -173,7 +227,12 @@ closes d h over =
     record {
       day = v;
       said = said-by d k last;
-      reading = record { version = k.version; is_known = version-of k.version v k.one_period; spelled = sym (over-rows d h) ∙ stands-by d k last; fits = says-a-day d h k };
+      reading = record {
+        version = k.version;
+        is_known = version-of k.version v k.one_period;
+        spelled = sym (over-rows d h) ∙ stands-by d k last;
+        fits = says-a-day d h k;
+      };
     }
 
 -- ---- the parts of a draft that is over
@@ -183,7 +242,8 @@ some-of None x e = absurd cc
 some-of (Some y) x e = cc
 
 -- the current period is that of its row, or the first where the version has no such row
-pub current-or : (version : Version) (o : Option ℕ) (n : ℕ) → option_to_list o ≡ current_rows version n → current_said version (option_to_list o) ≡ Some (unwrap_or o 1)
+pub current-or : (version : Version) (o : Option ℕ) (n : ℕ) → option_to_list o ≡ current_rows version n
+    → current_said version (option_to_list o) ≡ Some (unwrap_or o 1)
 current-or One None n e = refl
 current-or One (Some m) n e = absurd cc
 current-or Two None n e = absurd cc
@@ -191,7 +251,8 @@ current-or Two (Some m) n e = refl
 
 -- ---- from rows to the day
 
-taken_row : (number : ℕ) (read : Result DraftValue Cause) (more : DraftValue → Result Day (ℕ × Cause)) (v : Day) → at_row number read more ≡ Ok v → (d : DraftValue) × (read ≡ Ok d) × (more d ≡ Ok v)
+taken_row : (number : ℕ) (read : Result DraftValue Cause) (more : DraftValue → Result Day (ℕ × Cause)) (v : Day)
+    → at_row number read more ≡ Ok v → (d : DraftValue) × (read ≡ Ok d) × (more d ≡ Ok v)
 taken_row number (Ok d) more v h = (d, refl, h)
 taken_row number (Err c) more v h = absurd cc
 
@@ -203,15 +264,18 @@ said_over : (last : Bool) (o : Option Day) (v : Day) → cond last o None ≡ So
 said_over true o v e = refl
 said_over false o v e = absurd cc
 
-pub said-of : (rows : List Record) (number : ℕ) (d : DraftValue) (v : Day) → IsDraft d → after_rows number d rows ≡ Ok v → IsReading (rows_so_far d ++ rows) v
+pub said-of : (rows : List Record) (number : ℕ) (d : DraftValue) (v : Day) → IsDraft d → after_rows number d rows ≡ Ok v
+    → IsReading (rows_so_far d ++ rows) v
 said-of [] number d v h e =
     let said = said_at_end number (day_said d) v e in
     let c = closes d h.fits (said_over (is_text_over d.last) _ v said) in
-    subst (λ (rows : List Record). IsReading rows v) (sym (append-nil (rows_so_far d))) (subst (IsReading (rows_so_far d)) (cc (c.said, said)) c.reading)
+    subst (λ (rows : List Record). IsReading rows v) (sym (append-nil (rows_so_far d)))
+    (subst (IsReading (rows_so_far d)) (cc (c.said, said)) c.reading)
 said-of (r ∷ rows) number d v h e =
     let t = taken_row number (next_draft d r) (λ x. after_rows (number + 1) x rows) v e in
     let g = grows d t.0 r h t.1 in
-    subst (λ (all : List Record). IsReading all v) (ap (λ (x : List Record). x ++ rows) g.rows ∙ append_assoc (rows_so_far d) (r ∷ []) rows) (said-of rows (number + 1) t.0 v g.draft t.2)
+    subst (λ (all : List Record). IsReading all v) (ap (λ (x : List Record). x ++ rows) g.rows
+    ∙ append_assoc (rows_so_far d) (r ∷ []) rows) (said-of rows (number + 1) t.0 v g.draft t.2)
 
 -- what the rows say is what they spell
 pub reading-from : (rows : List Record) (v : Day) → day_of_rows rows ≡ Ok v → IsReading rows v

@@ -18,10 +18,12 @@ use Rattle.reg_text.specs.Totals.{totals_rows}
 use Rattle.reg_text.specs.Determined.{determined_row, determined_rows, figures_rows}
 use Rattle.reg_text.specs.PlanText.{arrow_row, place_rows, plan_rows}
 use Rattle.reg_text.specs.Statement.{closing_held, closing_row, opening_row, rows_about, statement_of}
-use Rattle.reg_text.specs.Written.{AreWritten, EachBookIsWritten, EachReportIsWritten, EachPlanIsWritten, EachStatementIsWritten, AllFiguresAreWritten, AllTotalsAreWritten}
+use Rattle.reg_text.specs.Written.{AreWritten, EachBookIsWritten, EachReportIsWritten, EachPlanIsWritten}
+use Rattle.reg_text.specs.Written.{EachStatementIsWritten, AllFiguresAreWritten, AllTotalsAreWritten}
 use Rattle.reg_text.proofs.ListFacts.{all-append, all-weaker, all-map, all-flat_map}
 use Rattle.reg_text.proofs.PlainFacts.{plain-decimal, plain-signed}
-use Rattle.reg_text.proofs.PlainRows.{IsWritten, Plain, plain-holding, plain-log_row, plain-totals_row, splits-again, written-item}
+use Rattle.reg_text.proofs.PlainRows.{IsWritten, Plain, plain-holding, plain-log_row, plain-totals_row, splits-again}
+use Rattle.reg_text.proofs.PlainRows.{written-item}
 
 are-written : (rows : List Record) → AllByRecursion IsWritten rows → AreWritten rows
 are-written rows h = record { plain = all-weaker IsWritten Plain (λ r w. w.1) rows h; split = splits-again rows h }
@@ -35,7 +37,10 @@ log-written : (rows : List LogRow) → AllByRecursion IsWritten (log_rows rows)
 log-written rows = all-map IsWritten log_row (λ r. (tt, plain-log_row r)) rows
 
 accounts-written : (b : BookValue) → AllByRecursion IsWritten (written_book b)
-accounts-written b = ((tt, (refl, (plain-decimal b.next, tt))), all-flat_map IsWritten account_block (written-item None) b.accounts)
+accounts-written b = (
+  (tt, (refl, (plain-decimal b.next, tt))),
+  all-flat_map IsWritten account_block (written-item None) b.accounts,
+)
 
 kinds-written : (b : BookValue) → AllByRecursion IsWritten (totals_rows b)
 kinds-written b = ((tt, plain-totals_row b General), ((tt, plain-totals_row b Aviation), (end-written, tt)))
@@ -43,13 +48,20 @@ kinds-written b = ((tt, plain-totals_row b General), ((tt, plain-totals_row b Av
 -- ---- rows of one text
 
 years-written : (a : AccountValue) → AllByRecursion IsWritten (determined_rows a)
-years-written a = all-map IsWritten (determined_row a.number) (λ f. (tt, (refl, (plain-decimal a.number, (plain-decimal f.year, (plain-signed f.tonnes, tt)))))) a.figures
+years-written a = all-map IsWritten (determined_row a.number)
+    (λ f. (tt, (refl, (plain-decimal a.number, (plain-decimal f.year, (plain-signed f.tonnes, tt)))))) a.figures
 
 arrow-written : (arrow : Arrow) → IsWritten (arrow_row arrow)
-arrow-written arrow = (tt, (refl, (plain-decimal arrow.from, (plain-decimal arrow.to, (plain-decimal arrow.account, tt)))))
+arrow-written arrow = (
+  tt,
+  (refl, (plain-decimal arrow.from, (plain-decimal arrow.to, (plain-decimal arrow.account, tt)))),
+)
 
 place-written : (plan : PlanValue) (place : ℕ) → AllByRecursion IsWritten (place_rows plan place)
-place-written plan place = ((tt, (refl, (plain-decimal place, (plain-decimal (level_at plan.levels place), tt)))), all-map IsWritten arrow_row arrow-written (inward plan.arrows place))
+place-written plan place = (
+  (tt, (refl, (plain-decimal place, (plain-decimal (level_at plan.levels place), tt)))),
+  all-map IsWritten arrow_row arrow-written (inward plan.arrows place),
+)
 
 opening-written : (h : HeldNow) → IsWritten (opening_row h)
 opening-written h = (tt, (refl, plain-holding h))
@@ -63,21 +75,32 @@ pub book-written : EachBookIsWritten
 book-written b = are-written (written_book b) (accounts-written b)
 
 pub report-written : EachReportIsWritten
-report-written b rows = are-written (report_rows b rows) (all-append IsWritten (log_rows rows ++ written_book b) (totals_rows b) (all-append IsWritten (log_rows rows) (written_book b) (log-written rows) (accounts-written b)) (kinds-written b))
+report-written b rows = are-written (report_rows b rows)
+    (all-append IsWritten (log_rows rows ++ written_book b) (totals_rows b)
+    (all-append IsWritten (log_rows rows) (written_book b) (log-written rows) (accounts-written b))
+    (kinds-written b))
 
 pub plan-written : EachPlanIsWritten
-plan-written plan = are-written (plan_rows plan) (all-append IsWritten (flat_map (place_rows plan) _) (end_row ∷ []) (all-flat_map IsWritten (place_rows plan) (place-written plan) _) (end-written, tt))
+plan-written plan = are-written (plan_rows plan)
+    (all-append IsWritten (flat_map (place_rows plan) _) (end_row ∷ [])
+    (all-flat_map IsWritten (place_rows plan) (place-written plan) _) (end-written, tt))
 
 pub statement-written : EachStatementIsWritten
 statement-written b rows account =
     let opening = held_now b.accounts account in
     let about = rows_about (directory_of b.accounts) account rows in
     let closing = closing_held (directory_of b.accounts) opening rows in
-    let last : AllByRecursion IsWritten (closing_row closing ∷ end_row ∷ []) = (closing-written closing, (end-written, tt)) in
-    are-written (statement_of b rows account) (opening-written opening, all-append IsWritten (log_rows about) (closing_row closing ∷ end_row ∷ []) (log-written about) last)
+    let last : AllByRecursion IsWritten (closing_row closing ∷ end_row ∷ []) =
+    (closing-written closing, (end-written, tt)) in
+    are-written (statement_of b rows account) (
+      opening-written opening,
+      all-append IsWritten (log_rows about) (closing_row closing ∷ end_row ∷ []) (log-written about) last,
+    )
 
 pub figures-written : AllFiguresAreWritten
-figures-written b = are-written (figures_rows b) (all-append IsWritten (flat_map determined_rows b.accounts) (end_row ∷ []) (all-flat_map IsWritten determined_rows years-written b.accounts) (end-written, tt))
+figures-written b = are-written (figures_rows b)
+    (all-append IsWritten (flat_map determined_rows b.accounts) (end_row ∷ [])
+    (all-flat_map IsWritten determined_rows years-written b.accounts) (end-written, tt))
 
 pub totals-written : AllTotalsAreWritten
 totals-written b = are-written (totals_rows b) (kinds-written b)

@@ -10,11 +10,16 @@ use Rattle.reg_base.specs.declared.instruction.Instruction.{Instruction}
 use Rattle.reg_base.specs.Numbers.{IsWithin}
 use Rattle.reg_text.specs.declared.cause.Cause.{Cause}
 use Rattle.reg_text.specs.declared.reading.instruction_row.ActName.{ActName}
-use Rattle.reg_text.specs.declared.reading.instruction_row.ActName.TheVariants.{Transfer, Surrender, Delete, Return, Reverse, Create, Central, Distribute, Trust, Untrust, SetStatus, Emissions, Assess}
+use Rattle.reg_text.specs.declared.reading.instruction_row.ActName.TheVariants.{Transfer, Surrender, Delete, Return}
+use Rattle.reg_text.specs.declared.reading.instruction_row.ActName.TheVariants.{Reverse, Create, Central, Distribute}
+use Rattle.reg_text.specs.declared.reading.instruction_row.ActName.TheVariants.{Trust, Untrust, SetStatus, Emissions}
+use Rattle.reg_text.specs.declared.reading.instruction_row.ActName.TheVariants.{Assess}
 use Rattle.reg_text.specs.Causes.{◌>>=◌}
 use Rattle.reg_text.specs.Records.{Record}
 use Rattle.reg_text.specs.Words.{word_of, kind_word, kind_of, status_word, status_of}
-use Rattle.reg_text.specs.Codecs.{Codec, Fields, any_number, a_date, a_no, a_record, a_year, an_approver, a_word, last, ◌▸◌, made, three_made, three_parts, four_made, four_parts, pairs, forms, Row, row_with, named_row}
+use Rattle.reg_text.specs.Codecs.{Codec, Fields, any_number, a_date, a_no, a_record, a_year, an_approver, a_word, last}
+use Rattle.reg_text.specs.Codecs.{◌▸◌, made, three_made, three_parts, four_made, four_parts, pairs, forms, Row}
+use Rattle.reg_text.specs.Codecs.{row_with, named_row}
 
 -- ---- fields of acts
 

@@ -1,6 +1,8 @@
 -- The rows of a text in turn: what each adds, and the first that is wrong, with its cause.
-use Rattle.std.specs.Prelude.{◌≡◌, ℕ, ◌+◌, Bool, true, ◌&&◌, nat_lt, nat_le, List, [], ◌∷◌, ◌++◌, length, Option, Some, None, Result, Ok, Err, if◌then◌else◌}
-use Rattle.reg_base.specs.declared.limits.TheConstants.{MOST_ACCOUNTS, MOST_RETIRED, MOST_ROWS, MOST_INSTRUCTIONS, MOST_RECORD}
+use Rattle.std.specs.Prelude.{◌≡◌, ℕ, ◌+◌, Bool, true, ◌&&◌, nat_lt, nat_le, List, [], ◌∷◌, ◌++◌, length, Option, Some}
+use Rattle.std.specs.Prelude.{None, Result, Ok, Err, if◌then◌else◌}
+use Rattle.reg_base.specs.declared.limits.TheConstants.{MOST_ACCOUNTS, MOST_RETIRED, MOST_ROWS, MOST_INSTRUCTIONS}
+use Rattle.reg_base.specs.declared.limits.TheConstants.{MOST_RECORD}
 use Rattle.reg_account.specs.declared.rows.RetirementRow.{RetirementRow}
 use Rattle.reg_account.specs.Rows.{retired_in, retirement_of}
 use Rattle.reg_text.specs.declared.cause.Cause.{Cause}
@@ -17,7 +19,8 @@ use Rattle.reg_text.specs.Records.{Record, field}
 use Rattle.reg_text.specs.Tags.{tag_after}
 use Rattle.reg_text.specs.Grammar.{Said, row}
 use Rattle.reg_text.specs.Sections.{key, follows, most, is_space}
-use Rattle.reg_text.specs.Drafts.{DraftValue, items_said, draft_list, account_count, with_block_over, nothing_read, scope_of}
+use Rattle.reg_text.specs.Drafts.{DraftValue, items_said, draft_list, account_count, with_block_over, nothing_read}
+use Rattle.reg_text.specs.Drafts.{scope_of}
 use Rattle.reg_book.specs.Day.{Day}
 use Rattle.reg_text.specs.Day.{is_text_over, day_said}
 

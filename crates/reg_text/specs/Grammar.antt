@@ -1,7 +1,9 @@
 -- The grammar of a day text: of each tag its word, its stage, what its row says, its fields, its order, and how many
 -- there may be.
-use Rattle.std.specs.Prelude.{[], ◌∷◌, ℕ, ℤ, Bool, true, false, not, is_ok, nat_le, ◌==◌, if◌then◌else◌, List, Option, Some, None, Result, codes}
-use Rattle.reg_base.specs.declared.limits.TheConstants.{MOST_ADMINISTRATORS, MOST_INSTRUCTIONS, MOST_PERIODS, MOST_ROWS, MOST_TRUSTED, MOST_USERS}
+use Rattle.std.specs.Prelude.{[], ◌∷◌, ℕ, ℤ, Bool, true, false, not, is_ok, nat_le, ◌==◌, if◌then◌else◌, List, Option}
+use Rattle.std.specs.Prelude.{Some, None, Result, codes}
+use Rattle.reg_base.specs.declared.limits.TheConstants.{MOST_ADMINISTRATORS, MOST_INSTRUCTIONS, MOST_PERIODS, MOST_ROWS}
+use Rattle.reg_base.specs.declared.limits.TheConstants.{MOST_TRUSTED, MOST_USERS}
 use Rattle.reg_base.specs.declared.kinds.AccountKind.{AccountKind}
 use Rattle.reg_base.specs.declared.kinds.AccountKind.TheVariants.{Total, Allocation, Operator, Aircraft, Trading}
 use Rattle.reg_base.specs.declared.kinds.AllowanceKind.{AllowanceKind}
@@ -29,10 +31,13 @@ use Rattle.reg_text.specs.declared.reading.scope.Version.{Version}
 use Rattle.reg_text.specs.declared.reading.scope.Scope.{Scope}
 use Rattle.reg_text.specs.Scopes.{by_version, version_word, version_of, widest}
 use Rattle.reg_text.specs.Records.{Record}
-use Rattle.reg_text.specs.Words.{kind_word, kind_of, account_kind_word, account_kind_of, status_word, status_of, right_word, right_of, retirement_word, retirement_named, yes_no_word, yes_no_of}
+use Rattle.reg_text.specs.Words.{kind_word, kind_of, account_kind_word, account_kind_of, status_word, status_of}
+use Rattle.reg_text.specs.Words.{right_word, right_of, retirement_word, retirement_named, yes_no_word, yes_no_of}
 use Rattle.reg_text.specs.FieldTests.{when}
 use Rattle.reg_text.specs.Acts.{instruction_row}
-use Rattle.reg_text.specs.Codecs.{Codec, Fields, a_no, a_record, a_next, a_year, a_lag, a_holding, an_amount, some_tonnes, a_period, factor, later_factor, a_figure, a_date, a_word, none, last, maybe, ◌▸◌, made, provided, Row, row_with}
+use Rattle.reg_text.specs.Codecs.{Codec, Fields, a_no, a_record, a_next, a_year, a_lag, a_holding, an_amount}
+use Rattle.reg_text.specs.Codecs.{some_tonnes, a_period, factor, later_factor, a_figure, a_date, a_word, none, last}
+use Rattle.reg_text.specs.Codecs.{maybe, ◌▸◌, made, provided, Row, row_with}
 
 -- ---- fields of one kind of row
 
@@ -216,8 +221,24 @@ pub record RowKind : Type 1 where
 -- the grammar, a record each; stages leave gaps for other tags, and 80 to 89 are those of an account's block, behind
 -- whose last row another block may begin. How many accounts there may be is asked of the draft (`has_space`)
 abbrev pub row_kind : Tag → RowKind
-row_kind tag.Format = record { word = codes "format"; stage = 10; allowed = between 0 0; Says = Version; fields = λ scope. row_with (last a_version); key = None; most = None }
-row_kind tag.Day = record { word = codes "day"; stage = 20; allowed = between 10 10; Says = ℕ × ℕ; fields = λ scope. row_with (a_date ▸ last a_next); key = None; most = None }
+row_kind tag.Format = record {
+  word = codes "format";
+  stage = 10;
+  allowed = between 0 0;
+  Says = Version;
+  fields = λ scope. row_with (last a_version);
+  key = None;
+  most = None;
+}
+row_kind tag.Day = record {
+  word = codes "day";
+  stage = 20;
+  allowed = between 10 10;
+  Says = ℕ × ℕ;
+  fields = λ scope. row_with (a_date ▸ last a_next);
+  key = None;
+  most = None;
+}
 row_kind tag.Period = record {
   word = codes "period";
   stage = 30;
@@ -236,7 +257,15 @@ row_kind tag.Current = record {
   key = None;
   most = None;
 }
-row_kind tag.Lags = record { word = codes "lags"; stage = 40; allowed = by_version (30, 30) (35, 35); Says = Lags; fields = λ scope. row_with lags_fields; key = None; most = None }
+row_kind tag.Lags = record {
+  word = codes "lags";
+  stage = 40;
+  allowed = by_version (30, 30) (35, 35);
+  Says = Lags;
+  fields = λ scope. row_with lags_fields;
+  key = None;
+  most = None;
+}
 row_kind tag.Surrender = record {
   word = codes "surrender";
   stage = 50;
@@ -255,7 +284,15 @@ row_kind tag.Admin = record {
   key = by (λ n. n);
   most = Some MOST_ADMINISTRATORS;
 }
-row_kind tag.Work = record { word = codes "work"; stage = 70; allowed = between 40 70; Says = ℕ; fields = λ scope. row_with (last a_date); key = by (λ day. day); most = None }
+row_kind tag.Work = record {
+  word = codes "work";
+  stage = 70;
+  allowed = between 40 70;
+  Says = ℕ;
+  fields = λ scope. row_with (last a_date);
+  key = by (λ day. day);
+  most = None;
+}
 row_kind tag.Account = record {
   word = codes "account";
   stage = 80;
@@ -328,7 +365,15 @@ row_kind tag.Do = record {
   key = None;
   most = Some MOST_INSTRUCTIONS;
 }
-row_kind tag.End = record { word = codes "end"; stage = 100; allowed = between 40 90; Says = Unit {0}; fields = λ scope. row_with none; key = None; most = None }
+row_kind tag.End = record {
+  word = codes "end";
+  stage = 100;
+  allowed = between 40 90;
+  Says = Unit {0};
+  fields = λ scope. row_with none;
+  key = None;
+  most = None;
+}
 
 -- what a row with a tag says
 abbrev pub Said : Tag → Type 0

@@ -1,5 +1,6 @@
 -- Parts of a day text, each read on its own behind the heading, and how their drafts are joined.
-use Rattle.std.specs.Prelude.{◌≡◌, ℕ, ◌+◌, ◌-◌, ◌≤◌, true, List, [], ◌∷◌, ◌++◌, length, Option, option_map, Some, None, Ok}
+use Rattle.std.specs.Prelude.{◌≡◌, ℕ, ◌+◌, ◌-◌, ◌≤◌, true, List, [], ◌∷◌, ◌++◌, length, Option, option_map, Some, None}
+use Rattle.std.specs.Prelude.{Ok}
 use Rattle.reg_base.specs.declared.limits.TheConstants.{MOST_ACCOUNTS, MOST_INSTRUCTIONS}
 use Rattle.reg_account.specs.Lists.{no_lists}
 use Rattle.reg_cuts.specs.Parts.{IsCut}

@@ -1,5 +1,6 @@
 -- Sections: the rows of one tag one after another, or whole blocks of accounts; their order, and how many there may be.
-use Rattle.std.specs.Prelude.{ℕ, Bool, true, ◌≤◌, nat_lt, List, [], ◌∷◌, ◌++◌, map, length, Option, option_map, Some, None}
+use Rattle.std.specs.Prelude.{ℕ, Bool, true, ◌≤◌, nat_lt, List, [], ◌∷◌, ◌++◌, map, length, Option, option_map, Some}
+use Rattle.std.specs.Prelude.{None}
 use Rattle.std.specs.List.{AllByRecursion, flat_map}
 use Rattle.reg_base.specs.Rising.{AreAbove}
 use Rattle.reg_account.specs.Account.{AccountValue, IsAccount}

@@ -1,5 +1,6 @@
 -- The statement of an account over a day: what it held before, the log rows that concern it, and what it holds after.
-use Rattle.std.specs.Prelude.{◌≡◌, ℕ, Bool, true, false, ◌==◌, List, [], ◌∷◌, ◌++◌, filter, filter_map, find, Option, None, unwrap_or, is_some, codes}
+use Rattle.std.specs.Prelude.{◌≡◌, ℕ, Bool, true, false, ◌==◌, List, [], ◌∷◌, ◌++◌, filter, filter_map, find, Option}
+use Rattle.std.specs.Prelude.{None, unwrap_or, is_some, codes}
 use Rattle.std.specs.List.{last_or}
 use Rattle.reg_base.specs.Directory.{DirectoryValue}
 use Rattle.reg_base.specs.Footprint.{footprint, is_among}

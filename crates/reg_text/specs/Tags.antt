@@ -1,10 +1,13 @@
 -- Tags: where a row with each is allowed, and the tag that a field names.
-use Rattle.std.specs.Prelude.{ℕ, Bool, true, false, ◌&&◌, nat_lt, nat_le, List, [], ◌∷◌, ◌++◌, Option, Some, None, Result}
+use Rattle.std.specs.Prelude.{ℕ, Bool, true, false, ◌&&◌, nat_lt, nat_le, List, [], ◌∷◌, ◌++◌, Option, Some, None}
+use Rattle.std.specs.Prelude.{Result}
 use Rattle.reg_text.specs.declared.cause.Cause.{Cause}
 use Rattle.reg_text.specs.declared.cause.Cause.TheVariants as cause
 use Rattle.reg_text.specs.declared.reading.tag.Stages.{Stages}
 use Rattle.reg_text.specs.declared.reading.tag.Tag.{Tag}
-use Rattle.reg_text.specs.declared.reading.tag.Tag.TheVariants.{Format, Day, Period, Current, Lags, Surrender, Admin, Work, Account, Correction, User, Trusted, Retired, Emissions, Figure, Do, End}
+use Rattle.reg_text.specs.declared.reading.tag.Tag.TheVariants.{Format, Day, Period, Current, Lags, Surrender, Admin}
+use Rattle.reg_text.specs.declared.reading.tag.Tag.TheVariants.{Work, Account, Correction, User, Trusted, Retired}
+use Rattle.reg_text.specs.declared.reading.tag.Tag.TheVariants.{Emissions, Figure, Do, End}
 use Rattle.reg_text.specs.declared.reading.scope.Version.{Version}
 use Rattle.reg_text.specs.Causes.{◌>>=◌, test}
 use Rattle.reg_text.specs.Words.{named}

@@ -17,12 +17,16 @@ if_named P None all = tt
 if_named P (Some d) all = all d refl
 
 -- the accounts after the day, with the same directory and as many record numbers more, are those of a book
-pub closes : (d : Day) → ClosingIsABook → IsDay d → (accounts : List AccountValue) (directory : DirectoryValue) (next : ℕ) → accounts ≡ closing_state d → directory ≡ directory_of d.book.accounts → next ≡ d.book.next + length d.batch.instructions
+pub closes : (d : Day) → ClosingIsABook → IsDay d
+    → (accounts : List AccountValue) (directory : DirectoryValue) (next : ℕ) → accounts ≡ closing_state d
+    → directory ≡ directory_of d.book.accounts → next ≡ d.book.next + length d.batch.instructions
     → IsBookKept accounts directory next
 closes d law day accounts directory next closing listed number = rw (closing, listed, number) (law d day)
 
 -- this book is the one into which the settled day was put
-pub commits : (d : Day) → CommittedIsClosing → IsDay d → (book : BookValue) (accounts : List AccountValue) (next : ℕ) → book ≡ record { accounts = accounts; next = next } → accounts ≡ closing_state d → next ≡ d.book.next + length d.batch.instructions
+pub commits : (d : Day) → CommittedIsClosing → IsDay d → (book : BookValue) (accounts : List AccountValue) (next : ℕ)
+    → book ≡ record { accounts = accounts; next = next } → accounts ≡ closing_state d
+    → next ≡ d.book.next + length d.batch.instructions
     → book ≡ committed d.book (settled_day d)
 commits d law day book accounts next is closing number =
     is

@@ -1,5 +1,6 @@
 -- Counting places in shifts.
-use Rattle.std.proofs.Common.{arith, add-one, ◌≡◌, ℕ, ◌+◌, ◌==◌, List, [], ◌∷◌, ◌++◌, map, length, length-append, append-nil, append_assoc, refl, ap, sym, ◌∙◌}
+use Rattle.std.proofs.Common.{arith, add-one, ◌≡◌, ℕ, ◌+◌, ◌==◌, List, [], ◌∷◌, ◌++◌, map, length, length-append}
+use Rattle.std.proofs.Common.{append-nil, append_assoc, refl, ap, sym, ◌∙◌}
 use Rattle.std.proofs.lemmas.List.{map-append, length-map, nil_from_length}
 use Rattle.reg_counting.specs.Counting.{times, one_if}
 use Rattle.reg_counting.proofs.Totals.{total-append}
@@ -7,7 +8,8 @@ use Rattle.reg_work.specs.declared.shift.Shift.{Shift}
 use Rattle.reg_work.specs.Shifts.{times_in, places_ran, numbers_below}
 
 -- one shift more adds what stands in it
-pub times-one_more : {N : Type 0} (p : ℕ) (shifts : List (Shift N)) (s : Shift N) → times_in p (shifts ++ s ∷ []) ≡ times_in p shifts + times p (places_ran s.ran.items)
+pub times-one_more : {N : Type 0} (p : ℕ) (shifts : List (Shift N)) (s : Shift N)
+    → times_in p (shifts ++ s ∷ []) ≡ times_in p shifts + times p (places_ran s.ran.items)
 times-one_more p shifts s = omega (arith, total-append (λ x. times p (places_ran x.ran.items)) shifts (s ∷ []))
 
 -- how often a number stands in two lists, one behind the other
@@ -19,7 +21,8 @@ pub numbers-next : (n : ℕ) → numbers_below (n + 1) ≡ numbers_below n ++ n 
 numbers-next n = rw add-one refl
 
 -- if one more is numbered after so many, one more number is there
-pub one-numbered : {X : Type 0} (f : X → ℕ) (all before : List X) (x : X) (n m : ℕ) → all ≡ before ++ x ∷ [] → map f before ≡ numbers_below n → f x ≡ n → m ≡ n + 1 → map f all ≡ numbers_below m
+pub one-numbered : {X : Type 0} (f : X → ℕ) (all before : List X) (x : X) (n m : ℕ) → all ≡ before ++ x ∷ []
+    → map f before ≡ numbers_below n → f x ≡ n → m ≡ n + 1 → map f all ≡ numbers_below m
 one-numbered f all before x n m items numbered is next =
     ap (map f) items
     ∙ map-append f before (x ∷ [])
@@ -29,7 +32,8 @@ one-numbered f all before x n m items numbered is next =
     ∙ sym (ap numbers_below next)
 
 -- an item that was moved out of one list is behind the others of another
-pub one-moved : {X Y : Type 0} (f : X → Y) (all before : List X) (x : X) (y : Y) (rest left whole : List Y) → all ≡ before ++ x ∷ [] → f x ≡ y → rest ≡ y ∷ left → map f before ++ rest ≡ whole → map f all ++ left ≡ whole
+pub one-moved : {X Y : Type 0} (f : X → Y) (all before : List X) (x : X) (y : Y) (rest left whole : List Y)
+    → all ≡ before ++ x ∷ [] → f x ≡ y → rest ≡ y ∷ left → map f before ++ rest ≡ whole → map f all ++ left ≡ whole
 one-moved f all before x y rest left whole items is moved same =
     ap (λ xs. map f xs ++ left) items
     ∙ ap (λ ys. ys ++ left) (map-append f before (x ∷ []))
@@ -39,11 +43,15 @@ one-moved f all before x y rest left whole items is moved same =
     ∙ same
 
 -- if as many were moved as there are, none is left
-pub all-moved : {X Y : Type 0} (f : X → Y) (all : List X) (rest whole : List Y) → map f all ++ rest ≡ whole → length all ≡ length whole → map f all ≡ whole
+pub all-moved : {X Y : Type 0} (f : X → Y) (all : List X) (rest whole : List Y) → map f all ++ rest ≡ whole
+    → length all ≡ length whole → map f all ≡ whole
 all-moved f all rest whole same many =
-    let none : length rest ≡ 0 = omega (arith, ap length same, length-append (map f all) rest, length-map all f, many) in
+    let none : length rest ≡ 0 =
+    omega (arith, ap length same, length-append (map f all) rest, length-map all f, many) in
     sym (append-nil (map f all)) ∙ ap (λ ys. map f all ++ ys) (sym (nil_from_length rest none)) ∙ same
 
 -- how often a number stands in the images of two lists, one behind the other
-pub times-mapped : {X : Type 0} (f : X → ℕ) (p : ℕ) (all before more : List X) → all ≡ before ++ more → times p (map f all) ≡ times p (map f before) + times p (map f more)
-times-mapped f p all before more items = ap (λ xs. times p (map f xs)) items ∙ ap (times p) (map-append f before more) ∙ times-append p (map f before) (map f more)
+pub times-mapped : {X : Type 0} (f : X → ℕ) (p : ℕ) (all before more : List X) → all ≡ before ++ more
+    → times p (map f all) ≡ times p (map f before) + times p (map f more)
+times-mapped f p all before more items = ap (λ xs. times p (map f xs)) items ∙ ap (times p) (map-append f before more)
+    ∙ times-append p (map f before) (map f more)

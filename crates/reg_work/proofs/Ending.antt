@@ -1,5 +1,6 @@
 -- What a seat shows of the end of the work, after two seats were made one.
-use Rattle.std.proofs.Common.{arith, refl, ◌≡◌, ℕ, ◌≤◌, ◌<◌, ◌/◌, ◌||◌, max, Bool, true, false, nat_le, sym, ◌∙◌, ◌⊎◌, inl, inr, ⊎_elim}
+use Rattle.std.proofs.Common.{arith, refl, ◌≡◌, ℕ, ◌≤◌, ◌<◌, ◌/◌, ◌||◌, max, Bool, true, false, nat_le, sym, ◌∙◌, ◌⊎◌}
+use Rattle.std.proofs.Common.{inl, inr, ⊎_elim}
 use Rattle.std.proofs.lemmas.Bool.Decides.{nat_tests}
 use mathlib.Core.Logic.{dite}
 use native.Mathlib.Decide.{dec_le}
@@ -18,7 +19,8 @@ both-show n a b p q = ⊎_elim
     (either-most a b)
 
 -- a seat that sees the end, made one with another that has seen nothing or sees the end too
-pub joined-sees : (n : ℕ) (P : Type 0) (v w : View) → ((P × (v.seen ≡ 0)) ⊎ (sees_end n v ≡ true)) → sees_end n w ≡ true → sees_end n (joined_views v w) ≡ true
+pub joined-sees : (n : ℕ) (P : Type 0) (v w : View) → ((P × (v.seen ≡ 0)) ⊎ (sees_end n v ≡ true)) → sees_end n w ≡ true
+    → sees_end n (joined_views v w) ≡ true
 joined-sees n P v w (inl none) q = let e : max v.seen w.seen ≡ w.seen = let z = none.1 in omega arith in rw e q
 joined-sees n P v w (inr p) q = both-show n v.seen w.seen p q
 
@@ -28,13 +30,17 @@ second-of true b e never = absurd (never refl)
 second-of false b e never = e
 
 -- if nobody was told to leave, the last seat sees that all places are finished
-pub all-finished : (n : ℕ) (v : View) (done : ℕ) (stopped : Bool) → sees_end n v ≡ true → (is_odd v.seen ≡ true → stopped ≡ true) → stopped ≡ false → v.seen / 2 ≤ done → done ≤ n → done ≡ n
+pub all-finished : (n : ℕ) (v : View) (done : ℕ) (stopped : Bool) → sees_end n v ≡ true
+    → (is_odd v.seen ≡ true → stopped ≡ true) → stopped ≡ false → v.seen / 2 ≤ done → done ≤ n → done ≡ n
 all-finished n v done stopped ends stops going seen most =
-    let half : nat_le n (v.seen / 2) ≡ true = second-of (is_odd v.seen) (nat_le n (v.seen / 2)) ends (λ odd. let both : true ≡ false = sym (stops odd) ∙ going in absurd cc) in
+    let half : nat_le n (v.seen / 2)
+    ≡ true = second-of (is_odd v.seen) (nat_le n (v.seen / 2)) ends (λ odd. let both :
+    true ≡ false = sym (stops odd) ∙ going in absurd cc) in
     let low : n ≤ v.seen / 2 = grind (arith, nat_tests) in
     omega arith
 
 -- some worker was there, so the last seat sees the end
-pub was-there : (n left all : ℕ) (v : View) → left ≡ 0 → 0 < all → ((left ≡ all) × (v.seen ≡ 0)) ⊎ (sees_end n v ≡ true) → sees_end n v ≡ true
+pub was-there : (n left all : ℕ) (v : View) → left ≡ 0 → 0 < all → ((left ≡ all) × (v.seen ≡ 0)) ⊎ (sees_end n v ≡ true)
+    → sees_end n v ≡ true
 was-there n left all v none some (inl same) = let e = same.0 in absurd (omega arith)
 was-there n left all v none some (inr ends) = ends

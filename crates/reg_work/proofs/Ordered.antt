@@ -1,5 +1,6 @@
 -- What one worker ran: each place, once.
-use Rattle.std.proofs.Common.{arith, add-one, ◌≡◌, ℕ, zero, suc, ◌+◌, ◌==◌, List, [], ◌∷◌, ◌++◌, length, take, Some, refl, sym, ap, ◌∙◌}
+use Rattle.std.proofs.Common.{arith, add-one, ◌≡◌, ℕ, zero, suc, ◌+◌, ◌==◌, List, [], ◌∷◌, ◌++◌, length, take, Some}
+use Rattle.std.proofs.Common.{refl, sym, ap, ◌∙◌}
 use Rattle.std.specs.Prelude.{slice_get}
 use Rattle.std.proofs.lemmas.Option.{same_Some}
 use Rattle.std.proofs.lemmas.List.{map-append}
@@ -50,7 +51,8 @@ once-next n (suc p) = dite (ℕ_discrete (n + 1) (suc p))
     omega arith))
 
 -- one more place was run
-pub one-ran : {N : Type 0} (n p : ℕ) (all before : List (Ran N)) (r : Ran N) → all ≡ before ++ r ∷ [] → r.place ≡ n + 1 → times p (places_ran before) ≡ once n p → times p (places_ran all) ≡ once (n + 1) p
+pub one-ran : {N : Type 0} (n p : ℕ) (all before : List (Ran N)) (r : Ran N) → all ≡ before ++ r ∷ [] → r.place ≡ n + 1
+    → times p (places_ran before) ≡ once n p → times p (places_ran all) ≡ once (n + 1) p
 one-ran n p all before r items is counted =
     ap (λ rs. times p (places_ran rs)) items
     ∙ ap (times p) (map-append (λ x. x.place) before (r ∷ []))
@@ -58,15 +60,18 @@ one-ran n p all before r items is counted =
     ∙ (let both = times-append p (places_ran before) ((n + 1) ∷ []) in let next = once-next n p in omega arith)
 
 -- the shift of a single worker
-pub shift-alone : {N : Type 0} (n : ℕ) (shifts : List (Shift N)) (s : Shift N) → shifts ≡ s ∷ [] → s.worker ≡ 0 → ((p : ℕ) → times p (places_ran s.ran.items) ≡ once n p) → AreShifts 1 n shifts
+pub shift-alone : {N : Type 0} (n : ℕ) (shifts : List (Shift N)) (s : Shift N) → shifts ≡ s ∷ [] → s.worker ≡ 0
+    → ((p : ℕ) → times p (places_ran s.ran.items) ≡ once n p) → AreShifts 1 n shifts
 shift-alone n shifts s items worker each = rw items (record {
   workers_are = ap (λ w. w ∷ []) worker;
   each_once = λ p. let one = each p in omega arith;
 })
 
 -- one row more of a log
-pub row-more : (log : List LogRow) (n : ℕ) (rows now : List LogRow) (row : LogRow) → now ≡ rows ++ row ∷ [] → rows ≡ take n log → slice_get log n ≡ Some row → now ≡ take (n + 1) log
-row-more log n rows now row items before at = items ∙ ap (λ rs. rs ++ row ∷ []) before ∙ rw add-one (sym (next log n at))
+pub row-more : (log : List LogRow) (n : ℕ) (rows now : List LogRow) (row : LogRow) → now ≡ rows ++ row ∷ []
+    → rows ≡ take n log → slice_get log n ≡ Some row → now ≡ take (n + 1) log
+row-more log n rows now row items before at =
+    items ∙ ap (λ rs. rs ++ row ∷ []) before ∙ rw add-one (sym (next log n at))
   where
     next : (rs : List LogRow) (k : ℕ) → slice_get rs k ≡ Some row → take (suc k) rs ≡ take k rs ++ row ∷ []
     next [] k e = absurd cc
@@ -83,7 +88,9 @@ count-rows c s number [] = refl
 count-rows c s number (i ∷ is) = ap suc (count-rows c (step c s number i).0 (number + 1) is)
 
 -- as many rows as there are instructions have all replies of the day
-pub all-replies : (d : Day) (n : ℕ) (rows : List LogRow) → rows ≡ take n (log_of d) → n ≡ length d.batch.instructions → replies_in rows ≡ replies_of d
+pub all-replies : (d : Day) (n : ℕ) (rows : List LogRow) → rows ≡ take n (log_of d) → n ≡ length d.batch.instructions
+    → replies_in rows ≡ replies_of d
 all-replies d n rows first count =
-    let all : n ≡ length (log_of d) = count ∙ sym (count-rows (setting d) d.book.accounts (d.batch.base + 1) d.batch.instructions) in
+    let all : n ≡ length (log_of d) =
+    count ∙ sym (count-rows (setting d) d.book.accounts (d.batch.base + 1) d.batch.instructions) in
     ap replies_in (first ∙ ap (λ k. take k (log_of d)) all ∙ take-length (log_of d))

@@ -176,7 +176,8 @@ fn run_lent<N: Naming + Send + Sync, R: Threads + Wait + Sync, G: Gate>(
     requires rising { IsRising (numbers accounts.items) }
     requires of_day { AreOfDay N.day accounts.items }
     requires workers { are_workers workers ≡ true }
-    ensures follows { MatchResult result (λ e. batch.now.base + 1 ≡ next) (IsWorkFault workers (lent_book N.day) batch.now) }
+    ensures follows { MatchResult result (λ e. batch.now.base + 1 ≡ next)
+        (IsWorkFault workers (lent_book N.day) batch.now) }
     ensures closing { IfOk result (λ e. IfSome N.day (λ d. e.accounts.items ≡ closing_state d)) }
     ensures replies { IfOk result (λ e. IfSome N.day (λ d. e.replies.items ≡ replies_of d)) }
     ensures shifts { IfOk result (λ e. AreShifts workers (length batch.now.instructions) e.shifts.items) }
@@ -188,8 +189,8 @@ fn run_lent<N: Naming + Send + Sync, R: Threads + Wait + Sync, G: Gate>(
     Ok(run_context(rt, alloc, &context, vault, workers, gate)?)
 }
 
-// Settles a batch on the accounts of the book, which names the day with rules and batch, by workers whose number is within its
-// limits.
+// Settles a batch on the accounts of the book, which names the day with rules and batch, by workers whose number is
+// within its limits.
 fn close_named<N: Naming + Send + Sync, R: Threads + Wait + Sync, G: Gate>(
     rt: &R,
     alloc: Global,
@@ -202,7 +203,9 @@ fn close_named<N: Naming + Send + Sync, R: Threads + Wait + Sync, G: Gate>(
     requires day { N.day ≡ Some (day_of book rules.now batch.now) }
     requires workers { are_workers workers ≡ true }
     ensures closed { MatchResult result
-        (λ c. (batch.now.base + 1 ≡ book.next) × (c.0.book ≡ committed book (settled_day (day_of book rules.now batch.now))) × (c.0.replies.items ≡ replies_of (day_of book rules.now batch.now)))
+        (λ c. (batch.now.base + 1 ≡ book.next)
+        × (c.0.book ≡ committed book (settled_day (day_of book rules.now batch.now)))
+        × (c.0.replies.items ≡ replies_of (day_of book rules.now batch.now)))
         (IsWorkFault workers book batch.now) }
     ensures shifts { IfOk result (λ c. AreShifts workers (length batch.now.instructions) c.1.items) }
 {
@@ -227,18 +230,21 @@ fn close_named<N: Naming + Send + Sync, R: Threads + Wait + Sync, G: Gate>(
     Ok((closed, shifts))
 }
 
-/// Settles a batch by workers on the book's own accounts, which move from one instruction to the next. The book after the day is
-/// the one that `settle_plain` and then [`Book::commit`] give, and the replies are those in the log. [`settle_with`] is for callers that keep their book as it was.
+/// Settles a batch by workers on the book's own accounts, which move from one instruction to the next. The book after
+/// the day is the one that `settle_plain` and then [`Book::commit`] give, and the replies are those in the log.
+/// [`settle_with`] is for callers that keep their book as it was.
 ///
-/// The workers are those of [`settle_with`], but for this: the calling thread alone opens the instructions of the day, all of them before it runs one.
-/// Meanwhile the others steal from its deque. What no other instruction needs goes back to its place in the book.
+/// The workers are those of [`settle_with`], but for this: the calling thread alone opens the instructions of the day,
+/// all of them before it runs one. Meanwhile the others steal from its deque. What no other instruction needs goes back
+/// to its place in the book.
 ///
-/// There is a shift for each worker, from worker 0 on, and each place from 1 to the number of instructions is in one shift, once.
+/// There is a shift for each worker, from worker 0 on, and each place from 1 to the number of instructions is in one
+/// shift, once.
 ///
 /// # Errors
-/// The first of these that applies; the book is dropped then. `Workers` if the number of workers is not 1 to 8. `WrongBase` if the first record number
-/// of the batch is not the book's next record number. `NoThread` if a thread could not be started. `NoMemory` if memory ran
-/// out. All threads have ended then.
+/// The first of these that applies; the book is dropped then. `Workers` if the number of workers is not 1 to 8.
+/// `WrongBase` if the first record number of the batch is not the book's next record number. `NoThread` if a thread
+/// could not be started. `NoMemory` if memory ran out. All threads have ended then.
 ///
 /// [`settle_with`]: crate::settle_with
 pub fn close_with<R: Threads + Wait + Sync, G: Gate>(
@@ -251,7 +257,8 @@ pub fn close_with<R: Threads + Wait + Sync, G: Gate>(
     gate: &G,
 ) -> Result<(ClosedDay, Vec<Shift<Brand>>), WorkFault>
     ensures closed { MatchResult result
-        (λ c. (are_workers workers ≡ true) × (batch.now.base + 1 ≡ book.next) × (c.0.book ≡ committed book (settled_day (day_of book rules.now batch.now))))
+        (λ c. (are_workers workers ≡ true) × (batch.now.base + 1 ≡ book.next)
+        × (c.0.book ≡ committed book (settled_day (day_of book rules.now batch.now))))
         (IsWorkFault workers book batch.now) }
     ensures replies { IfOk result (λ c. c.0.replies.items ≡ replies_of (day_of book rules.now batch.now)) }
     ensures shifts { IfOk result (λ c. AreShifts workers (length batch.now.instructions) c.1.items) }

@@ -1,6 +1,7 @@
 //! Running the tasks of a level.
 
-ghost use Rattle.std.specs.Prelude.{◌≡◌, ◌≤◌, ◌++◌, [], Err, flat_map, vec_len, vec_capacity, IfOk, IfErr, OnOk, is_ok, true};
+ghost use Rattle.std.specs.Prelude.{◌≡◌, ◌≤◌, ◌++◌, [], Err, flat_map, vec_len, vec_capacity, IfOk, IfErr, OnOk, is_ok};
+ghost use Rattle.std.specs.Prelude.{true};
 ghost use Rattle.reg_work.specs.declared.fault.Shortage.TheVariants.{Thread};
 ghost use Rattle.reg_levels.specs.Levels.{places_of, places_run};
 ghost use Rattle.reg_work.specs.Parts.{joined};

@@ -15,8 +15,8 @@
 //! use std::sync::Wait;
 //! use std::thread::Threads;
 //!
-//! /// Settles a day by four workers: the calling thread, and three threads of their own. The settled day is that of the
-//! /// instructions one after another.
+//! /// Settles a day by four workers: the calling thread, and three threads of their own. The settled day is that of
+//! /// the instructions one after another.
 //! ///
 //! /// # Errors
 //! /// As [`settle_with`].

@@ -1,5 +1,6 @@
 -- What is known once a dock took a parcel.
-use Rattle.std.proofs.Common.{◌≡◌, ℕ, suc, ◌+◌, ◌≤◌, Bool, true, false, cond, ◌||◌, eqb, List, [], ◌∷◌, ◌++◌, length, Option, Some, None, Result, Ok, Err, Global, arith, refl, sym, ap, ◌∙◌}
+use Rattle.std.proofs.Common.{◌≡◌, ℕ, suc, ◌+◌, ◌≤◌, Bool, true, false, cond, ◌||◌, eqb, List, [], ◌∷◌, ◌++◌, length}
+use Rattle.std.proofs.Common.{Option, Some, None, Result, Ok, Err, Global, arith, refl, sym, ap, ◌∙◌}
 use Rattle.std.specs.Prelude.{not, filter, is_some, is_err, IfOk}
 use Rattle.std.specs.Option.{option_map}
 use Rattle.std.specs.List.{list_any}
@@ -20,8 +21,11 @@ use Rattle.reg_yard.specs.Laws.{ASingleParcelGivesTheTask}
 
 module _ {N : Type 0} {b : Ghosts N} where
   -- what a dock answers that has these parcels
-  pub taken-if : (name : Option Day) (goes : Option ℕ) (day : Day) (plan : PlanValue) (place : ℕ) (waiting : Option (Vec (Parcel N b) Global)) (p : ParcelValue) (after : Option (List ParcelValue)) (r : Result (Option (Task N b)) (Parcel N b))
-      → ((d : Day) → name ≡ Some d → day ≡ d) → ∥ IsPlanOf day plan ∥₁ → goes ≡ Some place → FewWait day plan place waiting
+  pub taken-if : (name : Option Day) (goes : Option ℕ) (day : Day) (plan : PlanValue) (place : ℕ)
+      (waiting : Option (Vec (Parcel N b) Global)) (p : ParcelValue) (after : Option (List ParcelValue))
+      (r : Result (Option (Task N b)) (Parcel N b))
+      → ((d : Day) → name ≡ Some d → day ≡ d) → ∥ IsPlanOf day plan ∥₁ → goes ≡ Some place
+      → FewWait day plan place waiting
       → is_err r ≡ is_refused day plan place (waiting_of waiting) p
       → IfOk r (λ task. (after, option_map task_of task) ≡ delivered day plan place (waiting_of waiting) p)
       → IfOk r (λ task. IsTaken name goes p (option_map task_of task))
@@ -49,20 +53,25 @@ abbrev task_with : ℕ → List ParcelValue → TaskValue
 task_with place parcels = record { place = place; parcels = parcels }
 
 abbrev made : ℕ → List (ℕ × ℕ) → List ParcelValue → Option TaskValue
-made place names came = cond (eqb (length came) (length names)) (option_map (task_with place) (of_names came names)) None
+made place names came = cond (eqb (length came) (length names)) (option_map (task_with place) (of_names came names))
+    None
 
-single : (place : ℕ) (names : List (ℕ × ℕ)) (before : List ParcelValue) (p : ParcelValue) → length names ≡ 1 → length before + length (left before names) ≤ 1
-    → not (list_any (is_name (name_of p)) (left before names)) ≡ false → is_some (made place names (before ++ p ∷ [])) ≡ true
+single : (place : ℕ) (names : List (ℕ × ℕ)) (before : List ParcelValue) (p : ParcelValue) → length names ≡ 1
+    → length before + length (left before names) ≤ 1
+    → not (list_any (is_name (name_of p)) (left before names)) ≡ false → is_some (made place names (before ++ p ∷ []))
+    ≡ true
 single place [] before p one few was = absurd cc
 single place (n ∷ m ∷ more) before p one few was = absurd (omega (arith, one))
 single place (n ∷ []) [] p one few was = by (is_name (name_of p) n) was
   where
-    by : (b : Bool) → not (b || false) ≡ false → is_some (option_map (task_with place) (before_all (cond b (Some p) None) (Some []))) ≡ true
+    by : (b : Bool) → not (b || false) ≡ false
+        → is_some (option_map (task_with place) (before_all (cond b (Some p) None) (Some []))) ≡ true
     by true e = refl
     by false e = absurd cc
 single place (n ∷ []) (q ∷ before) p one few was = absurd (by (not (is_some (of_name (q ∷ before) n))) few was)
   where
-    by : (b : Bool) → suc (length before) + length (cond b (n ∷ []) []) ≤ 1 → not (list_any (is_name (name_of p)) (cond b (n ∷ []) [])) ≡ false → ⊥
+    by : (b : Bool) → suc (length before) + length (cond b (n ∷ []) []) ≤ 1
+        → not (list_any (is_name (name_of p)) (cond b (n ∷ []) [])) ≡ false → ⊥
     by true f e = omega (arith, f)
     by false f e = cc
 
@@ -70,6 +79,7 @@ single place (n ∷ []) (q ∷ before) p one few was = absurd (by (not (is_some 
 pub single-gives : ASingleParcelGivesTheTask
 single-gives name goes p task taken one =
     let names = awaited taken.day taken.plan taken.place in
-    let as_many : length names ≡ length (footprint_at taken.day taken.place) = length_needed (inward taken.plan.arrows taken.place) (footprint_at taken.day taken.place) in
+    let as_many : length names ≡ length (footprint_at taken.day taken.place) =
+    length_needed (inward taken.plan.arrows taken.place) (footprint_at taken.day taken.place) in
     let few : length taken.before + length (left taken.before names) ≤ 1 = omega (arith, taken.fits, one) in
     ap is_some taken.gives ∙ single taken.place names taken.before p (as_many ∙ one) few taken.was_awaited

@@ -1,6 +1,7 @@
 -- What a dock holds, and what becomes of a parcel that is delivered to it. While parcels wait in a dock, it is seen as
 -- their list; once its task has gone out, nothing is in it any more, since all that the place awaits has come.
-use Rattle.std.specs.Prelude.{◌≡◌, ℕ, ◌+◌, ◌≤◌, Bool, true, false, List, [], ◌∷◌, ◌++◌, length, Option, Some, None, is_some, vec_capacity, if◌then◌else◌}
+use Rattle.std.specs.Prelude.{◌≡◌, ℕ, ◌+◌, ◌≤◌, Bool, true, false, List, [], ◌∷◌, ◌++◌, length, Option, Some, None}
+use Rattle.std.specs.Prelude.{is_some, vec_capacity, if◌then◌else◌}
 use Rattle.std.specs.Option.{option_map}
 use Rattle.std.specs.declared.vec.Vec.{Vec}
 use Rattle.std.proofs.Common.{Global}

@@ -24,7 +24,8 @@ pub struct Dock<'c, 'a, N: Naming> {
 }
 
 impl<'c, 'a, N: Naming> Dock<'c, 'a, N> {
-    ghost use Rattle.std.specs.Prelude.{[], true, not, Some, None, is_some, is_err, IfOk, IfErr, IfSome, OnErr, Contains};
+    ghost use Rattle.std.specs.Prelude.{[], true, not, Some, None, is_some, is_err, IfOk, IfErr, IfSome, OnErr};
+    ghost use Rattle.std.specs.Prelude.{Contains};
     ghost use Rattle.std.specs.Option.{option_map};
     ghost use Rattle.reg_tasks.specs.Tasks.{task_of};
     ghost use Rattle.reg_yard.specs.AtOnce.{task_at_once};

@@ -7,12 +7,16 @@ use Rattle.clap.proofs.WalkLemmas.{one_text-rows}
 use Rattle.registry.specs.Words.{number_found, word_number}
 
 -- a number that was read is the one of a word that was found
-pub number-read : (f : Found) (argument : List ℕ) (n : ℕ) → (one_text f argument ≡ None → Some n ≡ None) → ((word : List ℕ) → one_text f argument ≡ Some word → n ≡ word_number word) → number_found argument (rows_of f) ≡ Some n
-number-read f argument n none value = subst (λ (o : Option (List ℕ)). option_map word_number o ≡ Some n) (one_text-rows f argument) (go (one_text f argument) refl) where
-  go : (o : Option (List ℕ)) → one_text f argument ≡ o → option_map word_number o ≡ Some n
-  go None e = sym (none e)
-  go (Some word) e = ap Some (sym (value word e))
+pub number-read : (f : Found) (argument : List ℕ) (n : ℕ) → (one_text f argument ≡ None → Some n ≡ None)
+    → ((word : List ℕ) → one_text f argument ≡ Some word → n ≡ word_number word)
+    → number_found argument (rows_of f) ≡ Some n
+number-read f argument n none value = subst (λ (o : Option (List ℕ)). option_map word_number o ≡ Some n)
+    (one_text-rows f argument) (go (one_text f argument) refl) where
+      go : (o : Option (List ℕ)) → one_text f argument ≡ o → option_map word_number o ≡ Some n
+      go None e = sym (none e)
+      go (Some word) e = ap Some (sym (value word e))
 
 -- a word that was found is the text that `clap` reads
-pub text-found : (f : Found) (argument word : List ℕ) → one_of argument (rows_of f) ≡ Some word → one_text f argument ≡ Some word
+pub text-found : (f : Found) (argument word : List ℕ) → one_of argument (rows_of f) ≡ Some word
+    → one_text f argument ≡ Some word
 text-found f argument word e = one_text-rows f argument ∙ e

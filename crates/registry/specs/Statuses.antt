@@ -1,7 +1,8 @@
 -- The exit status of each fault.
 use Rattle.std.specs.Prelude.{ℕ}
 use Rattle.reg_front.specs.declared.fault.FrontFault.{FrontFault}
-use Rattle.reg_front.specs.declared.fault.FrontFault.TheVariants.{Row, Read, Workers, NoAccount, NoThread, NoMemory, WriteFailed}
+use Rattle.reg_front.specs.declared.fault.FrontFault.TheVariants.{Row, Read, Workers, NoAccount, NoThread, NoMemory}
+use Rattle.reg_front.specs.declared.fault.FrontFault.TheVariants.{WriteFailed}
 
 -- 2 for the arguments, 3 for the day text, 4 for threads and memory, 5 for a reader or writer
 abbrev pub exit_status_of : FrontFault → ℕ

@@ -59,8 +59,8 @@ fn tell_right<W: Write>(writer: &mut W, is_so: bool) -> Result<(), Stop> {
     tell_whether(writer, is_so, ("right", "wrong"))
 }
 
-/// Makes a call between the lines `begin` and `end`, and makes it again if it was refused something. Writes how each ended,
-/// whether a refused call left what it was lent as it was, and whether at last it ended as is wanted.
+/// Makes a call between the lines `begin` and `end`, and makes it again if it was refused something. Writes how each
+/// ended, whether a refused call left what it was lent as it was, and whether at last it ended as is wanted.
 ///
 /// `ground` is what the call is lent by `&`.
 pub(crate) fn try_call<G: Debug, C: Call, W: Write>(
@@ -100,8 +100,8 @@ pub(crate) fn try_rehearsed<G: Debug, C: Call, W: Write>(
     try_call(alloc, ground, call, wanted, writer)
 }
 
-/// Tries a call that starts threads. It is no [`Call`], since a method of a trait does not know that the threads may share
-/// what starts them.
+/// Tries a call that starts threads. It is no [`Call`], since a method of a trait does not know that the threads may
+/// share what starts them.
 pub(crate) fn try_threads<G: Debug, F: Fn() -> Ended, W: Write>(
     ground: &G,
     call: F,
@@ -122,8 +122,8 @@ pub(crate) fn try_threads<G: Debug, F: Fn() -> Ended, W: Write>(
     tell_right(writer, ended == wanted)
 }
 
-/// Tries a call that starts threads and uses up what it is given: the first of two like things, and if it was refused something
-/// the second. It is lent nothing that it could change.
+/// Tries a call that starts threads and uses up what it is given: the first of two like things, and if it was refused
+/// something the second. It is lent nothing that it could change.
 pub(crate) fn try_using_up<T: Drop, F: Fn(T) -> Ended, W: Write>(
     first: T,
     second: T,

@@ -3,8 +3,8 @@
 use std::fmt::{Debug, Write};
 use std::{fmt, io};
 
-/// A number that tells values and texts apart: the 64-bit FNV-1a hash of the bytes of a text, or of what `{:?}` writes of
-/// values.
+/// A number that tells values and texts apart: the 64-bit FNV-1a hash of the bytes of a text, or of what `{:?}` writes
+/// of values.
 #[derive(Clone, Copy, PartialEq, Eq)]
 pub(crate) struct Digest {
     hash: u64,

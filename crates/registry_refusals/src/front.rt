@@ -10,8 +10,8 @@ use std::io::Write;
 use std::sync::Wait;
 use std::thread::Threads;
 
-// `run`. It reads from a slice, whose length it is told, and writes into a digest, which takes no memory. A command that is
-// refused something writes nothing.
+// `run`. It reads from a slice, whose length it is told, and writes into a digest, which takes no memory. A command
+// that is refused something writes nothing.
 fn run_command<R: Threads + Wait + Sync>(
     rt: &R,
     alloc: Global,

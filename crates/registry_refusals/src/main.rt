@@ -1,11 +1,11 @@
-//! Makes calls that take memory, each between the lines `begin` and `end`, and writes how it ended. `cases/run-refusals`
-//! starts it where the memory or the thread that a call asks for is refused.
+//! Makes calls that take memory, each between the lines `begin` and `end`, and writes how it ended.
+//! `cases/run-refusals` starts it where the memory or the thread that a call asks for is refused.
 //!
 //! The words name calls of the crates below, such as `settle_plain`, and some have a number behind a colon, such as
-//! `settle_with:2`: mostly that of the workers. The day text of standard input is what each call is made on. After a call
-//! that was refused something the program writes `unchanged` if all that the call was lent is as it was before, and makes
-//! the call again. At last it writes `right` if the call left what it is to leave: a settled day as settling one
-//! instruction after another leaves it, anything else as the same call leaves it beside, where nothing is refused.
+//! `settle_with:2`: mostly that of the workers. The day text of standard input is what each call is made on. After a
+//! call that was refused something the program writes `unchanged` if all that the call was lent is as it was before,
+//! and makes the call again. At last it writes `right` if the call left what it is to leave: a settled day as settling
+//! one instruction after another leaves it, anything else as the same call leaves it beside, where nothing is refused.
 //!
 //! No call keeps what it left: a digest of that is made at once, which takes no memory, and digests are compared. So
 //! nothing that owns memory lives where the program writes, and the prover has little to free at its many exits.

@@ -33,8 +33,8 @@ pub(crate) fn try_plan<W: Write>(
     try_rehearsed(alloc, day, &mut Planning { day }, writer)
 }
 
-/// Tries `Plan::of_with` by so many threads, each of which looks up the accounts of an instruction or more: it is to end as
-/// `Plan::of` does.
+/// Tries `Plan::of_with` by so many threads, each of which looks up the accounts of an instruction or more: it is to
+/// end as `Plan::of` does.
 pub(crate) fn try_plan_with<R: Threads + Sync, W: Write>(
     rt: &R,
     alloc: Global,

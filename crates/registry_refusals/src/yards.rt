@@ -122,8 +122,8 @@ fn owner(alloc: Global) -> Result<Owner<Unnamed>, Stop> {
     }
 }
 
-// The first owner of a yard of two, with the first tasks of a day in its deque, so many, and the task after them. The first
-// instructions of the day wait for no other.
+// The first owner of a yard of two, with the first tasks of a day in its deque, so many, and the task after them. The
+// first instructions of the day wait for no other.
 fn make_putting(alloc: Global, day: &DayInput, before: u32) -> Result<Putting, Stop> {
     let context = context_of(alloc, day)?;
     let mut putting = Putting {

@@ -8,7 +8,8 @@ ghost use Rattle.reg_deques.specs.Passes.{owned};
 use reg_deques::Owner;
 use reg_tasks::{Naming, Task};
 
-/// Puts a task behind those of a worker's deque, and takes the first one, which is this task only if no other is there.
+/// Puts a task behind those of a worker's deque, and takes the first one, which is this task only if no other is
+/// there.
 /// `None` if the deque has no room for it.
 pub fn put_and_take<N: Naming>(owner: &mut Owner<N>, task: Task<N>) -> Option<Task<N>>
     ensures { IfSome result (λ t. TakesOwn (with_put (task.place ∷ []) (owned owner.old)) t.place

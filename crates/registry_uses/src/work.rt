@@ -11,8 +11,8 @@ use std::alloc::Global;
 use std::sync::Wait;
 use std::thread::Threads;
 
-/// Settles a day by four workers: the calling thread, and three threads of their own. The settled day is that of the
-/// instructions one after another.
+/// Settles a day by four workers: the calling thread, and three threads of their own. The settled day is that of
+/// the instructions one after another.
 ///
 /// # Errors
 /// As [`settle_with`].

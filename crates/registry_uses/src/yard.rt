@@ -8,8 +8,8 @@ use reg_yard::Docks;
 use std::alloc::Global;
 use std::sync::Wait;
 
-/// Delivers the value of an account to the instruction that needs it next, and runs that one if it was the last value that
-/// it awaited. `None` if it awaits more, if no instruction awaits the value, or if memory ran out.
+/// Delivers the value of an account to the instruction that needs it next, and runs that one if it was the last
+/// value that it awaited. `None` if it awaits more, if no instruction awaits the value, or if memory ran out.
 pub fn deliver_and_run<N: Naming, R: Wait>(
     wait: &R,
     alloc: Global,

@@ -1,26 +1,29 @@
-//! Settles the day text of standard input in several ways, to measure them beside each other and to try many, and tells which
-//! worker ran what. `bench/orders.py` and `bench/workers.py` start it.
+//! Settles the day text of standard input in several ways, to measure them beside each other and to try many, and tells
+//! which worker ran what. `bench/orders.py` and `bench/workers.py` start it.
 //!
-//! The first word says what is done: `read` reads the text alone, `plain` settles one instruction after another, `place` the
-//! same on the book's own accounts, `plan` makes the plan, `order` runs the instructions in batch order on values of their own,
-//! `schedule` by a schedule of four workers, `levels` settles level by level, `stealing` by workers that steal, `close` by workers
-//! that steal to whom the book's own accounts move. `lanes` writes which places each worker ran, in order.
+//! The first word says what is done: `read` reads the text alone, `plain` settles one instruction after another,
+//! `place` the same on the book's own accounts, `plan` makes the plan, `order` runs the instructions in batch order on
+//! values of their own, `schedule` by a schedule of four workers, `levels` settles level by level, `stealing` by
+//! workers that steal, `close` by workers that steal to whom the book's own accounts move. `lanes` writes which places
+//! each worker ran, in order.
 //!
-//! `orders` runs the instructions in each order that a further word lists, such as `2,1,3`, and writes a line for each: `same`
-//! if the settled day is that of `plain`, or the fault. A word such as `4:17` stands for a schedule of 4 workers whose events
-//! the number 17 chooses.
+//! `orders` runs the instructions in each order that a further word lists, such as `2,1,3`, and writes a line for each:
+//! `same` if the settled day is that of `plain`, or the fault. A word such as `4:17` stands for a schedule of 4 workers
+//! whose events the number 17 chooses.
 //!
 //! `try` settles by workers that steal and are delayed before each run, and writes `same` if the settled day is that of
-//! `plain`, each place was run once, the order in which workers entered the gate is legal, and each worker's shift is what it
-//! entered with. Then it does the same by workers to whom the book's own accounts move, with the book that `place` leaves.
+//! `plain`, each place was run once, the order in which workers entered the gate is legal, and each worker's shift is
+//! what it entered with. Then it does the same by workers to whom the book's own accounts move, with the book that
+//! `place` leaves.
 //!
-//! `each` does what `try` does with several day texts that stand one behind another, once with each, and writes a line for each.
+//! `each` does what `try` does with several day texts that stand one behind another, once with each, and writes a line
+//! for each.
 //!
-//! For `levels`, `stealing`, `close`, `lanes` and `try` the second word is the number of workers. For `lanes` the third is a
-//! seed from which delays are drawn, or 0 for none. For `try` the third is a worker, counted from 0, that is held up, or a higher
-//! number for none, the fourth a seed, or 0, and the fifth how often it is tried. For `each` the second word is a seed, which is
-//! one more for each further day; it says how many workers there are, which of them is held up, and how they are delayed. The
-//! third is the most days that are tried.
+//! For `levels`, `stealing`, `close`, `lanes` and `try` the second word is the number of workers. For `lanes` the third
+//! is a seed from which delays are drawn, or 0 for none. For `try` the third is a worker, counted from 0, that is held
+//! up, or a higher number for none, the fourth a seed, or 0, and the fifth how often it is tried. For `each` the second
+//! word is a seed, which is one more for each further day; it says how many workers there are, which of them is held
+//! up, and how they are delayed. The third is the most days that are tried.
 #![tactic(auto)]
 
 mod gates;

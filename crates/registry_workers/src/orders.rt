@@ -93,7 +93,8 @@ fn try_order<W: Write>(
     }
 }
 
-// Runs the instructions by the schedule of two numbers, the workers and what chooses the events, and writes what comes of it.
+// Runs the instructions by the schedule of two numbers, the workers and what chooses the events, and writes what comes
+// of it.
 fn try_schedule<W: Write>(
     alloc: Global,
     day: &DayInput,

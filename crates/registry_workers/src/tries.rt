@@ -166,7 +166,8 @@ pub(crate) fn try_stealing<R: Threads + Wait + Sync, W: Write>(
     Ok(())
 }
 
-// Tries a drawn day once. The seed says how many workers there are, which of them is held up, and how the others are delayed.
+// Tries a drawn day once. The seed says how many workers there are, which of them is held up, and how the others are
+// delayed.
 fn try_drawn<R: Threads + Wait + Sync, W: Write>(
     rt: &R,
     alloc: Global,

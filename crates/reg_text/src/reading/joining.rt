@@ -6,7 +6,8 @@ ghost use Rattle.reg_cuts.specs.Parts.{text_of_parts};
 ghost use Rattle.reg_text.specs.Lasts.{is_above};
 ghost use Rattle.reg_text.specs.Drafts.{draft_of};
 ghost use Rattle.reg_text.specs.DraftLimits.{FitsSoFar};
-ghost use Rattle.reg_text.specs.Joining.{number_in, AccountsMayFollow, InstructionsMayFollow, IsHeading, IsReadSoFar, MayJoin, joined_drafts};
+ghost use Rattle.reg_text.specs.Joining.{number_in, AccountsMayFollow, InstructionsMayFollow, IsHeading, IsReadSoFar};
+ghost use Rattle.reg_text.specs.Joining.{MayJoin, joined_drafts};
 ghost use Rattle.reg_text.specs.PartsRead.{ReadsEach};
 
 use crate::reading::account_row::AccountHead;

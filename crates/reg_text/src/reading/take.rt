@@ -2,8 +2,10 @@
 
 #![tactic(auto, unfolding(crate::specs::Faults::with_row))]
 
-ghost use Rattle.std.specs.Prelude.{◌≡◌, ◌+◌, ◌<◌, ◌≤◌, ◌&&◌, nat_lt, nat_le, ◌∷◌, ◌++◌, [], length, map, false, None, if◌then◌else◌, option_to_list, OnOk, OnErr};
-ghost use Rattle.reg_base.specs.declared.limits.TheConstants.{MOST_ACCOUNTS, MOST_RETIRED, MOST_INSTRUCTIONS, MOST_RECORD, MOST_ROWS};
+ghost use Rattle.std.specs.Prelude.{◌≡◌, ◌+◌, ◌<◌, ◌≤◌, ◌&&◌, nat_lt, nat_le, ◌∷◌, ◌++◌, [], length, map, false, None};
+ghost use Rattle.std.specs.Prelude.{if◌then◌else◌, option_to_list, OnOk, OnErr};
+ghost use Rattle.reg_base.specs.declared.limits.TheConstants.{MOST_ACCOUNTS, MOST_RETIRED, MOST_INSTRUCTIONS};
+ghost use Rattle.reg_base.specs.declared.limits.TheConstants.{MOST_RECORD, MOST_ROWS};
 ghost use Rattle.csv.specs.Records.{fields_of};
 ghost use Rattle.reg_base.specs.Rising.{IsRising};
 ghost use Rattle.reg_account.specs.Rows.{retired_in, retirement_of};
@@ -12,7 +14,8 @@ ghost use Rattle.reg_text.specs.Lasts.{last_item};
 ghost use Rattle.reg_text.specs.Sections.{key, follows};
 ghost use Rattle.reg_text.specs.Drafts.{draft_of, with_block_over};
 ghost use Rattle.reg_text.specs.DraftLimits.{FitsSoFar, IsDraft};
-ghost use Rattle.reg_text.specs.Faults.{TakesRow, placed, next_in, is_recorded, is_sum_left, is_number_left, has_row_space, with_row, next_draft};
+ghost use Rattle.reg_text.specs.Faults.{TakesRow, placed, next_in, is_recorded, is_sum_left, is_number_left};
+ghost use Rattle.reg_text.specs.Faults.{has_row_space, with_row, next_draft};
 ghost use Rattle.reg_text.specs.declared.reading.tag.Tag.TheVariants as tag;
 
 use crate::cause::{Cause, RowError};

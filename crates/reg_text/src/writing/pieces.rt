@@ -1,7 +1,8 @@
 //! The report of a day in pieces, whose bytes one after another are its text. The rows of the log and of the accounts
 //! are spelled run by run, by several threads.
 
-ghost use Rattle.std.specs.Prelude.{◌≡◌, ◌<◌, ◌≤◌, ◌+◌, ◌/◌, ◌%◌, ◌++◌, ◌∷◌, [], codes, min, IfOk, OnOk, vec_len, length};
+ghost use Rattle.std.specs.Prelude.{◌≡◌, ◌<◌, ◌≤◌, ◌+◌, ◌/◌, ◌%◌, ◌++◌, ◌∷◌, [], codes, min, IfOk, OnOk, vec_len};
+ghost use Rattle.std.specs.Prelude.{length};
 ghost use Rattle.csv.specs.Writing.{default_writer, row_text};
 ghost use Rattle.reg_book.specs.Day.{rows_replied};
 ghost use Rattle.reg_book.specs.Totals.{totals_of};

@@ -1,6 +1,7 @@
 //! Writing the statement of an account.
 
-ghost use Rattle.std.specs.Prelude.{◌≡◌, ◌≤◌, [], ◌∷◌, ◌++◌, true, find, filter_map, option_map, ◌==◌, IfOk, OnOk, MatchResult, length};
+ghost use Rattle.std.specs.Prelude.{◌≡◌, ◌≤◌, [], ◌∷◌, ◌++◌, true, find, filter_map, option_map, ◌==◌, IfOk, OnOk};
+ghost use Rattle.std.specs.Prelude.{MatchResult, length};
 ghost use Rattle.std.specs.List.{last_or};
 ghost use Rattle.csv.specs.Writing.{default_writer, row_text};
 ghost use Rattle.reg_rules.specs.State.{account};
@@ -9,7 +10,8 @@ ghost use Rattle.reg_text.specs.declared.writing.row.TheConstants.{MOST_FIELD};
 ghost use Rattle.reg_text.specs.Plain.{IsPlain};
 ghost use Rattle.reg_text.specs.Log.{holding_fields};
 ghost use Rattle.reg_text.specs.Report.{text_of, log_rows};
-ghost use Rattle.reg_text.specs.Statement.{concerns, rows_about, told_by, last_told, statement_rows, statement_of, has_account, IsStatementFault};
+ghost use Rattle.reg_text.specs.Statement.{concerns, rows_about, told_by, last_told, statement_rows, statement_of};
+ghost use Rattle.reg_text.specs.Statement.{has_account, IsStatementFault};
 
 use crate::writing::log::put_log_row;
 use crate::writing::report::put_end;

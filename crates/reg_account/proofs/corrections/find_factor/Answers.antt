@@ -12,7 +12,9 @@ returns-in-Some c =
     let read : SFits w64 c.factor_of.result = search rules in
     to_z-of_z w64 c.factor_of.result read
     ∙ c.factor_of.ensures
-    ∙ ap (λ (o : Option Correction). option_map_or (λ x. x.factor) o (pos 0)) (sym c.in-Some.is ∙ c.find_correction.ensures)
+    ∙ ap (λ (o : Option Correction). option_map_or (λ x. x.factor) o (pos 0))
+    (sym c.in-Some.is ∙ c.find_correction.ensures)
 
 pub returns-in-None : goal.returns-in-None
-returns-in-None c = ap (λ (o : Option Correction). option_map_or (λ x. x.factor) o (pos 0)) (sym c.in-None.is ∙ c.find_correction.ensures)
+returns-in-None c = ap (λ (o : Option Correction). option_map_or (λ x. x.factor) o (pos 0))
+    (sym c.in-None.is ∙ c.find_correction.ensures)

@@ -4,4 +4,5 @@ use Rattle.reg_account.specs.Years.{figure_years}
 use Rattle.reg_account.proofs.faults.are_of_rising_years.Given as goal
 
 abbrev pub invariant-loop-figure : goal.invariant-loop-figure
-invariant-loop-figure l = is_rising_from 0 (figure_years l.figures) ≡ is_rising_from l.low (figure_years (drop l.figure-index l.figures))
+invariant-loop-figure l =
+    is_rising_from 0 (figure_years l.figures) ≡ is_rising_from l.low (figure_years (drop l.figure-index l.figures))

@@ -4,4 +4,5 @@ use Rattle.reg_account.specs.Users.{user_numbers}
 use Rattle.reg_account.proofs.faults.have_rising_users.Given as goal
 
 abbrev pub invariant-loop-representative : goal.invariant-loop-representative
-invariant-loop-representative l = is_rising_from 0 (user_numbers l.users) ≡ is_rising_from l.low (user_numbers (drop l.representative-index l.users))
+invariant-loop-representative l =
+    is_rising_from 0 (user_numbers l.users) ≡ is_rising_from l.low (user_numbers (drop l.representative-index l.users))

@@ -15,9 +15,11 @@ loop-number-preserved c =
     let sum = c.loop-number.sum in
     let t = c.in-Some.tonnes in
     let named : c.unwrap-counted.result ≡ n = search rules in
-    let found : emissions_in a.emissions n ≡ Some t = ap (emissions_in a.emissions) (sym named) ∙ sym c.emissions.ensures.value ∙ c.in-Some.is in
+    let found : emissions_in a.emissions n ≡ Some t =
+    ap (emissions_in a.emissions) (sym named) ∙ sym c.emissions.ensures.value ∙ c.in-Some.is in
     let left : last - n ≡ suc (last - (n + 1)) = omega (arith, c.loop-number-test.true) in
-    let few : t ≤ MOST_EMISSIONS = subst (λ (o : Option ℕ). IfSome o (λ m. m ≤ MOST_EMISSIONS)) c.in-Some.is c.emissions.ensures.limit in
+    let few : t ≤ MOST_EMISSIONS =
+    subst (λ (o : Option ℕ). IfSome o (λ m. m ≤ MOST_EMISSIONS)) c.in-Some.is c.emissions.ensures.limit in
     record {
       so_far =
           sym (plus_plus sum t (emitted_or_missing a (count_up (n + 1) (last - (n + 1)))))

@@ -8,11 +8,14 @@ pub returns-clause-row : goal.returns-clause-row
 returns-clause-row c =
     let rows = c.args.rows.now in
     let d = c.index-rows-index.result in
-    item_at (λ v. v.number) 0 rows (from_zero _ c.requires.rising) c.args.index (get_or (row_numbers rows) c.args.index 0) d c.requires.within (sym (number_at rows c.args.index d c.requires.within))
+    item_at (λ v. v.number) 0 rows (from_zero _ c.requires.rising) c.args.index
+    (get_or (row_numbers rows) c.args.index 0) d c.requires.within
+    (sym (number_at rows c.args.index d c.requires.within))
     ∙ ap Some (sym c.index-rows-index.is)
 
 pub returns-clause-marked : goal.returns-clause-marked
 returns-clause-marked c =
     let rows = c.args.rows.now in
     let d = c.index-rows-index-2.result in
-    marked_set 0 rows (from_zero _ c.requires.rising) c.args.index (get_or (row_numbers rows) c.args.index 0) d c.requires.within (sym (number_at rows c.args.index d c.requires.within))
+    marked_set 0 rows (from_zero _ c.requires.rising) c.args.index (get_or (row_numbers rows) c.args.index 0) d
+    c.requires.within (sym (number_at rows c.args.index d c.requires.within))

@@ -10,7 +10,8 @@ use Rattle.reg_account.proofs.trusted.put_entry.Goals as goal
 
 pub returns-in-Ok-clause-ok : goal.returns-in-Ok-clause-ok
 returns-in-Ok-clause-ok c =
-    let searched = c.binary_search_by_key.ensures.position (λ v. v.account) (always_returns_same _ (λ a r. r ≡ a.0.now.account) _ (λ a r q k. search rules)) in
+    let searched = c.binary_search_by_key.ensures.position (λ v. v.account)
+    (always_returns_same _ (λ a r. r ≡ a.0.now.account) _ (λ a r q k. search rules)) in
     let found = rw c.in-Ok.is at searched in
     let within = rw c.in-Ok.is at c.binary_search_by_key.ensures.bound in
     let new = c.args.new in
@@ -22,11 +23,13 @@ returns-in-Ok-clause-ok c =
     ∙ ap (λ zs. set zs index new) c.deref_mut.ensures.value
     ∙ put_found (λ (v : TrustedEntry). v.account) 0 xs (from_zero _ c.requires) index new new
     (subst (λ (zs : List TrustedEntry). index < length zs) c.as_slice.ensures within)
-    (subst (λ (zs : List TrustedEntry). (get_or zs index new).account ≡ new.account) c.as_slice.ensures (number_found (λ (v : TrustedEntry). v.account) c.as_slice.result.now new.account index new found))
+    (subst (λ (zs : List TrustedEntry). (get_or zs index new).account ≡ new.account) c.as_slice.ensures
+    (number_found (λ (v : TrustedEntry). v.account) c.as_slice.result.now new.account index new found))
 
 pub returns-in_ok-insert-in-Err-clause-ok : goal.returns-in_ok-insert-in-Err-clause-ok
 returns-in_ok-insert-in-Err-clause-ok c =
-    let searched = c.binary_search_by_key.ensures.position (λ v. v.account) (always_returns_same _ (λ a r. r ≡ a.0.now.account) _ (λ a r q k. search rules)) in
+    let searched = c.binary_search_by_key.ensures.position (λ v. v.account)
+    (always_returns_same _ (λ a r. r ≡ a.0.now.account) _ (λ a r q k. search rules)) in
     let absent = rw c.in-Err.is at searched in
     let within = rw c.in-Err.is at c.binary_search_by_key.ensures.bound in
     let new = c.args.new in
@@ -34,4 +37,5 @@ returns-in_ok-insert-in-Err-clause-ok c =
     c.in_ok-insert-in-Err.ensures.ok
     ∙ put_absent (λ (v : TrustedEntry). v.account) c.args.entries.now.items (from_zero _ c.requires) index new
     (subst (λ (xs : List TrustedEntry). index ≤ length xs) c.as_slice.ensures within)
-    (subst (λ (xs : List TrustedEntry). IsBinarySearchResult (λ y. nat_cmp y.account new.account) xs (Err index)) c.as_slice.ensures absent)
+    (subst (λ (xs : List TrustedEntry). IsBinarySearchResult (λ y. nat_cmp y.account new.account) xs (Err index))
+    c.as_slice.ensures absent)

@@ -7,15 +7,21 @@ use Rattle.reg_account.proofs.users.find_right.Goals as goal
 
 pub returns-in-Ok : goal.returns-in-Ok
 returns-in-Ok c =
-    let searched = c.binary_search_by_key.ensures.position (λ v. v.user) (always_returns_same _ (λ a r. r ≡ a.0.now.user) _ (λ a r q k. search rules)) in
+    let searched = c.binary_search_by_key.ensures.position (λ v. v.user)
+    (always_returns_same _ (λ a r. r ≡ a.0.now.user) _ (λ a r q k. search rules)) in
     let found = rw c.in-Ok.is at searched in
     let within = rw c.in-Ok.is at c.binary_search_by_key.ensures.bound in
     let xs = c.args.users.now in
     let d = c.index-users-index.result in
-    sym (ap (option_map (λ (u : Representative). u.right)) (item_at (λ (v : Representative). v.user) 0 xs (from_zero _ c.requires) c.in-Ok.index c.args.user d within (number_found (λ (v : Representative). v.user) xs c.args.user c.in-Ok.index d found)))
+    sym (ap (option_map (λ (u : Representative). u.right))
+    (item_at (λ (v : Representative). v.user) 0 xs (from_zero _ c.requires) c.in-Ok.index c.args.user d within
+    (number_found (λ (v : Representative). v.user) xs c.args.user c.in-Ok.index d found)))
 
 pub returns-in-Err : goal.returns-in-Err
 returns-in-Err c =
-    let searched = c.binary_search_by_key.ensures.position (λ v. v.user) (always_returns_same _ (λ a r. r ≡ a.0.now.user) _ (λ a r q k. search rules)) in
+    let searched = c.binary_search_by_key.ensures.position (λ v. v.user)
+    (always_returns_same _ (λ a r. r ≡ a.0.now.user) _ (λ a r q k. search rules)) in
     let absent = rw c.in-Err.is at searched in
-    sym (ap (option_map (λ (u : Representative). u.right)) (none_found (λ (v : Representative). v.user) c.args.users.now c.args.user _ (from_zero _ c.requires) absent))
+    sym (ap (option_map (λ (u : Representative). u.right))
+    (none_found (λ (v : Representative). v.user) c.args.users.now c.args.user _
+    (from_zero _ c.requires) absent))

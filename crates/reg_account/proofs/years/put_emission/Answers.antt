@@ -8,18 +8,21 @@ use Rattle.reg_account.proofs.years.put_emission.Goals as goal
 
 pub returns-in-Ok-clause-ok : goal.returns-in-Ok-clause-ok
 returns-in-Ok-clause-ok c =
-    let searched = c.binary_search_by_key.ensures.position (λ v. v.year) (always_returns_same _ (λ a r. r ≡ a.0.now.year) _ (λ a r q k. search rules)) in
+    let searched = c.binary_search_by_key.ensures.position (λ v. v.year)
+    (always_returns_same _ (λ a r. r ≡ a.0.now.year) _ (λ a r q k. search rules)) in
     let found = rw c.in-Ok.is at searched in
     let within = rw c.in-Ok.is at c.binary_search_by_key.ensures.bound in
     let new = c.args.new in
     let index = c.in-Ok.index in
     put_found (λ (v : Emission). v.year) 0 c.args.emissions.now.items (from_zero _ c.requires) index new new
     (subst (λ (xs : List Emission). index < length xs) c.deref.ensures.value within)
-    (subst (λ (xs : List Emission). (get_or xs index new).year ≡ new.year) c.deref.ensures.value (number_found (λ (v : Emission). v.year) c.deref.result.now new.year index new found))
+    (subst (λ (xs : List Emission). (get_or xs index new).year ≡ new.year) c.deref.ensures.value
+    (number_found (λ (v : Emission). v.year) c.deref.result.now new.year index new found))
 
 pub returns-in_ok-insert-in-Err-clause-ok : goal.returns-in_ok-insert-in-Err-clause-ok
 returns-in_ok-insert-in-Err-clause-ok c =
-    let searched = c.binary_search_by_key.ensures.position (λ v. v.year) (always_returns_same _ (λ a r. r ≡ a.0.now.year) _ (λ a r q k. search rules)) in
+    let searched = c.binary_search_by_key.ensures.position (λ v. v.year)
+    (always_returns_same _ (λ a r. r ≡ a.0.now.year) _ (λ a r q k. search rules)) in
     let absent = rw c.in-Err.is at searched in
     let within = rw c.in-Err.is at c.binary_search_by_key.ensures.bound in
     let new = c.args.new in
@@ -27,4 +30,5 @@ returns-in_ok-insert-in-Err-clause-ok c =
     c.in_ok-insert-in-Err.ensures.items
     ∙ put_absent (λ (v : Emission). v.year) c.args.emissions.now.items (from_zero _ c.requires) index new
     (subst (λ (xs : List Emission). index ≤ length xs) c.deref.ensures.value within)
-    (subst (λ (xs : List Emission). IsBinarySearchResult (λ y. nat_cmp y.year new.year) xs (Err index)) c.deref.ensures.value absent)
+    (subst (λ (xs : List Emission). IsBinarySearchResult (λ y. nat_cmp y.year new.year) xs (Err index))
+    c.deref.ensures.value absent)

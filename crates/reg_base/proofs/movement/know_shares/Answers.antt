@@ -6,8 +6,12 @@ use Rattle.reg_base.proofs.movement.know_shares.Goals as goal
 
 pub returns-clause-accounts : goal.returns-clause-accounts
 returns-clause-accounts c =
-    All-map IsAccountNo (λ (share : Share). share.to) c.args.shares.now (λ k d lt. (c.loop-share.invariant k d (omega (arith, lt, c.loop-share-test.false, c.loop-share.auto.share-index-end))).0)
+    All-map IsAccountNo (λ (share : Share). share.to) c.args.shares.now
+    (λ k d lt. (c.loop-share.invariant k d
+    (omega (arith, lt, c.loop-share-test.false, c.loop-share.auto.share-index-end))).0)
 
 pub returns-clause-amounts : goal.returns-clause-amounts
 returns-clause-amounts c =
-    All-map (λ n. n < 2 ^ 64) (λ (share : Share). share.amount) c.args.shares.now (λ k d lt. (c.loop-share.invariant k d (omega (arith, lt, c.loop-share-test.false, c.loop-share.auto.share-index-end))).1)
+    All-map (λ n. n < 2 ^ 64) (λ (share : Share). share.amount) c.args.shares.now
+    (λ k d lt. (c.loop-share.invariant k d
+    (omega (arith, lt, c.loop-share-test.false, c.loop-share.auto.share-index-end))).1)

@@ -4,4 +4,5 @@ use Rattle.reg_base.specs.declared.shares.Share.{Share}
 use Rattle.reg_base.proofs.movement.know_shares.Given as goal
 
 abbrev pub invariant-loop-share : goal.invariant-loop-share
-invariant-loop-share l = (k : ℕ) (d : Share) → k < l.share-index → IsAccountNo (get_or l.shares k d).to × ((get_or l.shares k d).amount < 2 ^ 64)
+invariant-loop-share l = (k : ℕ) (d : Share) → k < l.share-index → IsAccountNo (get_or l.shares k d).to
+    × ((get_or l.shares k d).amount < 2 ^ 64)

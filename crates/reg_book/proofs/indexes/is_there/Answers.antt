@@ -9,9 +9,12 @@ use Rattle.reg_book.proofs.indexes.is_there.Goals as goal
 pub returns-in-Some-index_of : goal.returns-in-Some-index_of
 returns-in-Some-index_of c =
     let s = c.args.accounts.now in
-    sym (ap (λ (o : Option ℕ). option_map_or (is_known (directory_of s)) o true) c.in-Some.is ∙ known-there s c.in-Some-index_of.field-0 c.in-Some.number (stands-at s c.in-Some-index_of.field-0 c.in-Some.number c.in-Some-index_of.ensures))
+    sym (ap (λ (o : Option ℕ). option_map_or (is_known (directory_of s)) o true) c.in-Some.is
+    ∙ known-there s c.in-Some-index_of.field-0 c.in-Some.number
+    (stands-at s c.in-Some-index_of.field-0 c.in-Some.number c.in-Some-index_of.ensures))
 
 pub returns-in-None-index_of : goal.returns-in-None-index_of
 returns-in-None-index_of c =
     let s = c.args.accounts.now in
-    sym (ap (λ (o : Option ℕ). option_map_or (is_known (directory_of s)) o true) c.in-Some.is ∙ unknown-absent s c.in-Some.number c.in-None-index_of.ensures)
+    sym (ap (λ (o : Option ℕ). option_map_or (is_known (directory_of s)) o true) c.in-Some.is
+    ∙ unknown-absent s c.in-Some.number c.in-None-index_of.ensures)

@@ -10,5 +10,6 @@ invariant-loop-reply l = record {
   ends : goal.iterator-loop-reply.is_finite l.reply-iterator;
   counted : l.last ≡ l.batch.base + l.index;
   left : l.index + length l.reply-iterator.rest.items ≡ length l.batch.instructions;
-  so_far : l.rows.items ++ rows_from l.batch.day (l.last + 1) (drop l.index l.batch.instructions) l.reply-iterator.rest.items ≡ rows_replied l.batch l.fn.replies.items;
+  so_far : l.rows.items ++ rows_from l.batch.day (l.last + 1)
+      (drop l.index l.batch.instructions) l.reply-iterator.rest.items ≡ rows_replied l.batch l.fn.replies.items;
 }

@@ -13,15 +13,21 @@ turn_from-reply-requires t c =
     let cases = c.in-Some.ensures.cases in
     let left = subst (λ ps. AreIndexesLeft c.args.count (numbers s) ps wanted) cases.0 c.requires.left in
     let first = left.are_left.0 in
-    let moved = numbers-swap s c.swap.new.self c.args.count index (omega (arith, first.behind, first.within, size-numbers s)) (omega (arith, first.within, size-numbers s)) c.swap.ensures.after in
+    let moved = numbers-swap s c.swap.new.self c.args.count index
+    (omega (arith, first.behind, first.within, size-numbers s)) (omega (arith, first.within, size-numbers s))
+    c.swap.ensures.after in
     let d = c.decreases in (
       omega (arith, cases.1, d, ap length c.rename.ensures),
       (
-        distinct-swap s c.swap.new.self c.args.count index (omega (arith, first.behind, first.within, size-numbers s)) (omega (arith, first.within, size-numbers s)) c.requires.distinct c.swap.ensures.after,
+        distinct-swap s c.swap.new.self c.args.count index (omega (arith, first.behind, first.within, size-numbers s))
+            (omega (arith, first.within, size-numbers s)) c.requires.distinct c.swap.ensures.after,
         (
-          behind-swap c.args.number s c.swap.new.self c.args.count index (omega (arith, first.behind, first.within, size-numbers s)) (omega (arith, first.within, size-numbers s)) c.requires.behind c.swap.ensures.after,
+          behind-swap c.args.number s c.swap.new.self c.args.count index
+              (omega (arith, first.behind, first.within, size-numbers s)) (omega (arith, first.within, size-numbers s))
+              c.requires.behind c.swap.ensures.after,
           subst (λ ps. AreIndexesLeft (c.args.count + 1) (numbers c.swap.new.self) ps wanted) (sym c.rename.ensures)
-              (left-more c.args.count (numbers s) (numbers c.swap.new.self) wanted index c.in-Some.later.now moved left),
+              (left-more c.args.count (numbers s) (numbers c.swap.new.self) wanted index c.in-Some.later.now moved
+              left),
         ),
       ),
     )
@@ -31,9 +37,11 @@ returns-in-Some t c =
     let s = c.args.accounts.now in
     let wanted = footprint c.args.setting.now.directory c.args.instruction.now.act in
     let index = c.in-Some.first.now in
-    let left = subst (λ ps. AreIndexesLeft c.args.count (numbers s) ps wanted) c.in-Some.ensures.cases.0 c.requires.left in
+    let left = subst (λ ps. AreIndexesLeft c.args.count (numbers s) ps wanted) c.in-Some.ensures.cases.0
+    c.requires.left in
     let first = left.are_left.0 in
     let setting = c.args.setting.now in
     swapped-turn c.step_laws.ensures setting s c.swap.new.self c.turn_from-reply.new.accounts c.swap-in-Some.new.self
     c.args.number c.args.instruction.now c.turn_from-reply.result c.args.count index
-    (omega (arith, first.behind, first.within, size-numbers s)) (omega (arith, first.within, size-numbers s)) c.requires.distinct c.swap.ensures.after c.turn_from-reply.ensures c.swap-in-Some.ensures.after
+    (omega (arith, first.behind, first.within, size-numbers s)) (omega (arith, first.within, size-numbers s))
+    c.requires.distinct c.swap.ensures.after c.turn_from-reply.ensures c.swap-in-Some.ensures.after

@@ -5,5 +5,6 @@ use Rattle.reg_book.proofs.turn.rename.Goals as goal
 
 pub loop-index-preserved : goal.loop-index-preserved
 loop-index-preserved c =
-    renamed-more (renamed c.args.from c.args.to) c.args.indexes.now c.loop-index.indexes c.loop-index.index-index c.renamed.result
+    renamed-more (renamed c.args.from c.args.to) c.args.indexes.now c.loop-index.indexes c.loop-index.index-index
+    c.renamed.result
     (omega arith) (search rules) c.loop-index.invariant c.renamed.ensures

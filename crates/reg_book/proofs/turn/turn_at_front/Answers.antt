@@ -13,7 +13,8 @@ use Rattle.reg_base.specs.Footprint.{footprint}
 use Rattle.reg_book.proofs.turn.turn_at_front.Goals as goal
 
 pub execute-requires-clause-own : goal.execute-requires-clause-own
-execute-requires-clause-own c = sym (take-map (λ v. v.number) c.args.count c.args.accounts.now) ∙ c.requires.first ∙ ap (λ (k : Setting). footprint k.directory c.args.instruction.now.act) (sym c.setting.view_is)
+execute-requires-clause-own c = sym (take-map (λ v. v.number) c.args.count c.args.accounts.now) ∙ c.requires.first
+    ∙ ap (λ (k : Setting). footprint k.directory c.args.instruction.now.act) (sym c.setting.view_is)
 
 pub execute-requires-clause-behind : goal.execute-requires-clause-behind
 execute-requires-clause-behind c = All-take (IsBehind c.args.number) c.args.count c.args.accounts.now c.requires.behind
@@ -22,4 +23,7 @@ pub returns-clause-ok : goal.returns-clause-ok
 returns-clause-ok c =
     front-turn c.step_laws.ensures c.args.setting.now c.args.accounts.now c.execute.new.accounts
     c.args.number c.args.instruction.now c.execute.result c.args.count c.requires.distinct c.requires.first
-    (subst (λ (k : Setting). IfOk c.execute.result (λ reply. ◌≡◌ {A = State × Reply} (c.execute.new.accounts, reply) (step k (take c.args.count c.args.accounts.now) c.args.number c.args.instruction.now))) c.setting.view_is c.execute.ensures.ok)
+    (subst (λ (k : Setting). IfOk c.execute.result
+    (λ reply. ◌≡◌ {A = State × Reply} (c.execute.new.accounts, reply)
+    (step k (take c.args.count c.args.accounts.now) c.args.number c.args.instruction.now))) c.setting.view_is
+    c.execute.ensures.ok)

@@ -3,4 +3,5 @@ use Rattle.reg_cuts.proofs.Splits.{no-mark}
 use Rattle.reg_cuts.proofs.parts.has_no_mark.Goals as goal
 
 pub returns : goal.returns
-returns c = λ yes. no-mark c.args.part.now (λ is. let first = c.first.ensures.value in let copied = c.copied.ensures in let other = c.ne.ensures in absurd (grind arith))
+returns c = λ yes. no-mark c.args.part.now (λ is. let first = c.first.ensures.value in let copied = c.copied.ensures in
+    let other = c.ne.ensures in absurd (grind arith))

@@ -9,14 +9,18 @@ pub returns-then-count-filled-clause-fault : goal.returns-then-count-filled-clau
 returns-then-count-filled-clause-fault g c =
     let before = c.loop-call.invariant in
     let read = c.in-Ok.ensures in
-    let given = filled_more _ _ _ c.loop-call.text.items _ _ _ _ c.in-Ok.count c.make_room.ensures.front c.as_mut_slice.ensures.value read.front before.lost read.given in
-    (record { good = read.good ∙ before.good; given = (_, given) }, longer _ _ _ _ given (longer_filled _ _ _ _ read.fits c.if-count-filled.true))
+    let given = filled_more _ _ _ c.loop-call.text.items _ _ _ _ c.in-Ok.count c.make_room.ensures.front
+    c.as_mut_slice.ensures.value read.front before.lost read.given in (
+      record { good = read.good ∙ before.good; given = (_, given) },
+      longer _ _ _ _ given (longer_filled _ _ _ _ read.fits c.if-count-filled.true),
+    )
 
 pub loop-call-preserved : goal.loop-call-preserved
 loop-call-preserved g c =
     let before = c.loop-call.invariant in
     let read = c.in-Ok.ensures in
-    let given = filled_more _ _ _ c.loop-call.text.items _ _ _ _ c.in-Ok.count c.make_room.ensures.front c.as_mut_slice.ensures.value read.front before.lost read.given in
+    let given = filled_more _ _ _ c.loop-call.text.items _ _ _ _ c.in-Ok.count c.make_room.ensures.front
+    c.as_mut_slice.ensures.value read.front before.lost read.given in
     record {
       good = read.good ∙ before.good;
       lost = rw (with_items_is c.make_room.new.text c.read_behind.new.text (search (rules, places))) given;

@@ -8,7 +8,8 @@ use Rattle.reg_front.proofs.device.read_all.Given as goal
 abbrev pub invariant-loop-call : goal.invariant-loop-call
 invariant-loop-call g l = record {
   good : IsGood (g.R.Source.stream l.initial.reader) (g.R.Source.stream l.reader);
-  lost : Consumes (g.R.Source.stream l.initial.reader).bytes (g.R.Source.stream l.reader).bytes (take l.filled l.text.items);
+  lost : Consumes (g.R.Source.stream l.initial.reader).bytes (g.R.Source.stream l.reader).bytes
+      (take l.filled l.text.items);
   within : l.filled ≤ vec_len l.text;
   limit : l.filled ≤ MOST_INPUT;
   calls : l._call ≤ l.filled;

@@ -9,5 +9,6 @@ returns-clause-front g c = take_put _ _ c.args.text.now _ (omega (arith, c.requi
 
 pub returns-clause-given : goal.returns-clause-given
 returns-clause-given g c =
-    given_behind _ _ c.read.result _ c.read.new.buf _ c.args.filled (length-take-le _ c.args.text.now (omega (arith, c.requires.room)))
+    given_behind _ _ c.read.result _ c.read.new.buf _ c.args.filled
+    (length-take-le _ c.args.text.now (omega (arith, c.requires.room)))
     c.read.ensures.bound c.read.ensures.bytes

@@ -6,5 +6,6 @@ use Rattle.reg_front.proofs.engine.answer.Goals as goal
 pub returns-then-is_err : goal.returns-then-is_err
 returns-then-is_err g c =
     let took = of_failed _ (sym c.is_err.ensures.value ∙ c.if-is_err.true) c.write_all.ensures.err in
-    failed_write _ _ _ _ _ _ _ _ c.in_ok-day.ensures.ok c.in_ok-day.ensures.whole c.in_ok-used.ensures.0 c.in_ok-used.ensures.1
+    failed_write _ _ _ _ _ _ _ _ c.in_ok-day.ensures.ok c.in_ok-day.ensures.whole c.in_ok-used.ensures.0
+    c.in_ok-used.ensures.1
     c.as_slice.ensures.value took

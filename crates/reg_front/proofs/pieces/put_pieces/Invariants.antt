@@ -8,5 +8,6 @@ use Rattle.reg_front.proofs.pieces.put_pieces.Given as goal
 abbrev pub invariant-loop-piece : goal.invariant-loop-piece
 invariant-loop-piece g l = record {
   good : IsGood (g.W.Sink.stream l.initial.writer) (g.W.Sink.stream l.writer);
-  done : Appends (g.W.Sink.stream l.initial.writer).bytes (g.W.Sink.stream l.writer).bytes (text_of_pieces (take l.piece-index l.pieces));
+  done : Appends (g.W.Sink.stream l.initial.writer).bytes (g.W.Sink.stream l.writer).bytes
+      (text_of_pieces (take l.piece-index l.pieces));
 }

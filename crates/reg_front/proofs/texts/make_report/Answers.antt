@@ -14,6 +14,9 @@ returns g c =
     let pieces = text_of_pieces c.in_ok-pieces.pieces.items in (
       c.in_ok-closed.ensures.0,
       ap (λ (end : List ℕ). pieces ++ end) c.new.ensures.items ∙ append-nil pieces
-          ∙ reported c.log_is_made_again.ensures (day_of_input c.args.day) closed.book closed.replies.items pieces c.in_ok-closed.ensures.1 c.in_ok-closed.ensures.2
-          (c.in_ok-pieces.ensures ∙ ap (λ (rs : List Reply). text_of (report_rows closed.book (rows_replied c.args.day.batch rs))) c.as_slice-replies.ensures.value),
+          ∙ reported c.log_is_made_again.ensures (day_of_input c.args.day) closed.book closed.replies.items pieces
+          c.in_ok-closed.ensures.1 c.in_ok-closed.ensures.2
+          (c.in_ok-pieces.ensures ∙ ap
+          (λ (rs : List Reply). text_of (report_rows closed.book (rows_replied c.args.day.batch rs)))
+          c.as_slice-replies.ensures.value),
     )

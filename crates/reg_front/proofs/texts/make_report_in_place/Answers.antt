@@ -11,7 +11,11 @@ use Rattle.reg_front.proofs.texts.make_report_in_place.Goals as goal
 pub returns : goal.returns
 returns c =
     let closed = c.in_ok-closed.closed in
-    ap (λ (pieces : List (Vec ℕ Global)). text_of_pieces pieces ++ c.used_for.result.text.items) c.used_for.ensures.pieces
+    ap (λ (pieces : List (Vec ℕ Global)). text_of_pieces pieces ++ c.used_for.result.text.items)
+    c.used_for.ensures.pieces
     ∙ ap (λ (text : Vec ℕ Global). text.items) c.used_for.ensures.text
-    ∙ reported c.log_is_made_again.ensures (day_of_input c.args.day) closed.book closed.replies.items c.in_ok-text.text.items c.in_ok-closed.ensures.book c.in_ok-closed.ensures.replies
-    (c.in_ok-text.ensures ∙ ap (λ (rs : List Reply). text_of (report_rows closed.book (rows_replied c.args.day.batch rs))) c.as_slice.ensures.value)
+    ∙ reported c.log_is_made_again.ensures (day_of_input c.args.day) closed.book closed.replies.items
+    c.in_ok-text.text.items c.in_ok-closed.ensures.book c.in_ok-closed.ensures.replies
+    (c.in_ok-text.ensures ∙ ap
+    (λ (rs : List Reply). text_of (report_rows closed.book (rows_replied c.args.day.batch rs)))
+    c.as_slice.ensures.value)

@@ -10,7 +10,9 @@ use Rattle.reg_graph.proofs.delivery.put_dock.Goals as goal
 pub returns-clause-there : goal.returns-clause-there
 returns-clause-there g c =
     map-set (option_map (λ came. parcels_of came.items)) c.args.docks.now.items (c.args.place - 1) (Some c.args.came)
-    ∙ sym (placed (docks_of c.args.docks.now.items) c.args.place (Some (parcels_of c.args.came.items)) c.requires.from_one)
+    ∙ sym (placed (docks_of c.args.docks.now.items) c.args.place (Some (parcels_of c.args.came.items))
+    c.requires.from_one)
 
 pub returns-clause-rooms : goal.returns-clause-rooms
-returns-clause-rooms g c = λ day rooms room. room-there day c.args.docks.now.items c.args.place c.args.came c.requires.from_one rooms room
+returns-clause-rooms g c =
+    λ day rooms room. room-there day c.args.docks.now.items c.args.place c.args.came c.requires.from_one rooms room

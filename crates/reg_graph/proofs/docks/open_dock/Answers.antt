@@ -16,9 +16,14 @@ pub opening-requires : goal.opening-requires
 opening-requires g c =
     let day = day_of c.args.context.now.book c.args.context.now.rules.now c.args.context.now.batch.now in
     let a = c.account-item.result in
-    let there = among-at c.touched_at-accounts.result.now c.loop-account.account-index a c.loop-account-test.true c.account-item.is in
-    let own : is_among (footprint_at day c.args.place) a ≡ true = ap (λ ns. is_among ns a) (sym c.touched_at-accounts.ensures.value) ∙ there in
-    record { touched = touched_from (directory day) day.batch.instructions a c.args.place (sym (footprint_touches day c.args.place a) ∙ own) }
+    let there = among-at c.touched_at-accounts.result.now c.loop-account.account-index a c.loop-account-test.true
+    c.account-item.is in
+    let own : is_among (footprint_at day c.args.place) a ≡ true =
+    ap (λ ns. is_among ns a) (sym c.touched_at-accounts.ensures.value) ∙ there in
+    record {
+      touched = touched_from (directory day) day.batch.instructions a c.args.place
+          (sym (footprint_touches day c.args.place a) ∙ own);
+    }
 
 pub returns-clause-room : goal.returns-clause-room
 returns-clause-room g c = c.loop-account.invariant.room ∙ ap length c.touched_at-accounts.ensures.value

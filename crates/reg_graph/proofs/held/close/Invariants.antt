@@ -11,9 +11,15 @@ invariant-loop-parcel g l = record {
   ends : (goal.iterator-loop-parcel g).is_finite l.parcel-iterator;
   low : 1 ≤ l.place;
   high : l.place ≤ length l.context.batch.now.instructions;
-  kept : parcels_of l.kept.items ++ filter (λ p. leads_on l.context.plan l.place p.value.number) (parcels_of l.parcel-iterator.rest.items) ≡ filter (λ p. leads_on l.context.plan l.place p.value.number) (parcels_of l.fn.parcels.items);
-  closing : l.closing.items ++ map (λ p. p.value) (filter (λ p. not (leads_on l.context.plan l.place p.value.number)) (parcels_of l.parcel-iterator.rest.items))
-      ≡ l.initial.closing.items ++ map (λ p. p.value) (filter (λ p. not (leads_on l.context.plan l.place p.value.number)) (parcels_of l.fn.parcels.items));
+  kept : parcels_of l.kept.items ++ filter (λ p. leads_on l.context.plan l.place p.value.number)
+      (parcels_of l.parcel-iterator.rest.items)
+      ≡ filter (λ p. leads_on l.context.plan l.place p.value.number) (parcels_of l.fn.parcels.items);
+  closing : l.closing.items
+      ++ map (λ p. p.value) (filter (λ p. not (leads_on l.context.plan l.place p.value.number))
+      (parcels_of l.parcel-iterator.rest.items))
+      ≡ l.initial.closing.items
+      ++ map (λ p. p.value) (filter (λ p. not (leads_on l.context.plan l.place p.value.number))
+      (parcels_of l.fn.parcels.items));
   fits : vec_len l.kept + length l.parcel-iterator.rest.items ≤ vec_capacity l.kept;
   room : vec_len l.closing + length l.parcel-iterator.rest.items ≤ vec_capacity l.closing;
 }

@@ -10,4 +10,6 @@ returns-clause-before c =
     let n = end_at c.args.end in
     let arrows = c.args.arrows.now in
     let place = c.args.place in
-    as_numbers n place arrows c.partition_point.result (IsPartitionPoint-from_clause (λ (w : Arrow). ltb (n w) place) _ _ c.partition_point.ensures.partitioned (IsPartitionedBy-ltb n arrows place c.requires) (λ a r q k. search rules))
+    as_numbers n place arrows c.partition_point.result
+    (IsPartitionPoint-from_clause (λ (w : Arrow). ltb (n w) place) _ _ c.partition_point.ensures.partitioned
+    (IsPartitionedBy-ltb n arrows place c.requires) (λ a r q k. search rules))

@@ -12,6 +12,8 @@ loop-arrow-preserved c =
     let levels = c.loop-arrow.levels in
     let k = c.loop-arrow.arrow-index in
     let w = c.arrow-item.result in
-    let between : All (IsBetween (length levels)) c.args.arrows.now = subst (λ n. All (IsBetween n) c.args.arrows.now) (sym c.loop-arrow.auto.levels) c.requires.between in
+    let between : All (IsBetween (length levels)) c.args.arrows.now =
+    subst (λ n. All (IsBetween n) c.args.arrows.now) (sym c.loop-arrow.auto.levels) c.requires.between in
     subst (λ v. AreRaised (take (k + 1) c.args.arrows.now) (set levels (w.to - 1) v)) (sym c.max.ensures)
-    (raised_more c.args.arrows.now k w levels c.loop-arrow-test.true c.arrow-item.is c.requires.by_head between c.loop-arrow.invariant)
+    (raised_more c.args.arrows.now k w levels c.loop-arrow-test.true c.arrow-item.is c.requires.by_head between
+    c.loop-arrow.invariant)

@@ -6,5 +6,6 @@ use Rattle.reg_plan.proofs.order.check_numbers.Given as goal
 abbrev pub invariant-loop-index : goal.invariant-loop-index
 invariant-loop-index l = record {
   marks : AreMarks (take l.index l.order) l.came;
-  left : first_fault_after l.arrows (length l.came) (take l.index l.order) (drop l.index l.order) ≡ first_fault_after l.arrows (length l.initial.came) [] l.order;
+  left : first_fault_after l.arrows (length l.came) (take l.index l.order) (drop l.index l.order)
+      ≡ first_fault_after l.arrows (length l.initial.came) [] l.order;
 }

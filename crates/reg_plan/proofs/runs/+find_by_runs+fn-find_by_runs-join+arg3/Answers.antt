@@ -12,5 +12,7 @@ returns g t c =
     let size = c.min-size.result in
     let first : IsFound d c.args.first run c.in_ok-front.field-0 = search rules in
     let behind : IsFound d (c.args.first + size) rest c.in_ok-back.field-0 = search rules in
-    subst (λ (is : List Instruction). IfOk c.append.result (IsFound d c.args.first is)) (sym c.split_at.ensures.by_index.0)
-    (ok_both d c.args.first size run rest c.in_ok-front.field-0 c.in_ok-back.field-0 c.append.result (sym c.split_at.ensures.front_len) first behind c.append.ensures.touched c.append.ensures.touches)
+    subst (λ (is : List Instruction). IfOk c.append.result (IsFound d c.args.first is))
+    (sym c.split_at.ensures.by_index.0)
+    (ok_both d c.args.first size run rest c.in_ok-front.field-0 c.in_ok-back.field-0 c.append.result
+    (sym c.split_at.ensures.front_len) first behind c.append.ensures.touched c.append.ensures.touches)

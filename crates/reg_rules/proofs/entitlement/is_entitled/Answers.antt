@@ -8,4 +8,5 @@ pub returns-in-Administrators : goal.returns-in-Administrators
 returns-in-Administrators c =
     let a = c.args in
     is-among a.rules.now.admins a.user c.is_admin.result c.is_admin.ensures
-    ∙ sym (ap (λ who. is_entitled a.rules.now who a.role (account a.accounts.now a.number) a.user) c.in-Administrators.is)
+    ∙ sym (ap (λ who. is_entitled a.rules.now who a.role (account a.accounts.now a.number) a.user)
+    c.in-Administrators.is)

@@ -10,5 +10,8 @@ pub returns-in-Some : goal.returns-in-Some
 returns-in-Some c =
     let a = c.args in
     c.becomes_negative.ensures
-    ∙ ap (λ o. option_map_or (λ (latest : Figure). becomes_negative a.rules.now a.number a.account.now latest.year) o false)
-    (sym c.in-Some.is ∙ c.latest_determined.ensures ∙ ap (λ (figures : List Figure). find (λ f. is_year_of a.rules.now a.period f.year) (reverse figures)) c.all_figures.ensures.value)
+    ∙ ap (λ o. option_map_or (λ (latest : Figure). becomes_negative a.rules.now a.number a.account.now latest.year) o
+    false)
+    (sym c.in-Some.is ∙ c.latest_determined.ensures
+    ∙ ap (λ (figures : List Figure). find (λ f. is_year_of a.rules.now a.period f.year) (reverse figures))
+    c.all_figures.ensures.value)

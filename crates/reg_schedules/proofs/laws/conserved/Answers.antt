@@ -10,10 +10,14 @@ returns c = λ day plan is_day made.
     record {
       one_by_one = c.fold_conserves.ensures day is_day;
       orders = λ order end legal e.
-          let ends : IsSettledDay day end = subst (λ o. MatchOption o ⊥ (IsSettledDay day)) e ((c.every_order.ensures day plan order made).legal legal) in
+          let ends : IsSettledDay day end =
+          subst (λ o. MatchOption o ⊥ (IsSettledDay day)) e
+          ((c.every_order.ensures day plan order made).legal legal) in
           by end.closing ends.closing;
       schedules = λ workers events world some e over.
           let carried = c.each_schedule_is_an_order.ensures day plan workers events world made some e in
-          let ends : IsSettledDay day carried.progress = subst (λ o. MatchOption o ⊥ (IsSettledDay day)) carried.made.meaning ((c.every_order.ensures day plan carried.order made).legal (carried.complete over)) in
+          let ends : IsSettledDay day carried.progress =
+          subst (λ o. MatchOption o ⊥ (IsSettledDay day)) carried.made.meaning
+          ((c.every_order.ensures day plan carried.order made).legal (carried.complete over)) in
           by (λ a. _) (λ a. sym (carried.made.closing a) ∙ ends.closing a);
     }

@@ -24,6 +24,8 @@ returns c = λ day plan workers events world made some e.
       made = h.ordered.is_of;
       pool = each-in-pool known day plan made workers h.order world h.whole h.ordered;
       lies = each-lies known day plan made workers h.order world h.whole h.ordered;
-      legal = begins-legal known c.no_fault_is_a_legal_order.ensures day plan made (suc (left_to_do plan world)) workers h.order world h.whole h.ordered (omega arith);
-      complete = legal-order known c.no_fault_is_a_legal_order.ensures day plan made workers h.order world h.whole h.ordered;
+      legal = begins-legal known c.no_fault_is_a_legal_order.ensures day plan made (suc (left_to_do plan world)) workers
+          h.order world h.whole h.ordered (omega arith);
+      complete = legal-order known c.no_fault_is_a_legal_order.ensures day plan made workers h.order world h.whole
+          h.ordered;
     }

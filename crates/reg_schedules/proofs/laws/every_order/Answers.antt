@@ -13,4 +13,5 @@ returns c = λ day plan order made.
       last = c.last_toucher_is_last.ensures;
       tails = c.tails_are_last_touchers.ensures;
     } in
-    order_decides known day plan made c.untouched_stay.ensures.accounts c.settled_is_closing.ensures.settled c.no_fault_is_a_legal_order.ensures order
+    order_decides known day plan made c.untouched_stay.ensures.accounts c.settled_is_closing.ensures.settled
+    c.no_fault_is_a_legal_order.ensures order

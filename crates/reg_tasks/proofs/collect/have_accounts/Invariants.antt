@@ -8,5 +8,6 @@ use Rattle.reg_tasks.proofs.collect.have_accounts.Given as goal
 -- what is left answers as all do
 abbrev pub invariant-loop-index : goal.invariant-loop-index
 invariant-loop-index g l =
-    have_accounts (opened_accounts (drop l.index l.context.plan.openings)) (names_of (parcels_in (drop l.index l.parcels)))
+    have_accounts (opened_accounts (drop l.index l.context.plan.openings))
+    (names_of (parcels_in (drop l.index l.parcels)))
     ≡ have_accounts (opened_accounts l.context.plan.openings) (names_of (parcels_in l.parcels))

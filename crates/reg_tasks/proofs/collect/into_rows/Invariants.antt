@@ -9,5 +9,6 @@ invariant-loop-one g l = record {
   next : (goal.iterator-loop-one g).can_next l.one-iterator;
   ends : (goal.iterator-loop-one g).is_finite l.one-iterator;
   within : AreWithin (length l.context.batch.now.instructions) l.one-iterator.rest.items;
-  rows : map Some l.rows.items ++ rows_in (the_day l.context) l.one-iterator.rest.items ≡ rows_in (the_day l.context) l.fn.done.items;
+  rows : map Some l.rows.items ++ rows_in (the_day l.context) l.one-iterator.rest.items
+      ≡ rows_in (the_day l.context) l.fn.done.items;
 }

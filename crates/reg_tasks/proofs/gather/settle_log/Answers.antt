@@ -36,7 +36,8 @@ settle-requires g c =
             (names_of (parcels_in lasts)) numbers (each_last d e lasts) in
             c.in_ok-closing.ensures
             ∙ settled_from c.settled_is_closing.ensures.settled c.settled_is_of_book.ensures.in_order
-            c.value_is_last_touchers.ensures d (subst IsDay (context.named d e) c.is_day.ensures) e (parcels_in lasts) is
+            c.value_is_last_touchers.ensures d (subst IsDay (context.named d e) c.is_day.ensures) e
+            (parcels_in lasts) is
             accounts rising numbers;
       };
     }

@@ -10,7 +10,8 @@ use Rattle.reg_tasks.specs.Gathering.{AreLast, are_outcomes, places_of, rows_in}
 use Rattle.reg_tasks.specs.LastParcels.{parcels_in}
 use Rattle.reg_tasks.specs.Parcels.{names_of}
 use Rattle.reg_tasks.specs.Slots.{opened_accounts}
-use Rattle.reg_tasks.proofs.Collecting.{outcomes_tested, accounts_tested, all_last, each_last, all_within, log_from, settled_from}
+use Rattle.reg_tasks.proofs.Collecting.{outcomes_tested, accounts_tested, all_last, each_last, all_within, log_from}
+use Rattle.reg_tasks.proofs.Collecting.{settled_from}
 use Rattle.reg_tasks.proofs.gather.settle_sorted.Goals as goal
 
 pub into_rows-requires : goal.into_rows-requires
@@ -56,11 +57,13 @@ settle-requires g c =
             let planned = subst (λ (x : Day). ∥ IsPlan (directory x) x.batch.instructions plan ∥₁) (context.named d e)
             context.planned in
             let is : AreLast d names =
-            all_last c.tails_are_last_touchers.ensures c.last_toucher_is_last.ensures d plan planned rising names numbers
+            all_last c.tails_are_last_touchers.ensures c.last_toucher_is_last.ensures d plan planned rising names
+            numbers
             (each_last d e lasts) in
             c.in_ok-accounts.ensures
             ∙ settled_from c.settled_is_closing.ensures.settled c.settled_is_of_book.ensures.in_order
-            c.value_is_last_touchers.ensures d (subst IsDay (context.named d e) c.is_day.ensures) e (parcels_in lasts) is
+            c.value_is_last_touchers.ensures d (subst IsDay (context.named d e) c.is_day.ensures) e
+            (parcels_in lasts) is
             accounts rising numbers;
       };
     }

@@ -5,4 +5,6 @@ use Rattle.reg_tasks.proofs.gather.sort_accounts.Goals as goal
 
 pub returns-clause-sorted : goal.returns-clause-sorted
 returns-clause-sorted c =
-    IsNonDecreasingBy-from_sort (λ account. account.number) c.sort_unstable_by_key.new.self (c.sort_unstable_by_key.ensures.sorted (λ account. account.number) (always_returns_same _ (λ a r. r ≡ a.0.now.number) _ (λ a r q k. search rules)))
+    IsNonDecreasingBy-from_sort (λ account. account.number) c.sort_unstable_by_key.new.self
+    (c.sort_unstable_by_key.ensures.sorted (λ account. account.number)
+    (always_returns_same _ (λ a r. r ≡ a.0.now.number) _ (λ a r q k. search rules)))

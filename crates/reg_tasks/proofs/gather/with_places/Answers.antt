@@ -21,9 +21,11 @@ loop-row-init g c = record {
 
 pub new-requires : goal.new-requires
 new-requires g c = λ d e.
-    let left = subst (AllByRecursion (λ row. ∥ IsLogged d row ∥₁)) c.in-Some.ensures.steps.0 (c.loop-row.invariant.right d e) in
+    let left = subst (AllByRecursion (λ row. ∥ IsLogged d row ∥₁)) c.in-Some.ensures.steps.0
+    (c.loop-row.invariant.right d e) in
     ∥∥₁_elim left.0 (Prim.hlevel props) (λ is.
-    let base : c.args.context.now.batch.now.base ≡ d.batch.base = ap (λ (x : Day). x.batch.base) (c.args.context.now.named d e) in
+    let base : c.args.context.now.batch.now.base ≡ d.batch.base =
+    ap (λ (x : Day). x.batch.base) (c.args.context.now.named d e) in
     let same : is.place ≡ c.in-Some-place_of.place = omega (arith, is.number, base, c.in-Some-place_of.ensures) in
     subst (λ q. row_at d q ≡ Some c.in-Some.row) same is.at)
 
@@ -31,11 +33,15 @@ pub loop-row-preserved : goal.loop-row-preserved
 loop-row-preserved g c = record {
   next = search rules;
   ends = search rules;
-  right = λ d e. (subst (AllByRecursion (λ row. ∥ IsLogged d row ∥₁)) c.in-Some.ensures.steps.0 (c.loop-row.invariant.right d e)).1;
+  right = λ d e. (subst (AllByRecursion (λ row. ∥ IsLogged d row ∥₁)) c.in-Some.ensures.steps.0
+      (c.loop-row.invariant.right d e)).1;
   room = search rules;
   rows =
       let base = c.args.context.now.batch.now.base in
-      let number : c.new.result.place + base ≡ c.in-Some.row.number = omega (arith, c.new.ensures.place, c.in-Some-place_of.ensures) in
-      reply_more base c.loop-row.done.items c.push_reserved.new.self.items c.new.result c.in-Some.row c.next.new.self.rest.items c.args.rows.items c.push_reserved.ensures.items number c.new.ensures.reply
-      (ap (λ rs. replies_from base c.loop-row.done.items ++ replies_by_number rs) (sym c.in-Some.ensures.steps.0) ∙ c.loop-row.invariant.rows);
+      let number : c.new.result.place + base ≡ c.in-Some.row.number =
+      omega (arith, c.new.ensures.place, c.in-Some-place_of.ensures) in
+      reply_more base c.loop-row.done.items c.push_reserved.new.self.items c.new.result c.in-Some.row
+      c.next.new.self.rest.items c.args.rows.items c.push_reserved.ensures.items number c.new.ensures.reply
+      (ap (λ rs. replies_from base c.loop-row.done.items ++ replies_by_number rs) (sym c.in-Some.ensures.steps.0)
+      ∙ c.loop-row.invariant.rows);
 }

@@ -12,5 +12,6 @@ invariant-loop-row g l = record {
   ends : (goal.iterator-loop-row g).is_finite l.row-iterator;
   right : (d : Day) → g.N.Naming.day ≡ Some d → AllByRecursion (λ row. ∥ IsLogged d row ∥₁) l.row-iterator.rest.items;
   room : vec_len l.done + length l.row-iterator.rest.items ≤ vec_capacity l.done;
-  rows : replies_from l.context.batch.now.base l.done.items ++ replies_by_number l.row-iterator.rest.items ≡ replies_by_number l.fn.rows.items;
+  rows : replies_from l.context.batch.now.base l.done.items ++ replies_by_number l.row-iterator.rest.items
+      ≡ replies_by_number l.fn.rows.items;
 }

@@ -4,5 +4,8 @@ use Rattle.reg_tasks.proofs.needs.find_from.Goals as goal
 
 pub loop-index-preserved : goal.loop-index-preserved
 loop-index-preserved g c =
-    none_more c.args.parcels.now c.args.from c.loop-index.index c.index-parcels-index.result (c.args.account, c.args.after) c.loop-index-test.true c.index-parcels-index.is
+    none_more c.args.parcels.now c.args.from c.loop-index.index c.index-parcels-index.result (
+      c.args.account,
+      c.args.after,
+    ) c.loop-index-test.true c.index-parcels-index.is
     (sym c.if-is_named.ensures) c.loop-index.invariant

@@ -7,5 +7,6 @@ use Rattle.reg_tasks.proofs.needs.has_each.Given as goal
 -- what is left answers as all do
 abbrev pub invariant-loop-account : goal.invariant-loop-account
 invariant-loop-account g l =
-    list_all (λ w. list_any (λ n. is_name n w) (names_of l.parcels)) (names_needed l.arrows (drop l.account-index l.accounts))
+    list_all (λ w. list_any (λ n. is_name n w) (names_of l.parcels))
+    (names_needed l.arrows (drop l.account-index l.accounts))
     ≡ list_all (λ w. list_any (λ n. is_name n w) (names_of l.parcels)) (names_needed l.arrows l.accounts)

@@ -6,4 +6,5 @@ use Rattle.reg_tasks.proofs.needs.has_name.Given as goal
 
 -- what is left answers as all do
 abbrev pub invariant-loop-parcel : goal.invariant-loop-parcel
-invariant-loop-parcel g l = list_any (λ n. is_name n (l.account, l.after)) (names_of (drop l.parcel-index l.parcels)) ≡ list_any (λ n. is_name n (l.account, l.after)) (names_of l.parcels)
+invariant-loop-parcel g l = list_any (λ n. is_name n (l.account, l.after)) (names_of (drop l.parcel-index l.parcels))
+    ≡ list_any (λ n. is_name n (l.account, l.after)) (names_of l.parcels)

@@ -8,5 +8,6 @@ use Rattle.reg_tasks.proofs.needs.put_in_order.Given as goal
 abbrev pub invariant-loop-index : goal.invariant-loop-index
 invariant-loop-index g l = record {
   moved : IsPermutation l.initial.parcels l.parcels;
-  first : (m : ℕ) → m < l.index → get_or (names_of l.parcels) m (0, 0) ≡ get_or (names_needed l.arrows l.accounts) m (0, 0);
+  first : (m : ℕ) → m < l.index → get_or (names_of l.parcels) m (0, 0)
+      ≡ get_or (names_needed l.arrows l.accounts) m (0, 0);
 }

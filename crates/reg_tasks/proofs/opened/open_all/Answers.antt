@@ -13,7 +13,8 @@ loop-account-preserved g c =
     let a = c.account-item.result in
     let p = c.in_ok-parcel.parcel in
     let pushed : c.push.new.self.items ≡ c.loop-account.parcels.items ++ p ∷ [] = search rules in
-    let more : take (k + 1) accounts ≡ take k accounts ++ a ∷ [] = take_more accounts k a c.loop-account-test.true ∙ ap (λ x. take k accounts ++ x ∷ []) (sym c.account-item.is) in
+    let more : take (k + 1) accounts ≡ take k accounts ++ a ∷ [] =
+    take_more accounts k a c.loop-account-test.true ∙ ap (λ x. take k accounts ++ x ∷ []) (sym c.account-item.is) in
     let number : p.value.number ≡ a = number_found book a p.value c.in_ok-parcel.ensures.value in
     let after : p.after ≡ 0 = c.in_ok-parcel.ensures.after in
     record {

@@ -15,9 +15,13 @@ pub returns-clause-lack : goal.returns-clause-lack
 returns-clause-lack g c =
     let context = c.args.context.now in
     let standing = stands c.run_places.new.slots in
-    err_more c.close.result _ _ c.close.ensures.lack (λ l lack. lack_from l lack (λ missing. no_name g.N.Naming.day (λ d e.
-    ∥∥₁_elim (ends_so c.tails_are_last_touchers.ensures c.last_toucher_is_last.ensures (the_day context) context.plan context.planned c.no_fault_is_a_legal_order.ensures c.args.order.now c.requires.legal standing
-    (subst (λ x. StandAfter (the_day x) c.args.order.now standing) c.in_ok-slots.ensures.context (c.in_ok-done.ensures.standing d e)))
+    err_more c.close.result _ _ c.close.ensures.lack
+    (λ l lack. lack_from l lack (λ missing. no_name g.N.Naming.day (λ d e.
+    ∥∥₁_elim (ends_so c.tails_are_last_touchers.ensures c.last_toucher_is_last.ensures
+    (the_day context) context.plan context.planned c.no_fault_is_a_legal_order.ensures c.args.order.now
+    c.requires.legal standing
+    (subst (λ x. StandAfter (the_day x) c.args.order.now standing) c.in_ok-slots.ensures.context
+    (c.in_ok-done.ensures.standing d e)))
     (Prim.hlevel props) (λ ends. missing d e
     (subst (λ (x : Day). IsAtEnd x (places_of c.in_ok-done.done.items) standing) (context.named d e)
     (subst (λ ps. IsAtEnd (the_day context) ps standing) (sym c.in_ok-done.ensures.places) ends))))))

@@ -10,7 +10,8 @@ invariant-loop-value g l = record {
   next : (goal.iterator-loop-value g).can_next l.value-iterator;
   ends : (goal.iterator-loop-value g).is_finite l.value-iterator;
   values : values_of l.parcels.items ++ l.value-iterator.rest.items ≡ l.fn.own.items;
-  afters : afters_of l.parcels.items ++ map (λ v. l.place) l.value-iterator.rest.items ≡ map (λ v. l.place) l.fn.own.items;
+  afters : afters_of l.parcels.items ++ map (λ v. l.place) l.value-iterator.rest.items
+      ≡ map (λ v. l.place) l.fn.own.items;
   room : vec_len l.parcels + length l.value-iterator.rest.items ≤ vec_capacity l.parcels;
   right : AllByRecursion (λ v. IsValue g.N.Naming.day v l.place) l.value-iterator.rest.items;
 }

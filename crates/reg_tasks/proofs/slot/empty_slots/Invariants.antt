@@ -15,6 +15,7 @@ invariant-loop-slot g l = record {
   ends : (goal.iterator-loop-slot g).is_finite l.slot-iterator;
   names : map Some (names_of (parcels_in l.lasts.items)) ++ map (option_map name_of) l.slot-iterator.rest.items
       ≡ map (option_map name_of) l.fn.slots.items;
-  last : list_all (is_last_there (the_day l.context) l.context.plan) (map (option_map name_of) l.slot-iterator.rest.items)
+  last : list_all (is_last_there (the_day l.context) l.context.plan)
+      (map (option_map name_of) l.slot-iterator.rest.items)
       ≡ list_all (is_last_there (the_day l.context) l.context.plan) (map (option_map name_of) l.fn.slots.items);
 }

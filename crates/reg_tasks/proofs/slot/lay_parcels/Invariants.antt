@@ -11,6 +11,8 @@ invariant-loop-parcel g l = record {
   next : (goal.iterator-loop-parcel g).can_next l.parcel-iterator;
   ends : (goal.iterator-loop-parcel g).is_finite l.parcel-iterator;
   size : length l.slots ≡ length l.openings;
-  there : list_all (λ n. is_among (opened_accounts l.openings) n.0) (names_of l.parcel-iterator.rest.items) ≡ list_all (λ n. is_among (opened_accounts l.openings) n.0) (names_of l.fn.parcels.items);
-  laid : (b : ℕ) → laid_at (names_of l.parcel-iterator.rest.items) (standing_in l.openings l.slots b) b ≡ laid_at (names_of l.fn.parcels.items) (standing_in l.openings l.initial.slots b) b;
+  there : list_all (λ n. is_among (opened_accounts l.openings) n.0) (names_of l.parcel-iterator.rest.items)
+      ≡ list_all (λ n. is_among (opened_accounts l.openings) n.0) (names_of l.fn.parcels.items);
+  laid : (b : ℕ) → laid_at (names_of l.parcel-iterator.rest.items) (standing_in l.openings l.slots b) b
+      ≡ laid_at (names_of l.fn.parcels.items) (standing_in l.openings l.initial.slots b) b;
 }

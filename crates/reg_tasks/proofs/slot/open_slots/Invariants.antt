@@ -6,4 +6,6 @@ use Rattle.reg_tasks.proofs.slot.open_slots.Given as goal
 -- what was opened, and what is left, are the whole
 abbrev pub invariant-loop-opening : goal.invariant-loop-opening
 invariant-loop-opening g l =
-    map (option_map name_of) l.slots.items ++ map (λ opening. Some (opening.account, 0)) (drop l.opening-index l.openings) ≡ map (λ opening. Some (opening.account, 0)) l.openings
+    map (option_map name_of) l.slots.items
+    ++ map (λ opening. Some (opening.account, 0)) (drop l.opening-index l.openings)
+    ≡ map (λ opening. Some (opening.account, 0)) l.openings

@@ -11,6 +11,7 @@ abbrev pub invariant-loop-slot : goal.invariant-loop-slot
 invariant-loop-slot g l = record {
   next : (goal.iterator-loop-slot g).can_next l.slot-iterator;
   ends : (goal.iterator-loop-slot g).is_finite l.slot-iterator;
-  last : list_all (is_last_there (the_day l.context) l.context.plan) (map (option_map name_of) l.slot-iterator.rest.items)
+  last : list_all (is_last_there (the_day l.context) l.context.plan)
+      (map (option_map name_of) l.slot-iterator.rest.items)
       ≡ list_all (is_last_there (the_day l.context) l.context.plan) (map (option_map name_of) l.fn.slots.items);
 }

@@ -9,9 +9,12 @@ pub take-requires : goal.take-requires
 take-requires g c =
     let o = c.opening-item.result in
     let k = c.loop-opening.opening-index in
-    let within : k < length c.args.context.now.plan.openings = subst (λ os. k < length os) c.openings-openings.ensures.value c.loop-opening-test.true in
-    let is : get_or c.args.context.now.plan.openings k o ≡ o = ap (λ os. get_or os k o) (sym c.openings-openings.ensures.value) ∙ sym c.opening-item.is in
+    let within : k < length c.args.context.now.plan.openings =
+    subst (λ os. k < length os) c.openings-openings.ensures.value c.loop-opening-test.true in
+    let is : get_or c.args.context.now.plan.openings k o ≡ o =
+    ap (λ os. get_or os k o) (sym c.openings-openings.ensures.value) ∙ sym c.opening-item.is in
     record {
       touched = ∥∥₁_elim c.args.context.now.planned (Prim.hlevel props) (λ made.
-          opening_touched (directory_of c.args.context.now.book.accounts) c.args.context.now.batch.now.instructions c.args.context.now.plan made o (k, within, is));
+          opening_touched (directory_of c.args.context.now.book.accounts) c.args.context.now.batch.now.instructions
+          c.args.context.now.plan made o (k, within, is));
     }

@@ -2,4 +2,10 @@ use Rattle.reg_text.proofs.LimitFaults.{numbers-told, corrections-told, later-to
 use Rattle.reg_text.proofs.laws.tells_other_texts_from_limits.Goals as goal
 
 pub returns : goal.returns
-returns c = record { numbers = numbers-told; corrections = corrections-told; later_corrections = later-told; figures = figures-told; dates = dates-told }
+returns c = record {
+  numbers = numbers-told;
+  corrections = corrections-told;
+  later_corrections = later-told;
+  figures = figures-told;
+  dates = dates-told;
+}

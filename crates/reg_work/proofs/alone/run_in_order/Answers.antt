@@ -19,6 +19,9 @@ loop-before-preserved g c =
     record {
       few = omega (arith, c.loop-before-test.true);
       context = c.run_at.ensures.context ∙ c.loop-before.invariant.context;
-      each_once = λ p. one-ran c.loop-before.before p c.keep.new.items.items c.loop-before.ran.items c.in_ok-one.one c.in_ok-keep.ensures c.in_ok-one.ensures.place (c.loop-before.invariant.each_once p);
-      log = λ d e. row-more (log_of d) c.loop-before.before c.loop-before.log.items c.keep-in-loop-before.new.items.items c.in_ok-one.row c.in_ok-keep-2.ensures (c.loop-before.invariant.log d e) (row-next d c.loop-before.before c.in_ok-one.row (c.in_ok-one.ensures.row d e));
+      each_once = λ p. one-ran c.loop-before.before p c.keep.new.items.items c.loop-before.ran.items c.in_ok-one.one
+          c.in_ok-keep.ensures c.in_ok-one.ensures.place (c.loop-before.invariant.each_once p);
+      log = λ d e. row-more (log_of d) c.loop-before.before c.loop-before.log.items
+          c.keep-in-loop-before.new.items.items c.in_ok-one.row c.in_ok-keep-2.ensures (c.loop-before.invariant.log d e)
+          (row-next d c.loop-before.before c.in_ok-one.row (c.in_ok-one.ensures.row d e));
     }

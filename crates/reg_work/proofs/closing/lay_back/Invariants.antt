@@ -10,6 +10,8 @@ invariant-loop-last g l = record {
   next : (goal.iterator-loop-last g).can_next l.last-iterator;
   ends : (goal.iterator-loop-last g).is_finite l.last-iterator;
   same : numbers l.vault.accounts.items ≡ numbers l.initial.vault.accounts.items;
-  there : list_all (λ last. is_among (numbers l.initial.vault.accounts.items) last.parcel.value.number) l.last-iterator.rest.items
-      ≡ list_all (λ last. is_among (numbers l.initial.vault.accounts.items) last.parcel.value.number) l.fn.parcels.items;
+  there : list_all (λ last. is_among (numbers l.initial.vault.accounts.items) last.parcel.value.number)
+      l.last-iterator.rest.items
+      ≡ list_all (λ last. is_among (numbers l.initial.vault.accounts.items) last.parcel.value.number)
+      l.fn.parcels.items;
 }

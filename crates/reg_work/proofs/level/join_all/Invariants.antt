@@ -7,5 +7,8 @@ abbrev pub invariant-loop-handle : goal.invariant-loop-handle
 invariant-loop-handle g l = record {
   next : (goal.iterator-loop-handle g).can_next l.handle-iterator;
   ends : (goal.iterator-loop-handle g).is_finite l.handle-iterator;
-  places : OnOk l.answer (places_run l.outcomes.items ++ places_of (flat_map (λ handle. handle.promise.tasks.value.items) l.handle-iterator.rest.items) ≡ places_run l.initial.outcomes.items ++ places_of (flat_map (λ handle. handle.promise.tasks.value.items) l.fn.handles.items));
+  places : OnOk l.answer (places_run l.outcomes.items
+      ++ places_of (flat_map (λ handle. handle.promise.tasks.value.items) l.handle-iterator.rest.items)
+      ≡ places_run l.initial.outcomes.items
+      ++ places_of (flat_map (λ handle. handle.promise.tasks.value.items) l.fn.handles.items));
 }

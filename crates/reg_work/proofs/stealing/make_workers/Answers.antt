@@ -24,9 +24,14 @@ loop-pass-preserved g c =
       idle = ap (λ (v : View). v.finished) first ∙ i.idle;
       unseen = ap (λ (v : View). v.seen) first ∙ i.unseen;
       whole = omega arith;
-      deques = All-tail (λ p. deques_of_pass p ≡ g.I.SharedIds.deques) c.in-Some.pass c.next.new.self.rest.items (subst (All (λ p. deques_of_pass p ≡ g.I.SharedIds.deques)) items i.deques);
-      owners = one-moved (λ p. p.owner) c.push.new.self.items c.loop-pass.unstarted.items _ c.in-Some-next.owner c.loop-pass.owners.rest.items c.next-in-loop-pass.new.self.rest.items c.args.owners.items c.in_ok-push.ensures.items c.new.ensures.sides.0 c.in-Some-next.ensures.items i.owners;
-      passes = one-moved (λ p. p.pass) c.push.new.self.items c.loop-pass.unstarted.items _ c.in-Some.pass c.loop-pass.pass-iterator.rest.items c.next.new.self.rest.items c.args.passes.items c.in_ok-push.ensures.items c.new.ensures.sides.1 items i.passes;
+      deques = All-tail (λ p. deques_of_pass p ≡ g.I.SharedIds.deques) c.in-Some.pass c.next.new.self.rest.items
+          (subst (All (λ p. deques_of_pass p ≡ g.I.SharedIds.deques)) items i.deques);
+      owners = one-moved (λ p. p.owner) c.push.new.self.items c.loop-pass.unstarted.items _ c.in-Some-next.owner
+          c.loop-pass.owners.rest.items c.next-in-loop-pass.new.self.rest.items c.args.owners.items
+          c.in_ok-push.ensures.items c.new.ensures.sides.0 c.in-Some-next.ensures.items i.owners;
+      passes = one-moved (λ p. p.pass) c.push.new.self.items c.loop-pass.unstarted.items _ c.in-Some.pass
+          c.loop-pass.pass-iterator.rest.items c.next.new.self.rest.items c.args.passes.items c.in_ok-push.ensures.items
+          c.new.ensures.sides.1 items i.passes;
     }
 
 pub returns-clause-owners : goal.returns-clause-owners
@@ -34,6 +39,8 @@ returns-clause-owners g c =
     let i = c.loop-pass.invariant in
     let whole = i.whole in
     let few = c.requires.few in
-    let none : length c.loop-pass.pass-iterator.rest.items ≡ 0 = sym c.loop-pass.pass-iterator.rest.ok.0 ∙ c.in-None.ensures.steps.0 in
-    let many : length c.loop-pass.unstarted.items ≡ length c.args.owners.items = omega (arith, c.loop-pass.unstarted.ok.0, c.args.owners.ok.0) in
+    let none : length c.loop-pass.pass-iterator.rest.items ≡ 0 =
+    sym c.loop-pass.pass-iterator.rest.ok.0 ∙ c.in-None.ensures.steps.0 in
+    let many : length c.loop-pass.unstarted.items ≡ length c.args.owners.items =
+    omega (arith, c.loop-pass.unstarted.ok.0, c.args.owners.ok.0) in
     all-moved (λ p. p.owner) c.loop-pass.unstarted.items c.loop-pass.owners.rest.items c.args.owners.items i.owners many

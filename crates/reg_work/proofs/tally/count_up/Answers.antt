@@ -25,17 +25,22 @@ loop-ended_worker-preserved g c =
       ends = record {};
       table = c.join-rest.ensures.same ∙ i.table;
       share = omega arith;
-      seen = inr (rw view (joined-sees g.I.SharedIds.count _ (known c.loop-ended_worker.rest) (known worker.seat) i.seen c.in-Some.ended_worker.over));
+      seen = inr (rw view (joined-sees g.I.SharedIds.count _ (known c.loop-ended_worker.rest)
+          (known worker.seat) i.seen c.in-Some.ended_worker.over));
       times = λ p.
           ap (λ (v : View). times p v.finished) view
           ∙ times-append p (known c.loop-ended_worker.rest).finished (known worker.seat).finished
-          ∙ (let old = i.times p in let new = c.in_ok-add.ensures.times p in let same = ap (times p) worker.finished in omega arith);
+          ∙ (let old = i.times p in let new = c.in_ok-add.ensures.times p in let same = ap (times p) worker.finished in
+          omega arith);
       rows = λ p.
           ap (λ (v : View). times p v.finished) view
           ∙ times-append p (known c.loop-ended_worker.rest).finished (known worker.seat).finished
-          ∙ (let old = i.rows p in let new = times-mapped (λ d. d.place) p c.add.new.self.done.items c.loop-ended_worker.work.done.items worker.done.items c.in_ok-add.ensures.done in let same = ap (times p) worker.rows in omega arith);
+          ∙ (let old = i.rows p in let new = times-mapped (λ d. d.place) p c.add.new.self.done.items
+          c.loop-ended_worker.work.done.items worker.done.items c.in_ok-add.ensures.done in
+          let same = ap (times p) worker.rows in omega arith);
       workers = ap (λ ws. ws ++ ended_numbers c.next.new.self.rest.items) c.in_ok-add.ensures.workers
-          ∙ append_assoc (workers_of c.loop-ended_worker.work.shifts.items) (c.in-Some.ended_worker.number ∷ []) (ended_numbers c.next.new.self.rest.items)
+          ∙ append_assoc (workers_of c.loop-ended_worker.work.shifts.items) (c.in-Some.ended_worker.number ∷ [])
+          (ended_numbers c.next.new.self.rest.items)
           ∙ ap (λ ss. workers_of c.loop-ended_worker.work.shifts.items ++ ended_numbers ss) (sym items)
           ∙ i.workers;
       done = ap (λ ds. ds ++ all_done c.next.new.self.rest.items) c.in_ok-add.ensures.done
@@ -43,7 +48,8 @@ loop-ended_worker-preserved g c =
           ∙ ap (λ ss. c.loop-ended_worker.work.done.items ++ all_done ss) (sym items)
           ∙ i.done;
       closing = ap (λ ps. ps ++ all_closing c.next.new.self.rest.items) c.in_ok-add.ensures.closing
-          ∙ append_assoc (joined c.loop-ended_worker.work.closing.items) worker.closing.items (all_closing c.next.new.self.rest.items)
+          ∙ append_assoc (joined c.loop-ended_worker.work.closing.items) worker.closing.items
+          (all_closing c.next.new.self.rest.items)
           ∙ ap (λ ss. joined c.loop-ended_worker.work.closing.items ++ all_closing ss) (sym items)
           ∙ i.closing;
     }
@@ -51,17 +57,25 @@ loop-ended_worker-preserved g c =
 pub returns : goal.returns
 returns g c =
     let i = c.loop-ended_worker.invariant in
-    let none : c.loop-ended_worker.ended_worker-iterator.rest.items ≡ [] = nil_from_length _ (sym c.loop-ended_worker.ended_worker-iterator.rest.ok.0 ∙ c.in-None.ensures.steps.0) in
+    let none : c.loop-ended_worker.ended_worker-iterator.rest.items ≡ [] =
+    nil_from_length _ (sym c.loop-ended_worker.ended_worker-iterator.rest.ok.0 ∙ c.in-None.ensures.steps.0) in
     let all = c.close-tally.ensures in
-    let ends = was-there g.I.SharedIds.count _ _ (known c.loop-ended_worker.rest) (ap length none) c.requires.some i.seen in
+    let ends = was-there g.I.SharedIds.count _ _ (known c.loop-ended_worker.rest)
+    (ap length none) c.requires.some i.seen in
     let places_are = c.requires.table.1 in
-    let whole = all-finished g.I.SharedIds.count (known c.loop-ended_worker.rest) c.close-tally.result.done c.close-tally.result.stopped ends all.stopped c.if-tally.false all.seen (let most = all.most in omega arith) ∙ sym places_are in
+    let whole = all-finished g.I.SharedIds.count (known c.loop-ended_worker.rest) c.close-tally.result.done
+    c.close-tally.result.stopped ends all.stopped c.if-tally.false all.seen (let most = all.most in omega arith)
+    ∙ sym places_are in
     record {
       shifts = record {
-        workers_are = sym (append-nil (workers_of c.loop-ended_worker.work.shifts.items)) ∙ ap (λ ss. workers_of c.loop-ended_worker.work.shifts.items ++ ended_numbers ss) (sym none) ∙ i.workers ∙ c.requires.workers;
+        workers_are = sym (append-nil (workers_of c.loop-ended_worker.work.shifts.items))
+            ∙ ap (λ ss. workers_of c.loop-ended_worker.work.shifts.items ++ ended_numbers ss) (sym none) ∙ i.workers
+            ∙ c.requires.workers;
         each_once = λ p. sym (i.times p) ∙ all.all whole p ∙ ap (λ n. once n p) places_are;
       };
-      done = sym (append-nil c.loop-ended_worker.work.done.items) ∙ ap (λ ss. c.loop-ended_worker.work.done.items ++ all_done ss) (sym none) ∙ i.done;
-      closing = sym (append-nil (joined c.loop-ended_worker.work.closing.items)) ∙ ap (λ ss. joined c.loop-ended_worker.work.closing.items ++ all_closing ss) (sym none) ∙ i.closing;
+      done = sym (append-nil c.loop-ended_worker.work.done.items)
+          ∙ ap (λ ss. c.loop-ended_worker.work.done.items ++ all_done ss) (sym none) ∙ i.done;
+      closing = sym (append-nil (joined c.loop-ended_worker.work.closing.items))
+          ∙ ap (λ ss. joined c.loop-ended_worker.work.closing.items ++ all_closing ss) (sym none) ∙ i.closing;
       each_done = λ p. sym (i.rows p) ∙ all.all whole p ∙ ap (λ n. once n p) places_are;
     }

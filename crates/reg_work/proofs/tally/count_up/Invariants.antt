@@ -15,10 +15,13 @@ invariant-loop-ended_worker g l = record {
   ends : (goal.iterator-loop-ended_worker g).is_finite l.ended_worker-iterator;
   table : seat_table l.rest ≡ g.I.SharedIds.table;
   share : (known l.rest).share + length l.ended_worker-iterator.rest.items ≡ 16;
-  seen : ((length l.ended_worker-iterator.rest.items ≡ vec_len l.fn.ended_workers) × ((known l.rest).seen ≡ 0)) ⊎ (sees_end g.I.SharedIds.count (known l.rest) ≡ true);
+  seen : ((length l.ended_worker-iterator.rest.items ≡ vec_len l.fn.ended_workers) × ((known l.rest).seen ≡ 0))
+      ⊎ (sees_end g.I.SharedIds.count (known l.rest) ≡ true);
   rows : (p : ℕ) → times p (known l.rest).finished ≡ times p (places_of l.work.done.items);
   times : (p : ℕ) → times p (known l.rest).finished ≡ times_in p l.work.shifts.items;
-  workers : workers_of l.work.shifts.items ++ ended_numbers l.ended_worker-iterator.rest.items ≡ ended_numbers l.fn.ended_workers.items;
+  workers : workers_of l.work.shifts.items ++ ended_numbers l.ended_worker-iterator.rest.items
+      ≡ ended_numbers l.fn.ended_workers.items;
   done : l.work.done.items ++ all_done l.ended_worker-iterator.rest.items ≡ all_done l.fn.ended_workers.items;
-  closing : joined l.work.closing.items ++ all_closing l.ended_worker-iterator.rest.items ≡ all_closing l.fn.ended_workers.items;
+  closing : joined l.work.closing.items ++ all_closing l.ended_worker-iterator.rest.items
+      ≡ all_closing l.fn.ended_workers.items;
 }

@@ -9,5 +9,6 @@ invariant-loop-handle g l = record {
   ends : (goal.iterator-loop-handle g).is_finite l.handle-iterator;
   room : vec_len l.ended_workers + length l.handle-iterator.rest.items + 1 ≤ vec_capacity l.ended_workers;
   each : vec_len l.ended_workers + length l.handle-iterator.rest.items ≡ vec_len l.fn.handles;
-  workers : ended_numbers l.ended_workers.items ++ map (λ handle. handle.promise.number) l.handle-iterator.rest.items ≡ map (λ handle. handle.promise.number) l.fn.handles.items;
+  workers : ended_numbers l.ended_workers.items ++ map (λ handle. handle.promise.number) l.handle-iterator.rest.items
+      ≡ map (λ handle. handle.promise.number) l.fn.handles.items;
 }

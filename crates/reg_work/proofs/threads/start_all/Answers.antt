@@ -21,5 +21,7 @@ loop-worker-preserved g c =
       room = omega arith;
       counted = omega arith;
       whole = omega arith;
-      workers = one-numbered (λ handle. handle.promise.number) c.push_reserved.new.self.items c.loop-worker.handles.items c.in-Ok.handle c.loop-worker.next c.saturating_add-next.result pushed.items i.workers (ap (λ p. p.number) c.in-Ok.ensures.ok) next;
+      workers = one-numbered (λ handle. handle.promise.number) c.push_reserved.new.self.items
+          c.loop-worker.handles.items c.in-Ok.handle c.loop-worker.next c.saturating_add-next.result pushed.items
+          i.workers (ap (λ p. p.number) c.in-Ok.ensures.ok) next;
     }

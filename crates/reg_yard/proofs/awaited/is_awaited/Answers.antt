@@ -17,8 +17,10 @@ returns-then-is_needed g c =
     let plan = c.args.context.now.plan in
     let came = parcels_of c.args.came.now in
     let name : ℕ × ℕ = (c.args.parcel.now.value.number, c.args.parcel.now.after) in
-    sym (twice (list_any (is_name name) (still_awaited day plan c.args.place came)) ∙ still-any came name (awaited day plan c.args.place)
-    ∙ ap (λ b. b && not (is_some (of_name came name))) (sym c.is_needed.ensures ∙ c.if-is_needed.true) ∙ ap not (sym c.has_come.ensures))
+    sym (twice (list_any (is_name name) (still_awaited day plan c.args.place came))
+    ∙ still-any came name (awaited day plan c.args.place)
+    ∙ ap (λ b. b && not (is_some (of_name came name))) (sym c.is_needed.ensures ∙ c.if-is_needed.true)
+    ∙ ap not (sym c.has_come.ensures))
 
 pub returns-else-is_needed : goal.returns-else-is_needed
 returns-else-is_needed g c =
@@ -27,5 +29,6 @@ returns-else-is_needed g c =
     let came = parcels_of c.args.came.now in
     let name : ℕ × ℕ = (c.args.parcel.now.value.number, c.args.parcel.now.after) in
     c.if-is_needed.false
-    ∙ sym (twice (list_any (is_name name) (still_awaited day plan c.args.place came)) ∙ still-any came name (awaited day plan c.args.place)
+    ∙ sym (twice (list_any (is_name name) (still_awaited day plan c.args.place came))
+    ∙ still-any came name (awaited day plan c.args.place)
     ∙ ap (λ b. b && not (is_some (of_name came name))) (sym c.is_needed.ensures ∙ c.if-is_needed.false))

@@ -14,7 +14,8 @@ returns-then-is_of g c =
     let after = c.args.parcel.now.after in
     let any : list_any (λ other. eqb other a) accounts ≡ true =
     ap (list_any (λ other. eqb other a)) (sym c.awaited_accounts.ensures)
-    ∙ ap (λ n. list_any (λ other. eqb other n) c.awaited_accounts.result.now) (sym c.account-account.ensures) ∙ sym c.is_of.ensures ∙ c.if-is_of.true in
+    ∙ ap (λ n. list_any (λ other. eqb other n) c.awaited_accounts.result.now) (sym c.account-account.ensures)
+    ∙ sym c.is_of.ensures ∙ c.if-is_of.true in
     ap (λ t. eqb t c.after.result) (c.tail_of.ensures ∙ ap (tail_in arrows) c.account-account.ensures)
     ∙ ap (eqb (tail_in arrows a)) c.after.ensures
     ∙ sym (needed-any arrows accounts a after ∙ ap (λ b. b && eqb (tail_in arrows a) after) any)
@@ -27,5 +28,6 @@ returns-else-is_of g c =
     let after = c.args.parcel.now.after in
     let none : list_any (λ other. eqb other a) accounts ≡ false =
     ap (list_any (λ other. eqb other a)) (sym c.awaited_accounts.ensures)
-    ∙ ap (λ n. list_any (λ other. eqb other n) c.awaited_accounts.result.now) (sym c.account-account.ensures) ∙ sym c.is_of.ensures ∙ c.if-is_of.false in
+    ∙ ap (λ n. list_any (λ other. eqb other n) c.awaited_accounts.result.now) (sym c.account-account.ensures)
+    ∙ sym c.is_of.ensures ∙ c.if-is_of.false in
     c.if-is_of.false ∙ sym (needed-any arrows accounts a after ∙ ap (λ b. b && eqb (tail_in arrows a) after) none)

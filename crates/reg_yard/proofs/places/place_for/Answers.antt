@@ -8,5 +8,7 @@ pub returns-then-after-len : goal.returns-then-after-len
 returns-then-after-len g c =
     let context = c.args.context.now in
     let size : c.len.result ≡ length context.batch.now.instructions = search rules in
-    let above : length context.batch.now.instructions < c.args.parcel.now.after = omega (arith, size, c.after-after.ensures, c.if-after-len.true) in
-    sym (goes-nowhere (directory_of context.book.accounts) context.batch.now.instructions context.plan (parcel_of c.args.parcel.now) context.planned above)
+    let above : length context.batch.now.instructions < c.args.parcel.now.after =
+    omega (arith, size, c.after-after.ensures, c.if-after-len.true) in
+    sym (goes-nowhere (directory_of context.book.accounts) context.batch.now.instructions context.plan
+    (parcel_of c.args.parcel.now) context.planned above)

@@ -12,7 +12,9 @@ returns-clause-tasks g c =
     let before = c.args.tasks.now.items in
     elim c.match-task.branch [
       | in-Some+in_ok-push w ↦ ap (λ v. map task_of v.items) w.tasks-is ∙ ap (map task_of) w.in_ok-push.ensures.items
-          ∙ one-pushed day c.args.place w.in-Some.task before (sym (ap (option_map task_of) w.in-Some.is) ∙ c.in_ok-dock.ensures.at_once)
+          ∙ one-pushed day c.args.place w.in-Some.task before (sym (ap (option_map task_of) w.in-Some.is)
+          ∙ c.in_ok-dock.ensures.at_once)
       | in_default w ↦ ap (λ v. map task_of v.items) w.tasks-is
-          ∙ none-more day c.args.place (map task_of before) (sym (ap (option_map task_of) w.in_default.is) ∙ c.in_ok-dock.ensures.at_once)
+          ∙ none-more day c.args.place (map task_of before) (sym (ap (option_map task_of) w.in_default.is)
+          ∙ c.in_ok-dock.ensures.at_once)
     ]

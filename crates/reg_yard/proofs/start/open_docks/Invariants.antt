@@ -11,5 +11,6 @@ abbrev pub invariant-loop-before : goal.invariant-loop-before
 invariant-loop-before g l = record {
   few : l.before ≤ l.places;
   docks : dock_places l.docks.items ++ count_up (l.before + 1) (l.places - l.before) ≡ count_up 1 l.places;
-  tasks : map task_of l.tasks.items ++ tasks_from (the_day l.context) (l.before + 1) (l.places - l.before) ≡ tasks_from (the_day l.context) 1 l.places;
+  tasks : map task_of l.tasks.items ++ tasks_from (the_day l.context) (l.before + 1) (l.places - l.before)
+      ≡ tasks_from (the_day l.context) 1 l.places;
 }

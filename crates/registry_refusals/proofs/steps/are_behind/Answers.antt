@@ -8,11 +8,15 @@ use Rattle.reg_rules.specs.Effect.{IsBehind}
 use Rattle.registry_refusals.proofs.Behind.{below}
 use Rattle.registry_refusals.proofs.steps.are_behind.Goals as goal
 
-behind : (n : ℕ) (accounts : List AccountValue) → list_all (λ (v : AccountValue). list_all (λ (row : RetirementRow). nat_lt row.number n) v.rows) accounts ≡ true → AllByRecursion (IsBehind n) accounts
+behind : (n : ℕ) (accounts : List AccountValue)
+    → list_all (λ (v : AccountValue). list_all (λ (row : RetirementRow). nat_lt row.number n) v.rows) accounts ≡ true
+    → AllByRecursion (IsBehind n) accounts
 behind n [] e = tt
 behind n (a ∷ accounts) e =
-    let both = and_parts (list_all (λ (row : RetirementRow). nat_lt row.number n) a.rows) (list_all (λ (v : AccountValue). list_all (λ (row : RetirementRow). nat_lt row.number n) v.rows) accounts) e in
+    let both = and_parts (list_all (λ (row : RetirementRow). nat_lt row.number n) a.rows)
+    (list_all (λ (v : AccountValue). list_all (λ (row : RetirementRow). nat_lt row.number n) v.rows) accounts) e in
     (below n a.rows both.0, behind n accounts both.1)
 
 pub returns : goal.returns
-returns c same = All-from_recursion (IsBehind c.args.number) c.args.accounts.now (behind c.args.number c.args.accounts.now (sym c.have_rows_below.ensures ∙ same))
+returns c same = All-from_recursion (IsBehind c.args.number) c.args.accounts.now
+    (behind c.args.number c.args.accounts.now (sym c.have_rows_below.ensures ∙ same))

@@ -7,7 +7,8 @@ abbrev pub invariant-loop-task : goal.invariant-loop-task
 invariant-loop-task g l = record {
   next : (goal.iterator-loop-task g).can_next l.task-iterator;
   ends : (goal.iterator-loop-task g).is_finite l.task-iterator;
-  places : places_run l.outcomes.items ++ places_of l.task-iterator.rest.items ≡ places_between l.levels.order.items l.levels.laid l.levels.taken;
+  places : places_run l.outcomes.items ++ places_of l.task-iterator.rest.items
+      ≡ places_between l.levels.order.items l.levels.laid l.levels.taken;
 }
 
 -- all outcomes so far were laid

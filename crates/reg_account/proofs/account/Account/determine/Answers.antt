@@ -8,4 +8,7 @@ use Rattle.reg_account.proofs.account.Account.determine.Goals as goal
 
 pub invariant_of-self-2 : goal.invariant_of-self-2
 invariant_of-self-2 c =
-    rw (c.in_ok-put_figure.ensures.ok, to_z-of_z w64 c.args.tonnes c.ranges.tonnes) (changes-keep-limits.determine (account_of c.self.inside.parts) (record { year = c.args.year; tonnes = c.args.tonnes }) c.self.invariant c.requires (subst IsYearNo c.get.ensures.value c.get.ensures.range))
+    rw (c.in_ok-put_figure.ensures.ok, to_z-of_z w64 c.args.tonnes c.ranges.tonnes)
+    (changes-keep-limits.determine (account_of c.self.inside.parts)
+    (record { year = c.args.year; tonnes = c.args.tonnes }) c.self.invariant c.requires
+    (subst IsYearNo c.get.ensures.value c.get.ensures.range))

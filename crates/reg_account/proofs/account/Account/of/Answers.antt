@@ -13,9 +13,12 @@ use Rattle.reg_account.proofs.account.Account.of.Goals.{After-know_figures}
 -- without a fault, and with numbers of their types, the parts are an account
 fits : (c : After-know_figures) → IsAccount (account_of c.args.parts)
 fits c =
-    fit_of_no_fault (account_of c.args.parts) (subst IsAccountNo c.get.ensures.value c.get.ensures.range) (subst IsHolderNo c.get-2.ensures.value c.get-2.ensures.range)
-    (subst (All UserIsInRange) c.users.ensures c.know_users.ensures) (subst (All EntryIsInRange) c.trusted.ensures c.know_entries.ensures)
-    (subst (All RowIsInRange) c.rows.ensures c.know_rows.ensures) (subst (All EmissionIsInRange) c.emissions.ensures c.know_emissions.ensures)
+    fit_of_no_fault (account_of c.args.parts) (subst IsAccountNo c.get.ensures.value c.get.ensures.range)
+    (subst IsHolderNo c.get-2.ensures.value c.get-2.ensures.range)
+    (subst (All UserIsInRange) c.users.ensures c.know_users.ensures)
+    (subst (All EntryIsInRange) c.trusted.ensures c.know_entries.ensures)
+    (subst (All RowIsInRange) c.rows.ensures c.know_rows.ensures)
+    (subst (All EmissionIsInRange) c.emissions.ensures c.know_emissions.ensures)
     (subst (All FigureIsInRange) c.figures.ensures c.know_figures.ensures) (sym c.find_fault.ensures ∙ c.in_default.is)
 
 pub invariant_of-result : goal.invariant_of-result

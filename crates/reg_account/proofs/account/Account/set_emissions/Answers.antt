@@ -6,4 +6,7 @@ use Rattle.reg_account.proofs.account.Account.set_emissions.Goals as goal
 
 pub invariant_of-self-2 : goal.invariant_of-self-2
 invariant_of-self-2 c =
-    rw (c.in_ok-put_emission.ensures.ok) (changes-keep-limits.set_emissions (account_of c.self.inside.parts) (record { year = c.args.year; tonnes = c.args.tonnes }) c.self.invariant c.requires (subst IsYearNo c.get.ensures.value c.get.ensures.range))
+    rw (c.in_ok-put_emission.ensures.ok)
+    (changes-keep-limits.set_emissions (account_of c.self.inside.parts)
+    (record { year = c.args.year; tonnes = c.args.tonnes }) c.self.invariant c.requires
+    (subst IsYearNo c.get.ensures.value c.get.ensures.range))

@@ -16,10 +16,13 @@ at_most c =
     omega (arith, is, both, g, a)
 
 pub returns-then-period-lt1-clause-value : goal.returns-then-period-lt1-clause-value
-returns-then-period-lt1-clause-value c = sym (none_outside c.args.period c.args.self.now.rows c.is_within_limits.ensures.rows_fit.each (outside c.then-period-lt1.either)) where
-  outside : (c.args.period < 1) ⊎ ((1 ≤ c.args.period) × (MOST_PERIODS < c.args.period)) → (c.args.period < 1) ⊎ (MOST_PERIODS < c.args.period)
-  outside (inl low) = inl low
-  outside (inr high) = inr high.1
+returns-then-period-lt1-clause-value c =
+    sym (none_outside c.args.period c.args.self.now.rows c.is_within_limits.ensures.rows_fit.each
+    (outside c.then-period-lt1.either)) where
+      outside : (c.args.period < 1) ⊎ ((1 ≤ c.args.period) × (MOST_PERIODS < c.args.period)) → (c.args.period < 1)
+          ⊎ (MOST_PERIODS < c.args.period)
+      outside (inl low) = inl low
+      outside (inr high) = inr high.1
 
 pub overflow_cast-result : goal.overflow_cast-result
 overflow_cast-result c = let most = at_most c in omega (arith, most)

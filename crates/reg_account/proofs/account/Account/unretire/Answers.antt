@@ -11,4 +11,5 @@ invariant_of-self c =
     let found : row_in a.rows c.args.number ≡ Some row = sym c.reverse.ensures.row ∙ c.in-Some.is in
     let can = subst (λ (v : AccountValue). CanUnretire v c.args.number) (sym c.self.view_is) c.requires in
     let own = of_found (CanUnretireRow a) (row_in a.rows c.args.number) row found can in
-    rw (c.raise.ensures, c.reverse.ensures.marked) (unretired_row_is_account a c.args.number row found own c.self.invariant)
+    rw (c.raise.ensures, c.reverse.ensures.marked)
+    (unretired_row_is_account a c.args.number row found own c.self.invariant)

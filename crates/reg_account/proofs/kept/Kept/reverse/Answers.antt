@@ -16,8 +16,12 @@ uncount_row-requires-clause-counted c =
     let same : c.deref.result.now ≡ c.deref_mut.result.now = c.deref.ensures.value ∙ sym c.deref_mut.ensures.value in
     let named = rw same at c.in-Some.ensures.has_number in
     let found : row_in rows c.args.number ≡ Some row =
-    ap (λ (rs : List RetirementRow). row_in rs c.args.number) (sym c.deref_mut.ensures.value) ∙ ap (row_in c.deref_mut.result.now) (sym named) ∙ c.mark_reversed-row.ensures.row in
-    of_found (λ (r : RetirementRow). r.reversed ≡ false) (row_in rows c.args.number) row found (subst (λ (v : RecordsValue). MatchOption (row_in v.rows c.args.number) ⊥ (λ (r : RetirementRow). r.reversed ≡ false)) (sym c.self.view_is) c.requires.stands)
+    ap (λ (rs : List RetirementRow). row_in rs c.args.number) (sym c.deref_mut.ensures.value)
+    ∙ ap (row_in c.deref_mut.result.now) (sym named) ∙ c.mark_reversed-row.ensures.row in
+    of_found (λ (r : RetirementRow). r.reversed ≡ false) (row_in rows c.args.number) row found
+    (subst (λ (v : RecordsValue).
+    MatchOption (row_in v.rows c.args.number) ⊥ (λ (r : RetirementRow). r.reversed ≡ false))
+    (sym c.self.view_is) c.requires.stands)
 
 pub uncount_row-requires-clause-enough : goal.uncount_row-requires-clause-enough
 uncount_row-requires-clause-enough c =
@@ -26,9 +30,16 @@ uncount_row-requires-clause-enough c =
     let same : c.deref.result.now ≡ c.deref_mut.result.now = c.deref.ensures.value ∙ sym c.deref_mut.ensures.value in
     let named = rw same at c.in-Some.ensures.has_number in
     let found : row_in rows c.args.number ≡ Some row =
-    ap (λ (rs : List RetirementRow). row_in rs c.args.number) (sym c.deref_mut.ensures.value) ∙ ap (row_in c.deref_mut.result.now) (sym named) ∙ c.mark_reversed-row.ensures.row in
-    let stands = of_found (λ (r : RetirementRow). r.reversed ≡ false) (row_in rows c.args.number) row found (subst (λ (v : RecordsValue). MatchOption (row_in v.rows c.args.number) ⊥ (λ (r : RetirementRow). r.reversed ≡ false)) (sym c.self.view_is) c.requires.stands) in
-    subst (λ n. row.amount ≤ n) (sym (c.self.invariant.at (retirement_of row.fate) row.kind)) (own_counted rows c.args.number row (subst (λ (v : RecordsValue). IsRising (row_numbers v.rows)) (sym c.self.view_is) c.requires.rising) found stands)
+    ap (λ (rs : List RetirementRow). row_in rs c.args.number) (sym c.deref_mut.ensures.value)
+    ∙ ap (row_in c.deref_mut.result.now) (sym named) ∙ c.mark_reversed-row.ensures.row in
+    let stands = of_found (λ (r : RetirementRow). r.reversed ≡ false) (row_in rows c.args.number) row found
+    (subst (λ (v : RecordsValue).
+    MatchOption (row_in v.rows c.args.number) ⊥ (λ (r : RetirementRow). r.reversed ≡ false))
+    (sym c.self.view_is) c.requires.stands) in
+    subst (λ n. row.amount ≤ n) (sym (c.self.invariant.at (retirement_of row.fate) row.kind))
+    (own_counted rows c.args.number row
+    (subst (λ (v : RecordsValue). IsRising (row_numbers v.rows)) (sym c.self.view_is) c.requires.rising) found
+    stands)
 
 pub uncount_row-requires-clause-enough_for : goal.uncount_row-requires-clause-enough_for
 uncount_row-requires-clause-enough_for c period within =
@@ -37,8 +48,11 @@ uncount_row-requires-clause-enough_for c period within =
     let same : c.deref.result.now ≡ c.deref_mut.result.now = c.deref.ensures.value ∙ sym c.deref_mut.ensures.value in
     let named = rw same at c.in-Some.ensures.has_number in
     let found : row_in rows c.args.number ≡ Some row =
-    ap (λ (rs : List RetirementRow). row_in rs c.args.number) (sym c.deref_mut.ensures.value) ∙ ap (row_in c.deref_mut.result.now) (sym named) ∙ c.mark_reversed-row.ensures.row in
-    subst (λ n. amount_for period row ≤ n) (sym (c.self.invariant.for period within)) (own_counted_for rows c.args.number row period (subst (λ (v : RecordsValue). IsRising (row_numbers v.rows)) (sym c.self.view_is) c.requires.rising) found)
+    ap (λ (rs : List RetirementRow). row_in rs c.args.number) (sym c.deref_mut.ensures.value)
+    ∙ ap (row_in c.deref_mut.result.now) (sym named) ∙ c.mark_reversed-row.ensures.row in
+    subst (λ n. amount_for period row ≤ n) (sym (c.self.invariant.for period within))
+    (own_counted_for rows c.args.number row period
+    (subst (λ (v : RecordsValue). IsRising (row_numbers v.rows)) (sym c.self.view_is) c.requires.rising) found)
 
 pub invariant_of-self : goal.invariant_of-self
 invariant_of-self c =
@@ -48,10 +62,17 @@ invariant_of-self c =
     let same : c.deref.result.now ≡ c.deref_mut.result.now = c.deref.ensures.value ∙ sym c.deref_mut.ensures.value in
     let named = rw same at c.in-Some.ensures.has_number in
     let found : row_in rows number ≡ Some row =
-    ap (λ (rs : List RetirementRow). row_in rs number) (sym c.deref_mut.ensures.value) ∙ ap (row_in c.deref_mut.result.now) (sym named) ∙ c.mark_reversed-row.ensures.row in
+    ap (λ (rs : List RetirementRow). row_in rs number) (sym c.deref_mut.ensures.value)
+    ∙ ap (row_in c.deref_mut.result.now) (sym named) ∙ c.mark_reversed-row.ensures.row in
     let marks : c.mark_reversed-row.new.rows ≡ with_mark number rows =
-    c.mark_reversed-row.ensures.marked ∙ ap (λ (n : ℕ). with_mark n c.deref_mut.result.now) named ∙ ap (with_mark number) c.deref_mut.ensures.value in
+    c.mark_reversed-row.ensures.marked ∙ ap (λ (n : ℕ). with_mark n c.deref_mut.result.now) named
+    ∙ ap (with_mark number) c.deref_mut.ensures.value in
     let size : length c.mark_reversed-row.new.rows ≡ c.self.inside.rows.len =
-    ap length marks ∙ length-map rows (marked_reversed number) ∙ sym (ap length c.deref_mut.ensures.value) ∙ c.deref_mut.ensures.len in
-    let back = written_back c.mark_reversed-row.new.rows (drop (length c.mark_reversed-row.new.rows) rows) c.self.inside.rows.len size in
-    rw (back, marks) (sums_marked c.self.inside.sums c.uncount_row.new.sums rows number row (subst (λ (v : RecordsValue). IsRising (row_numbers v.rows)) (sym c.self.view_is) c.requires.rising) found c.self.invariant c.uncount_row.ensures.counted c.uncount_row.ensures.counted_for c.uncount_row.ensures.eight)
+    ap length marks ∙ length-map rows (marked_reversed number) ∙ sym (ap length c.deref_mut.ensures.value)
+    ∙ c.deref_mut.ensures.len in
+    let back = written_back c.mark_reversed-row.new.rows (drop (length c.mark_reversed-row.new.rows) rows)
+    c.self.inside.rows.len size in
+    rw (back, marks) (sums_marked c.self.inside.sums c.uncount_row.new.sums rows number row
+    (subst (λ (v : RecordsValue). IsRising (row_numbers v.rows)) (sym c.self.view_is) c.requires.rising) found
+    c.self.invariant c.uncount_row.ensures.counted c.uncount_row.ensures.counted_for
+    c.uncount_row.ensures.eight)

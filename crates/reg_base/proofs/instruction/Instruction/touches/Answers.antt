@@ -13,7 +13,8 @@ returns-then-knows_all c =
     let m = c.movement-movement.result in
     c.parties.ensures
     ∙ ap (λ b. cond b (each_once (parties_of m)) []) (sym c.if-knows_all.true ∙ c.knows_all.ensures)
-    ∙ ap (λ (n : Movement). cond (list_all (is_known d) (parties_of n ++ option_to_list (other_known n.change))) (each_once (parties_of n)) []) c.movement-movement.ensures
+    ∙ ap (λ (n : Movement). cond (list_all (is_known d) (parties_of n ++ option_to_list (other_known n.change)))
+    (each_once (parties_of n)) []) c.movement-movement.ensures
 
 pub returns-else-knows_all : goal.returns-else-knows_all
 returns-else-knows_all c =
@@ -21,4 +22,5 @@ returns-else-knows_all c =
     let m = c.movement-movement.result in
     c.none.ensures
     ∙ ap (λ b. cond b (each_once (parties_of m)) []) (sym c.if-knows_all.false ∙ c.knows_all.ensures)
-    ∙ ap (λ (n : Movement). cond (list_all (is_known d) (parties_of n ++ option_to_list (other_known n.change))) (each_once (parties_of n)) []) c.movement-movement.ensures
+    ∙ ap (λ (n : Movement). cond (list_all (is_known d) (parties_of n ++ option_to_list (other_known n.change)))
+    (each_once (parties_of n)) []) c.movement-movement.ensures

@@ -3,4 +3,8 @@ use Rattle.reg_claim.proofs.Keeps.{look-allowed}
 use Rattle.reg_claim.proofs.claim_table.ClaimTable.look.Goals as goal
 
 pub load-found-requires : goal.load-found-requires
-load-found-requires c = (c.requires.own, omega (arith, c.args.self.now.wide), look-allowed _ _ _ _ c.args.seat.now.lives)
+load-found-requires c = (
+  c.requires.own,
+  omega (arith, c.args.self.now.wide),
+  look-allowed _ _ _ _ c.args.seat.now.lives,
+)

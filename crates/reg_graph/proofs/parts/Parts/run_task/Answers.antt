@@ -14,13 +14,15 @@ pub run_held-requires-clause-from_one : goal.run_held-requires-clause-from_one
 run_held-requires-clause-from_one g c =
     let here : c.args.worker < length c.args.self.now.hands.items = search rules in
     (c.requires.within (task_of c.in-Holds.task)
-    (view-at hand_of c.args.self.now.hands.items c.args.worker c.index_mut.result.now here c.index_mut.ensures.value ∙ ap (λ h. Some (hand_of h)) (sym c.replace.ensures.value ∙ c.in-Holds.is))).0
+    (view-at hand_of c.args.self.now.hands.items c.args.worker c.index_mut.result.now here c.index_mut.ensures.value
+    ∙ ap (λ h. Some (hand_of h)) (sym c.replace.ensures.value ∙ c.in-Holds.is))).0
 
 pub run_held-requires-clause-within : goal.run_held-requires-clause-within
 run_held-requires-clause-within g c =
     let here : c.args.worker < length c.args.self.now.hands.items = search rules in
     (c.requires.within (task_of c.in-Holds.task)
-    (view-at hand_of c.args.self.now.hands.items c.args.worker c.index_mut.result.now here c.index_mut.ensures.value ∙ ap (λ h. Some (hand_of h)) (sym c.replace.ensures.value ∙ c.in-Holds.is))).1
+    (view-at hand_of c.args.self.now.hands.items c.args.worker c.index_mut.result.now here c.index_mut.ensures.value
+    ∙ ap (λ h. Some (hand_of h)) (sym c.replace.ensures.value ∙ c.in-Holds.is))).1
 
 pub returns-in-Holds-clause-answer : goal.returns-in-Holds-clause-answer
 returns-in-Holds-clause-answer g c =
@@ -31,13 +33,17 @@ returns-in-Holds-clause-answer g c =
     let day = day_of c.args.context.now.book c.args.context.now.rules.now c.args.context.now.batch.now in
     let task = task_of c.in-Holds.task in
     let here : k < length p.hands.items = search rules in
-    let held = view-at hand_of p.hands.items k c.index_mut.result.now here c.index_mut.ensures.value ∙ ap (λ h. Some (hand_of h)) (sym c.replace.ensures.value ∙ c.in-Holds.is) in
+    let held = view-at hand_of p.hands.items k c.index_mut.result.now here c.index_mut.ensures.value
+    ∙ ap (λ h. Some (hand_of h)) (sym c.replace.ensures.value ∙ c.in-Holds.is) in
     let bounds = c.requires.within task held in
     let hands = map-set hand_of p.hands.items k c.replace.new.dest in
     let one = with-one w k (Holds task) (run_by day plan k w) held in
     why-run c.run_held.result _ _ _ _ _ c.run_held.ensures.ok c.run_held.ensures.err c.run_held.ensures.back
-    (λ ok. one ∙ sym (ap (λ hs. run_by day plan k (record w { hands = hs }) (Holds task)) hands ∙ run-anew day plan k w (hand_of c.replace.new.dest) task) ∙ ok)
-    (λ back. back ∙ ap (λ hs. record w { hands = slice_set hs k (Holds task) }) hands ∙ ap (λ hs. record w { hands = hs }) (set-twice w.hands k (hand_of c.replace.new.dest) (Holds task) ∙ set-back w.hands k (Holds task) held))
+    (λ ok. one ∙ sym (ap (λ hs. run_by day plan k (record w { hands = hs }) (Holds task)) hands
+    ∙ run-anew day plan k w (hand_of c.replace.new.dest) task) ∙ ok)
+    (λ back. back ∙ ap (λ hs. record w { hands = slice_set hs k (Holds task) }) hands
+    ∙ ap (λ hs. record w { hands = hs }) (set-twice w.hands k (hand_of c.replace.new.dest) (Holds task)
+    ∙ set-back w.hands k (Holds task) held))
     (subst IsOk (sym one) (can-run day plan k w task bounds.0 bounds.1))
 
 pub returns-in-Carries-clause-answer : goal.returns-in-Carries-clause-answer
@@ -48,9 +54,13 @@ returns-in-Carries-clause-answer g c =
     let plan = c.args.context.now.plan in
     let day = day_of c.args.context.now.book c.args.context.now.rules.now c.args.context.now.batch.now in
     let here : k < length p.hands.items = search rules in
-    let held = view-at hand_of p.hands.items k c.index_mut.result.now here c.index_mut.ensures.value ∙ ap (λ h. Some (hand_of h)) (sym c.replace.ensures.value ∙ c.in-Carries.is) in (
-      ap (λ hs. record w { hands = map hand_of hs }) (set-twice p.hands.items k c.replace.new.dest (hand.Carries c.in-Carries.ready c.in-Carries.parcels))
+    let held = view-at hand_of p.hands.items k c.index_mut.result.now here c.index_mut.ensures.value
+    ∙ ap (λ h. Some (hand_of h)) (sym c.replace.ensures.value ∙ c.in-Carries.is) in (
+      ap (λ hs. record w { hands = map hand_of hs })
+          (set-twice p.hands.items k c.replace.new.dest (hand.Carries c.in-Carries.ready c.in-Carries.parcels))
           ∙ ap (λ hs. record w { hands = hs })
-          (map-set_same hand_of p.hands.items k (hand.Carries c.in-Carries.ready c.in-Carries.parcels) c.index_mut.result.now (ap hand_of (sym c.in-Carries.is ∙ c.replace.ensures.value ∙ c.index_mut.ensures.value))),
+          (map-set_same hand_of p.hands.items k (hand.Carries c.in-Carries.ready c.in-Carries.parcels)
+          c.index_mut.result.now (ap hand_of (sym c.in-Carries.is ∙ c.replace.ensures.value
+          ∙ c.index_mut.ensures.value))),
       ((λ e. absurd cc), λ ne. with-one w k _ (run_by day plan k w) held),
     )

@@ -15,10 +15,20 @@ returns-in-Some-clause-answer g c =
     let here : c.args.worker < length p.hands.items = search rules in
     let many : c.args.from < length p.lists.items = search rules in
     let hand = view-at hand_of p.hands.items c.args.worker c.index.result.now here c.index.ensures in
-    let list = view-at (λ tasks. map task_of tasks.items) p.lists.items c.args.from c.index_mut.result.now many c.index_mut.ensures.value in
-    with-both (world_of p) c.args.worker c.args.from _ _ (moved c.args.worker c.args.from (world_of p)) (hand ∙ ap Some (c.if-not-is_empty.ensures.0 refl)) (list ∙ ap (λ ts. Some (map task_of ts)) c.in-Some.ensures.items)
-    ∙ ap (λ ls. Ok (record (world_of p) { lists = ls; hands = slice_set (world_of p).hands c.args.worker (Holds (task_of c.in-Some.task)) })) (sym (map-set (λ tasks. map task_of tasks.items) p.lists.items c.args.from c.pop_front.new.self))
-    ∙ ap (λ hs. Ok (record (world_of p) { lists = map (λ tasks. map task_of tasks.items) (slice_set p.lists.items c.args.from c.pop_front.new.self); hands = hs })) (sym (map-set hand_of p.hands.items c.args.worker _))
+    let list = view-at (λ tasks. map task_of tasks.items) p.lists.items c.args.from c.index_mut.result.now many
+    c.index_mut.ensures.value in
+    with-both (world_of p) c.args.worker c.args.from _ _ (moved c.args.worker c.args.from (world_of p))
+    (hand ∙ ap Some (c.if-not-is_empty.ensures.0 refl))
+    (list ∙ ap (λ ts. Some (map task_of ts)) c.in-Some.ensures.items)
+    ∙ ap (λ ls. Ok (record (world_of p) {
+      lists = ls;
+      hands = slice_set (world_of p).hands c.args.worker (Holds (task_of c.in-Some.task));
+    }))
+    (sym (map-set (λ tasks. map task_of tasks.items) p.lists.items c.args.from c.pop_front.new.self))
+    ∙ ap (λ hs. Ok (record (world_of p) {
+      lists = map (λ tasks. map task_of tasks.items) (slice_set p.lists.items c.args.from c.pop_front.new.self);
+      hands = hs;
+    })) (sym (map-set hand_of p.hands.items c.args.worker _))
 
 pub returns-in-None-clause-answer : goal.returns-in-None-clause-answer
 returns-in-None-clause-answer g c =
@@ -28,8 +38,13 @@ returns-in-None-clause-answer g c =
     let size : length c.index_mut.result.now.items ≡ deque_len c.index_mut.result.now = search rules in
     let none = none-left c.index_mut.result.now.items (size ∙ c.in-None.ensures.cases.0) in
     let hand = view-at hand_of p.hands.items c.args.worker c.index.result.now here c.index.ensures in
-    let list = view-at (λ tasks. map task_of tasks.items) p.lists.items c.args.from c.index_mut.result.now many c.index_mut.ensures.value in (
-      ap (λ ls. record (world_of p) { lists = ls }) (map-set_same (λ tasks. map task_of tasks.items) p.lists.items c.args.from c.pop_front.new.self c.index_mut.result.now
-          (ap (map task_of) (sym c.in-None.ensures.items) ∙ ap (λ tasks. map task_of tasks.items) c.index_mut.ensures.value)),
-      with-both (world_of p) c.args.worker c.args.from _ _ (moved c.args.worker c.args.from (world_of p)) (hand ∙ ap Some (c.if-not-is_empty.ensures.0 refl)) (list ∙ ap (λ ts. Some (map task_of ts)) none),
+    let list = view-at (λ tasks. map task_of tasks.items) p.lists.items c.args.from c.index_mut.result.now many
+    c.index_mut.ensures.value in (
+      ap (λ ls. record (world_of p) { lists = ls })
+          (map-set_same (λ tasks. map task_of tasks.items) p.lists.items c.args.from c.pop_front.new.self
+          c.index_mut.result.now
+          (ap (map task_of) (sym c.in-None.ensures.items)
+          ∙ ap (λ tasks. map task_of tasks.items) c.index_mut.ensures.value)),
+      with-both (world_of p) c.args.worker c.args.from _ _ (moved c.args.worker c.args.from (world_of p))
+          (hand ∙ ap Some (c.if-not-is_empty.ensures.0 refl)) (list ∙ ap (λ ts. Some (map task_of ts)) none),
     )

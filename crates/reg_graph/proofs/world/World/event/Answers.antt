@@ -88,7 +88,8 @@ unfolding after_event
 returns-in-Deliver-clause-answer g c =
     let now = c.args.self.now in
     let context = now.context.now in
-    answers (the_day context) context.plan (world_of now.parts) (world_of c.deliver_parcel.new.self) c.deliver_parcel.result
+    answers (the_day context) context.plan (world_of now.parts) (world_of c.deliver_parcel.new.self)
+    c.deliver_parcel.result
     (Deliver c.in-Deliver.worker) c.args.event c.in-Deliver.is c.deliver_parcel.ensures.answer
 
 pub invariant_of-self-in-Push : goal.invariant_of-self-in-Push

@@ -6,8 +6,10 @@ use Rattle.reg_graph.proofs.world.World.is_settled.Goals as goal
 
 pub returns : goal.returns
 returns g c =
-    let day = day_of c.args.self.now.context.now.book c.args.self.now.context.now.rules.now c.args.self.now.context.now.batch.now in
+    let day = day_of c.args.self.now.context.now.book c.args.self.now.context.now.rules.now
+    c.args.self.now.context.now.batch.now in
     let plan = c.args.self.now.context.now.plan in
     let w = world_of c.args.self.now.parts in
-    ∥∥₁_elim c.args.self.now.context.now.planned (Prim.hlevel props) (λ made. ∥∥₁_elim c.args.self.now.reached (Prim.hlevel props) (λ r.
+    ∥∥₁_elim c.args.self.now.context.now.planned (Prim.hlevel props)
+    (λ made. ∥∥₁_elim c.args.self.now.reached (Prim.hlevel props) (λ r.
     (c.every_schedule.ensures day plan r.workers r.events w made r.some r.after).settled c.requires.over))

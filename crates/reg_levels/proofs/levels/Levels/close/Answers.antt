@@ -21,11 +21,15 @@ returns-clause-lack g c =
     let order = l.order.items in
     let standing = stands l.slots in
     let all : take l.laid order ≡ order = take_all l.laid order (omega (Rattle.std.proofs.Common.arith, c.requires)) in
-    err_more c.close.result _ _ c.close.ensures.lack (λ lack why. lack_from lack why (λ missing. no_name g.N.Naming.day (λ d e.
-    ∥∥₁_elim (ends_so c.tails_are_last_touchers.ensures c.last_toucher_is_last.ensures (the_day context) context.plan context.planned c.no_fault_is_a_legal_order.ensures order l.legal standing
+    err_more c.close.result _ _ c.close.ensures.lack
+    (λ lack why. lack_from lack why (λ missing. no_name g.N.Naming.day (λ d e.
+    ∥∥₁_elim (ends_so c.tails_are_last_touchers.ensures c.last_toucher_is_last.ensures
+    (the_day context) context.plan context.planned c.no_fault_is_a_legal_order.ensures order l.legal standing
     (stands_after (the_day context) order standing
     (subst (λ xs. StandsBetween (the_day context) xs Rattle.std.proofs.Common.[] standing) all
-    (subst (λ xs. StandsBetween (the_day context) (take l.laid order) xs standing) (none_between order l.laid l.taken (omega (Rattle.std.proofs.Common.arith, c.requires, l.within))) (l.standing d e)))))
+    (subst (λ xs. StandsBetween (the_day context) (take l.laid order) xs standing)
+    (none_between order l.laid l.taken (omega (Rattle.std.proofs.Common.arith, c.requires, l.within)))
+    (l.standing d e)))))
     (Prim.hlevel props) (λ ends. missing d e
     (subst (λ (x : Day). IsAtEnd x (places_done l.done.items) standing) (context.named d e)
     (subst (λ ps. IsAtEnd (the_day context) ps standing) (sym (l.rows ∙ all)) ends))))))

@@ -7,15 +7,19 @@ use Rattle.reg_levels.proofs.levels.Levels.lay.Goals as goal
 pub lay_one-requires-clause-place : goal.lay_one-requires-clause-place
 lay_one-requires-clause-place g c =
     let l = c.loop-outcome.self in
-    let split : c.loop-outcome.outcome-iterator.rest.items ≡ c.in-Some.outcome ∷ c.next.new.self.rest.items = search rules in
-    (next_is l.order.items l.laid l.taken c.in-Some.outcome.place (places_run c.next.new.self.rest.items) l.within (sym (ap places_run split) ∙ c.loop-outcome.invariant.places)).1
+    let split : c.loop-outcome.outcome-iterator.rest.items ≡ c.in-Some.outcome ∷ c.next.new.self.rest.items =
+    search rules in
+    (next_is l.order.items l.laid l.taken c.in-Some.outcome.place (places_run c.next.new.self.rest.items) l.within
+    (sym (ap places_run split) ∙ c.loop-outcome.invariant.places)).1
 
 pub loop-outcome-preserved : goal.loop-outcome-preserved
 loop-outcome-preserved g c =
     let l = c.loop-outcome.self in
     let i = c.loop-outcome.invariant in
-    let split : c.loop-outcome.outcome-iterator.rest.items ≡ c.in-Some.outcome ∷ c.next.new.self.rest.items = search rules in
-    let next = next_is l.order.items l.laid l.taken c.in-Some.outcome.place (places_run c.next.new.self.rest.items) l.within (sym (ap places_run split) ∙ i.places) in
+    let split : c.loop-outcome.outcome-iterator.rest.items ≡ c.in-Some.outcome ∷ c.next.new.self.rest.items =
+    search rules in
+    let next = next_is l.order.items l.laid l.taken c.in-Some.outcome.place (places_run c.next.new.self.rest.items)
+    l.within (sym (ap places_run split) ∙ i.places) in
     let new = c.lay_one.new.self in
     record {
       next = tt;
@@ -24,12 +28,14 @@ loop-outcome-preserved g c =
       order = c.in_ok-lay_one.ensures.order ∙ i.order;
       taken = c.in_ok-lay_one.ensures.taken ∙ i.taken;
       places = next.2 ∙ ap (λ n. places_between l.order.items n l.taken) (sym c.in_ok-lay_one.ensures.laid)
-          ∙ ap (λ n. places_between l.order.items new.laid n) (sym c.in_ok-lay_one.ensures.taken) ∙ ap (λ o. places_between o.items new.laid new.taken) (sym c.in_ok-lay_one.ensures.order);
+          ∙ ap (λ n. places_between l.order.items new.laid n) (sym c.in_ok-lay_one.ensures.taken)
+          ∙ ap (λ o. places_between o.items new.laid new.taken) (sym c.in_ok-lay_one.ensures.order);
     }
 
 pub returns-clause-laid : goal.returns-clause-laid
 returns-clause-laid g c =
     let l = c.loop-outcome.self in
     let ended : length c.loop-outcome.outcome-iterator.rest.items ≡ 0 = search rules in
-    let none : c.loop-outcome.outcome-iterator.rest.items ≡ [] = nil_from_length c.loop-outcome.outcome-iterator.rest.items ended in
+    let none : c.loop-outcome.outcome-iterator.rest.items ≡ [] =
+    nil_from_length c.loop-outcome.outcome-iterator.rest.items ended in
     none_left l.order.items l.laid l.taken l.ahead l.within (sym (ap places_run none) ∙ c.loop-outcome.invariant.places)

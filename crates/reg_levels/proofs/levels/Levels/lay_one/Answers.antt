@@ -1,4 +1,5 @@
-use Rattle.std.proofs.Common.{◌≡◌, ◌+◌, ◌<◌, ◌++◌, ◌∷◌, [], ℕ, map, length, take, get_or, Some, None, cond, arith, rules, sym, ap, subst, ◌∙◌}
+use Rattle.std.proofs.Common.{◌≡◌, ◌+◌, ◌<◌, ◌++◌, ◌∷◌, [], ℕ, map, length, take, get_or, Some, None, cond, arith}
+use Rattle.std.proofs.Common.{rules, sym, ap, subst, ◌∙◌}
 use Rattle.std.proofs.lemmas.List.{take_more, map-append}
 use Rattle.reg_base.specs.Footprint.{is_among}
 use Rattle.reg_plan.specs.Orders.{first_order_fault}
@@ -28,7 +29,8 @@ invariant_of-self-2 g c =
       by_level = subst (λ x. IsByLevel x.plan order) (sym c.in-Ok.ensures.context) l.by_level;
       ahead = let r = c.requires.running in omega (arith, r);
       within = l.within;
-      level = subst (λ x. IsOneLevel x.plan order (l.laid + 1) l.taken) (sym c.in-Ok.ensures.context) (level_more context.plan order l.laid l.taken l.level);
+      level = subst (λ x. IsOneLevel x.plan order (l.laid + 1) l.taken) (sym c.in-Ok.ensures.context)
+          (level_more context.plan order l.laid l.taken l.level);
       standing = λ d e.
           let fs = footprint_at (the_day context) x in
           let left : names_of c.args.outcome.parcels.items ≡ map (λ a. (a, x)) fs =
@@ -36,14 +38,22 @@ invariant_of-self-2 g c =
           ∙ ap (λ p. map (λ a. (a, p)) (footprint_at d p)) c.requires.place
           ∙ ap (λ (y : Day). map (λ a. (a, x)) (footprint_at y x)) (sym (context.named d e)) in
           let laid : (a : ℕ) → stands c.lay.new.self a ≡ cond (is_among fs a) (Some (a, x)) (stands l.slots a) =
-          λ a. c.in-Ok.ensures.laid a ∙ ap (λ ns. laid_at ns (stands l.slots a) a) left ∙ laid_left x fs (stands l.slots a) a in
-          subst (λ y. StandsBetween (the_day y) (take (l.laid + 1) order) (places_between order (l.laid + 1) l.taken) (stands c.lay.new.self)) (sym c.in-Ok.ensures.context)
-          (subst (λ xs. StandsBetween (the_day context) xs (places_between order (l.laid + 1) l.taken) (stands c.lay.new.self)) (sym (take_more order l.laid 0 few))
-          (laid_more (the_day context) (take l.laid order) (places_between order (l.laid + 1) l.taken) x (stands l.slots) (stands c.lay.new.self)
-          (λ a on. untouched_after c.levels_rise_along_arrows.ensures c.tails_are_last_touchers.ensures c.last_toucher_is_last.ensures (the_day context) context.plan context.planned order l.legal
+          λ a. c.in-Ok.ensures.laid a ∙ ap (λ ns. laid_at ns (stands l.slots a) a) left
+          ∙ laid_left x fs (stands l.slots a) a in
+          subst (λ y. StandsBetween (the_day y) (take (l.laid + 1) order) (places_between order (l.laid + 1) l.taken)
+          (stands c.lay.new.self)) (sym c.in-Ok.ensures.context)
+          (subst (λ xs. StandsBetween (the_day context) xs (places_between order (l.laid + 1) l.taken)
+          (stands c.lay.new.self)) (sym (take_more order l.laid 0 few))
+          (laid_more (the_day context) (take l.laid order) (places_between order (l.laid + 1) l.taken) x
+          (stands l.slots) (stands c.lay.new.self)
+          (λ a on. untouched_after c.levels_rise_along_arrows.ensures c.tails_are_last_touchers.ensures
+          c.last_toucher_is_last.ensures (the_day context) context.plan context.planned order l.legal
           a l.laid l.taken c.requires.running l.within l.level on)
-          (subst (λ xs. StandsBetween (the_day context) (take l.laid order) xs (stands l.slots)) (between_first order l.laid l.taken c.requires.running l.within) (l.standing d e)) laid));
-      rows = ap places_done pushed ∙ map-append _ l.done.items (c.in-Ok.done ∷ []) ∙ ap (λ xs. xs ++ c.in-Ok.done.place ∷ []) l.rows
-          ∙ ap (λ p. take l.laid order ++ p ∷ []) (c.in-Ok.ensures.done.0 ∙ c.requires.place) ∙ sym (take_more order l.laid 0 few);
+          (subst (λ xs. StandsBetween (the_day context) (take l.laid order) xs (stands l.slots))
+          (between_first order l.laid l.taken c.requires.running l.within) (l.standing d e)) laid));
+      rows = ap places_done pushed ∙ map-append _ l.done.items (c.in-Ok.done ∷ [])
+          ∙ ap (λ xs. xs ++ c.in-Ok.done.place ∷ []) l.rows
+          ∙ ap (λ p. take l.laid order ++ p ∷ []) (c.in-Ok.ensures.done.0 ∙ c.requires.place)
+          ∙ sym (take_more order l.laid 0 few);
       room = search rules;
     }

@@ -17,7 +17,8 @@ loop-preserved g c =
       laid = c.in_ok-task.ensures.laid ∙ i.laid;
       taken = c.in_ok-task.ensures.taken ∙ ap (λ n. n + 1) i.taken;
       room = search rules;
-      places = ap places_of pushed ∙ map-append _ c.loop.tasks.items (c.in_ok-task.task ∷ []) ∙ ap (λ xs. xs ++ c.in_ok-task.task.place ∷ []) i.places
+      places = ap places_of pushed ∙ map-append _ c.loop.tasks.items (c.in_ok-task.task ∷ [])
+          ∙ ap (λ xs. xs ++ c.in_ok-task.task.place ∷ []) i.places
           ∙ ap (λ p. places_between l.order.items l.laid l.taken ++ p ∷ []) c.in_ok-task.ensures.place
           ∙ sym (between_more l.order.items l.laid l.taken l.ahead left)
           ∙ ap (places_between l.order.items l.laid) (sym c.in_ok-task.ensures.taken)

@@ -22,19 +22,23 @@ begin_at-requires c = omega (arith, within (goal.at.begin_at-requires c).After-s
 begins : (c : After-begin_at) → c.begin_at.result ≡ get_or (0 ∷ c.self.inside.ends.items) (c.args.place - 1) 0
 begins c = c.begin_at.ensures ∙ ap (λ es. get_or (0 ∷ es) (c.args.place - 1) 0) c.deref-2.ensures.value
 
-ends : (c : After-begin_at) → c.args.place - 1 < length c.self.inside.ends.items → c.index-end.result.now ≡ get_or c.self.inside.ends.items (c.args.place - 1) 0
-ends c lt = c.index-end.ensures ∙ get_or_default_zero c.self.inside.ends.items (c.args.place - 1) c.index-end.result.now lt
+ends : (c : After-begin_at) → c.args.place - 1 < length c.self.inside.ends.items
+    → c.index-end.result.now ≡ get_or c.self.inside.ends.items (c.args.place - 1) 0
+ends c lt = c.index-end.ensures
+    ∙ get_or_default_zero c.self.inside.ends.items (c.args.place - 1) c.index-end.result.now lt
 
 pub part-requires-clause-rises : goal.part-requires-clause-rises
 part-requires-clause-rises c =
     let lt = within (goal.at.part-requires-clause-rises c).After-self in
-    let low = begin_before _ c.self.inside.accounts.items c.self.inside.ends.items (c.args.place - 1) c.self.invariant lt in
+    let low = begin_before _ c.self.inside.accounts.items c.self.inside.ends.items
+    (c.args.place - 1) c.self.invariant lt in
     omega (arith, low, begins c, ends c lt)
 
 pub part-requires-clause-within : goal.part-requires-clause-within
 part-requires-clause-within c =
     let lt = within (goal.at.part-requires-clause-within c).After-self in
-    let high = end_within _ c.self.inside.accounts.items c.self.inside.ends.items (c.args.place - 1) c.self.invariant lt in
+    let high = end_within _ c.self.inside.accounts.items c.self.inside.ends.items
+    (c.args.place - 1) c.self.invariant lt in
     omega (arith, high, ends c lt, ap length c.deref.ensures.value)
 
 pub returns : goal.returns

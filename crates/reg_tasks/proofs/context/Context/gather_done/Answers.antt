@@ -19,17 +19,24 @@ use Rattle.reg_tasks.proofs.context.Context.gather_done.Goals.{After-settle_sort
 use Rattle.reg_tasks.proofs.context.Context.gather_done.Given.{Over}
 
 -- the sorted rows, and the sorted parcels
-rows_now : (g : Over) (c : After-settle_sorted g) → take c.args.rows.len (c.sort_done.new.rows ++ drop (length c.sort_done.new.rows) c.args.rows.items) ≡ c.sort_done.new.rows
+rows_now : (g : Over) (c : After-settle_sorted g)
+    → take c.args.rows.len (c.sort_done.new.rows ++ drop (length c.sort_done.new.rows) c.args.rows.items)
+    ≡ c.sort_done.new.rows
 rows_now g c =
     let size : c.args.rows.len ≡ length c.args.rows.items = search rules in
     written_whole c.args.rows.items c.sort_done.new.rows c.args.rows.len size
-    (length_permutation c.deref_mut.result.now c.sort_done.new.rows c.sort_done.ensures.same ∙ ap length c.deref_mut.ensures.value)
+    (length_permutation c.deref_mut.result.now c.sort_done.new.rows c.sort_done.ensures.same
+    ∙ ap length c.deref_mut.ensures.value)
 
-parcels_now : (g : Over) (c : After-settle_sorted g) → take c.args.parcels.len (c.sort_parcels.new.parcels ++ drop (length c.sort_parcels.new.parcels) c.args.parcels.items) ≡ c.sort_parcels.new.parcels
+parcels_now : (g : Over) (c : After-settle_sorted g)
+    → take c.args.parcels.len
+    (c.sort_parcels.new.parcels ++ drop (length c.sort_parcels.new.parcels) c.args.parcels.items)
+    ≡ c.sort_parcels.new.parcels
 parcels_now g c =
     let size : c.args.parcels.len ≡ length c.args.parcels.items = search rules in
     written_whole c.args.parcels.items c.sort_parcels.new.parcels c.args.parcels.len size
-    (length_permutation c.deref_mut-2.result.now c.sort_parcels.new.parcels c.sort_parcels.ensures.same ∙ ap length c.deref_mut-2.ensures.value)
+    (length_permutation c.deref_mut-2.result.now c.sort_parcels.new.parcels c.sort_parcels.ensures.same
+    ∙ ap length c.deref_mut-2.ensures.value)
 
 pub returns-clause-lack : goal.returns-clause-lack
 returns-clause-lack g c =
@@ -38,12 +45,22 @@ returns-clause-lack g c =
     let accounts = opened_accounts plan.openings in
     let rising : IsRising accounts = ∥∥₁_elim context.planned (Prim.hlevel props) (λ made. made.openings.rising) in
     err_more c.settle_sorted.result _ _ c.settle_sorted.ensures.lack (λ l lack. lack_from l lack (λ missing d e all.
-    let here : AreOutcomes (the_day context) (places_of c.args.rows.items) (names_of (parcels_in c.args.parcels.items)) =
-    subst (λ (x : Day). AreOutcomes x (places_of c.args.rows.items) (names_of (parcels_in c.args.parcels.items))) (sym (context.named d e)) all in
-    let pass : are_outcomes (the_day context) accounts (places_of c.sort_done.new.rows) (names_of (parcels_in c.sort_parcels.new.parcels)) ≡ true =
-    outcomes_pass c.tails_are_last_touchers.ensures c.last_toucher_is_last.ensures (the_day context) plan context.planned rising
+    let here : AreOutcomes (the_day context) (places_of c.args.rows.items)
+    (names_of (parcels_in c.args.parcels.items)) =
+    subst (λ (x : Day). AreOutcomes x (places_of c.args.rows.items) (names_of (parcels_in c.args.parcels.items)))
+    (sym (context.named d e)) all in
+    let pass : are_outcomes (the_day context) accounts (places_of c.sort_done.new.rows)
+    (names_of (parcels_in c.sort_parcels.new.parcels)) ≡ true =
+    outcomes_pass c.tails_are_last_touchers.ensures c.last_toucher_is_last.ensures
+    (the_day context) plan context.planned rising
     c.args.rows.items c.sort_done.new.rows c.args.parcels.items c.sort_parcels.new.parcels
-    (subst (λ ds. IsPermutation ds c.sort_done.new.rows) c.deref_mut.ensures.value c.sort_done.ensures.same) c.sort_done.ensures.sorted
-    (subst (λ ls. IsPermutation ls c.sort_parcels.new.parcels) c.deref_mut-2.ensures.value c.sort_parcels.ensures.same) c.sort_parcels.ensures.sorted here in
-    clash (ap (λ ds. are_outcomes (the_day context) accounts (places_of ds) (names_of (parcels_in (take c.args.parcels.len (c.sort_parcels.new.parcels ++ drop (length c.sort_parcels.new.parcels) c.args.parcels.items))))) (rows_now g (goal.at.returns-clause-lack g c).After-settle_sorted)
-    ∙ ap (λ ls. are_outcomes (the_day context) accounts (places_of c.sort_done.new.rows) (names_of (parcels_in ls))) (parcels_now g (goal.at.returns-clause-lack g c).After-settle_sorted) ∙ pass) (missing d e)))
+    (subst (λ ds. IsPermutation ds c.sort_done.new.rows) c.deref_mut.ensures.value c.sort_done.ensures.same)
+    c.sort_done.ensures.sorted
+    (subst (λ ls. IsPermutation ls c.sort_parcels.new.parcels) c.deref_mut-2.ensures.value c.sort_parcels.ensures.same)
+    c.sort_parcels.ensures.sorted here in
+    clash (ap (λ ds. are_outcomes (the_day context) accounts (places_of ds)
+    (names_of (parcels_in (take c.args.parcels.len
+    (c.sort_parcels.new.parcels ++ drop (length c.sort_parcels.new.parcels) c.args.parcels.items)))))
+    (rows_now g (goal.at.returns-clause-lack g c).After-settle_sorted)
+    ∙ ap (λ ls. are_outcomes (the_day context) accounts (places_of c.sort_done.new.rows) (names_of (parcels_in ls)))
+    (parcels_now g (goal.at.returns-clause-lack g c).After-settle_sorted) ∙ pass) (missing d e)))

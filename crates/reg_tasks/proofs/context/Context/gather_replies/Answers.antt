@@ -16,11 +16,15 @@ returns-clause-lack g c =
     let context = c.args.self.now in
     let size : c.args.done.len ≡ length c.args.done.items = search rules in
     let sorted = c.sort_done.new.rows in
-    let whole : take c.args.done.len (sorted ++ drop (length sorted) c.args.done.items) ≡ sorted = written_whole c.args.done.items sorted c.args.done.len size
+    let whole : take c.args.done.len (sorted ++ drop (length sorted) c.args.done.items) ≡ sorted =
+    written_whole c.args.done.items sorted c.args.done.len size
     (length_permutation c.deref_mut.result.now sorted c.sort_done.ensures.same ∙ ap length c.deref_mut.ensures.value) in
     err_more c.take_sorted.result _ _ c.take_sorted.ensures.lack (λ l lack. lack_from l lack (λ missing d e each.
     let here : IsPermutation (count_up 1 (length (the_day context).batch.instructions)) (places_of c.args.done.items) =
-    subst (λ (x : Day). IsPermutation (count_up 1 (length x.batch.instructions)) (places_of c.args.done.items)) (sym (context.named d e)) each in
+    subst (λ (x : Day). IsPermutation (count_up 1 (length x.batch.instructions)) (places_of c.args.done.items))
+    (sym (context.named d e)) each in
     let pass : are_each (the_day context) (places_of sorted) ≡ true = tested_each (the_day context) (places_of sorted)
-    (sorted_each (the_day context) c.args.done.items sorted (subst (λ ds. IsPermutation ds sorted) c.deref_mut.ensures.value c.sort_done.ensures.same) c.sort_done.ensures.sorted here) in
+    (sorted_each (the_day context) c.args.done.items sorted
+    (subst (λ ds. IsPermutation ds sorted) c.deref_mut.ensures.value c.sort_done.ensures.same)
+    c.sort_done.ensures.sorted here) in
     clash (ap (λ ds. are_each (the_day context) (places_of ds)) whole ∙ pass) (missing d e)))

@@ -7,4 +7,5 @@ use Rattle.reg_tasks.proofs.context.Context.openings.Goals as goal
 
 pub returns-clause-rising : goal.returns-clause-rising
 returns-clause-rising g c =
-    ∥∥₁_elim c.args.self.now.planned (Prim.hlevel props) (λ made. subst (λ os. IsRising (opened_accounts os)) (sym c.openings.ensures) made.openings.rising)
+    ∥∥₁_elim c.args.self.now.planned (Prim.hlevel props)
+    (λ made. subst (λ os. IsRising (opened_accounts os)) (sym c.openings.ensures) made.openings.rising)

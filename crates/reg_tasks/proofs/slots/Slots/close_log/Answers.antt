@@ -16,18 +16,28 @@ use Rattle.reg_tasks.proofs.slots.Slots.close_log.Goals as goal
 pub returns-in_err-parcels-clause-lack : goal.returns-in_err-parcels-clause-lack
 returns-in_err-parcels-clause-lack g c =
     let context = c.args.self.context.now in
-    let rising : IsRising (opened_accounts context.plan.openings) = ∥∥₁_elim context.planned (Prim.hlevel props) (λ made. made.openings.rising) in
-    err_from c.from_residual.result _ (LacksFor ((d : Day) → g.N.Naming.day ≡ Some d → ¬ (IsAtEnd d (count_up 1 (length d.batch.instructions)) (stands c.args.self)))) c.from_residual.ensures.1
-    (λ l same. subst (LacksFor ((d : Day) → g.N.Naming.day ≡ Some d → ¬ (IsAtEnd d (count_up 1 (length d.batch.instructions)) (stands c.args.self)))) (sym same)
+    let rising : IsRising (opened_accounts context.plan.openings) =
+    ∥∥₁_elim context.planned (Prim.hlevel props) (λ made. made.openings.rising) in
+    err_from c.from_residual.result _
+    (LacksFor ((d : Day) → g.N.Naming.day ≡ Some d
+    → ¬ (IsAtEnd d (count_up 1 (length d.batch.instructions)) (stands c.args.self)))) c.from_residual.ensures.1
+    (λ l same. subst (LacksFor ((d : Day) → g.N.Naming.day ≡ Some d
+    → ¬ (IsAtEnd d (count_up 1 (length d.batch.instructions)) (stands c.args.self)))) (sym same)
     (lack_from c.in_err-parcels.field-0.0 c.in_err-parcels.ensures.lack (λ missing d e ends.
-    let here = subst (λ (x : Day). IsAtEnd x (count_up 1 (length x.batch.instructions)) (stands c.args.self)) (sym (context.named d e)) ends in
-    clash (all_last_there c.tails_are_last_touchers.ensures c.last_toucher_is_last.ensures (the_day context) context.plan context.planned rising c.args.self.slots.items c.args.self.size _ here) missing)))
+    let here = subst (λ (x : Day). IsAtEnd x (count_up 1 (length x.batch.instructions)) (stands c.args.self))
+    (sym (context.named d e)) ends in
+    clash (all_last_there c.tails_are_last_touchers.ensures c.last_toucher_is_last.ensures
+    (the_day context) context.plan context.planned rising c.args.self.slots.items c.args.self.size _ here)
+    missing)))
 
 pub returns-clause-lack : goal.returns-clause-lack
 returns-clause-lack g c =
     let context = c.args.self.context.now in
-    let rising : IsRising (opened_accounts context.plan.openings) = ∥∥₁_elim context.planned (Prim.hlevel props) (λ made. made.openings.rising) in
+    let rising : IsRising (opened_accounts context.plan.openings) =
+    ∥∥₁_elim context.planned (Prim.hlevel props) (λ made. made.openings.rising) in
     err_more c.settle_log.result _ _ c.settle_log.ensures.lack (λ l lack. lack_from l lack (λ missing d e ends.
-    let here = subst (λ (x : Day). IsAtEnd x (count_up 1 (length x.batch.instructions)) (stands c.args.self)) (sym (context.named d e)) ends in
-    clash (accounts_of_end c.tails_are_last_touchers.ensures c.last_toucher_is_last.ensures (the_day context) context.plan context.planned rising c.args.self.slots.items c.args.self.size _
+    let here = subst (λ (x : Day). IsAtEnd x (count_up 1 (length x.batch.instructions)) (stands c.args.self))
+    (sym (context.named d e)) ends in
+    clash (accounts_of_end c.tails_are_last_touchers.ensures c.last_toucher_is_last.ensures
+    (the_day context) context.plan context.planned rising c.args.self.slots.items c.args.self.size _
     (names_of (parcels_in c.in_ok-parcels.parcels.items)) c.in_ok-parcels.ensures.names here) (missing d e)))

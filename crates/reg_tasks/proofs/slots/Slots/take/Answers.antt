@@ -16,26 +16,35 @@ of_needed-task-requires-clause-needed g c =
     let touched = footprint_at (the_day context) c.args.place in
     let names = names_of c.in_ok-parcels.parcels.items in
     let passed : c.are_ready.result ≡ true = c.if-not-are_ready.false in
-    let ready : list_all (λ name. is_there (standing_in context.plan.openings c.args.self.now.slots.items) name) (names_needed arrows touched) ≡ true =
-    ap (λ ws. list_all (λ name. is_there (standing_in context.plan.openings c.args.self.now.slots.items) name) (names_needed ws touched)) (sym c.arrows_to.ensures)
-    ∙ ap (λ ns. list_all (λ name. is_there (standing_in context.plan.openings c.args.self.now.slots.items) name) (names_needed c.arrows_to.result.now ns)) (sym c.touched_at-accounts.ensures.value)
-    ∙ ap (λ os. list_all (λ name. is_there (standing_in os c.args.self.now.slots.items) name) (names_needed c.arrows_to.result.now c.touched_at-accounts.result.now)) (sym c.openings.ensures.value)
-    ∙ ap (λ ss. list_all (λ name. is_there (standing_in c.openings.result.now ss) name) (names_needed c.arrows_to.result.now c.touched_at-accounts.result.now)) (sym c.deref.ensures.value)
+    let ready : list_all (λ name. is_there (standing_in context.plan.openings c.args.self.now.slots.items) name)
+    (names_needed arrows touched) ≡ true =
+    ap (λ ws. list_all (λ name. is_there (standing_in context.plan.openings c.args.self.now.slots.items) name)
+    (names_needed ws touched)) (sym c.arrows_to.ensures)
+    ∙ ap (λ ns. list_all (λ name. is_there (standing_in context.plan.openings c.args.self.now.slots.items) name)
+    (names_needed c.arrows_to.result.now ns)) (sym c.touched_at-accounts.ensures.value)
+    ∙ ap (λ os. list_all (λ name. is_there (standing_in os c.args.self.now.slots.items) name)
+    (names_needed c.arrows_to.result.now c.touched_at-accounts.result.now)) (sym c.openings.ensures.value)
+    ∙ ap (λ ss. list_all (λ name. is_there (standing_in c.openings.result.now ss) name)
+    (names_needed c.arrows_to.result.now c.touched_at-accounts.result.now)) (sym c.deref.ensures.value)
     ∙ sym c.are_ready.ensures ∙ passed in
     let taken : map Some names ≡ map (standing_in context.plan.openings c.args.self.now.slots.items) touched =
     c.in_ok-parcels.ensures.names
     ∙ ap (λ os. map (standing_in os c.deref_mut.result.now) c.touched_at-accounts.result.now) c.openings-2.ensures.value
     ∙ ap (λ ss. map (standing_in context.plan.openings ss) c.touched_at-accounts.result.now) c.deref_mut.ensures.value
     ∙ ap (map (standing_in context.plan.openings c.args.self.now.slots.items)) c.touched_at-accounts.ensures.value in
-    taken_needed arrows (standing_in context.plan.openings c.args.self.now.slots.items) touched names (ready_stands arrows (standing_in context.plan.openings c.args.self.now.slots.items) touched ready) taken
+    taken_needed arrows (standing_in context.plan.openings c.args.self.now.slots.items) touched names
+    (ready_stands arrows (standing_in context.plan.openings c.args.self.now.slots.items) touched ready) taken
 
 pub take_parcels-requires-clause-there : goal.take_parcels-requires-clause-there
 take_parcels-requires-clause-there g c =
     let arrows = c.arrows_to.result.now in
     let touched = c.touched_at-accounts.result.now in
-    let ready : list_all (λ name. is_there (standing_in c.openings-2.result.now c.deref_mut.result.now) name) (names_needed arrows touched) ≡ true =
-    ap (λ os. list_all (λ name. is_there (standing_in os c.deref_mut.result.now) name) (names_needed arrows touched)) (c.openings-2.ensures.value ∙ sym c.openings.ensures.value)
-    ∙ ap (λ ss. list_all (λ name. is_there (standing_in c.openings.result.now ss) name) (names_needed arrows touched)) (c.deref_mut.ensures.value ∙ sym c.deref.ensures.value)
+    let ready : list_all (λ name. is_there (standing_in c.openings-2.result.now c.deref_mut.result.now) name)
+    (names_needed arrows touched) ≡ true =
+    ap (λ os. list_all (λ name. is_there (standing_in os c.deref_mut.result.now) name) (names_needed arrows touched))
+    (c.openings-2.ensures.value ∙ sym c.openings.ensures.value)
+    ∙ ap (λ ss. list_all (λ name. is_there (standing_in c.openings.result.now ss) name) (names_needed arrows touched))
+    (c.deref_mut.ensures.value ∙ sym c.deref.ensures.value)
     ∙ sym c.are_ready.ensures ∙ c.if-not-are_ready.false in
     let st = standing_in c.openings-2.result.now c.deref_mut.result.now in
     all_there st touched (λ a. (a, tail_in arrows a)) (ready_stands arrows st touched ready)

@@ -12,7 +12,10 @@ use Rattle.reg_tasks.proofs.task.Task.open.Goals as goal
 pub open_all-requires : goal.open_all-requires
 open_all-requires g c =
     let day = day_of c.args.context.now.book c.args.context.now.rules.now c.args.context.now.batch.now in
-    record { known = subst (All (λ a. is_some (account c.args.context.now.book.accounts a) ≡ true)) (sym c.touched_at.ensures.value) (all_known c.each_footprint_is_sound.ensures day c.args.place) }
+    record {
+      known = subst (All (λ a. is_some (account c.args.context.now.book.accounts a) ≡ true))
+          (sym c.touched_at.ensures.value) (all_known c.each_footprint_is_sound.ensures day c.args.place);
+    }
 
 pub invariant_of-result : goal.invariant_of-result
 invariant_of-result g c =
@@ -20,7 +23,8 @@ invariant_of-result g c =
     let plan = c.args.context.now.plan in
     let arrows = c.arrows_to.result.now in
     let touched = c.touched_at.result.now in
-    let none : arrows ≡ [] = no_arrows arrows (eqb-true (length arrows) 0 (sym c.is_empty.ensures ∙ c.if-not-is_empty.false)) in
+    let none : arrows ≡ [] = no_arrows arrows
+    (eqb-true (length arrows) 0 (sym c.is_empty.ensures ∙ c.if-not-is_empty.false)) in
     record {
       complete = λ d e. complete_from c.tails_are_last_touchers.ensures c.last_toucher_is_last.ensures day plan
           c.args.context.now.planned c.args.place _ c.requires.from_one c.requires.within

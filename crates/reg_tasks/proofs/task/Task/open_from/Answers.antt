@@ -11,7 +11,9 @@ use Rattle.reg_tasks.proofs.task.Task.open_from.Goals as goal
 
 pub take_all-requires : goal.take_all-requires
 take_all-requires g c = record {
-  touched = subst (All (λ a. is_touched (directory_of c.args.context.now.book.accounts) c.args.context.now.batch.now.instructions a ≡ true)) (sym c.touched_at.ensures.value)
+  touched = subst (All (λ a.
+      is_touched (directory_of c.args.context.now.book.accounts) c.args.context.now.batch.now.instructions a
+      ≡ true)) (sym c.touched_at.ensures.value)
       (all_touched_at (the_day c.args.context.now) c.args.place);
 }
 
@@ -20,7 +22,8 @@ of_needed-requires-clause-needed g c =
     let plan = c.args.context.now.plan in
     let arrows = c.arrows_to.result.now in
     let touched = c.touched_at.result.now in
-    let none : arrows ≡ [] = no_arrows arrows (eqb-true (length arrows) 0 (sym c.is_empty.ensures ∙ c.if-not-is_empty.false)) in
+    let none : arrows ≡ [] = no_arrows arrows
+    (eqb-true (length arrows) 0 (sym c.is_empty.ensures ∙ c.if-not-is_empty.false)) in
     c.in_ok-parcels.ensures.names
     ∙ sym (needed_none touched)
     ∙ ap (λ ws. names_needed ws touched) (sym none ∙ c.arrows_to.ensures)

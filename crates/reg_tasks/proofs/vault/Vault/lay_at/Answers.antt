@@ -16,7 +16,8 @@ invariant_of-self g c =
     (changed name now.accounts.items now.lots.items k p.value Back c.requires.within c.requires.number
     (λ d e. (c.args.last.closing d e).touched)
     refl
-    (λ d e back. last-value c.untouched_stay.ensures.numbers c.value_is_last_touchers.ensures d now.accounts.items k p.value
+    (λ d e back. last-value c.untouched_stay.ensures.numbers c.value_is_last_touchers.ensures d now.accounts.items k
+    p.value
     p.after now.rising (now.numbered d e) c.requires.within c.requires.number (p.right d e) (c.args.last.closing d e))
     (record {
       rising = now.rising;

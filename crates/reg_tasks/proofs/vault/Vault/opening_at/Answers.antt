@@ -10,6 +10,8 @@ take-requires g c =
     let index = c.args.index in
     let a = c.index-touched_at-index.result in
     record {
-      touched = subst (λ b. is_touched (directory_of c.args.context.now.book.accounts) c.args.context.now.batch.now.instructions b ≡ true) (ap (λ touched. get_or touched index a) (sym c.touched_at.ensures.value) ∙ sym c.index-touched_at-index.is)
+      touched = subst (λ b. is_touched (directory_of c.args.context.now.book.accounts)
+          c.args.context.now.batch.now.instructions b ≡ true)
+          (ap (λ touched. get_or touched index a) (sym c.touched_at.ensures.value) ∙ sym c.index-touched_at-index.is)
           (all_touched_at (the_day c.args.context.now) c.args.place index a c.requires.there);
     }

@@ -8,4 +8,5 @@ pub make_day-requires-clause-draft : goal.make_day-requires-clause-draft
 make_day-requires-clause-draft c = rw c.in_ok-end_block.ensures.over (over-fits _ c.requires.draft)
 
 pub returns : goal.returns
-returns c = sym (over-says _ c.requires.draft (ap is_text_over c.requires.over)) ∙ ap day_said (sym c.in_ok-end_block.ensures.over) ∙ c.make_day.ensures
+returns c = sym (over-says _ c.requires.draft (ap is_text_over c.requires.over))
+    ∙ ap day_said (sym c.in_ok-end_block.ensures.over) ∙ c.make_day.ensures

@@ -6,7 +6,8 @@ use Rattle.reg_text.proofs.reading.day.make_day.Goals as goal
 pub make_calendar-requires : goal.make_calendar-requires
 make_calendar-requires c =
     let d = draft_of c.args.draft in
-    (says-a-day d c.requires.draft (headed d c.requires.draft (ap is_text_over c.requires.over))).day.rules.working_days.rising
+    (says-a-day d c.requires.draft
+    (headed d c.requires.draft (ap is_text_over c.requires.over))).day.rules.working_days.rising
 
 pub make_rules-rules-requires : goal.make_rules-rules-requires
 make_rules-rules-requires c =

@@ -4,7 +4,9 @@ use Rattle.reg_text.proofs.DraftSteps.{grows}
 use Rattle.reg_text.proofs.reading.parts.read_part.Goals as goal
 
 pub take_rows-requires-clause-fits : goal.take_rows-requires-clause-fits
-take_rows-requires-clause-fits c = (grows (draft_of c.in-Ok.again) (draft_of c.take_row.new.draft) (fields_of c.next_row.new.row) (subst IsDraft (sym c.in-Ok.ensures) c.requires.fits) c.in-Ok-take_row.ensures).draft
+take_rows-requires-clause-fits c =
+    (grows (draft_of c.in-Ok.again) (draft_of c.take_row.new.draft) (fields_of c.next_row.new.row)
+    (subst IsDraft (sym c.in-Ok.ensures) c.requires.fits) c.in-Ok-take_row.ensures).draft
 
 pub returns : goal.returns
 returns c = (
@@ -15,7 +17,8 @@ returns c = (
     others = rows_left c.next_row.new.reader;
     after_first = draft_of c.take_row.new.draft;
     rows_are = sym c.start_rows-reader.ensures.rows ∙ rw c.in-Ok-true.field-0-test at c.in-Ok-true.ensures.rows;
-    takes_first = ap (λ (d : DraftValue). next_draft d (fields_of c.next_row.new.row)) (sym c.in-Ok.ensures) ∙ c.in-Ok-take_row.ensures;
+    takes_first = ap (λ (d : DraftValue). next_draft d (fields_of c.next_row.new.row)) (sym c.in-Ok.ensures)
+        ∙ c.in-Ok-take_row.ensures;
     begins = c.in_ok-first.ensures;
     goes_on = c.in_ok-take_rows.ensures.taken;
   },

@@ -7,15 +7,20 @@ use Rattle.reg_text.proofs.reading.take.take_retired.Goals as goal
 pub returns-in_err-retired : goal.returns-in_err-retired
 returns-in_err-retired c =
     let read = sym (rw c.scope.ensures at c.read_retired_row.ensures) ∙ c.in_err-retired.was {u = tt} in
-    takes-fault _ _ _ _ c.from_residual.ensures.1 (row-unread tag.Retired (draft_of c.args.draft.now) (fields_of c.args.row.now) _ read)
+    takes-fault _ _ _ _ c.from_residual.ensures.1
+    (row-unread tag.Retired (draft_of c.args.draft.now) (fields_of c.args.row.now) _ read)
 
 pub returns-in_err-check_row : goal.returns-in_err-check_row
 returns-in_err-check_row c =
     let read = sym (rw c.scope.ensures at c.read_retired_row.ensures) ∙ c.in_ok-retired.was {u = tt} in
-    takes-fault _ _ _ _ c.from_residual-in_err-check_row.ensures.1 (row-refused tag.Retired (draft_of c.args.draft.now) (fields_of c.args.row.now) c.in_ok-retired.retired _ read (sym c.check_row.ensures ∙ c.in_err-check_row.was {u = tt}))
+    takes-fault _ _ _ _ c.from_residual-in_err-check_row.ensures.1
+    (row-refused tag.Retired (draft_of c.args.draft.now) (fields_of c.args.row.now) c.in_ok-retired.retired _ read
+    (sym c.check_row.ensures ∙ c.in_err-check_row.was {u = tt}))
 
 pub returns : goal.returns
 returns c =
     let read = sym (rw c.scope.ensures at c.read_retired_row.ensures) ∙ c.in_ok-retired.was {u = tt} in
     let passes = sym c.check_row.ensures ∙ c.in_ok-check_row.was {u = tt} in
-    rw (c.in_ok-push_row.ensures {u = tt}).ok (row-taken tag.Retired (draft_of c.args.draft.now) (fields_of c.args.row.now) c.in_ok-retired.retired read passes)
+    rw (c.in_ok-push_row.ensures {u = tt}).ok
+    (row-taken tag.Retired (draft_of c.args.draft.now) (fields_of c.args.row.now) c.in_ok-retired.retired read
+    passes)

@@ -13,8 +13,10 @@ join_all-requires-clause-each g c =
     let h = draft_of c.in_ok-heading.heading in
     let read = c.in-Ok-read_parts.read in
     let parts = c.deref.ensures.value ∙ sym c.deref-2.ensures.value in
-    let len : length read.items ≡ length c.deref.result.now = omega (arith, read.ok.0, c.in-Ok-read_parts.ensures.len) in
-    subst (λ (ps : List (Bor (List ℕ))). ReadsEach h ps read.items) parts (reads-each h c.deref.result.now read.items len c.in-Ok-read_parts.ensures.each)
+    let len : length read.items ≡ length c.deref.result.now =
+    omega (arith, read.ok.0, c.in-Ok-read_parts.ensures.len) in
+    subst (λ (ps : List (Bor (List ℕ))). ReadsEach h ps read.items) parts
+    (reads-each h c.deref.result.now read.items len c.in-Ok-read_parts.ensures.each)
 
 pub returns-then-eq : goal.returns-then-eq
 returns-then-eq g c =
@@ -22,5 +24,7 @@ returns-then-eq g c =
     let body = ap text_of_parts c.deref-2.ensures.value ∙ c.in-Ok.ensures.whole in
     let whole = ap (λ (text : List ℕ). c.cut_near.result.0.now ++ text) body ∙ c.cut_near.ensures in
     let over : c.in_ok-draft.draft.last ≡ Some tag.End = search rules in
-    let f = finished h (draft_of c.in_ok-draft.draft) c.args.text.now (subst (λ (text : List ℕ). IsReadSoFar h text (draft_of c.in_ok-draft.draft)) whole c.in_ok-draft.ensures) over in
+    let f = finished h (draft_of c.in_ok-draft.draft) c.args.text.now
+    (subst (λ (text : List ℕ). IsReadSoFar h text (draft_of c.in_ok-draft.draft)) whole c.in_ok-draft.ensures)
+    over in
     (f.0, over, f.1)

@@ -6,4 +6,5 @@ use Rattle.reg_text.proofs.writing.determined.put_years.Given as goal
 
 -- the rows so far have been added
 abbrev pub invariant-loop-figure : goal.invariant-loop-figure
-invariant-loop-figure l = l.text ≡ l.initial.text ++ text_of (flat_map (λ f. determined_row l.account f ∷ []) (take l.figure-index l.figures))
+invariant-loop-figure l =
+    l.text ≡ l.initial.text ++ text_of (flat_map (λ f. determined_row l.account f ∷ []) (take l.figure-index l.figures))

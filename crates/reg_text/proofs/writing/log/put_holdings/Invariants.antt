@@ -5,4 +5,5 @@ use Rattle.reg_text.proofs.writing.log.put_holdings.Given as goal
 
 -- the holdings so far have been added
 abbrev pub invariant-loop-held : goal.invariant-loop-held
-invariant-loop-held l = l.text ≡ l.initial.text ++ with_commas (flat_map holding_fields (take l.held-index l.closing)) []
+invariant-loop-held l = l.text
+    ≡ l.initial.text ++ with_commas (flat_map holding_fields (take l.held-index l.closing)) []

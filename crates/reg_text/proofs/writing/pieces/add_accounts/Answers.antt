@@ -4,7 +4,8 @@ use Rattle.reg_account.specs.Account.{AccountValue}
 use Rattle.reg_book.specs.declared.totals.BothTotals.{BothTotals}
 use Rattle.reg_text.specs.declared.writing.pieces.Blocks.{Blocks}
 use Rattle.reg_text.specs.Pieces.{AreBlocksOf, text_of_pieces}
-use Rattle.reg_text.proofs.BlockFacts.{AddUpWith, blocks_text, blocks-texts, add-none, add-run, added-all, run-has_space}
+use Rattle.reg_text.proofs.BlockFacts.{AddUpWith, blocks_text, blocks-texts, add-none, add-run, added-all}
+use Rattle.reg_text.proofs.BlockFacts.{run-has_space}
 use Rattle.reg_text.proofs.RunFacts.{RunsOf, IsSpelled, runs-of, one-piece, all-pieces}
 use Rattle.reg_text.proofs.writing.pieces.add_accounts.Goals as goal
 
@@ -14,8 +15,10 @@ loop-run-init g c =
     let read = c.accounts-accounts.result.now in
     let size = c.run_size-size.result in
     let runs = c.in_ok-run-items.run-items in
-    let left = runs-of AreBlocksOf size runs.items read c.run_size-size.ensures (sym runs.ok.0 ∙ c.in_ok-run-items.ensures.len) c.in_ok-run-items.ensures.each in
-    let whole = subst (λ (l : List AccountValue). RunsOf AreBlocksOf 0 l size runs.items) c.accounts-accounts.ensures.value left in
+    let left = runs-of AreBlocksOf size runs.items read c.run_size-size.ensures
+    (sym runs.ok.0 ∙ c.in_ok-run-items.ensures.len) c.in_ok-run-items.ensures.each in
+    let whole = subst (λ (l : List AccountValue). RunsOf AreBlocksOf 0 l size runs.items)
+    c.accounts-accounts.ensures.value left in
     record {
       next = record {};
       ends = record {};
@@ -35,8 +38,10 @@ plus-totals-requires g c =
     let size = c.run_size-size.result in
     let behind = c.next.new.self.rest.items in
     let items = c.in-Some.ensures.steps.0 ∙ ap (λ (r : Result Blocks NoMemory). r ∷ behind) c.in_ok-blocks.was in
-    run-has_space c.loop-run.totals c.in_ok-blocks.blocks all whole size c.loop-run.pieces.items behind c.accounts-accounts.ensures.kept.within_limits c.accounts-accounts.ensures.kept.few
-    (subst (IsSpelled AreBlocksOf (λ first accounts. blocks_text accounts) (λ (blocks : Blocks). blocks.text) (AddUpWith c.loop-run.totals all) whole size c.loop-run.pieces.items) items c.loop-run.invariant.spelled)
+    run-has_space c.loop-run.totals c.in_ok-blocks.blocks all whole size c.loop-run.pieces.items behind
+    c.accounts-accounts.ensures.kept.within_limits c.accounts-accounts.ensures.kept.few
+    (subst (IsSpelled AreBlocksOf (λ first accounts. blocks_text accounts) (λ (blocks : Blocks). blocks.text)
+    (AddUpWith c.loop-run.totals all) whole size c.loop-run.pieces.items) items c.loop-run.invariant.spelled)
 
 pub loop-run-preserved : goal.loop-run-preserved
 loop-run-preserved g c =
@@ -46,21 +51,30 @@ loop-run-preserved g c =
     let behind = c.next.new.self.rest.items in
     let blocks = c.in_ok-blocks.blocks in
     let items = c.in-Some.ensures.steps.0 ∙ ap (λ (r : Result Blocks NoMemory). r ∷ behind) c.in_ok-blocks.was in
-    let s = subst (IsSpelled AreBlocksOf (λ first accounts. blocks_text accounts) (λ (b : Blocks). b.text) (AddUpWith c.loop-run.totals all) whole size c.loop-run.pieces.items) items c.loop-run.invariant.spelled in
-    let more = one-piece AreBlocksOf (λ first accounts. blocks_text accounts) (λ (b : Blocks). b.text) blocks-texts (AddUpWith c.loop-run.totals all) (AddUpWith c.plus-totals.result all) whole size c.loop-run.pieces.items blocks behind
-    (λ first others is so_far. subst (λ (t : BothTotals). AddUpWith t all (drop size others)) (sym c.plus-totals.ensures) (add-run c.loop-run.totals blocks all size first others is so_far)) s in
+    let s = subst (IsSpelled AreBlocksOf (λ first accounts. blocks_text accounts) (λ (b : Blocks). b.text)
+    (AddUpWith c.loop-run.totals all) whole size c.loop-run.pieces.items) items c.loop-run.invariant.spelled in
+    let more = one-piece AreBlocksOf (λ first accounts. blocks_text accounts) (λ (b : Blocks). b.text) blocks-texts
+    (AddUpWith c.loop-run.totals all) (AddUpWith c.plus-totals.result all) whole size c.loop-run.pieces.items blocks
+    behind
+    (λ first others is so_far. subst (λ (t : BothTotals). AddUpWith t all (drop size others))
+    (sym c.plus-totals.ensures) (add-run c.loop-run.totals blocks all size first others is so_far)) s in
     record { next = record {}; ends = record {}; spelled = rw c.in_ok-push.ensures.items more }
 
 pub returns-clause-text : goal.returns-clause-text
 returns-clause-text g c =
     let all = c.args.book.now.accounts in
     let before = text_of_pieces c.args.pieces.now.items in
-    (all-pieces AreBlocksOf (λ first accounts. blocks_text accounts) (λ (b : Blocks). b.text) blocks-texts (AddUpWith c.loop-run.totals all) (before ++ blocks_text all) c.run_size-size.result
-    c.loop-run.pieces.items c.loop-run.run-iterator.rest.items (sym c.loop-run.run-iterator.rest.ok.0 ∙ c.in-None.ensures.steps.0) c.loop-run.invariant.spelled).0
+    (all-pieces AreBlocksOf (λ first accounts. blocks_text accounts) (λ (b : Blocks). b.text) blocks-texts
+    (AddUpWith c.loop-run.totals all) (before ++ blocks_text all) c.run_size-size.result
+    c.loop-run.pieces.items c.loop-run.run-iterator.rest.items (sym c.loop-run.run-iterator.rest.ok.0
+    ∙ c.in-None.ensures.steps.0) c.loop-run.invariant.spelled).0
 
 pub returns-clause-totals : goal.returns-clause-totals
 returns-clause-totals g c =
     let all = c.args.book.now.accounts in
     let before = text_of_pieces c.args.pieces.now.items in
-    added-all c.loop-run.totals all (all-pieces AreBlocksOf (λ first accounts. blocks_text accounts) (λ (b : Blocks). b.text) blocks-texts (AddUpWith c.loop-run.totals all) (before ++ blocks_text all) c.run_size-size.result
-    c.loop-run.pieces.items c.loop-run.run-iterator.rest.items (sym c.loop-run.run-iterator.rest.ok.0 ∙ c.in-None.ensures.steps.0) c.loop-run.invariant.spelled).1
+    added-all c.loop-run.totals all
+    (all-pieces AreBlocksOf (λ first accounts. blocks_text accounts) (λ (b : Blocks). b.text) blocks-texts
+    (AddUpWith c.loop-run.totals all) (before ++ blocks_text all) c.run_size-size.result
+    c.loop-run.pieces.items c.loop-run.run-iterator.rest.items (sym c.loop-run.run-iterator.rest.ok.0
+    ∙ c.in-None.ensures.steps.0) c.loop-run.invariant.spelled).1

@@ -12,6 +12,8 @@ abbrev pub invariant-loop-run : goal.invariant-loop-run
 invariant-loop-run g l = record {
   next : (goal.iterator-loop-run g).can_next l.run-iterator;
   ends : (goal.iterator-loop-run g).is_finite l.run-iterator;
-  spelled : IsSpelled (IsLogOf l.fn.batch) (λ first replies. log_text (rows_after l.fn.batch first replies)) (λ (text : Vec ℕ Global). text) (λ (rest : List Reply). ⊤)
-      (text_of_pieces l.fn.pieces.items ++ log_text (rows_after l.fn.batch 0 l.fn.replies)) l.size l.pieces.items l.run-iterator.rest.items;
+  spelled : IsSpelled (IsLogOf l.fn.batch) (λ first replies. log_text (rows_after l.fn.batch first replies))
+      (λ (text : Vec ℕ Global). text) (λ (rest : List Reply). ⊤)
+      (text_of_pieces l.fn.pieces.items ++ log_text (rows_after l.fn.batch 0 l.fn.replies)) l.size l.pieces.items
+      l.run-iterator.rest.items;
 }

@@ -15,4 +15,8 @@ pub returns : goal.returns
 returns c =
     let ns = c.args.numbers.now in
     let row = rw (c.numbers.ensures.text, c.begin.ensures) at c.put.ensures in
-    on_ok_weaker _ (appended _ _ _ _ _ (c.as_slice.ensures ∙ row) (row-whole c.args.tag.now (map number ns) (filled c.args.tag.now ns c.requires.some) (c.requires.plain, all-map IsPlain number plain-decimal ns))) c.append.ensures
+    on_ok_weaker _ (appended _ _ _ _ _ (c.as_slice.ensures ∙ row)
+    (row-whole c.args.tag.now (map number ns) (filled c.args.tag.now ns c.requires.some) (
+      c.requires.plain,
+      all-map IsPlain number plain-decimal ns,
+    ))) c.append.ensures

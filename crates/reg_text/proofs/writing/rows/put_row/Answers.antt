@@ -7,4 +7,5 @@ use Rattle.reg_text.proofs.writing.rows.put_row.Goals as goal
 pub returns : goal.returns
 returns g c =
     let row = rw (c.tag_word.ensures.text, c.put_fields.ensures.text, c.begin.ensures) at c.put.ensures in
-    on_ok_weaker _ (appended _ _ _ _ _ (c.as_slice.ensures ∙ row) (tagged-text g.T.Tagged.tag (g.T.Tagged.said c.args.value.now))) c.append.ensures
+    on_ok_weaker _ (appended _ _ _ _ _ (c.as_slice.ensures ∙ row)
+    (tagged-text g.T.Tagged.tag (g.T.Tagged.said c.args.value.now))) c.append.ensures

@@ -5,4 +5,6 @@ use Rattle.reg_work.proofs.worker.Worker.deliver.Goals as goal
 
 pub returns-in-Ok-clause-delivered : goal.returns-in-Ok-clause-delivered
 returns-in-Ok-clause-delivered g c =
-    on_ok_weaker c.put_complete.result (λ put. record { task = option_map task_of c.in-Ok.task; taken = c.in-Ok.ensures.taken; put = put }) c.put_complete.ensures.task
+    on_ok_weaker c.put_complete.result
+    (λ put. record { task = option_map task_of c.in-Ok.task; taken = c.in-Ok.ensures.taken; put = put })
+    c.put_complete.ensures.task

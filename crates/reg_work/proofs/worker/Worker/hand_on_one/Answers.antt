@@ -6,4 +6,6 @@ use Rattle.reg_work.proofs.worker.Worker.hand_on_one.Goals as goal
 
 pub returns-in-Ok-clause-handed : goal.returns-in-Ok-clause-handed
 returns-in-Ok-clause-handed g c =
-    on_ok_weaker c.put_complete.result (λ put. inl (record { task = option_map task_of c.in-Ok.complete; taken = c.in-Ok.ensures.taken; put = put })) c.put_complete.ensures.task
+    on_ok_weaker c.put_complete.result
+    (λ put. inl (record { task = option_map task_of c.in-Ok.complete; taken = c.in-Ok.ensures.taken; put = put }))
+    c.put_complete.ensures.task

@@ -9,5 +9,7 @@ pub returns-clause-taken : goal.returns-clause-taken
 returns-clause-taken g c =
     let dock = c.args.self.now in
     let context = dock.context.now in
-    taken-if g.N.Naming.day (Some c.args.place) (the_day context) context.plan dock.place dock.waiting (parcel_of c.args.parcel) (came_to c.deliver.new.self) c.deliver.result
-    context.named context.planned (ap Some (sym c.if-self-place.false)) dock.few c.deliver.ensures.refused c.deliver.ensures.delivered
+    taken-if g.N.Naming.day (Some c.args.place) (the_day context) context.plan dock.place dock.waiting
+    (parcel_of c.args.parcel) (came_to c.deliver.new.self) c.deliver.result
+    context.named context.planned (ap Some (sym c.if-self-place.false)) dock.few c.deliver.ensures.refused
+    c.deliver.ensures.delivered

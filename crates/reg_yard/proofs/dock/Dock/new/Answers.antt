@@ -9,4 +9,5 @@ pub try_assemble-waiting-requires-clause-few : goal.try_assemble-waiting-require
 try_assemble-waiting-requires-clause-few g c =
     let day = the_day c.args.context.now in
     let plan = c.args.context.now.plan in
-    subst (FitInDock day plan c.args.place) (sym (ap parcels_of c.in_ok-none.ensures.items)) (none-few day plan c.args.place)
+    subst (FitInDock day plan c.args.place) (sym (ap parcels_of c.in_ok-none.ensures.items))
+    (none-few day plan c.args.place)

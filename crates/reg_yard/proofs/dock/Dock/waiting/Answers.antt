@@ -12,4 +12,5 @@ invariant_of-result-clause-few g c = λ parcels same.
     let plan = c.args.context.now.plan in
     let none = c.in_ok-none.none in
     subst (λ came. FitInDock day plan c.args.place (parcels_of came.items)) (same_Some none parcels same)
-    (subst (FitInDock day plan c.args.place) (sym (ap parcels_of c.in_ok-none.ensures.items)) (none-few day plan c.args.place))
+    (subst (FitInDock day plan c.args.place) (sym (ap parcels_of c.in_ok-none.ensures.items))
+    (none-few day plan c.args.place))

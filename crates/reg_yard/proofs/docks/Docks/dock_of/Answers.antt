@@ -12,4 +12,5 @@ returns g c =
     let i = c.args.place - 1 in
     let same : dock_places c.deref.result.now ≡ count_up 1 n = ap dock_places c.deref.ensures.value ∙ docks.in_order in
     let back : i + 1 ≡ c.args.place = omega (arith, c.if-place-eq0.false) in
-    subst (λ p. IfSome c.get.result (λ dock. dock.now.place ≡ p)) back (dock-there c.deref.result.now n i c.get.result same c.get.ensures.lookup)
+    subst (λ p. IfSome c.get.result (λ dock. dock.now.place ≡ p)) back
+    (dock-there c.deref.result.now n i c.get.result same c.get.ensures.lookup)

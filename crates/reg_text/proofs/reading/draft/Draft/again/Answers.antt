@@ -4,7 +4,8 @@ use Rattle.reg_text.proofs.Names.{BookValue}
 use Rattle.reg_text.proofs.reading.draft.Draft.again.Goals as goal
 
 pub invariant_of-result-clause-next_is : goal.invariant_of-result-clause-next_is
-invariant_of-result-clause-next_is c = subst (λ (b : BookValue). IfSome c.args.self.now.day (λ d. b.next ≡ d.1)) (sym c.emptied.ensures) c.args.self.now.next_is
+invariant_of-result-clause-next_is c = subst (λ (b : BookValue). IfSome c.args.self.now.day (λ d. b.next ≡ d.1))
+    (sym c.emptied.ensures) c.args.self.now.next_is
 
 pub invariant_of-result-clause-few_periods : goal.invariant_of-result-clause-few_periods
 invariant_of-result-clause-few_periods c =
@@ -12,4 +13,5 @@ invariant_of-result-clause-few_periods c =
     omega (arith, same, c.args.self.now.few_periods)
 
 pub invariant_of-result-clause-count_is : goal.invariant_of-result-clause-count_is
-invariant_of-result-clause-count_is c = subst (λ (b : BookValue). 0 ≡ length b.accounts + 0) (sym c.emptied.ensures) (omega arith)
+invariant_of-result-clause-count_is c =
+    subst (λ (b : BookValue). 0 ≡ length b.accounts + 0) (sym c.emptied.ensures) (omega arith)

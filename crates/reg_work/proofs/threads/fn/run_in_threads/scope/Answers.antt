@@ -10,6 +10,8 @@ returns g c =
     let all = joined.each in
     let each = c.in-Ok.ensures.each in
     record {
-      workers = one-numbered (λ s. s.number) c.push_reserved.new.self.items c.join_all.new.ended_workers.items c.work-ended_worker.result (vec_len c.captures.unstarted) _ pushed.items (joined.all ∙ c.in-Ok.ensures.all) (c.work-ended_worker.ensures ∙ c.requires.number) refl;
+      workers = one-numbered (λ s. s.number) c.push_reserved.new.self.items c.join_all.new.ended_workers.items
+          c.work-ended_worker.result (vec_len c.captures.unstarted) _ pushed.items (joined.all ∙ c.in-Ok.ensures.all)
+          (c.work-ended_worker.ensures ∙ c.requires.number) refl;
       each = omega arith;
     }
