@@ -2,6 +2,7 @@
 
 ghost use Rattle.std.specs.Prelude.{◌≡◌, ◌+◌, ◌≤◌, length};
 ghost use Rattle.reg_account.specs.declared.rows.Fate.TheVariants as fate;
+ghost use Rattle.reg_text.specs.declared.reading.tag.Tag.TheVariants as tag;
 ghost use Rattle.reg_text.specs.declared.writing.row.TheConstants.{ROOM, MOST_FIELD};
 ghost use Rattle.reg_text.specs.Plain.{with_commas};
 ghost use Rattle.reg_text.specs.Scopes.{widest};
@@ -10,16 +11,12 @@ ghost use Rattle.reg_text.specs.Grammar.{period_said, retired_period};
 use crate::fields::words::Word;
 use crate::reading::tag::Tag;
 use crate::writing::row::RowText;
-use crate::writing::rows::{Rows, Tagged, put_row};
-use crate::writing::text::Text;
+use crate::writing::rows::Tagged;
 use reg_account::{
     Correction, Emission, Fate, Figure, Representative, RetirementRow, TrustedEntry,
 };
-use reg_base::NoMemory;
 
 impl Tagged for Correction {
-    ghost use Rattle.reg_text.specs.declared.reading.tag.Tag.TheVariants as tag;
-
     ghost tag = { tag.Correction };
 
     ghost said = { λ correction. correction };
@@ -34,21 +31,7 @@ impl Tagged for Correction {
     }
 }
 
-impl Rows for Correction {
-    ghost use Rattle.std.specs.Prelude.{Some};
-    ghost use Rattle.reg_text.specs.declared.reading.tag.Tag.TheVariants as tag;
-    ghost use Rattle.reg_text.specs.Sections.{item_rows};
-
-    ghost rows = { item_rows (Some tag.Correction) };
-
-    fn put(&self, text: &mut Text, row: &mut RowText) -> Result<(), NoMemory> {
-        put_row(text, row, self)
-    }
-}
-
 impl Tagged for Representative {
-    ghost use Rattle.reg_text.specs.declared.reading.tag.Tag.TheVariants as tag;
-
     ghost tag = { tag.User };
 
     ghost said = { λ representative. representative };
@@ -63,21 +46,7 @@ impl Tagged for Representative {
     }
 }
 
-impl Rows for Representative {
-    ghost use Rattle.std.specs.Prelude.{Some};
-    ghost use Rattle.reg_text.specs.declared.reading.tag.Tag.TheVariants as tag;
-    ghost use Rattle.reg_text.specs.Sections.{item_rows};
-
-    ghost rows = { item_rows (Some tag.User) };
-
-    fn put(&self, text: &mut Text, row: &mut RowText) -> Result<(), NoMemory> {
-        put_row(text, row, self)
-    }
-}
-
 impl Tagged for TrustedEntry {
-    ghost use Rattle.reg_text.specs.declared.reading.tag.Tag.TheVariants as tag;
-
     ghost tag = { tag.Trusted };
 
     ghost said = { λ entry. entry };
@@ -89,18 +58,6 @@ impl Tagged for TrustedEntry {
     fn put_fields(&self, row: &mut RowText) {
         row.date(self.effective);
         row.number(self.account.get().into());
-    }
-}
-
-impl Rows for TrustedEntry {
-    ghost use Rattle.std.specs.Prelude.{Some};
-    ghost use Rattle.reg_text.specs.declared.reading.tag.Tag.TheVariants as tag;
-    ghost use Rattle.reg_text.specs.Sections.{item_rows};
-
-    ghost rows = { item_rows (Some tag.Trusted) };
-
-    fn put(&self, text: &mut Text, row: &mut RowText) -> Result<(), NoMemory> {
-        put_row(text, row, self)
     }
 }
 
@@ -133,8 +90,6 @@ fn put_period(row: &mut RowText, fate: Fate)
 }
 
 impl Tagged for RetirementRow {
-    ghost use Rattle.reg_text.specs.declared.reading.tag.Tag.TheVariants as tag;
-
     ghost tag = { tag.Retired };
 
     ghost said = { λ row. row };
@@ -154,21 +109,7 @@ impl Tagged for RetirementRow {
     }
 }
 
-impl Rows for RetirementRow {
-    ghost use Rattle.std.specs.Prelude.{Some};
-    ghost use Rattle.reg_text.specs.declared.reading.tag.Tag.TheVariants as tag;
-    ghost use Rattle.reg_text.specs.Sections.{item_rows};
-
-    ghost rows = { item_rows (Some tag.Retired) };
-
-    fn put(&self, text: &mut Text, row: &mut RowText) -> Result<(), NoMemory> {
-        put_row(text, row, self)
-    }
-}
-
 impl Tagged for Emission {
-    ghost use Rattle.reg_text.specs.declared.reading.tag.Tag.TheVariants as tag;
-
     ghost tag = { tag.Emissions };
 
     ghost said = { λ emission. emission };
@@ -183,21 +124,7 @@ impl Tagged for Emission {
     }
 }
 
-impl Rows for Emission {
-    ghost use Rattle.std.specs.Prelude.{Some};
-    ghost use Rattle.reg_text.specs.declared.reading.tag.Tag.TheVariants as tag;
-    ghost use Rattle.reg_text.specs.Sections.{item_rows};
-
-    ghost rows = { item_rows (Some tag.Emissions) };
-
-    fn put(&self, text: &mut Text, row: &mut RowText) -> Result<(), NoMemory> {
-        put_row(text, row, self)
-    }
-}
-
 impl Tagged for Figure {
-    ghost use Rattle.reg_text.specs.declared.reading.tag.Tag.TheVariants as tag;
-
     ghost tag = { tag.Figure };
 
     ghost said = { λ figure. figure };
@@ -209,17 +136,5 @@ impl Tagged for Figure {
     fn put_fields(&self, row: &mut RowText) {
         row.signed(self.tonnes);
         row.number(self.year.get().into());
-    }
-}
-
-impl Rows for Figure {
-    ghost use Rattle.std.specs.Prelude.{Some};
-    ghost use Rattle.reg_text.specs.declared.reading.tag.Tag.TheVariants as tag;
-    ghost use Rattle.reg_text.specs.Sections.{item_rows};
-
-    ghost rows = { item_rows (Some tag.Figure) };
-
-    fn put(&self, text: &mut Text, row: &mut RowText) -> Result<(), NoMemory> {
-        put_row(text, row, self)
     }
 }

@@ -72,6 +72,22 @@ pub(crate) fn put_row<T: Tagged>(
     text.append(row.as_slice())
 }
 
+/// Adds the rows of a list: one for each value, in order.
+#[tactic(auto, using(crate::proofs::TextFacts::row_loop))]
+pub(crate) fn put_list<T: Tagged>(
+    text: &mut Text,
+    row: &mut RowText,
+    values: &[T],
+) -> Result<(), NoMemory>
+    ensures { OnOk result
+        (text.new ≡ text.old ++ text_of (flat_map (λ value. row_text T.tag (T.said value) ∷ []) values.now)) }
+{
+    for value in values {
+        put_row(text, row, value)?;
+    }
+    Ok(())
+}
+
 /// Adds a row of a tag and numbers.
 pub(crate) fn put_numbers(
     text: &mut Text,
