@@ -1,14 +1,20 @@
 //! A command, from a fixed input into a digest.
 
-use crate::call::try_threads;
-use crate::digest::Digest;
-use crate::endings::Ended;
-use crate::stop::Stop;
-use reg_front::{Command, Counted, run};
+use reg_front::{Command, Counted, FrontFault, run};
+use registry_calls::{Digest, Ended, Stop, try_threads};
 use std::alloc::Global;
 use std::io::Write;
 use std::sync::Wait;
 use std::thread::Threads;
+
+// How a command ended that failed.
+fn how_failed(fault: FrontFault) -> Ended {
+    match fault {
+        FrontFault::NoMemory => Ended::NoMemory,
+        FrontFault::NoThread => Ended::NoThread,
+        _ => Ended::Otherwise,
+    }
+}
 
 // `run`. It reads from a slice, whose length it is told, and writes into a digest, which takes no memory. A command
 // that is refused something writes nothing.
@@ -25,7 +31,7 @@ fn run_command<R: Threads + Wait + Sync>(
     let answer = run(rt, alloc, &mut reader, &mut writer, *command);
     match answer {
         Ok(()) => Ended::Done(written),
-        Err(fault) if written == Digest::new() => fault.into(),
+        Err(fault) if written == Digest::new() => how_failed(fault),
         Err(_) => Ended::Otherwise,
     }
 }

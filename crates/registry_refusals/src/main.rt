@@ -6,31 +6,14 @@
 //! call that was refused something the program writes `unchanged` if all that the call was lent is as it was before,
 //! and makes the call again. At last it writes `right` if the call left what it is to leave: a settled day as settling
 //! one instruction after another leaves it, anything else as the same call leaves it beside, where nothing is refused.
-//!
-//! No call keeps what it left: a digest of that is made at once, which takes no memory, and digests are compared. So
-//! nothing that owns memory lives where the program writes, and the prover has little to free at its many exits.
+//! The calls of the crates below `reg_front` are in `registry_calls`.
 #![tactic(auto)]
 
-mod accounts;
-mod books;
-mod call;
-mod claims;
-mod digest;
-mod docks;
-mod endings;
 mod front;
-mod plans;
-mod settling;
-mod steps;
-mod stop;
-mod tasks;
-mod texts;
 mod words;
-mod worlds;
-mod yards;
 
-use crate::stop::Stop;
 use crate::words::try_word;
+use registry_calls::Stop;
 use std::alloc::{AllocError, Global};
 use std::env;
 use std::io::{Read, Write};

@@ -1,22 +1,9 @@
 //! The words that name calls.
 
-use crate::accounts::{Change, try_change, try_copy};
-use crate::books::{try_directory, try_draft};
-use crate::call::tell;
-use crate::claims::try_table;
-use crate::docks::{try_dock, try_docks};
 use crate::front::{try_command, try_settle};
-use crate::plans::{try_check, try_plan, try_plan_text, try_plan_with};
-use crate::settling::{try_closing, try_order, try_plain, try_waves, try_workers};
-use crate::steps::try_execute;
-use crate::stop::Stop;
-use crate::tasks::{try_context, try_gather, try_opening, try_run};
-use crate::texts::{Written, try_pieces, try_read, try_read_by_parts, try_text};
-use crate::worlds::{try_event, try_start};
-use crate::yards::{try_put, try_yard};
 use reg_base::AccountNo;
 use reg_front::Command;
-use reg_text::{DayInput, read_day};
+use registry_calls::{Stop, tell, try_named};
 use std::alloc::Global;
 use std::io::Write;
 use std::sync::Wait;
@@ -43,22 +30,10 @@ pub(crate) fn try_word<R: Threads + Wait + Sync, W: Write>(
 ) -> Result<(), Stop> {
     let (name, number) = parts_of(word)?;
     tell(writer, &word)?;
-    if name == "read_day" {
-        return try_read(alloc, text, writer);
-    }
-    if name == "read_day_by_parts" {
-        return try_read_by_parts(rt, alloc, text, number, writer);
-    }
-    if name == "close_with" {
-        return try_closing(rt, alloc, text, number, writer);
-    }
     if let Some(command) = name.strip_prefix("command_") {
         return try_run_of(rt, alloc, command, number, text, writer);
     }
-    let Ok(day) = read_day(alloc, text) else {
-        return Err(Stop::Input);
-    };
-    try_on_day(rt, alloc, name, number, &day, writer)
+    try_named(rt, alloc, name, number, text, writer)
 }
 
 // Tries `run` with the command of this name.
@@ -91,103 +66,4 @@ fn try_run_of_statement<R: Threads + Wait + Sync, W: Write>(
         return Err(Stop::Input);
     };
     try_command(rt, alloc, text, Command::Statement { account }, writer)
-}
-
-// Tries a call on a day that starts threads or settles it, or one of the others.
-fn try_on_day<R: Threads + Wait + Sync, W: Write>(
-    rt: &R,
-    alloc: Global,
-    name: &str,
-    number: u32,
-    day: &DayInput,
-    writer: &mut W,
-) -> Result<(), Stop> {
-    match name {
-        "settle_plain" => try_plain(alloc, day, writer),
-        "run_order" => try_order(alloc, day, writer),
-        "plan_with" => try_plan_with(rt, alloc, day, number, writer),
-        "settle_waves" => try_waves(rt, alloc, day, number, writer),
-        "settle_with" => try_workers(rt, alloc, day, number, writer),
-        "write_report_pieces" => try_pieces(rt, alloc, day, number, writer),
-        _ => try_on_accounts(alloc, name, number, day, writer),
-    }
-}
-
-// Tries a call on accounts, or one of the others.
-fn try_on_accounts<W: Write>(
-    alloc: Global,
-    name: &str,
-    number: u32,
-    day: &DayInput,
-    writer: &mut W,
-) -> Result<(), Stop> {
-    match name {
-        "copy" => try_copy(alloc, day, writer),
-        "retire" => try_change(alloc, day, Change::Retire, writer),
-        "trust" => try_change(alloc, day, Change::Trust, writer),
-        "set_emissions" => try_change(alloc, day, Change::SetEmissions, writer),
-        "determine" => try_change(alloc, day, Change::Determine, writer),
-        "execute" => try_execute(alloc, day, writer),
-        "draft_insert" => try_draft(alloc, day, number as usize, writer),
-        "directory_insert" => try_directory(alloc, day, number != 0, writer),
-        _ => try_on_plan(alloc, name, number, day, writer),
-    }
-}
-
-// Tries a call on a plan or on tasks, or one of the others.
-fn try_on_plan<W: Write>(
-    alloc: Global,
-    name: &str,
-    number: u32,
-    day: &DayInput,
-    writer: &mut W,
-) -> Result<(), Stop> {
-    match name {
-        "plan_of" => try_plan(alloc, day, writer),
-        "check_order" => try_check(alloc, day, writer),
-        "plan_text" => try_plan_text(alloc, day, writer),
-        "context_of" => try_context(alloc, day, writer),
-        "opening" => try_opening(alloc, day, writer),
-        "task_run" => try_run(alloc, day, writer),
-        "gather" => try_gather(alloc, day, writer),
-        _ => try_on_workers(alloc, name, number, day, writer),
-    }
-}
-
-// Tries a call on what workers share, or one of the others.
-fn try_on_workers<W: Write>(
-    alloc: Global,
-    name: &str,
-    number: u32,
-    day: &DayInput,
-    writer: &mut W,
-) -> Result<(), Stop> {
-    match name {
-        "world_new" => try_start(alloc, day, number, writer),
-        "world_run" => try_event(alloc, day, number, writer),
-        "claim_table" => try_table(alloc, day, writer),
-        "dock_new" => try_dock(alloc, day, writer),
-        "docks_new" => try_docks(alloc, day, writer),
-        "yard_new" => try_yard(alloc, number, writer),
-        "put" => try_put(alloc, day, number, writer),
-        _ => try_on_texts(alloc, name, day, writer),
-    }
-}
-
-// Tries a call that writes a text.
-fn try_on_texts<W: Write>(
-    alloc: Global,
-    name: &str,
-    day: &DayInput,
-    writer: &mut W,
-) -> Result<(), Stop> {
-    let written = match name {
-        "write_report" => Written::Report,
-        "write_book" => Written::Book,
-        "figures" => Written::Figures,
-        "totals_text" => Written::Totals,
-        "statement" => Written::Statement,
-        _ => return Err(Stop::Input),
-    };
-    try_text(alloc, day, written, writer)
 }

@@ -1,4 +1,4 @@
-//! The tests of all crates below the program: what their proofs cannot see. It has nothing but tests.
+//! The tests of all crates below `reg_front`: what their proofs cannot see. It has nothing but tests.
 #![tactic(auto)]
 
 #[cfg(test)]
@@ -10,8 +10,6 @@ mod docks;
 #[cfg(test)]
 mod fixtures;
 #[cfg(test)]
-mod front;
-#[cfg(test)]
 mod levels;
 #[cfg(test)]
 mod orders;
@@ -19,8 +17,6 @@ mod orders;
 mod periods;
 #[cfg(test)]
 mod stealing;
-#[cfg(test)]
-mod texts;
 #[cfg(test)]
 mod vaults;
 #[cfg(test)]

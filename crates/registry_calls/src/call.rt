@@ -24,7 +24,7 @@ pub(crate) trait Call {
 }
 
 /// Writes a line, in one piece.
-pub(crate) fn tell<W: Write>(writer: &mut W, line: &impl Display) -> Result<(), Stop> {
+pub fn tell<W: Write>(writer: &mut W, line: &impl Display) -> Result<(), Stop> {
     if writeln!(writer, "{line}").is_err() {
         return Err(Stop::Output);
     }
@@ -102,7 +102,7 @@ pub(crate) fn try_rehearsed<G: Debug, C: Call, W: Write>(
 
 /// Tries a call that starts threads. It is no [`Call`], since a method of a trait does not know that the threads may
 /// share what starts them.
-pub(crate) fn try_threads<G: Debug, F: Fn() -> Ended, W: Write>(
+pub fn try_threads<G: Debug, F: Fn() -> Ended, W: Write>(
     ground: &G,
     call: F,
     wanted: Ended,

@@ -4,7 +4,7 @@ use std::alloc::{AllocError, AllocFailed};
 
 /// Why nothing more was tried.
 #[derive(Clone, Copy)]
-pub(crate) enum Stop {
+pub enum Stop {
     /// The words or the text are not taken, or the call cannot be made on this day.
     Input,
     /// Memory ran out outside the tried calls.

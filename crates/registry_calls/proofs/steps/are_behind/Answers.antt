@@ -5,8 +5,8 @@ use Rattle.std.proofs.lemmas.List.Elements.{All-from_recursion}
 use Rattle.reg_account.specs.declared.rows.RetirementRow.{RetirementRow}
 use Rattle.reg_account.specs.Account.{AccountValue}
 use Rattle.reg_rules.specs.Effect.{IsBehind}
-use Rattle.registry_refusals.proofs.Behind.{below}
-use Rattle.registry_refusals.proofs.steps.are_behind.Goals as goal
+use Rattle.registry_calls.proofs.Behind.{below}
+use Rattle.registry_calls.proofs.steps.are_behind.Goals as goal
 
 behind : (n : ℕ) (accounts : List AccountValue)
     → list_all (λ (v : AccountValue). list_all (λ (row : RetirementRow). nat_lt row.number n) v.rows) accounts ≡ true

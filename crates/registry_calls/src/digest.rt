@@ -6,13 +6,13 @@ use std::{fmt, io};
 /// A number that tells values and texts apart: the 64-bit FNV-1a hash of the bytes of a text, or of what `{:?}` writes
 /// of values.
 #[derive(Clone, Copy, PartialEq, Eq)]
-pub(crate) struct Digest {
+pub struct Digest {
     hash: u64,
 }
 
 impl Digest {
     /// The digest of nothing.
-    pub(crate) fn new() -> Digest {
+    pub fn new() -> Digest {
         Digest {
             hash: 0xcbf2_9ce4_8422_2325,
         }

@@ -3,7 +3,6 @@
 use crate::digest::{Digest, digest_of};
 use reg_base::NoMemory;
 use reg_book::{BookFault, SettleFault};
-use reg_front::FrontFault;
 use reg_plan::OrderFault;
 use reg_tasks::RunFault;
 use reg_text::{DayFault, StatementFault};
@@ -12,7 +11,7 @@ use std::fmt::Debug;
 
 /// How a call ended.
 #[derive(Clone, Copy, PartialEq, Eq)]
-pub(crate) enum Ended {
+pub enum Ended {
     /// With what it is there for, of which this is the digest.
     Done(Digest),
     /// It answered that memory ran out.
@@ -120,16 +119,6 @@ impl From<StatementFault> for Ended {
         match fault {
             StatementFault::NoMemory => Ended::NoMemory,
             StatementFault::UnknownAccount => Ended::Otherwise,
-        }
-    }
-}
-
-impl From<FrontFault> for Ended {
-    fn from(fault: FrontFault) -> Ended {
-        match fault {
-            FrontFault::NoMemory => Ended::NoMemory,
-            FrontFault::NoThread => Ended::NoThread,
-            _ => Ended::Otherwise,
         }
     }
 }

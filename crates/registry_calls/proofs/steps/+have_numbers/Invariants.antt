@@ -1,5 +1,5 @@
 use Rattle.std.proofs.Common.{length}
-use Rattle.registry_refusals.proofs.steps.+have_numbers.Given as goal
+use Rattle.registry_calls.proofs.steps.+have_numbers.Given as goal
 
 -- the accounts grow fewer
 abbrev pub decreases-have_numbers : goal.decreases-have_numbers
