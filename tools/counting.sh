@@ -6,7 +6,7 @@ passed=0 failed=0
 # Runs a part, shows what it prints, and adds the counts of its last line. A part that fails, or
 # has no such line, counts as one failure at least.
 count_part() {
-  local name=$1 status=0 last p=0 f=0 shown
+  local name=$1 status=0 shown
   shift
   rm -f -- "$work/pipe"
   mkfifo -- "$work/pipe"
@@ -14,7 +14,13 @@ count_part() {
   shown=$!
   run_child "$@" >"$work/pipe" 2>&1 || status=$?
   wait "$shown" || true
-  last=$(tail -n 1 -- "$work/said")
+  count_said "$name" "$status" "$work/said"
+}
+
+# Adds the counts of the last line of what a part has printed ($3). $2 is the status with which it ended.
+count_said() {
+  local name=$1 status=$2 last p=0 f=0
+  last=$(tail -n 1 -- "$3")
   if [[ $last =~ ^([0-9]+)\ passed,\ ([0-9]+)\ failed$ ]]; then
     p=${BASH_REMATCH[1]} f=${BASH_REMATCH[2]}
   else
@@ -28,27 +34,65 @@ count_part() {
   passed=$((passed + p)) failed=$((failed + f))
 }
 
+# The parts that run side by side: their processes, and what each is called.
+side=() side_names=()
+
+count_running() {
+  jobs -rp | grep -cFxf <(printf '%s\n' "${side[@]}") || true
+}
+
+# Starts a part beside the others, once a processor is free. Its output waits in the work folder.
+begin_part() {
+  while [ "${#side[@]}" != 0 ] && [ "$(count_running)" -ge "$(nproc)" ]; do sleep 0.1; done
+  "$@" >"$work/part.${#side[@]}" 2>&1 </dev/null 3>&- &
+  side+=("$!") side_names+=("$1")
+}
+
+# Waits for the parts that were started, and shows and counts each, in the order in which they were.
+finish_parts() {
+  local number status
+  for number in "${!side[@]}"; do
+    status=0
+    wait "${side[number]}" || status=$?
+    cat -- "$work/part.$number"
+    count_said "${side_names[number]}" "$status" "$work/part.$number"
+  done
+  side=() side_names=()
+}
+
+stop_parts() {
+  [ "${#side[@]}" != 0 ] || return 0
+  kill -- "${side[@]}" 2>/dev/null || true
+  wait "${side[@]}" 2>/dev/null || true
+}
+
 # The time of this file says when all cases passed last.
 cases_passed=out/cases-passed
 
-# Tries all cases on a program.
+# Starts all cases on a program. The first takes the longest.
+begin_cases() {
+  begin_part cases/run-first-answers --try "$1"
+  begin_part cases/run-cases "$1" cases
+  begin_part cases/run-decision-table "$1"
+  begin_part cases/run-second-answer "$1"
+  begin_part cases/run-large-cases "$1"
+  begin_part cases/run-prefixes "$1"
+  begin_part cases/run-streams "$1"
+  begin_part cases/run-documents "$1"
+  begin_part cases/run-tools
+  begin_part cases/run-pages
+  begin_part cases/run-day "$1"
+  begin_part cases/run-explain "$1"
+  begin_part cases/run-words
+}
+
+# Tries all cases on a program, and waits for what else was started.
 try_cases() {
   local failed_before=$failed
   mkdir -p out
   : >"$work/cases-begun"
-  count_part "cases/run-cases" cases/run-cases "$1" cases
-  count_part "cases/run-first-answers" cases/run-first-answers --try "$1"
-  count_part "cases/run-decision-table" cases/run-decision-table "$1"
-  count_part "cases/run-second-answer" cases/run-second-answer "$1"
-  count_part "cases/run-large-cases" cases/run-large-cases "$1"
-  count_part "cases/run-prefixes" cases/run-prefixes "$1"
-  count_part "cases/run-streams" cases/run-streams "$1"
-  count_part "cases/run-documents" cases/run-documents "$1"
-  count_part "cases/run-tools" cases/run-tools
-  count_part "cases/run-pages" cases/run-pages
-  count_part "cases/run-day" cases/run-day "$1"
-  count_part "cases/run-explain" cases/run-explain "$1"
-  count_part "cases/run-words" cases/run-words
+  begin_cases "$1"
+  finish_parts
   rm -f -- "$cases_passed"
   [ "$failed" != "$failed_before" ] || mv -- "$work/cases-begun" "$cases_passed"
 }
@@ -58,17 +102,17 @@ refusals=crates/registry_refusals/out/registry_refusals
 
 # Refuses each allocation and each start of a thread, of every call and of this program. Then reads texts by parts that are cut
 # where something is in the way.
-try_refusals() {
-  count_part "cases/run-refusals" cases/run-refusals "$refusals" "$1"
-  count_part "cases/run-seams" cases/run-seams "$refusals"
+begin_refusals() {
+  begin_part cases/run-refusals "$refusals" "$1"
+  begin_part cases/run-seams "$refusals"
 }
 
 # The program that settles a day by workers that steal, and looks at who executed what.
 workers=crates/registry_workers/out/registry_workers
 
 # Settles the days of all cases by one to eight workers that are delayed at random.
-try_workers() {
-  count_part "cases/run-workers" cases/run-workers "$workers"
+begin_workers() {
+  begin_part cases/run-workers "$workers"
 }
 
 # Whether all cases have passed on this program since it was built, and as they are now.

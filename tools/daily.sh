@@ -108,7 +108,8 @@ try_refusals_if_built() {
   if [ ! -x "$program" ]; then
     refusals_left_out="the refusals, since there is no program"
   elif try_rt registry_refusals "building the program" run; then
-    try_refusals "$program"
+    begin_refusals "$program"
+    finish_parts
   else
     refusals_left_out="the refusals, since registry_refusals was not built"
   fi
@@ -117,7 +118,8 @@ try_refusals_if_built() {
 # Builds the program that looks at who executed what, and tries it on the days of all cases.
 try_workers_if_built() {
   if try_rt registry_workers "building the program" run; then
-    try_workers
+    begin_workers
+    finish_parts
   else
     workers_left_out="workers that are delayed, since registry_workers was not built"
   fi
