@@ -87,6 +87,7 @@ impl<N: Naming> Context<'_, N> {
     {
         first_in(self.openings(), parcel.account(), parcel.likely_slot())
     }
+
     /// The parcel as a last one, exactly if no later instruction needs it: the instruction after which it stands
     /// touches its account, and no arrow leads on from there.
     ///
