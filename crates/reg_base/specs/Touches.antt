@@ -29,7 +29,7 @@ pub record IsLastToucher (directory : DirectoryValue) (is : List Instruction) (a
   pub toucher : (k : ℕ) → place ≡ suc k → touches_at directory is a k ≡ true
   pub none_later : (k : ℕ) → place ≤ k → k < j → touches_at directory is a k ≡ false
 
--- law: the last toucher is one
+-- law: the place that `last_toucher` gives is that of a last toucher
 abbrev pub LastToucherIsLast : Type 0
 LastToucherIsLast = (directory : DirectoryValue) (is : List Instruction) (a j : ℕ)
     → IsLastToucher directory is a j (last_toucher directory is a j)

@@ -12,7 +12,8 @@ pub const MOST_NUMBER: u32 = 999_999_999;
 pub const MOST_RECORD: u64 = 1_000_000_000_000_000;
 /// The most allowances of one kind that one account holds.
 pub const MOST_HELD: u64 = 1_000_000_000_000_000;
-/// The most allowances of one kind that one account has surrendered, and the most that it has deleted.
+/// The most allowances of one kind that one account has surrendered, and the most that it has deleted, without those
+/// that were reversed. One surrender or deletion has no more either.
 pub const MOST_RETIRED: u64 = 1_000_000_000_000_000;
 /// The most representatives of one account.
 pub const MOST_USERS: usize = 64;
@@ -28,9 +29,9 @@ pub const MOST_FIGURE: i64 = 4_000_000_000_000_000;
 pub const MOST_CORRECTION: i64 = 1_000_000_000_000_000;
 /// The longest lag and the longest reversal window, in working days.
 pub const MOST_LAG: u16 = 1_000;
-/// The earliest year of a period.
+/// The earliest year of a period, of emissions and of a figure.
 pub const FIRST_YEAR: u16 = 2021;
-/// The latest year of a period.
+/// The latest year of a period, of emissions and of a figure.
 pub const LAST_YEAR: u16 = 2100;
 /// The earliest day, 2021-01-01, in days since 1970-01-01.
 pub const FIRST_DAY: u32 = 18_628;
