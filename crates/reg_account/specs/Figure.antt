@@ -18,7 +18,7 @@ use Rattle.reg_account.specs.Account.{AccountValue, correction_of}
 abbrev pub years_from : ℕ → ℕ × ℕ → List ℕ
 years_from year period = count_up period.0 (year + 1 - period.0)
 
--- which years count for the figure of a year: those of its period up to this one, and this one
+-- which years count for the figure of a year: those of its period up to and including it
 abbrev pub years_counted : RulesValue → ℕ → List ℕ
 years_counted rules year = option_map_or (years_from year) (period_with rules year) []
 

@@ -76,7 +76,7 @@ with_mark number rows = map (marked_reversed number) rows
 abbrev pub AreBelow : ℕ → List ℕ → Type 0
 AreBelow limit numbers = AllByRecursion (λ n. n < limit) numbers
 
--- a surrender is for a period from the first to the last that there may be
+-- the period of a surrender is from 1 to the most periods that there may be
 abbrev pub FateFits : Fate → Type 0
 FateFits (fate.Surrendered period) = IsWithin 1 MOST_PERIODS period
 FateFits fate.Deleted = ⊤
@@ -103,12 +103,12 @@ pub record RowsFit (rows : List RetirementRow) : Type 0 where
 pub record RetiredFits (rows : List RetirementRow) : Type 0 where
   pub at : (way : Retirement) (kind : AllowanceKind) → retired_in way kind rows ≤ MOST_RETIRED
 
--- a surrender is for no period that there may be
+-- the period of a surrender is 0, or above the most periods that there may be
 abbrev pub is_fate_unfit : Fate → Bool
 is_fate_unfit (fate.Surrendered period) = nat_lt period 1 || nat_lt MOST_PERIODS period
 is_fate_unfit fate.Deleted = false
 
--- a row's amount is 0 or too large, or it is a surrender for no period that there may be
+-- a row's amount is 0 or too large, or the period of a surrender is outside its limits
 abbrev pub is_row_unfit : RetirementRow → Bool
 is_row_unfit row = nat_lt row.amount 1 || (nat_lt MOST_RETIRED row.amount || is_fate_unfit row.fate)
 

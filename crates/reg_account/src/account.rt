@@ -408,7 +408,7 @@ impl Account {
     /// A second account, equal in all parts.
     ///
     /// # Errors
-    /// `NoMemory` if memory ran out, which happens only if a list has something.
+    /// `NoMemory` if memory ran out, which happens only if a list has something, or once had.
     pub fn copy(&self, alloc: Global) -> Result<Account, NoMemory>
         ensures { IfOk result (λ a. a ≡ self.now) }
     {

@@ -34,7 +34,7 @@ struct Filled {
 
 /// The lists of an account, not yet tested: its correction factors of later periods, its representatives, its trusted
 /// account list, its surrenders and deletions, its emissions and its determined figures. A contract sees them as plain
-/// data. Lists without anything take no memory.
+/// data. Lists to which nothing was ever added take no memory.
 #[derive(Debug, Drop)]
 pub struct Lists {
     alloc: Global,
