@@ -1,5 +1,5 @@
 -- The six kinds of step: what each tells its seat. Splitting and joining seats changes their views as `with_less`,
--- `newcomer` and `joined` of Views say. The other four find a number in a word:
+-- `newcomer` and `joined_views` of Views say. The other four find a number in a word:
 use Rattle.std.specs.Prelude.{bit_or, ◌≡◌, ◌≢◌, ℕ, ◌+◌, ◌/◌, ◌^◌, ◌≤◌, ◌<◌, true, length, Contains}
 use Rattle.atomic_table.specs.Table.{Me, Step}
 use Rattle.reg_claim.specs.declared.views.View.{View}
