@@ -45,8 +45,7 @@ Says plan before position number (Repeated at) = HasCome before position number 
 Says plan before position number (Waits from to) = IsEarly plan before number from to
 
 -- the numbers before this position, counted from 1, have no fault; with the number at it they have exactly this one;
--- and
--- what the fault says of that number is so
+-- and what the fault says of that number is so
 pub record IsAtPosition (plan : PlanValue) (order : List ℕ) (fault : OrderFault) (position : ℕ) : Type 0 where
   pub from_one : 1 ≤ position
   pub within : position ≤ length order

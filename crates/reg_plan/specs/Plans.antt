@@ -13,8 +13,7 @@ use Rattle.reg_base.specs.Footprints.{footprints}
 use Rattle.reg_plan.specs.Touched.{AreFew}
 
 -- the arrows in the order of head, tail and account; the openings; the level of each place; the accounts that the
--- instruction
--- at each place touches
+-- instruction at each place touches
 pub record PlanValue : Type 0 where
   pub arrows : List Arrow
   pub openings : List Opening

@@ -1,12 +1,13 @@
-//! For each touch the likely place of its account's opening.
+//! For each touch the likely slot of its account.
 
 use crate::arrow::Touch;
 use crate::touched::Touched;
 use reg_base::NoMemory;
 use std::alloc::Global;
 
-/// Places among the openings of a plan, counted from 0, of the accounts that an instruction touches, in their order.
-/// Nothing is promised of them: whoever takes one tests whether it is the account's.
+/// The likely slots of the accounts that an instruction touches, in their order. The slot of an account is the index of
+/// its opening in a plan, counted from 0. Nothing is promised of them: whoever takes one tests whether it is the
+/// account's.
 #[derive(Clone, Copy)]
 pub struct LikelySlots<'a> {
     slots: &'a [u32],
@@ -35,8 +36,8 @@ impl<'a> LikelySlots<'a> {
     }
 }
 
-/// For each account that an instruction touches, one instruction after another, the likely place of its opening, by the
-/// touches in the order of accounts.
+/// For each account that an instruction touches, one instruction after another, its likely slot, by the touches in the
+/// order of accounts.
 ///
 /// # Errors
 /// `NoMemory` if memory ran out.

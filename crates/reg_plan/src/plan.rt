@@ -178,8 +178,8 @@ impl Plan {
         self.touched.at(place)
     }
 
-    /// The likely places, among the openings, of the accounts that the instruction at a place touches, in the order of
-    /// its footprint. The place is counted from 1; of any other place the answer is of no use.
+    /// The likely slots of the accounts that the instruction at a place touches, in the order of its footprint. The
+    /// place is counted from 1; of any other place the answer is of no use.
     pub fn likely_slots(&self, place: u32) -> LikelySlots<'_> {
         LikelySlots::from(&self.slots, self.touched.likely_begin(place))
     }
