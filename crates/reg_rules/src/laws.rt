@@ -11,7 +11,7 @@ use reg_account::laws::{changes_keep_limits, number_laws, trust_laws, year_laws}
 
 /// The laws of every step, whatever its act. The accounts that an instruction touches decide its refusal, its reply
 /// and the new value of each account. An account that it does not touch stays as it is. No account is added, removed
-/// or moved. None changes its kind, holder, permissions, correction factors or representatives, and each stays within
+/// or moved. None changes its kind, holder, switches, correction factors or representatives, and each stays within
 /// its limits. A refused instruction changes nothing. Two states are equal if they have the same numbers, each once,
 /// and the same account at each of them.
 pub fn step_laws()
