@@ -1,6 +1,5 @@
 -- The arrow to a place leads from the last toucher of the account before it, and an arrow leads on from every toucher
--- but
--- the last one.
+-- but the last one.
 use Rattle.std.proofs.Common.{◌≡◌, ℕ, zero, suc, ◌-◌, ◌<◌, ◌≤◌, ◌⊎◌, inl, inr, Bool, true, false, cond, ◌||◌, eqb, List}
 use Rattle.std.proofs.Common.{[], ◌∷◌, length, Option, arith, refl, sym, ap, subst, ◌∙◌}
 use Rattle.std.specs.Prelude.{slice_get}

@@ -1,6 +1,5 @@
 -- The room that a world needs: a dock that waits has fewer parcels than its place touches accounts, and a list has
--- fewer tasks than
--- there are places as long as a task is in a hand.
+-- fewer tasks than there are places as long as a task is in a hand.
 use Rattle.std.proofs.Common.{◌≡◌, ℕ, zero, suc, ◌+◌, ◌<◌, ◌≤◌, Bool, true, false, eqb, List, [], ◌∷◌, ◌++◌, length}
 use Rattle.std.proofs.Common.{Some, None, arith, refl, sym, ap, ◌∙◌}
 use Rattle.std.specs.Prelude.{slice_get, slice_set}

@@ -21,7 +21,7 @@ use Rattle.reg_schedules.specs.Docks.{ParcelValue, is_name, name_of, is_not_awai
 use Rattle.reg_schedules.specs.World.{HandValue, Holds, Carries, WorldValue, at_place, empty, head_of, arrived}
 use Rattle.reg_schedules.specs.World.{after_event, world_after, is_task, is_in_hand, is_in_dock, is_done, is_over}
 
--- the parcels of a dock, a list, a hand
+-- the parcels of a dock, and those of a hand
 abbrev pub in_dock : Option (List ParcelValue) → List ParcelValue
 in_dock None = []
 in_dock (Some parcels) = parcels
