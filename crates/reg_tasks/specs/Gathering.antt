@@ -44,20 +44,20 @@ pub record AreLast (day : Day) (names : List (ℕ × ℕ)) : Type 0 where
   pub last : AllByRecursion
       (λ n. n.1 ≡ last_toucher (directory day) day.batch.instructions n.0 (length day.batch.instructions)) names
 
--- if a day is named, the names are those
+-- if a day is named, these are the names of the values that are left at its end
 abbrev pub AreClosing : Option Day → List (ℕ × ℕ) → Type 0
 AreClosing name names = (day : Day) → name ≡ Some day → AreLast day names
 
--- this is the name of one of them
+-- this is the name of a value that is left at the end
 pub record IsLastName (day : Day) (name : ℕ × ℕ) : Type 0 where
   pub touched : is_touched (directory day) day.batch.instructions name.0 ≡ true
   pub last : name.1 ≡ last_toucher (directory day) day.batch.instructions name.0 (length day.batch.instructions)
 
--- if a day is named, the name is one of them
+-- if a day is named, this is the name of a value that is left at its end
 abbrev pub IsClosing : Option Day → ℕ × ℕ → Type 0
 IsClosing name n = (day : Day) → name ≡ Some day → IsLastName day n
 
--- if a day is named, the accounts are those
+-- if a day is named, these are the accounts that it touched, as the last instruction left them, in any order
 abbrev pub AreClosingValues : Option Day → State → Type 0
 AreClosingValues name accounts = (day : Day) → name ≡ Some day → AreLastValues day accounts
 
@@ -102,7 +102,7 @@ abbrev pub AreNotEach : Option Day → List ℕ → Type 0
 AreNotEach name places =
     (day : Day) → name ≡ Some day → ¬ (IsPermutation (count_up 1 (length day.batch.instructions)) places)
 
--- if a day is named, they are not its
+-- if a day is named, these are not each of its places once and the names of the values that are left at its end
 abbrev pub AreNotAll : Option Day → List ℕ → List (ℕ × ℕ) → Type 0
 AreNotAll name places names = (day : Day) → name ≡ Some day → ¬ (AreOutcomes day places names)
 

@@ -62,7 +62,7 @@ pub record AreNeeded (day : Day) (place : ℕ) (names : List (ℕ × ℕ)) : Typ
   pub high : place ≤ length day.batch.instructions
   pub names_are : names ≡ before_place day place (footprint_at day place)
 
--- if a day is named, the names are those
+-- if a day is named, these are the names of the values that the instruction at this place needs
 abbrev pub AreComplete : Option Day → ℕ → List (ℕ × ℕ) → Type 0
 AreComplete name place names = (day : Day) → name ≡ Some day → AreNeeded day place names
 

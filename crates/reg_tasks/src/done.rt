@@ -9,8 +9,9 @@ use std::marker::PhantomData;
 
 /// An instruction that was run: its place, and the reply to it. The rest of its row in the log is in the batch. If a
 /// day is named, it is the day's reply at that place, whoever carries it. Outside of this crate only
-/// [`Outcome::into_done`](crate::Outcome::into_done) makes one. In it [`Context::gather`](crate::Context::gather) makes
-/// one of each row that it gets, which is the day's by its own condition.
+/// [`Outcome::into_done`](crate::Outcome::into_done) and [`Slots::lay`](crate::Slots::lay) give one, each for the
+/// outcome that it takes. In it [`Context::gather`](crate::Context::gather) makes one of each row that it gets, which
+/// is the day's by its own condition.
 #[derive(Drop)]
 pub struct Done<N: Naming> {
     place: u32,

@@ -82,7 +82,7 @@ pub(crate) fn open_slots<N: Naming>(
     Ok(slots)
 }
 
-// The name of the parcel in the slot of an account, if there is one.
+// Whether the parcel that is named by this account and this place stands in the slot of the account.
 fn stands<N: Naming>(
     openings: &[Opening],
     slots: &[Option<Parcel<N>>],

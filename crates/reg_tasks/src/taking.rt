@@ -37,7 +37,7 @@ fn take_all<N: Naming>(
 {
     let mut parcels = Vec::with_capacity(alloc, accounts.len())?;
     for account in accounts {
-        // (a task needs no slot of its parcels)
+        // (nobody reads the likely slot of a parcel in a task)
         let Some(parcel) = vault.take(context, *account, 0) else {
             return Err(Lack::Foreign);
         };
@@ -61,7 +61,7 @@ pub(crate) fn take_slots<N: Naming>(
     let openings = context.openings();
     let mut slots = Vec::with_capacity(alloc, openings.len())?;
     for opening in openings {
-        // (nor does one that stands in its slot)
+        // (nobody reads the likely slot of a parcel that stands in its slot)
         let Some(parcel) = vault.take(context, opening.account, 0) else {
             return Err(Lack::Foreign);
         };
@@ -100,12 +100,12 @@ impl<N: Naming> Vault<N> {
     ghost use Rattle.reg_schedules.specs.Pool.{footprint_at, tail_of};
 
     /// The opening value of the account that stands at this index of the footprint of a place, exactly if no arrow
-    /// leads to the place at that account. The arrows are all that lead to the place: who opens several values of a
-    /// place looks them up once. The account is taken out. The place is counted from 1, the index from 0. Takes no
-    /// memory.
+    /// leads to the place at that account. The arrows are all that lead to the place: a caller that opens several
+    /// values of a place looks them up once. The account is taken out. The place is counted from 1, the index from 0.
+    /// Takes no memory.
     ///
     /// # Errors
-    /// `Foreign` if the account was taken out before.
+    /// `Foreign` if the account was taken out before, or if the vault has no such account.
     pub fn opening_at(
         &mut self,
         context: &Context<N>,

@@ -65,7 +65,7 @@ impl<N: Naming> Vault<N> {
     }
 
     /// Takes out an account that some instruction touches, and answers its opening value, which is likely to have this
-    /// slot. `None` if it was taken out before. Takes no memory.
+    /// slot. `None` if it was taken out before, or if the vault has no such account. Takes no memory.
     ///
     /// The time is logarithmic in the accounts, and constant where their numbers rise evenly.
     pub fn take(
