@@ -47,7 +47,7 @@ module _ {N : Type 0} {b : _} where
   abbrev pub IsBlank : Pass N b → Type 0
   IsBlank pass = All (λ p. ticket_view_of p ≡ empty_ticket_view) pass.deque_passes.items
 
--- of each deque, what is known to who has two passes
+-- of each deque, what is known after two passes were joined
 abbrev pub AllJoin : List TicketView → List TicketView → List TicketView → Type 0
 AllJoin [] [] [] = Unit {0}
 AllJoin (v ∷ vs) (u ∷ us) (w ∷ ws) = Joins v u w × AllJoin vs us ws

@@ -30,10 +30,10 @@
 //! any two steps of any threads, so the tasks come out in the order in which they were put, and each position is taken
 //! once.
 //!
-//! The kit's deque joins a pass only with its worker. So each task lies in its deque with a ticket of its position,
-//! which who takes the task gets with it. The tickets of a deque have a table, whose rule (`specs/Tickets.antt`) says
-//! that no ticket is at two seats: so two passes can be joined, and no position is in both. A ticket takes no bytes
-//! either.
+//! The kit's deque joins a pass only with its worker. So each task lies in its deque with a ticket of its position, and
+//! whoever takes the task gets the ticket too. The tickets of a deque have a table, whose rule (`specs/Tickets.antt`)
+//! says that no ticket is at two seats: so two passes can be joined, and no position is in both. A ticket takes no
+//! bytes either.
 //!
 //! Only [`Yard::new`] and [`Owner::put`] take memory. No call here waits.
 #![tactic(auto)]

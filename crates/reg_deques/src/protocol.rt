@@ -148,7 +148,7 @@ impl Split<TicketView> for Seating {
     ghost right = { λ v. empty_ticket_view };
 }
 
-// What a seat holds goes to another: a ticket to who stole its task, or all that one of two passes has.
+// What a seat holds goes to another: a ticket to the thief who stole its task, or all that one of two passes has.
 pub(crate) struct Joining;
 
 impl Join<TicketView> for Joining {

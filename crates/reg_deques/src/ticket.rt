@@ -6,8 +6,8 @@ ghost use Rattle.reg_deques.specs.Tickets.{IsTicket};
 use crate::views::TicketView;
 use reg_tasks::{Naming, Task};
 
-/// A task that lies in a deque, with the ticket of its position. The ticket takes no bytes. Who takes the task has the
-/// ticket, and so knows that nobody else took this position, whatever deques and passes there are.
+/// A task that lies in a deque, with the ticket of its position. The ticket takes no bytes. Whoever takes the task has
+/// the ticket, and so knows that nobody else took this position, whatever deques and passes there are.
 #[derive(Drop)]
 pub(crate) struct Ticketed<N: Naming> {
     pub(crate) task: Task<N>,
