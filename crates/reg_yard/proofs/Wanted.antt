@@ -1,6 +1,5 @@
 -- The names that a place needs: whether one is among them, whether it still is after some came, and that they are as
--- many as
--- its accounts.
+-- many as its accounts.
 use Rattle.std.proofs.Common.{◌≡◌, ℕ, Bool, true, false, cond, ◌&&◌, ◌||◌, eqb, List, [], ◌∷◌, arith, refl, sym, ap}
 use Rattle.std.proofs.Common.{◌∙◌}
 use Rattle.std.specs.Prelude.{not, filter, is_some}
