@@ -35,8 +35,7 @@ use std::{mem, thread};
 /// - `NoThread` if the input is a day text to be settled and a thread could not be started.
 /// - `NoMemory` if memory ran out.
 /// - `WriteFailed` if a call of the writer fails, the last one among them, which flushes it. A prefix of the text has
-/// then been
-///   written.
+///   then been written.
 ///
 /// A failed call is not tried again. After all faults except `WriteFailed`, nothing has been written.
 pub fn run<T: Threads + Wait + Sync, R: Source, W: Sink>(
