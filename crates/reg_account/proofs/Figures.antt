@@ -16,9 +16,9 @@ use Rattle.reg_account.specs.declared.years.Figure.{Figure}
 use Rattle.reg_account.specs.declared.figure.FigureFault.{FigureFault}
 use Rattle.reg_account.specs.declared.figure.FigureFault.TheVariants.{YearOutsidePeriod, Missing}
 use Rattle.reg_account.specs.Rows.{is_for, amount_for, surrendered_in}
-use Rattle.reg_account.specs.Years.{EmissionFits, emissions_in}
+use Rattle.reg_account.specs.Years.{EmissionFits, FigureFits, emissions_in, figure_in}
 use Rattle.reg_account.specs.Account.{AccountValue, unretired_row}
-use Rattle.reg_account.specs.Figure.{years_counted, is_for_year, is_row_counted, surrendered_for, correction_added}
+use Rattle.reg_account.specs.Figure.{years_counted, is_for_year, is_row_counted, surrendered_for_year, correction_added}
 use Rattle.reg_account.specs.Figure.{emitted_in, emitted_unless, emitted_or_missing, figure_by, figure_of}
 use Rattle.reg_account.specs.Laws.{YearLaws, FigureLaws, lowered_by}
 use Rattle.reg_account.proofs.Keyed.{from_zero, find_put}
@@ -56,12 +56,12 @@ sums_alike one other alike (row ∷ rows) =
 
 -- the surrenders for the period of a year, given the period
 pub surrendered_of : (rules : RulesValue) (a : AccountValue) (year period : ℕ) → period_of rules year ≡ Some period
-    → surrendered_for rules a year ≡ surrendered_in period a.rows
+    → surrendered_for_year rules a year ≡ surrendered_in period a.rows
 surrendered_of rules a year period is = sums_alike (λ row. cond (is_row_counted rules year row) row.amount 0)
     (amount_for period) (adds_of rules year period is) a.rows
 
 pub surrendered_of_none : (rules : RulesValue) (a : AccountValue) (year : ℕ) → period_of rules year ≡ None
-    → surrendered_for rules a year ≡ 0
+    → surrendered_for_year rules a year ≡ 0
 surrendered_of_none rules a year none = sums_alike (λ row. cond (is_row_counted rules year row) row.amount 0) (λ row. 0)
     (adds_of_none rules year none) a.rows ∙ sum_of_none a.rows
 
@@ -74,6 +74,16 @@ emissions_at_most (e ∷ es) year all = go (eqb e.year year) (emissions_at_most 
       (λ t. t ≤ MOST_EMISSIONS)
       → IfSome (option_map (λ (x : Emission). x.tonnes) (cond b (Some e) (find (λ x. eqb x.year year) es)))
       (λ t. t ≤ MOST_EMISSIONS)
+  go true more = all.0
+  go false more = more
+
+-- the determined figure of a year is within its limits
+pub figure_fits_in : (figures : List Figure) (year : ℕ) → AllByRecursion (λ f. FigureFits f.tonnes) figures
+    → IfSome (figure_in figures year) FigureFits
+figure_fits_in [] year all = tt
+figure_fits_in (f ∷ fs) year all = go (eqb f.year year) (figure_fits_in fs year all.1) where
+  go : (b : Bool) → IfSome (option_map (λ (x : Figure). x.tonnes) (find (λ x. eqb x.year year) fs)) FigureFits
+      → IfSome (option_map (λ (x : Figure). x.tonnes) (cond b (Some f) (find (λ x. eqb x.year year) fs))) FigureFits
   go true more = all.0
   go false more = more
 
@@ -154,8 +164,9 @@ figure-laws = record {
     by false = refl
 
   go : (rules : RulesValue) (a : AccountValue) (number : ℕ) (row : RetirementRow) (year : ℕ)
-      → surrendered_for rules (unretired_row number a row) year + cond (is_row_counted rules year row) row.amount 0
-      ≡ surrendered_for rules a year
+      → surrendered_for_year rules (unretired_row number a row) year
+      + cond (is_row_counted rules year row) row.amount 0
+      ≡ surrendered_for_year rules a year
       → (within : Bool) (emitted : Result ℕ FigureFault)
       → cond within (figure_by rules (unretired_row number a row) year emitted) (Err YearOutsidePeriod)
       ≡ lowered_by (cond (is_row_counted rules year row) row.amount 0)
@@ -163,5 +174,6 @@ figure-laws = record {
   go rules a number row year same false emitted = refl
   go rules a number row year same true (Err f) = refl
   go rules a number row year same true (Ok e) =
-      ap Ok (figures_lowered (surrendered_for rules a year) (surrendered_for rules (unretired_row number a row) year) e
+      ap Ok (figures_lowered (surrendered_for_year rules a year)
+      (surrendered_for_year rules (unretired_row number a row) year) e
       (cond (is_row_counted rules year row) row.amount 0) (correction_added rules a year) same)

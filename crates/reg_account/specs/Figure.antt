@@ -36,8 +36,8 @@ abbrev pub correction_added : RulesValue → AccountValue → ℕ → ℤ
 correction_added rules a year = option_map_or (correction_of a) (period_of rules year) (pos 0)
 
 -- the allowances of both kinds that were surrendered for the period of the year
-abbrev pub surrendered_for : RulesValue → AccountValue → ℕ → ℕ
-surrendered_for rules a year = sum_by (λ row. if is_row_counted rules year row then row.amount else 0) a.rows
+abbrev pub surrendered_for_year : RulesValue → AccountValue → ℕ → ℕ
+surrendered_for_year rules a year = sum_by (λ row. if is_row_counted rules year row then row.amount else 0) a.rows
 
 -- the emissions of these years, in tonnes
 abbrev pub emitted_in : AccountValue → List ℕ → ℕ
@@ -57,7 +57,8 @@ emitted_or_missing a years = emitted_unless a years (first_missing a years)
 
 -- the figure, given the emissions of the years that count
 abbrev pub figure_with : RulesValue → AccountValue → ℕ → ℕ → ℤ
-figure_with rules a year emitted = pos (surrendered_for rules a year) -ℤ pos emitted +ℤ correction_added rules a year
+figure_with rules a year emitted =
+    pos (surrendered_for_year rules a year) -ℤ pos emitted +ℤ correction_added rules a year
 
 abbrev pub figure_by : RulesValue → AccountValue → ℕ → Result ℕ FigureFault → Result ℤ FigureFault
 figure_by rules a year (Ok emitted) = Ok (figure_with rules a year emitted)

@@ -1,6 +1,6 @@
 //! An account within its limits.
 
-ghost use Rattle.std.specs.Prelude.{◌≡◌, ◌+◌, ◌-◌, ◌≤◌, IfOk, IfSome, OnOk, OnErr, MatchResult};
+ghost use Rattle.std.specs.Prelude.{◌≡◌, ◌+◌, ◌-◌, ◌≤◌, ◌↔◌, IsOk, IfOk, IfSome, OnOk, OnErr, MatchResult};
 ghost use Rattle.std.specs.Option.{option_map};
 ghost use Rattle.std.specs.Result.{result_err};
 ghost use Rattle.reg_account.specs.Account.{account_of, amount_of, with_amount, first_account_fault};
@@ -57,6 +57,7 @@ impl Account {
     /// # Errors
     /// The parts as they were, and the first fault that applies, in the order of [`AccountFault`].
     pub fn of(parts: AccountParts) -> Result<Self, (AccountParts, AccountFault)>
+        ensures accepts { IsOk result ↔ IsAccount (account_of parts) }
         ensures fault { option_map (λ e. e.1) (result_err result) ≡ first_account_fault (account_of parts) }
         ensures value { MatchResult result
             (λ a. (a ≡ account_of parts) × IsAccount (account_of parts))
@@ -325,7 +326,8 @@ impl Account {
 
     /// Its determined compliance figure of this year, -4 x 10^15 to 4 x 10^15 tonnes, or `None` if none was determined.
     pub fn determined(&self, year: Year) -> Option<i64>
-        ensures { result ≡ figure_in self.now.figures year }
+        ensures value { result ≡ figure_in self.now.figures year }
+        ensures limit { IfSome result FigureFits }
     {
         find_figure(self.parts.lists.figures(), year)
     }

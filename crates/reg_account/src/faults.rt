@@ -204,10 +204,10 @@ fn is_too_much(lists: &Lists, way: Retirement) -> bool
 fn are_emissions_unfit(emissions: &[Emission]) -> bool
     ensures { result ≡ are_emissions_unfit emissions.now }
 {
-    !have_rising_years(emissions) || has_unfit_emission(emissions)
+    !have_rising_emission_years(emissions) || has_unfit_emission(emissions)
 }
 
-fn have_rising_years(emissions: &[Emission]) -> bool
+fn have_rising_emission_years(emissions: &[Emission]) -> bool
     ensures { result ≡ is_rising_from 0 (emission_years emissions.now) }
 {
     let mut low = 0;
@@ -236,10 +236,10 @@ fn is_emission_unfit(emission: &Emission) -> bool
 fn are_figures_unfit(figures: &[Figure]) -> bool
     ensures { result ≡ are_figures_unfit figures.now }
 {
-    !are_of_rising_years(figures) || has_unfit_figure(figures)
+    !have_rising_figure_years(figures) || has_unfit_figure(figures)
 }
 
-fn are_of_rising_years(figures: &[Figure]) -> bool
+fn have_rising_figure_years(figures: &[Figure]) -> bool
     ensures { result ≡ is_rising_from 0 (figure_years figures.now) }
 {
     let mut low = 0;

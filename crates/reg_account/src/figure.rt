@@ -5,7 +5,7 @@ ghost use Rattle.reg_base.specs.declared.limits.TheConstants.{MOST_RETIRED, MOST
 ghost use Rattle.reg_base.specs.Rising.{count_up};
 ghost use Rattle.reg_account.specs.Account.{CorrectionFits};
 ghost use Rattle.reg_account.specs.Years.{FigureFits};
-ghost use Rattle.reg_account.specs.Figure.{figure_of, years_counted, emitted_or_missing, surrendered_for};
+ghost use Rattle.reg_account.specs.Figure.{figure_of, years_counted, emitted_or_missing, surrendered_for_year};
 ghost use Rattle.reg_account.specs.Figure.{correction_added};
 
 use crate::account::Account;
@@ -32,7 +32,7 @@ pub(crate) fn figure_of(rules: &Rules, account: &Account, year: Year) -> Result<
         return Err(FigureFault::YearOutsidePeriod);
     }
     let emitted = add_emissions(rules, account, year)?;
-    let surrendered = surrendered_for(rules, account, year);
+    let surrendered = surrendered_for_year(rules, account, year);
     Ok(surrendered as i64 - emitted as i64 + correction_added(rules, account, year))
 }
 
@@ -65,8 +65,8 @@ fn add_years(account: &Account, first: Year, last: Year) -> Result<u64, FigureFa
 }
 
 // The allowances of both kinds that were surrendered for the period of the year.
-fn surrendered_for(rules: &Rules, account: &Account, year: Year) -> u64
-    ensures value { result ≡ surrendered_for rules.now account.now year }
+fn surrendered_for_year(rules: &Rules, account: &Account, year: Year) -> u64
+    ensures value { result ≡ surrendered_for_year rules.now account.now year }
     ensures limit { result ≤ MOST_RETIRED + MOST_RETIRED }
 {
     match rules.period_of(year) {

@@ -7,7 +7,7 @@ ghost use Rattle.reg_account.specs.Years.{EmissionIsInRange, FigureIsInRange};
 use crate::rows::RetirementRow;
 use crate::years::{Emission, Figure};
 
-// These functions read numbers, so that a proof knows their ranges. They do nothing when the program runs.
+// These functions read numbers, so that a proof knows their ranges. They have no effect when the program runs.
 
 pub(crate) fn know_rows(rows: &[RetirementRow])
     ensures { All RowIsInRange rows.now }

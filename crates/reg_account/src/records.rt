@@ -6,15 +6,14 @@ ghost use Rattle.reg_base.specs.Rising.{IsRising};
 ghost use Rattle.reg_base.specs.declared.limits.TheConstants.{MOST_PERIODS};
 ghost use Rattle.reg_base.specs.Numbers.{IsWithin};
 ghost use Rattle.reg_account.specs.Rows.{row_numbers, row_in, retired_in, surrendered_in, with_mark};
-ghost use Rattle.reg_account.specs.Years.{emission_years, figure_years, emissions_in, figure_in, with_emission};
-ghost use Rattle.reg_account.specs.Years.{with_figure};
+ghost use Rattle.reg_account.specs.Years.{emission_years, figure_years, with_emission, with_figure};
 ghost use Rattle.reg_account.specs.Lists.{RecordsValue, no_records};
 
 use crate::corrections::Correction;
 use crate::kept::Kept;
 use crate::rows::RetirementRow;
 use crate::years::{Emission, Figure};
-use reg_base::{AllowanceKind, NoMemory, RecordNo, Retirement, Year};
+use reg_base::{AllowanceKind, NoMemory, RecordNo, Retirement};
 use std::alloc::Global;
 use std::marker::Model;
 

@@ -80,7 +80,7 @@ pub struct Movement {
     pub first: AccountNo,
     /// What becomes of this account.
     pub change: Change,
-    /// The kind of the allowances that leave it.
+    /// The kind of the allowances that leave it: `General` if none do.
     pub kind: AllowanceKind,
     /// How many allowances leave it.
     pub leaves: u128,

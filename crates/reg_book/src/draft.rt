@@ -24,7 +24,8 @@ pub enum BookFault {
     /// The draft already has an account with this number.
     #[error("an account of this number is there already")]
     Repeated,
-    /// A surrender or a deletion of the account has a number that is not below the next record number.
+    /// A surrender or a deletion of the account has a number that is not below the next record number. Of two drafts
+    /// that are to be joined: they have different next record numbers.
     #[error("a surrender or a deletion is recorded under a number that comes only later")]
     RowAhead,
     /// The draft already has 100,000 accounts.

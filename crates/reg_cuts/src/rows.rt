@@ -24,7 +24,8 @@ pub fn start_rows(alloc: Global, text: &[u8]) -> Reader<&[u8]>
 /// Reads the next record into `row`, and answers whether there was one.
 ///
 /// # Errors
-/// `NoMemory` if memory ran out, or if the bytes could not be read. Bytes in memory can always be read.
+/// `NoMemory` if memory ran out, or if the bytes could not be read. Bytes in memory can always be read. The reader is
+/// of no use then.
 pub fn next_row(reader: &mut Reader<&[u8]>, row: &mut ByteRecord) -> Result<bool, NoMemory>
     requires { IsBetweenRows reader.old }
     ensures between { IfOk result (λ found. IsTrue found → IsBetweenRows reader.new) }

@@ -50,13 +50,8 @@ pub fn run<T: Threads + Wait + Sync, R: Source, W: Sink>(
     ensures { CarriesOut command (result_err result) (R.stream reader.old) (R.stream reader.new) (W.stream writer.old)
         (W.stream writer.new) }
 {
-    match command {
-        Command::Settle { workers } => run_settle(rt, alloc, reader, writer, workers),
-        Command::Plan => run_plan(rt, alloc, reader, writer),
-        Command::Statement { account } => run_statement(rt, alloc, reader, writer, account),
-        Command::Figures => run_figures(rt, alloc, reader, writer),
-        Command::Totals => run_totals(rt, alloc, reader, writer),
-    }
+    run_and_keep(rt, alloc, reader, writer, command)?;
+    Ok(())
 }
 
 /// Does what [`run`] does for [`Command::Plan`]. Threads read the text by parts, as many as there are processors, at
@@ -156,23 +151,6 @@ pub fn run_without_freeing<T: Threads + Wait + Sync, R: Source, W: Sink>(
         (W.stream writer.new) }
 {
     mem::forget(run_and_keep(rt, alloc, reader, writer, command)?);
-    Ok(())
-}
-
-// Settles the day of the input by workers, and frees what was used.
-fn run_settle<T: Threads + Wait + Sync, R: Source, W: Sink>(
-    rt: &T,
-    alloc: Global,
-    reader: &mut R,
-    writer: &mut W,
-    workers: u32,
-) -> Result<(), FrontFault>
-    requires reader { CanFail (R.stream reader.old) }
-    requires writer { CanFail (W.stream writer.old) }
-    ensures { CarriesOut (Settle workers) (result_err result) (R.stream reader.old) (R.stream reader.new)
-        (W.stream writer.old) (W.stream writer.new) }
-{
-    settle(rt, alloc, reader, writer, workers)?;
     Ok(())
 }
 

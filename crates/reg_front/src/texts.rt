@@ -42,7 +42,8 @@ pub(crate) struct Used {
     closed: Option<ClosedDay>,
 }
 
-/// The text that answers a question of a day. `bytes` are no longer needed: a text of figures takes their memory.
+/// The text that answers a question of a day. `bytes` are no longer needed: a text of figures takes their memory, and
+/// for another one it is given back before.
 ///
 /// # Errors
 /// `NoAccount` if the account of a statement is not in the book. Otherwise `NoMemory` if memory ran out.
@@ -59,10 +60,19 @@ pub(crate) fn make_answer(
         (IsCommandFault (command_of question.now) day.book) }
 {
     match *question {
-        Question::Plan => make_plan(alloc, &day),
-        Question::Statement { account } => make_statement(alloc, &day, account),
+        Question::Plan => {
+            drop(bytes);
+            make_plan(alloc, &day)
+        }
+        Question::Statement { account } => {
+            drop(bytes);
+            make_statement(alloc, &day, account)
+        }
         Question::Figures => make_figures(alloc, day, bytes),
-        Question::Totals => make_totals(alloc, day),
+        Question::Totals => {
+            drop(bytes);
+            make_totals(alloc, day)
+        }
     }
 }
 

@@ -99,7 +99,8 @@ impl<'c, 'a, N: Naming> Levels<'c, 'a, N> {
     /// before was laid.
     ///
     /// # Errors
-    /// `Memory` if memory ran out. If no day is named, `Foreign` if a value of another context was laid.
+    /// `Memory` if memory ran out. If no day is named, `Foreign` if a value of another context was laid. The tasks that
+    /// were taken by this call are lost then.
     pub fn take(&mut self, alloc: Global, most: usize) -> Result<Vec<Task<N>>, Lack>
         requires laid { self.old.laid ≡ self.old.taken }
         requires left { self.old.taken < length self.old.order.items }

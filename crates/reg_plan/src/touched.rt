@@ -126,6 +126,7 @@ fn push_moved(ends: &mut Vec<usize>, later: usize, places: &[usize]) -> Result<(
     ensures { OnOk result (ends.new.items ≡ ends.old.items ++ moved_by later places.now) }
 {
     for place in places {
+        // (nine touches for each of 16,384 instructions: the sum does not overflow)
         let Some(moved) = later.checked_add(*place) else {
             return Err(NoMemory);
         };

@@ -27,7 +27,7 @@ use Rattle.reg_account.specs.declared.figure.FigureFault.TheVariants.{YearOutsid
 use Rattle.reg_account.specs.Rows.{retirement_of, is_same_retirement, is_same_kind, amount_in, retired_in}
 use Rattle.reg_account.specs.Years.{emissions_in, EmissionFits, FigureFits}
 use Rattle.reg_account.specs.Account.{AccountValue, IsAccount, CorrectionFits, correction_of}
-use Rattle.reg_account.specs.Figure.{is_for_year, is_row_counted, surrendered_for, correction_added, emitted_in}
+use Rattle.reg_account.specs.Figure.{is_for_year, is_row_counted, surrendered_for_year, correction_added, emitted_in}
 use Rattle.reg_account.specs.Figure.{years_from, years_counted, first_missing, figure_with, figure_by, emitted_unless}
 use Rattle.reg_account.specs.Figure.{figure_of}
 
@@ -159,7 +159,7 @@ figure-fits rules v year are in_range is figure found =
           let sums = rows-counted rules year v.rows in
           let general = is.retired_fits.at Surrendered General in
           let aviation = is.retired_fits.at Surrendered Aviation in
-          within (surrendered_for rules v year) (emitted_in v (years_counted rules year)) 80
+          within (surrendered_for_year rules v year) (emitted_in v (years_counted rules year)) 80
           (correction_added rules v year)
           (omega (arith, sums, general, aviation)) (emitted-few rules v year are in_range is.emissions_fit.each)
           (omega arith) (added-fits rules v year is)

@@ -106,6 +106,7 @@ pub record IsCreated (s t : State) (to : ℕ) (kind : AllowanceKind) (amount : �
   pub statuses_stay : StatusesStay s t
   pub rest_stays : RestStays s t
 
+-- an accepted creation raises the holding of the account by its amount, and does nothing else
 abbrev pub Creates : Type 0
 Creates = (c : Setting) (s : State) (number : ℕ) (i : Instruction) (to : ℕ) (kind : AllowanceKind) (amount : ℕ)
     → i.act ≡ Create to kind amount → refusal c s i ≡ None → IsCreated s (after_step c s number i) to kind amount

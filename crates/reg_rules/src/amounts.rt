@@ -35,10 +35,10 @@ pub(crate) fn is_short(movement: &Movement, accounts: &[Account]) -> bool
 pub(crate) fn overfills_some(movement: &Movement, accounts: &[Account]) -> bool
     ensures { result ≡ overfills_some movement.now (seen_by movement.now accounts.now) }
 {
-    overfills_one(movement.kind, movement.shares.as_slice(), accounts)
+    overfills_any(movement.kind, movement.shares.as_slice(), accounts)
 }
 
-fn overfills_one(kind: AllowanceKind, shares: &[Share], accounts: &[Account]) -> bool
+fn overfills_any(kind: AllowanceKind, shares: &[Share], accounts: &[Account]) -> bool
     ensures { result ≡ list_any
         (λ share. overfills kind
         (record { account = account accounts.now share.to; amount = share.amount })) shares.now }

@@ -64,7 +64,9 @@ mod step;
 mod trust;
 
 pub use checks::decide;
-pub use laws::{act_laws, step_conserves, step_keeps_closed, step_laws};
+pub use laws::{
+    act_laws, latest_is_of_the_latest_year, step_conserves, step_keeps_closed, step_laws,
+};
 pub use reply::{Closing, HeldNow, Holdings, LogRow, Reply};
 pub use setting::Setting;
 pub use step::{execute, log_row};

@@ -64,7 +64,8 @@ impl<'c, 'a, N: Naming> Slots<'c, 'a, N> {
     /// The same as [`Slots::open`], but the accounts are taken out of a vault and not copied.
     ///
     /// # Errors
-    /// `Memory` if memory ran out. `Foreign` if one of the accounts was taken out before.
+    /// `Memory` if memory ran out. `Foreign` if one of the accounts was taken out before. The accounts that were taken
+    /// out by this call are lost then.
     pub fn open_from(
         alloc: Global,
         context: &'c Context<'a, N>,
@@ -177,7 +178,8 @@ impl<'c, 'a, N: Naming> Slots<'c, 'a, N> {
     /// Lays what stands in the slots back into a vault. Takes no memory.
     ///
     /// # Errors
-    /// `Foreign` if a slot is empty, or if what stands in it is not what the last instruction left.
+    /// `Foreign` if a slot is empty, or if what stands in it is not what the last instruction left. What was not laid
+    /// back is lost then.
     pub fn lay_back(self, vault: &mut Vault<N>) -> Result<(), Lack>
         ensures last { OnOk result
             (list_all (is_last_there (the_day self.entry.context.now) self.entry.context.now.plan)

@@ -144,7 +144,8 @@ impl<N: Naming> Task<N> {
     /// The same as [`Task::open`], but the accounts are taken out of a vault and not copied.
     ///
     /// # Errors
-    /// `Memory` if memory ran out. `Foreign` if one of the accounts was taken out before.
+    /// `Memory` if memory ran out. `Foreign` if one of the accounts was taken out before. The accounts that were taken
+    /// out by this call are lost then.
     pub fn open_from(
         alloc: Global,
         context: &Context<N>,

@@ -37,7 +37,7 @@ pub struct Vault<N: Naming> {
 
 impl<N: Naming> Vault<N> {
     ghost use Rattle.std.specs.Prelude.{◌==◌, ◌<◌, true, All, Some, is_some, slice_get, slice_index, IfErr, IfOk};
-    ghost use Rattle.std.specs.Prelude.{IfSome, OnOk, IsTrue};
+    ghost use Rattle.std.specs.Prelude.{IfSome, IfNone, OnOk, OnErr, IsTrue};
     ghost use Rattle.reg_base.specs.Footprint.{is_among};
     ghost use Rattle.reg_base.specs.Touches.{is_touched};
     ghost use Rattle.reg_rules.specs.State.{account};
@@ -78,6 +78,7 @@ impl<N: Naming> Vault<N> {
             (is_touched (directory_of context.now.book.accounts) context.now.batch.now.instructions number) }
         ensures number { IfSome result (λ p. p.value.number ≡ number) }
         ensures after { IfSome result (λ p. p.after ≡ 0) }
+        ensures none { IfNone result (self.new ≡ self.old) }
     {
         let index = stand_at(&self.accounts, number)?;
         if !self.lots[index].is_here() {
@@ -111,6 +112,7 @@ impl<N: Naming> Vault<N> {
         ensures laid { OnOk result (account self.new.accounts.items last.parcel.value.number ≡ Some last.parcel.value) }
         ensures same_numbers { numbers self.new.accounts.items ≡ numbers self.old.accounts.items }
         ensures back { IfErr result (λ l. l ≡ last) }
+        ensures unchanged { OnErr result (self.new ≡ self.old) }
     {
         let Some(index) = stand_at(&self.accounts, last.account()) else {
             return Err(last);

@@ -3,4 +3,4 @@ use Rattle.reg_rules.proofs.amounts.overfills_some.Goals as goal
 
 pub returns : goal.returns
 returns c = some-receiver c.args.movement.now.kind c.args.accounts.now c.as_slice.result.now c.args.movement.now.shares
-    c.overfills_one.result c.overfills_one.ensures c.as_slice.ensures.value
+    c.overfills_any.result c.overfills_any.ensures c.as_slice.ensures.value

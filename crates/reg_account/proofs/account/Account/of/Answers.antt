@@ -26,3 +26,9 @@ invariant_of-result c = fits c
 
 pub returns-clause-value : goal.returns-clause-value
 returns-clause-value c = (refl, fits c)
+
+pub returns-clause-accepts : goal.returns-clause-accepts
+returns-clause-accepts c = record {
+  to = λ _. fits c;
+  from = λ _. tt;
+}

@@ -1,7 +1,7 @@
 use Rattle.std.proofs.Common.{◌≡◌, drop}
 use Rattle.reg_base.specs.Rising.{is_rising_from}
 use Rattle.reg_account.specs.Years.{figure_years}
-use Rattle.reg_account.proofs.faults.are_of_rising_years.Given as goal
+use Rattle.reg_account.proofs.faults.have_rising_figure_years.Given as goal
 
 abbrev pub invariant-loop-figure : goal.invariant-loop-figure
 invariant-loop-figure l =

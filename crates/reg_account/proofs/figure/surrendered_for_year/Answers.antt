@@ -1,6 +1,6 @@
 use Rattle.std.proofs.Common.{sym, ◌∙◌}
 use Rattle.reg_account.proofs.Figures.{surrendered_of_none}
-use Rattle.reg_account.proofs.figure.surrendered_for.Goals as goal
+use Rattle.reg_account.proofs.figure.surrendered_for_year.Goals as goal
 
 pub returns-in-None-clause-value : goal.returns-in-None-clause-value
 returns-in-None-clause-value c =
