@@ -4,7 +4,7 @@
 usage: measure.py [--repeat N] [--commands | PROGRAM ARGUMENT ..]
 
 PROGRAM with its arguments reads a day text on standard input and writes the log rows or the report.
-Without PROGRAM, the program of this repository is measured: crates/registry/out/registry settle.
+Without PROGRAM, the program of this repository is measured: out/registry settle.
 
 Prints
   - for a full day (100,000 accounts, 16,384 transfers) the seconds of processor time and the peak
@@ -31,7 +31,7 @@ from typing import NamedTuple
 import days
 
 TOP = os.path.dirname(os.path.dirname(os.path.abspath(__file__)))
-OWN_PROGRAM = os.path.join(TOP, "crates", "registry", "out", "registry")
+OWN_PROGRAM = os.path.join(TOP, "out", "registry")
 
 SECONDS_ALLOWED = 300  # of processor time, to one run
 
