@@ -566,8 +566,8 @@ def answers(text):
 
 
 COMMANDS = ("settle", "plan", "figures", "totals", "statement")
-# The exit statuses if the words are not taken, and if the text has a fault.
-NOT_TAKEN, FAULTY = 2, 3
+# The exit statuses if the words are not taken, if the text has a fault, and if the answer cannot be written.
+NOT_TAKEN, FAULTY, NOT_WRITTEN = 2, 3, 5
 
 
 def main(arguments):
@@ -580,6 +580,7 @@ def main(arguments):
         print(__doc__, end="", file=sys.stderr)
         return NOT_TAKEN
     # (it takes its words from this file, as a module)
+    import streams
     from faults import first_fault
 
     text = sys.stdin.buffer.read()
@@ -591,7 +592,13 @@ def main(arguments):
     if written is None:
         print("no such account", file=sys.stderr)
         return NOT_TAKEN
-    sys.stdout.write(written)
+    try:
+        sys.stdout.write(written)
+        sys.stdout.flush()
+    except OSError:
+        streams.let_go()
+        print("write failed", file=sys.stderr)
+        return NOT_WRITTEN
     return 0
 
 

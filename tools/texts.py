@@ -1,7 +1,11 @@
 """What the tools that draw a text share: reading the rows of a text of the program, the words of an instruction,
 and laying out a table."""
 import csv
+import re
 import sys
+
+import rules
+import streams
 
 # How many fields each act has, and its words: {0} is its first field. Fields at the places of the third part are amounts.
 ACTS = {
@@ -18,6 +22,9 @@ ACTS = {
     "emissions": (3, "emissions of {0} in {1}: {2} tonnes", (2,)),
     "assess": (2, "assessment of {0} for {1}", ()),
 }
+
+
+NUMBER, SIGNED = re.compile("[0-9]{1,20}"), re.compile("-?[0-9]{1,20}")
 
 
 class Wrong(Exception):
@@ -43,6 +50,26 @@ def read_rows(stream):
 def refuse(number, row):
     """Ends the reading at a row that the text cannot have."""
     raise Wrong(f"row {number} does not fit: {','.join(row)}")
+
+
+def read_instructions(path):
+    """The instructions of a day text, by their places."""
+    instructions = {}
+    with open(path, encoding="utf-8-sig", newline="") as stream:
+        try:
+            for number, row in read_rows(stream):
+                if row[0] == "do":
+                    instructions[len(instructions) + 1] = read_instruction(number, row)
+        except Wrong as wrong:
+            raise Wrong(f"{path}: {wrong}") from None
+    return instructions
+
+
+def read_instruction(number, row):
+    try:
+        return rules.read_instruction(row[1:])
+    except (ValueError, IndexError):
+        refuse(number, row)
 
 
 def grouped(digits):
@@ -96,14 +123,13 @@ def draw(name, help_text, drawing, most=0):
     arguments, of which there are at most so many."""
     arguments = sys.argv[1:]
     if {"-h", "--help"} & {*arguments}:
-        print(help_text, end="")
-        return 0
+        return streams.write(name, help_text, 1)
     if len(arguments) > most or any(it.startswith("-") for it in arguments):
         print(help_text, end="", file=sys.stderr)
         return 2
     try:
-        print("\n".join(drawing(sys.stdin, *arguments)))
+        lines = drawing(sys.stdin, *arguments)
     except (Wrong, OSError) as wrong:
         print(f"{name}: {wrong}", file=sys.stderr)
         return 1
-    return 0
+    return streams.write(name, "\n".join([*lines, ""]), 1)

@@ -2,9 +2,9 @@
 import argparse
 import gc
 import importlib
-import os
 import sys
 
+import streams
 from day.errors import FILE, FileFault, WordsFault
 from day.progress import progress
 
@@ -56,9 +56,11 @@ def run(name, arguments):
     # (a book is a million small objects, none of which refers to itself: looking for such takes a third of the time)
     gc.disable()
     module = importlib.import_module(f"day.{name}")
-    words = parser_of(name, module).parse_args(arguments)
     try:
-        return module.run(words)
+        return module.run(parser_of(name, module).parse_args(arguments))
+    except SystemExit as end:
+        # (the help was written, or the words are not taken)
+        return end.code
     except WordsFault as fault:
         progress.clear()
         print(f"./day {name}: {fault}", file=sys.stderr)
@@ -74,9 +76,11 @@ def run(name, arguments):
 def main(arguments):
     if arguments[:1] == ["help"]:
         arguments = [*arguments[1:2], "--help"]
-    if not arguments or arguments[0] in ("-h", "--help"):
-        print(help_text(), end="", file=sys.stdout if arguments else sys.stderr)
-        return 0 if arguments else 2
+    if arguments[:1] in (["-h"], ["--help"]):
+        return streams.write("./day", help_text(), FILE)
+    if not arguments:
+        print(help_text(), end="", file=sys.stderr)
+        return 2
     name, *rest = arguments
     if name not in COMMANDS:
         print(f"./day: there is no command {name}\n\n{help_text()}", end="", file=sys.stderr)
@@ -85,12 +89,16 @@ def main(arguments):
         status = run(name, rest)
         sys.stdout.flush()
         return status
-    except BrokenPipeError:
-        # (who reads standard output wants no more of it)
-        os.dup2(os.open(os.devnull, os.O_WRONLY), sys.stdout.fileno())
-        return FILE
     except OSError as error:
-        print(f"./day {name}: standard output cannot be written: {error.strerror}", file=sys.stderr)
-        return FILE
+        return cannot_go_on(f"./day {name}", error)
     except KeyboardInterrupt:
         return 130
+
+
+def cannot_go_on(name, error):
+    """Says what cannot be read or written: a file, or standard output, which has no name."""
+    if error.filename is None:
+        streams.cannot_be_written(name, error)
+    else:
+        print(f"{error.filename}: it cannot be read or written: {error.strerror}", file=sys.stderr)
+    return FILE

@@ -255,7 +255,7 @@ def write(rows, waiting, path, notes):
     try:
         sys.stdout.write("\n".join(rows))
         sys.stdout.flush()
-    except OSError:
+    except (OSError, KeyboardInterrupt):
         if new_file:
             new_file.forget()
         raise

@@ -1,4 +1,5 @@
 """Writes files whole: what is written appears under its name only when all of it is there."""
+import contextlib
 import os
 import shutil
 from pathlib import Path
@@ -82,4 +83,5 @@ class NewFile:
             raise cannot(self.path, error) from None
 
     def forget(self):
-        self.beside.unlink(missing_ok=True)
+        with contextlib.suppress(OSError):
+            self.beside.unlink()
