@@ -18,7 +18,7 @@ from typing import NamedTuple
 import faults
 from day import weekdays
 from day.errors import FOUND, RowFault, shown
-from day.guesses import OTHER_TEXTS, TAGS, guess
+from day.guesses import OTHER_TEXTS, TAGS, guess, meant_tag
 from day.mending import mended
 from day.progress import progress
 from day.reading import Reader, day_of, rows_of, starts_of_blocks
@@ -26,6 +26,8 @@ from day.reading import Reader, day_of, rows_of, starts_of_blocks
 EXAMPLE = "./day explain day.csv\n  ./day explain from-a-spreadsheet.csv --mend > day.csv"
 # More faults are only counted, and more than these are not looked for: one mistake may be in every row.
 MOST_TOLD, MOST_COUNTED = 20, 1_000
+# In place of a next record number that no row tells: above every number that a row may have.
+UNKNOWN = faults.MOST_U64
 
 
 def add_words(parser):
@@ -53,11 +55,16 @@ class Told:
 class Explainer(faults.Reading):
     """Reads all rows, and goes on behind a faulty one as if it were the one that is expected."""
 
+    # The version, if no row tells it.
+    likely_version: int = 2
     # The last row with each tag.
     rows_before: dict = field(default_factory=dict)
 
     def explain(self, row):
         """The faults of a row."""
+        if row[0] == "do" and self.next_record == UNKNOWN:
+            # (nobody knows the record number of an instruction either)
+            self.next_record = 0
         try:
             self.add(row)
             return []
@@ -91,10 +98,13 @@ class Explainer(faults.Reading):
 
     def go_on(self, fault, row):
         """Makes of the state what a good row would have made of it."""
-        tag = row[0]
-        if fault.cause == "end" or (fault.cause == "tag" and (tag not in TAGS or self.is_behind(tag))):
+        tag = meant_tag(row[0])
+        if fault.cause == "end" or not tag or (fault.cause == "tag" and self.is_behind(tag)):
             return
+        if tag == "day" and fault.place != NEXT_PLACE:
+            self.next_record = next_record_of(row)
         if tag == "account":
+            self.retired = {}
             for other in faults.BLOCK[1:]:
                 self.before.pop(other, None)
                 self.counts.pop(other, None)
@@ -106,22 +116,35 @@ class Explainer(faults.Reading):
         self.suppose()
 
     def is_behind(self, tag):
-        """Whether rows with this tag stand before the last row."""
-        return self.last != "" and TAGS.index(tag) <= TAGS.index(self.last)
+        """Whether rows with this tag stand before the last row. Another account may stand behind each row of an account."""
+        if self.last == "" or (tag == "account" and self.last in faults.BLOCK):
+            return False
+        return TAGS.index(tag) <= TAGS.index(self.last)
 
     def suppose(self):
         """Supposes what a missing or faulty row of the heading would have said, so that it is told once."""
-        self.version = self.version or 2
+        self.version = self.version or self.likely_version
         place = TAGS.index(self.last)
-        if place >= TAGS.index("day"):
-            self.next_record = self.next_record or faults.MOST_RECORD + 1
+        if TAGS.index("day") <= place < TAGS.index("do"):
+            self.next_record = self.next_record or UNKNOWN
         if place > TAGS.index("period") and not self.last_years:
             self.last_years = [faults.LAST_YEAR] * faults.MOST_PERIODS
 
 
+NEXT_PLACE = 3
+
+
+def next_record_of(row):
+    """The next record number that a faulty `day` row tells; 0 if it tells none."""
+    try:
+        return faults.FIELDS["day"][1].read(row[NEXT_PLACE - 1]) if len(row) == NEXT_PLACE else 0
+    except faults.Fault:
+        return 0
+
+
 def faults_of(source):
     """All faults of a text that can be told."""
-    explainer = Explainer()
+    explainer = Explainer(likely_version=2 if any(it.startswith("current,") for it in source.rows) else 1)
     reader, index, blocks = Reader(source, explainer), 0, None
     while index < len(source):
         if index % 1_000 == 0:

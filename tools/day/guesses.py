@@ -8,6 +8,8 @@ from day.errors import shown
 from day.mending import stripped
 
 TAGS = ("format", "day", "period", "current", "lags", "surrender", "admin", "work", *faults.BLOCK, "do", "end")
+# A misspelled tag has no more letters.
+MOST_LETTERS = 20
 ONLY_VERSION_2 = {"current", "correction"}
 # Tags of other texts of the program, and columns of ./day log.
 OTHER_TEXTS = {
@@ -40,19 +42,24 @@ def near(word, words):
     return next(iter(difflib.get_close_matches(plain, words, 1, 0.7)), "")
 
 
+def meant_tag(tag):
+    """The tag that is meant: this one, or one of which this is a misspelling; nothing if there is none."""
+    return tag if tag in TAGS else near(tag, TAGS) if len(tag) <= MOST_LETTERS else ""
+
+
 def of_tag(fault, row, version):
     tag = row[0]
     if ";" in tag or "\t" in tag:
         return "semicolons or tabs stand between the fields of this row: it needs commas"
     if tag in ONLY_VERSION_2 and version == 1:
         return f"a row {tag} is only in version 2: write format,2 and a row current, or leave it out"
-    if tag == "period" and version == 1:
+    if tag == "period" and version == 1 and fault.expected.endswith("lags"):
         return "a second period is only in version 2: write format,2, and a row current behind the periods"
     if tag in OTHER_TEXTS:
         return f"this is a row of {OTHER_TEXTS[tag]}, and not of a day text"
     if tag in TAGS:
         return of_known_tag(fault, tag)
-    meant = near(tag, TAGS)
+    meant = meant_tag(tag)
     if meant:
         return f"write {meant}" + (", in small letters" if stripped(tag).lower() == meant else "?")
     if len(row) == 1 and "," in tag:

@@ -19,6 +19,8 @@ import rules
 from day.errors import FileFault, RowFault, shown
 from day.progress import progress
 
+# How the files begin that spreadsheets save by themselves, which are no texts.
+WORKBOOKS = (b"PK\x03\x04", b"\xd0\xcf\x11\xe0")
 NEWLINE = re.compile("\r\n|\r")
 # A comma or a line end inside a field: such a field is faulty wherever it stands.
 UNPLAIN = re.compile("[,\r\n]")
@@ -58,9 +60,12 @@ def bytes_of(path):
     """The content of a file."""
     progress.tell(f"reading {path}")
     try:
-        return Path(path).read_bytes()
+        content = Path(path).read_bytes()
     except OSError as error:
         raise FileFault(path, 0, "", f"it cannot be read: {error.strerror}", "") from None
+    if content.startswith(WORKBOOKS):
+        raise FileFault(path, 0, "", "a workbook of a spreadsheet", "a text: let the spreadsheet save the table as CSV in UTF-8")
+    return content
 
 
 def rows_of(path):
@@ -316,11 +321,24 @@ class Reader:
         return True
 
 
+class WithBook:
+    """What a day text and a report have in common."""
+
+    @property
+    def path(self):
+        return self.source.path
+
+    @functools.cached_property
+    def numbers(self):
+        """The numbers of the accounts, rising."""
+        return [*self.book]
+
+
 # Day texts.
 
 
 @dataclass
-class DayText:
+class DayText(WithBook):
     """A day text: its first rows as a day without accounts, its accounts by number, and its instructions in order."""
 
     source: Rows
@@ -331,10 +349,6 @@ class DayText:
     # The places of the first `account` row, and of the first `do` row.
     first_account: int
     first_do: int
-
-    @property
-    def path(self):
-        return self.source.path
 
     @property
     def heading(self):
@@ -453,7 +467,7 @@ class LogRow:
 
 
 @dataclass
-class Report:
+class Report(WithBook):
     """A report: its log, the next record number, its accounts by number, and its totals by kind of allowance."""
 
     source: Rows
@@ -463,10 +477,6 @@ class Report:
     totals: dict
     first_account: int
     first_totals: int
-
-    @property
-    def path(self):
-        return self.source.path
 
     @property
     def book_rows(self):
