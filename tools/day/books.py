@@ -2,6 +2,7 @@
 
 The rows are taken apart here and not read into accounts: a book may have a million of them.
 """
+from collections import Counter
 from typing import NamedTuple
 
 import rules
@@ -53,6 +54,37 @@ def sums_of(rows):
             held["general"] += int(fields[8])
             held["aviation"] += int(fields[9])
     return {kind: Sums(held[kind], *(retired[what, kind] for what in RETIRED_AS)) for kind in rules.KINDS}
+
+
+class Movements:
+    """What the creations, deletions and reversals of deletions of a report changed, by kind of allowance."""
+
+    def __init__(self, report):
+        self.created, self.deleted, self.undeleted = Counter(), Counter(), Counter()
+        self.report, self.deletions = report, {}
+        for logged in report.log:
+            i = logged.instruction
+            if not logged.is_done:
+                continue
+            if i.act == "create":
+                self.created[i.kind] += i.amounts[0]
+            elif i.act == "delete":
+                self.deleted[i.kind] += i.amounts[0]
+            elif i.act == "reverse":
+                self.add_reversal(i)
+
+    def add_reversal(self, i):
+        """Adds a reversal, if it is that of a deletion."""
+        if i.first not in self.deletions:
+            self.deletions[i.first] = deletions_of(self.report.book.get(i.first))
+        kind, amount = self.deletions[i.first].get(i.number, (rules.KINDS[0], 0))
+        self.undeleted[kind] += amount
+
+
+def deletions_of(block):
+    """The kind and the amount of each deletion of a block, if there is one, by its record number."""
+    rows = retired_of(block) if block else ()
+    return {int(row.number): (row.kind, int(row.amount)) for row in rows if row.what == "deletion"}
 
 
 def open_by_late_begin(head, book):

@@ -145,7 +145,15 @@ def counts(rows):
     of = {verdict: sum(it.verdict == verdict for it in rows) for verdict in VERDICTS}
     missing = sum(it.missing or 0 for it in rows)
     said = ", ".join(f"{count} {verdict}" for verdict, count in of.items() if count)
-    return [f"accounts {len(rows)}: {said or 'none'}", f"{grouped(missing)} allowances are missing now, as far as there are figures"]
+    lines = [f"accounts {len(rows)}: {said or 'none'}", f"{grouped(missing)} allowances are missing now, as far as there are figures"]
+    return [*lines, *closed_words(rows)]
+
+
+def closed_words(rows):
+    """A line on the closed accounts about which something would have to be done, if there are some."""
+    count = sum(it.account.status == "closed" and it.verdict not in SETTLED for it in rows)
+    own = "1 account that is not compliant is" if count == 1 else f"{grouped(count)} accounts that are not compliant are"
+    return [f"{own} closed: no act is done on a closed account, so that stays"] if count else []
 
 
 def as_csv(rows):

@@ -15,6 +15,7 @@ import functools
 import gc
 import multiprocessing
 import os
+import signal
 import sys
 
 from day.errors import FileFault, WordsFault
@@ -45,7 +46,7 @@ def add_words(parser):
     parser.add_argument("--only", type=int, nargs="+", metavar="ACCOUNT", help="make pages of these accounts only, in place of all")
     parser.add_argument("--year", type=int, metavar="Y", help="the year of compliance.html; else the last one of the current period that is over")
     parser.add_argument(
-        "--history", nargs="+", default=[], metavar="DAY REPORT", help="days before DAY, rising, each with its report: the statements begin with them"
+        "--history", nargs="+", default=[], metavar="DAY REPORT", help="all days before DAY from one on, each with its report: the statements begin with them"
     )
     parser.add_argument("--lanes", metavar="FILE", help="who executed what, as `registry_workers lanes WORKERS` writes it")
 
@@ -55,10 +56,13 @@ def read_history(paths, day):
     if len(paths) % 2:
         raise WordsFault("--history takes pairs: a day and its report, and the next ones behind them")
     pairs = [read_pair(*it) for it in zip(paths[::2], paths[1::2])]
-    dates = [*(it for it, _ in pairs), day]
-    for before, after in zip(dates, dates[1:]):
+    for (before, report), after in zip(pairs, [*(it for it, _ in pairs[1:]), day]):
+        line = after.line_of_tag("day")
         if before.head.date >= after.head.date:
-            raise FileFault(after.path, after.line_of_tag("day"), "DATE", after.head.date, f"a day behind {before.head.date}, that of {before.path}")
+            raise FileFault(after.path, line, "DATE", after.head.date, f"a day behind {before.head.date}, that of {before.path}")
+        if report.next_record != after.head.next_record:
+            follows = f"{report.next_record}, as {report.path}:{report.book_line}: is a day left out?"
+            raise FileFault(after.path, line, "NEXT", after.head.next_record, follows)
     return [DayOfAccounts(*it) for it in pairs]
 
 
@@ -96,7 +100,8 @@ def write_accounts(folder, settled, days):
     # (what was read stays where it is: the processes only look at it)
     gc.freeze()
     SHARED.append(write)
-    with multiprocessing.get_context("fork").Pool(processes) as pool:
+    # (who interrupts the command interrupts all processes: this one ends the others)
+    with multiprocessing.get_context("fork").Pool(processes, signal.signal, (signal.SIGINT, signal.SIG_IGN)) as pool:
         return sum(progress.over(pool.imap(write_shared, shares), MAKING, len(shares), step=1))
 
 

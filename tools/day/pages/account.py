@@ -29,7 +29,8 @@ YEARS_NOTE = paragraph(
 )
 TRUSTED = Table(["Account", "In effect from", "State"])
 USERS = Table(["User", "Right"])
-RETIRED = Table(["Record", "Day", "What", "Kind", "Amount", "Reversed"], ("Amount",))
+RETIRED_COLUMNS = ["Record", "Day", "What", "Kind", "Amount", "Reversed"]
+RETIRED, RETIRED_FOR_PERIODS = (Table([*RETIRED_COLUMNS, *more], ("Amount",)) for more in ([], ["For the period"]))
 BALANCES = Table(["Day", *(it.capitalize() for it in KINDS)], [it.capitalize() for it in KINDS])
 CHART_WIDTH, CHART_HEIGHT, LEFT, TOP = 460, 130, 8, 22
 
@@ -138,7 +139,7 @@ class Statement:
         rulebook = self.settled.rulebook
         check = rulebook.check_link(logged.code, ROOT)
         if self.number != logged.instruction.first:
-            return check, "Nothing: the other account asked for it."
+            return check, "Nothing: this account did not ask for it."
         return check, rulebook.words(rulebook.checks[logged.code].advice, ROOT)
 
     # Parts of the page.
@@ -231,14 +232,22 @@ def trusted_parts(settled, account):
     yield TRUSTED.of("Accounts that this account trusts", rows)
 
 
-def retired_parts(account):
-    if account.rows:
-        yield heading("Surrenders and deletions")
-        rows = (
-            (number, row.day, row.what, row.kind, grouped(row.amount), "reversed" if row.is_reversed else "no")
-            for number, row in account.rows.items()
-        )
-        yield RETIRED.of("All surrenders and deletions of the account", rows)
+def retired_parts(settled, account):
+    """The surrenders and deletions; if there are several periods, with that of each surrender."""
+    if not account.rows:
+        return
+    yield heading("Surrenders and deletions")
+    own = RETIRED if len(settled.head.periods) == 1 else RETIRED_FOR_PERIODS
+    rows = (
+        (number, row.day, row.what, row.kind, grouped(row.amount), "reversed" if row.is_reversed else "no", period_of(settled, row))
+        for number, row in account.rows.items()
+    )
+    yield own.of("All surrenders and deletions of the account", [row[: len(own.columns)] for row in rows])
+
+
+def period_of(settled, row):
+    """The years of the period of a surrender; nothing of a deletion."""
+    return settled.period_in_words(row.period) if row.period else ""
 
 
 def users_parts(account):
@@ -275,12 +284,12 @@ def own_parts(settled, account, statement):
     waiting = [*statement.waiting()]
     if waiting:
         yield heading("Waiting for their due day")
-        yield WAITING.of("Enter these again on their due day or later, with their old dates of proposal", waiting)
+        yield WAITING.of("These are entered again on their due day, with their old dates of proposal", waiting)
     if len(statement.days) > 1:
         yield from history_parts(statement)
     if account.kind in rules.OPERATORS:
         yield from years_parts(settled, account)
-    yield from retired_parts(account)
+    yield from retired_parts(settled, account)
     yield from trusted_parts(settled, account)
     yield from users_parts(account)
 

@@ -85,10 +85,12 @@ def compliance_pages(settled, files, year, note):
         ),
         *([counts_table(rows)] if rows else []),
         paragraph(
-            "Surrendered and emissions are those of the period, up to and including the year. The ",
+            "Surrendered is all that was surrendered for the period up to this day; emissions are those of the period up to and including "
+            "the year. The ",
             link(f"{RULES}#the-compliance-figure", "compliance figure"),
             " is surrendered - emissions + correction. Accounts of which most is missing stand first.",
         ),
+        *(paragraph(f"{line}.") for line in compliance.closed_words(rows)),
     ]
     shown = [row_of(settled, it) for it in rows]
     title = f"Compliance for {year}"
@@ -112,7 +114,7 @@ def account_list_pages(settled, files, note):
         rows.append((settled.account_link(number), kind, holder, status, grouped(general), grouped(aviation), *touched))
     lead = paragraph(
         f"{count_of(len(rows), 'account', 'accounts')} after {settled.head.date}: what each holds, and how many instructions of the day that "
-        "name it were done and refused.",
+        "move its allowances or are about it were done and refused. What was refused as UnknownAccount is counted at no account.",
         class_="lead",
     )
     table_of = Table(ACCOUNT_COLUMNS, ACCOUNT_COLUMNS[4:])

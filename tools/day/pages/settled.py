@@ -50,7 +50,7 @@ class Settled:
         if not waiting:
             return {}
         log = progress.over(rules.settle(self.day.day()), "working out due days", len(self.log))
-        return {record: it.due for record, it in enumerate(log, self.head.next_record) if record in waiting}
+        return {record: it.due for record, it in enumerate(log, self.head.next_record) if record in waiting and it.due}
 
     def account_link(self, number, root=""):
         """The number of an account, which leads to its page if it has one."""

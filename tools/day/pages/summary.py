@@ -1,7 +1,7 @@
 """The page of the day, and the pages of its refusals, if there are many."""
 from collections import Counter
 
-from day.books import sums_of
+from day.books import Movements, sums_of
 from day.pages.html import Table, joined, link, paragraph, table, tag
 from day.pages.plan import plan_parts
 from day.pages.rulebook import ACTS
@@ -12,6 +12,8 @@ from texts import grouped
 # Of a check with more refusals, the page of the day shows the first ones, and pages of their own show all.
 MOST_REFUSED = 100
 REFUSED_COLUMNS = ["Record", "Accounts", "Instruction", "Proposed", "Proposer", "Approver"]
+WAITING, WAITING_COLUMNS = "waiting.html", ["Record", "Instruction", "Proposed", "Due"]
+WAITING_NOTE = "They were refused as NotDue. ./day next enters each of them again on its due day, with its old date of proposal."
 
 
 def lead(settled):
@@ -41,37 +43,9 @@ def acts_table(settled):
     return table("Instructions by act", columns, rows, right=columns[1:], foot=[foot], is_short=True)
 
 
-class Movements:
-    """What creations, deletions and reversals of deletions changed, by kind of allowance."""
-
-    def __init__(self, settled):
-        self.created, self.deleted, self.undeleted = Counter(), Counter(), Counter()
-        deletions = {}
-        for logged in settled.log:
-            i = logged.instruction
-            if not logged.is_done:
-                continue
-            if i.act == "create":
-                self.created[i.kind] += i.amounts[0]
-            elif i.act == "delete":
-                self.deleted[i.kind] += i.amounts[0]
-                deletions[logged.record] = (i.kind, i.amounts[0])
-            elif i.act == "reverse":
-                kind, amount = self.deletion(settled, deletions, i)
-                self.undeleted[kind] += amount
-
-    @staticmethod
-    def deletion(settled, of_the_day, i):
-        """The kind and amount of the deletion that is reversed; nothing if it is a surrender."""
-        if i.number in of_the_day:
-            return of_the_day[i.number]
-        row = settled.day.book[i.first].account().rows.get(i.number)
-        return (row.kind, row.amount) if row is not None and row.what == "deletion" else (KINDS[0], 0)
-
-
 def totals_parts(settled):
     """The totals before and after the day, as a sum that adds up."""
-    before, moved = sums_of(settled.day.book_rows), Movements(settled)
+    before, moved = sums_of(settled.day.book_rows), Movements(settled.report)
     after = {kind: settled.report.totals[kind] for kind in KINDS}
     steps = [
         ("Held before the day", lambda it: before[it].held),
@@ -88,7 +62,7 @@ def totals_parts(settled):
     return [
         amounts_table("Allowances before and after the day", steps),
         *(equation(kind, before[kind].allowances, moved, after[kind][0] + after[kind][1]) for kind in KINDS),
-        amounts_table("All allowances that were ever deleted", kept),
+        amounts_table("Deleted allowances, without those of reversed deletions", kept),
     ]
 
 
@@ -147,19 +121,34 @@ def refusals_parts(settled):
     ]
 
 
+def waiting_rows(settled):
+    """The instructions that wait, those first that are due first."""
+    due = settled.due_days
+    waiting = [it for it in settled.log if it.record in due]
+    waiting.sort(key=lambda it: (due[it.record], it.record))
+    return [(it.record, in_words(it), it.instruction.proposed, due[it.record]) for it in waiting]
+
+
 def waiting_parts(settled):
-    """The instructions that wait for their due day."""
-    waiting = [it for it in settled.log if it.record in settled.due_days]
-    if not waiting:
+    """The instructions that wait for their due day; of many, the first ones."""
+    rows = waiting_rows(settled)
+    if not rows:
         return [paragraph("No instruction waits for its due day.")]
-    rows = (
-        (it.record, in_words(it), it.instruction.proposed, settled.due_days[it.record])
-        for it in sorted(waiting, key=lambda it: (settled.due_days[it.record], it.record))[:MOST_REFUSED]
-    )
-    return [
-        paragraph("They were refused as NotDue. Enter each row again on its due day or later, with its old date of proposal."),
-        table("Instructions that wait for their due day", ["Record", "Instruction", "Proposed", "Due"], rows),
-    ]
+    caption = "Instructions that wait for their due day"
+    if len(rows) <= MOST_REFUSED:
+        return [paragraph(WAITING_NOTE), table(caption, WAITING_COLUMNS, rows)]
+    shown = table(f"{caption}: the first {MOST_REFUSED} of {grouped(len(rows))}", WAITING_COLUMNS, rows[:MOST_REFUSED])
+    return [paragraph(WAITING_NOTE), shown, paragraph(link(WAITING, f"All {grouped(len(rows))} that wait"))]
+
+
+def waiting_pages(settled, files, note):
+    """The pages of all instructions that wait, if the page of the day does not show all of them."""
+    rows = waiting_rows(settled)
+    if len(rows) > MOST_REFUSED:
+        first = [paragraph(link(files["day"], "The page of the day")), paragraph(WAITING_NOTE)]
+        title = f"Waiting after {settled.head.date}"
+        caption = "Instructions that wait for their due day"
+        yield from cut(settled.frame, WAITING, title, Table(WAITING_COLUMNS), caption, rows, [joined(*first)], note=note)
 
 
 def sections(settled):
@@ -176,6 +165,7 @@ def summary_pages(settled, files, note):
     parts = [part for name, own in sections(settled) if own for part in (tag("h2", name), *own)]
     title = f"Settlement day: {long_date(settled.head.date)}"
     yield files["day"], settled.frame.page(title, lead(settled), *parts, current=files["day"], note=note)
+    yield from waiting_pages(settled, files, note)
     for code, own in settled.refused().items():
         if len(own) > MOST_REFUSED:
             check = settled.rulebook.checks[code]
