@@ -82,6 +82,7 @@ begin_cases() {
   begin_part cases/run-tools
   begin_part cases/run-pages
   begin_part cases/run-day "$1"
+  begin_part cases/run-misuse
   begin_part cases/run-explain "$1"
   begin_part cases/run-words
 }

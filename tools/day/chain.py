@@ -21,7 +21,7 @@ from dataclasses import dataclass, field
 
 import faults
 import rules
-from day.books import open_by_late_begin, retired_of, sums_of
+from day.books import Movements, open_by_late_begin, retired_of, sums_of
 from day.errors import FOUND, FileFault, WordsFault, shown
 from day.pairs import ACCOUNT_FIELDS, differences, line_behind, list_of
 from day.progress import progress
@@ -275,13 +275,15 @@ def opens(longer, head, row):
 
 @dataclass
 class Balance:
-    """How many allowances of a kind there are, held and surrendered together, and what changed that."""
+    """How many allowances of a kind there are, held and surrendered together, and what changed that. So many more or fewer than
+    expected were told before."""
 
     begin: int
     created: int = 0
     deleted: int = 0
     undeleted: int = 0
     by_hand: int = 0
+    told: int = 0
 
     @property
     def expected(self):
@@ -294,36 +296,23 @@ class Balance:
         return said if self.expected == end else f"{said}, but there are {end:,}"
 
 
-def deleted_row(report, i):
-    """The deletion that a reversal took back, if it is one."""
-    block = report.book.get(i.first)
-    rows = retired_of(block) if block else ()
-    return next((row for row in rows if int(row.number) == i.number and row.what == "deletion"), None)
-
-
 def count_changes(report, balances):
     """Adds what the log of a day created, deleted and undeleted."""
-    for logged in report.log:
-        i = logged.instruction
-        if not logged.is_done:
-            continue
-        if i.act == "create":
-            balances[i.kind].created += i.amounts[0]
-        elif i.act == "delete":
-            balances[i.kind].deleted += i.amounts[0]
-        elif i.act == "reverse":
-            row = deleted_row(report, i)
-            if row:
-                balances[row.kind].undeleted += int(row.amount)
+    moved = Movements(report)
+    for kind, balance in balances.items():
+        balance.created += moved.created[kind]
+        balance.deleted += moved.deleted[kind]
+        balance.undeleted += moved.undeleted[kind]
 
 
 def look_at_allowances(balances, report, end, found):
     """Whether the allowances of a report are those that there have to be. What is wrong once is told once."""
     for kind, balance in balances.items():
-        if balance.expected != end[kind]:
-            expected = f"{balance.expected} by the days so far: {balance.in_words(kind, end[kind])}"
+        if end[kind] != balance.expected + balance.told:
+            expected = f"{balance.expected + balance.told} by the days so far: {balance.in_words(kind, end[kind])}"
             line = report.totals_line(kind)
             found.add(FileFault(report.path, line, "HELD and SURRENDERED", end[kind], expected))
+            balance.told = end[kind] - balance.expected
 
 
 # All together.

@@ -25,7 +25,7 @@ from day.checks import advice_for
 from day.errors import WordsFault
 from day.pairs import must_belong
 from day.progress import progress
-from day.reading import read_day, read_report
+from day.reading import Accounts, read_day, read_report
 
 import rules
 
@@ -62,15 +62,15 @@ def act_columns(i):
     return [(i.first, *of_act[i.act])]
 
 
-def entry_in_effect(report, i):
+def entry_in_effect(accounts, i):
     """The day from which an added entry of a trusted list is in effect, if it was not taken off again."""
-    start = f"trusted,{i.other},"
-    rows = report.book[i.first].list_rows
-    return next((row.removeprefix(start) for row in rows if row.startswith(start)), "")
+    account = accounts.get(i.first)
+    return account.trusted.get(i.other, "") if account else ""
 
 
 def rows_of(report, due_days):
     """The rows of a report. `due_days` has the due day of each record, where it is known."""
+    accounts = Accounts(report.book)
     for logged in report.log:
         i = logged.instruction
         if logged.is_done:
@@ -78,7 +78,7 @@ def rows_of(report, due_days):
         else:
             outcome = ("refused", logged.code, logged.name, "")
         is_entry = i.act == "trust" and logged.is_done
-        due = entry_in_effect(report, i) if is_entry else due_days.get(logged.record) or ""
+        due = entry_in_effect(accounts, i) if is_entry else due_days.get(logged.record) or ""
         advice = "" if logged.is_done else advice_for(logged.name)
         start = (logged.record, logged.date, *i.fields[:4])
         for columns in act_columns(i):
@@ -104,6 +104,13 @@ def is_wanted(row, words):
     return (not words.refused or of["outcome"] == "refused") and (words.account is None or words.account in (of["from"], of["to"]))
 
 
+def look_for_account(reports, number):
+    """Ends the command if there is no such account, and no instruction names it: an empty table would say that nothing happened."""
+    is_named = (number in (*rules.named(it.instruction), it.instruction.other) for report in reports for it in report.log)
+    if number is not None and not any(number in it.book for it in reports) and not any(is_named):
+        raise WordsFault(f"--account {number}: no report has such an account, and no instruction names it")
+
+
 def run(words):
     reports, days = [read_report(it) for it in words.reports], [read_day(it) for it in words.days]
     for day in days:
@@ -114,5 +121,6 @@ def run(words):
     writer.writerow(COLUMNS)
     for report in reports:
         writer.writerows(row for row in rows_of(report, due_days_of(report, days)) if is_wanted(row, words))
+    look_for_account(reports, words.account)
     sys.stdout.write(stream.getvalue())
     return 0

@@ -23,7 +23,7 @@ from day.books import open_by_late_begin, sums_of
 from day.errors import FileFault, WordsFault
 from day.output import NewFile
 from day.pairs import read_pair
-from day.reading import Accounts, read_blocks, read_rows_of
+from day.reading import Accounts, Rows, read_blocks, read_rows_of
 
 EXAMPLE = "./day next monday.report monday.csv --date 2025-05-15 --do new.csv --pending waiting.csv > tuesday.csv"
 LAGS = {"trusted": "TRUSTED", "other": "OTHER", "list": "LIST"}
@@ -176,8 +176,17 @@ def enter_due(head, waiting, notes):
 def new_instructions(path, report, count):
     """The `do` rows of a file; so many stand before them."""
     if path is None:
-        return []
-    return read_rows_of("do", path, faults.Reading(last="do", next_record=report.next_record, counts={"do": count})).rows
+        return Rows(path, [], [])
+    return read_rows_of("do", path, faults.Reading(last="do", next_record=report.next_record, counts={"do": count}))
+
+
+def tell_repeated(new, waiting, notes):
+    """Warns of new instructions that wait already: they are entered on their due day in any case, and would be done twice."""
+    waits = {it.do_row() for it in waiting}
+    for place, row in enumerate(new.rows):
+        if row in waits:
+            notes.warn(f"{new.path}:{new.line(place)}: this one waits already, and comes into the text of its due day by itself. "
+                       f"With this row it comes twice: {row}")  # fmt: skip
 
 
 def tell_refused(report, notes):
@@ -226,6 +235,7 @@ def run(words):
     if left and not words.pending:
         raise WordsFault(f"instructions that are not due on {date}: {left}; name a file for them by --pending")
     new = new_instructions(words.do, report, len(entered))
+    tell_repeated(new, waiting, notes)
     check_count(report, len(entered) + len(new))
     tell_refused(report, notes)
     notes.add(f"accounts: {len(book)}")
@@ -235,7 +245,7 @@ def run(words):
     rows = [*heading_of(day, date, report.next_record, calendar)]
     for block in book.values():
         rows += block.rows
-    rows += [*(it.do_row() for it in entered), *new, "end", ""]
+    rows += [*(it.do_row() for it in entered), *new.rows, "end", ""]
     write(rows, waiting, words.pending, notes)
     return 0
 

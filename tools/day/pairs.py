@@ -1,4 +1,6 @@
 """Whether a report is that of a day: the same instructions under the next record numbers, and the same accounts."""
+import bisect
+
 from day.errors import FileFault, shown
 from day.reading import read_day, read_report
 from faults import FIELDS
@@ -72,10 +74,10 @@ def list_of(block, tag):
 
 def line_behind(text, number):
     """The line before which an account of this number has to stand."""
-    behind = next((it for it in text.book.values() if it.number > number), None)
-    if behind is not None:
-        return behind.line
-    last = next(reversed(text.book.values()), None)
+    place = bisect.bisect(text.numbers, number)
+    if place < len(text.numbers):
+        return text.book[text.numbers[place]].line
+    last = text.book[text.numbers[-1]] if text.numbers else None
     return text.source.line(last.index + last.count if last else text.first_account)
 
 

@@ -17,6 +17,8 @@ from day.errors import FileFault, shown
 from day.reading import RECORD, Reader, rows_of
 
 WAITS, ENTERED = "waits", "entered"
+FORMS = {WAITS: "waits,RECORD,DUE,PROPOSED,PROPOSER,APPROVER,ACT,..", ENTERED: "entered,RECORD,DATE,PROPOSED,PROPOSER,APPROVER,ACT,.."}
+FEWEST_FIELDS = 7
 
 
 @dataclass
@@ -42,7 +44,10 @@ def waiting_of(source, index):
     fields = source.fields(index)
     if fields[0] not in (WAITS, ENTERED):
         raise source.fault(index, "tag", shown(fields[0]), f"a row {WAITS}, {ENTERED} or end")
-    record, day = ("", "") if len(fields) < 3 else fields[1:3]
+    if len(fields) < FEWEST_FIELDS:
+        found = f"{len(fields)} fields in {shown(','.join(fields))}"
+        raise source.fault(index, f"{fields[0]} row", found, f"at least {FEWEST_FIELDS} fields: {FORMS[fields[0]]}")
+    record, day = fields[1:3]
     for it, word in ((faults.maybe(RECORD), record), (faults.maybe(faults.date("DUE")), day)):
         try:
             it.read(word)
