@@ -9,7 +9,8 @@ FOLDER is made, and must not be there before, except if it is empty. Begin with 
   workers.html     who executed what; only with --lanes
   rules.html       docs/RULES.md, to whose checks the refusals lead; and formats.html
 
-A table of more than 1,000 rows goes on in further pages, such as compliance-2.html. REPORT must be that of DAY.
+A check that refused more than 100 instructions has a page of its own, and so has what waits, if it is more. A table of more than
+1,000 rows goes on in further pages, such as compliance-2.html, except on the page of an account. REPORT must be that of DAY.
 """
 import functools
 import gc
@@ -100,9 +101,15 @@ def write_accounts(folder, settled, days):
     # (what was read stays where it is: the processes only look at it)
     gc.freeze()
     SHARED.append(write)
-    # (who interrupts the command interrupts all processes: this one ends the others)
-    with multiprocessing.get_context("fork").Pool(processes, signal.signal, (signal.SIGINT, signal.SIG_IGN)) as pool:
+    with multiprocessing.get_context("fork").Pool(processes, leave_signals) as pool:
         return sum(progress.over(pool.imap(write_shared, shares), MAKING, len(shares), step=1))
+
+
+def leave_signals():
+    """Who interrupts the command interrupts all processes: it is the first one that answers, and ends the others."""
+    signal.signal(signal.SIGINT, signal.SIG_IGN)
+    signal.signal(signal.SIGHUP, signal.SIG_IGN)
+    signal.signal(signal.SIGTERM, signal.SIG_DFL)
 
 
 def write_share(folder, settled, days, numbers):

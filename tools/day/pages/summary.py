@@ -13,7 +13,10 @@ from texts import grouped
 MOST_REFUSED = 100
 REFUSED_COLUMNS = ["Record", "Accounts", "Instruction", "Proposed", "Proposer", "Approver"]
 WAITING, WAITING_COLUMNS = "waiting.html", ["Record", "Instruction", "Proposed", "Due"]
-WAITING_NOTE = "They were refused as NotDue. ./day next enters each of them again on its due day, with its old date of proposal."
+WAITING_NOTE = (
+    "They were refused as NotDue on this day. ./day next enters each of them again on its due day, with its old date of proposal. What "
+    "waits since earlier days stands in the pending file of ./day next."
+)
 
 
 def lead(settled):
@@ -133,7 +136,7 @@ def waiting_parts(settled):
     """The instructions that wait for their due day; of many, the first ones."""
     rows = waiting_rows(settled)
     if not rows:
-        return [paragraph("No instruction waits for its due day.")]
+        return [paragraph("No instruction of this day waits. What waits since earlier days stands in the pending file of ./day next.")]
     caption = "Instructions that wait for their due day"
     if len(rows) <= MOST_REFUSED:
         return [paragraph(WAITING_NOTE), table(caption, WAITING_COLUMNS, rows)]
