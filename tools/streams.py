@@ -9,7 +9,7 @@ def make_ready(name, failed):
     if sys.stdout is None:
         print(f"{name}: standard output cannot be written: it is closed", file=sys.stderr)
         sys.exit(failed)
-    for stream in (sys.stdout, sys.stderr):
+    for stream in filter(None, (sys.stdout, sys.stderr)):
         stream.reconfigure(encoding="utf-8", errors="surrogateescape", newline="\n")
 
 

@@ -275,14 +275,14 @@ def opens(longer, head, row):
 
 @dataclass
 class Balance:
-    """How many allowances of a kind there are, held and surrendered together, and what changed that. So many more or fewer than
-    expected were told before."""
+    """How many allowances of a kind there are, held and surrendered together, and what changed that."""
 
     begin: int
     created: int = 0
     deleted: int = 0
     undeleted: int = 0
     by_hand: int = 0
+    # How many more than expected there are, or fewer, as was told before.
     told: int = 0
 
     @property

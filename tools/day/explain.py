@@ -101,7 +101,7 @@ class Explainer(faults.Reading):
         tag = meant_tag(row[0])
         if fault.cause == "end" or not tag or (fault.cause == "tag" and self.is_behind(tag)):
             return
-        if tag == "day" and fault.place != NEXT_PLACE:
+        if tag == "day":
             self.next_record = next_record_of(row)
         if tag == "account":
             self.retired = {}
@@ -131,14 +131,12 @@ class Explainer(faults.Reading):
             self.last_years = [faults.LAST_YEAR] * faults.MOST_PERIODS
 
 
-NEXT_PLACE = 3
-
-
 def next_record_of(row):
     """The next record number that a faulty `day` row tells; 0 if it tells none."""
     try:
-        return faults.FIELDS["day"][1].read(row[NEXT_PLACE - 1]) if len(row) == NEXT_PLACE else 0
-    except faults.Fault:
+        _, _, word = row
+        return faults.FIELDS["day"][1].read(word)
+    except (ValueError, faults.Fault):
         return 0
 
 
