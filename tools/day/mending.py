@@ -10,7 +10,6 @@ from day.reading import Rows, bytes_of, rows_of_text
 
 # What stands at the start of a text of 16 bits a character, and how it is read.
 MARKS = {b"\xff\xfe": "utf-16-le", b"\xfe\xff": "utf-16-be"}
-MARK = "\ufeff"
 # What nobody sees round a field, beside blanks: a byte order mark, and characters without width.
 UNSEEN = "\ufeff\u200b\u200c\u200d\u2060"
 SEPARATORS = {";": "semicolons", "\t": "tabs"}
@@ -45,7 +44,7 @@ def decoded(content):
     """A text, and the name of its encoding if it is not the one that it must have."""
     for mark, encoding in MARKS.items():
         if content.startswith(mark):
-            return content[len(mark) :].decode(encoding, "surrogateescape" if encoding == "utf-8" else "replace"), "UTF-16"
+            return content[len(mark) :].decode(encoding, "replace"), "UTF-16"
     start = content[:200]
     if start.count(0) * 3 > len(start):
         encoding = "utf-16-le" if start[1:2] == b"\0" else "utf-16-be"

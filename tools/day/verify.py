@@ -6,7 +6,7 @@ exit status: 0 if the report is what the rules make of the day, 1 if a row diffe
 import itertools
 
 import rules
-from day.errors import FOUND, FileFault, shown
+from day.errors import FOUND, shown
 from day.progress import progress
 from day.reading import read_day, rows_of
 

@@ -1,12 +1,11 @@
 """What docs/RULES.md says, for the pages: the checks, the acts, the kinds of account and the statuses, and the pages that are made
 of RULES.md and FORMATS.md themselves."""
 import functools
-import re
 
 from day import checks
 from day.errors import FileFault
 from day.pages.html import link
-from day.pages.markdown import Markdown, cells_of
+from day.pages.markdown import RULE_OF_TABLE, Markdown, cells_of
 
 DOCS = checks.RULES.parent
 RULES, FORMATS = "rules.html", "formats.html"
@@ -38,7 +37,7 @@ def tables_of(text):
     """The tables of a document: the cells of each head, and of each of its rows."""
     lines = text.split("\n")
     for place, line in enumerate(lines[:-1]):
-        if line.startswith("|") and re.fullmatch(r"\|[-|: ]+\|", lines[place + 1]):
+        if line.startswith("|") and RULE_OF_TABLE.fullmatch(lines[place + 1]):
             rows = []
             for row in lines[place + 2 :]:
                 if not row.startswith("|"):
