@@ -1,12 +1,13 @@
 use Rattle.std.proofs.Common.{sym, ◌∙◌, refl, subst}
 use Rattle.std.specs.Prelude.{All}
+use Rattle.std.proofs.lemmas.Option.{none-some}
 use Rattle.reg_base.specs.Numbers.{IsAccountNo, IsHolderNo}
 use Rattle.reg_account.specs.Users.{UserIsInRange}
 use Rattle.reg_account.specs.Trusted.{EntryIsInRange}
 use Rattle.reg_account.specs.Rows.{RowIsInRange}
 use Rattle.reg_account.specs.Years.{EmissionIsInRange, FigureIsInRange}
 use Rattle.reg_account.specs.Account.{IsAccount, account_of}
-use Rattle.reg_account.proofs.NoFaults.{fit_of_no_fault}
+use Rattle.reg_account.proofs.NoFaults.{fit-no_fault, fit_of_no_fault}
 use Rattle.reg_account.proofs.account.Account.of.Goals as goal
 use Rattle.reg_account.proofs.account.Account.of.Goals.{After-know_figures}
 
@@ -28,7 +29,12 @@ pub returns-clause-value : goal.returns-clause-value
 returns-clause-value c = (refl, fits c)
 
 pub returns-clause-accepts : goal.returns-clause-accepts
-returns-clause-accepts c = record {
-  to = λ _. fits c;
-  from = λ _. tt;
-}
+returns-clause-accepts c = ((λ _. fits c), (λ _. refl))
+
+-- parts with a fault are no account
+pub returns-in-Some-clause-accepts : goal.returns-in-Some-clause-accepts
+returns-in-Some-clause-accepts c = (
+  (λ no. absurd cc),
+  (λ is. absurd (none-some c.in-Some.fault (sym (fit-no_fault (account_of c.args.parts) is)
+      ∙ sym c.find_fault.ensures ∙ c.in-Some.is))),
+)
