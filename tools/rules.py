@@ -596,7 +596,7 @@ def main(arguments):
         sys.stdout.write(written)
         sys.stdout.flush()
     except OSError:
-        streams.let_go()
+        streams.let_go(sys.stdout)
         print("write failed", file=sys.stderr)
         return NOT_WRITTEN
     return 0

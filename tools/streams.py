@@ -13,14 +13,14 @@ def make_ready(name, failed):
         stream.reconfigure(encoding="utf-8", errors="surrogateescape", newline="\n")
 
 
-def let_go():
-    """Gives up what standard output did not take: else the interpreter tries it again at its end, and ends with a status of its own."""
-    os.dup2(os.open(os.devnull, os.O_WRONLY), sys.stdout.fileno())
+def let_go(stream):
+    """Gives up what a stream did not take: else the interpreter tries it again at its end, and ends with a status of its own."""
+    os.dup2(os.open(os.devnull, os.O_WRONLY), stream.fileno())
 
 
 def cannot_be_written(name, error):
     """Says that standard output cannot be written. Who closed it wants no more of it, and is told nothing."""
-    let_go()
+    let_go(sys.stdout)
     if not isinstance(error, BrokenPipeError):
         print(f"{name}: standard output cannot be written: {error.strerror}", file=sys.stderr)
 

@@ -15,6 +15,8 @@ import sys
 from dataclasses import dataclass
 from pathlib import Path
 
+import streams
+
 STORED = Path(__file__).resolve().parent.parent / "cases" / "program"
 COMMANDS = ("settle", "plan", "statement", "figures", "totals", "help")
 MOST_NUMBER = 999_999_999
@@ -220,11 +222,22 @@ def read_words(words):
     raise unknown_command(first)
 
 
+def tell(answer):
+    """Writes an answer. As in the program, the exit status is the same if the stream takes nothing."""
+    stream = sys.stderr if answer.status else sys.stdout
+    try:
+        if stream:
+            stream.write(answer.text)
+            stream.flush()
+    except OSError:
+        streams.let_go(stream)
+
+
 def main():
     try:
         read_words(sys.argv[1:])
     except Answer as answer:
-        (sys.stderr if answer.status else sys.stdout).write(answer.text)
+        tell(answer)
         return answer.status
     except AskTheProgram:
         return ASKS_THE_PROGRAM
