@@ -31,23 +31,22 @@ import argparse
 import hashlib
 import os
 import random
-import subprocess
 import sys
 import tempfile
 import time
 from collections import Counter
 from concurrent.futures import ProcessPoolExecutor
 from dataclasses import dataclass, field
-from importlib.machinery import SourceFileLoader
-from importlib.util import module_from_spec, spec_from_loader
 from pathlib import Path
 
-sys.dont_write_bytecode = True
-TOP = Path(__file__).resolve().parent.parent
-sys.path.insert(0, str(TOP / "tools"))
-import faults  # noqa: E402
-import mutations  # noqa: E402
-import rules  # noqa: E402
+import beside  # noqa: F401 (it finds the modules of cases/)
+from harness import TOP, Trials, program_of
+
+import faults
+import mutations
+import rules
+from compared import difference as difference_once
+from stored import Case, trials_of_folder
 
 # So many texts are drawn before what they showed is looked at.
 ROUND = 256
@@ -66,18 +65,6 @@ SAY_AFTER = 60
 MOST_LETTERS = 400
 
 
-def script(name):
-    """A script of cases/ as a module."""
-    loader = SourceFileLoader(name.replace("-", "_"), str(TOP / "cases" / name))
-    module = module_from_spec(spec_from_loader(loader.name, loader))
-    sys.modules[loader.name] = module
-    loader.exec_module(module)
-    return module
-
-
-run_cases, second_answer = script("run-cases"), script("run-second-answer")
-
-
 @dataclass(frozen=True)
 class Tried:
     """What came of a text: the words that it shows, how many runs there were, and which differ from the second answer."""
@@ -89,8 +76,8 @@ class Tried:
 
 def first_texts():
     """All texts of cases/ and examples/."""
-    trials = (trial for _, trial in run_cases.trials_of_folder(TOP / "cases"))
-    texts = [trial.text for trial in trials if isinstance(trial, run_cases.Case)]
+    trials = (trial for _, trial in trials_of_folder(TOP / "cases"))
+    texts = [trial.text for trial in trials if isinstance(trial, Case)]
     texts += [path.read_bytes() for path in sorted((TOP / "examples").rglob("*.csv"))]
     return [*dict.fromkeys(text for text in texts if len(text) < LARGE)]
 
@@ -133,7 +120,15 @@ def seams(text, workers):
     """A word for each cut of the text."""
     pieces = parts(text, workers)
     for place, (before, behind) in enumerate(zip(pieces, pieces[1:])):
-        way = "quote" if b'"' in behind else "mark" if behind[:1] == b"\xef" else "line" if behind[-1:] != b"\n" else "plain"
+        way = (
+            "quote"
+            if b'"' in behind
+            else "mark"
+            if behind[:1] == b"\xef"
+            else "line"
+            if behind[-1:] != b"\n"
+            else "plain"
+        )
         last, first = before.rstrip(b"\n").rsplit(b"\n", 1)[-1], behind.split(b"\n", 1)[0]
         yield f"seam {len(pieces)} {min(place, 1)} {tag_of_line(last)} {tag_of_line(first)} {way}"
 
@@ -214,8 +209,8 @@ def shown_by(text, workers, fault, expected):
 def difference(program, words, text, wanted):
     """Where an answer is another one than it has to be. If there was none in time, it is asked for once more: the machine may
     have stood still."""
-    said = second_answer.difference(program, words, text, wanted)
-    return second_answer.difference(program, words, text, wanted) if "no answer" in said else said
+    said = difference_once(program, words, text, wanted)
+    return difference_once(program, words, text, wanted) if "no answer" in said else said
 
 
 def try_text(program, text, seed):
@@ -346,7 +341,9 @@ def self_test(program, jobs, seed):
         wrong.write_text(WRONG_PROGRAM.format(python=sys.executable, program=program, told=str(told)))
         wrong.chmod(0o755)
         told.mkdir()
-        tasks = [(program, text, text, f"{seed} {place}", False) for place, text in enumerate(first_texts()[:TEST_TEXTS])]
+        tasks = [
+            (program, text, text, f"{seed} {place}", False) for place, text in enumerate(first_texts()[:TEST_TEXTS])
+        ]
         with ProcessPoolExecutor(jobs) as pool:
             right = [*pool.map(try_task, tasks)]
             planted = [*pool.map(try_task, [(str(wrong), *task[1:]) for task in tasks])]
@@ -368,24 +365,24 @@ def arguments():
     parser.add_argument("--corpus", type=Path, default=TOP / "out" / "fuzz")
     parser.add_argument("--self-test", action="store_true")
     words = parser.parse_args()
-    words.program = os.path.abspath(words.program)
-    if not os.access(words.program, os.X_OK):
-        parser.error(f"there is no program {words.program}")
+    words.program = str(program_of(words.program))
     return words
 
 
 def main():
-    words = arguments()
+    words, trials = arguments(), Trials()
     if words.self_test:
         lines, found = self_test(words.program, words.jobs, words.seed)
-        print("".join(f"FAILED: {line}\n" for line in lines), end="")
-        print(f"{found} passed, {len(lines)} failed")
-        return 1 if lines or not found else 0
+        trials.passed = found
+        for line in lines:
+            trials.add("", line)
+        return trials.end()
     corpus, until = Corpus(words.corpus), time.monotonic() + 60 * words.minutes
     fuzz(words.program, corpus, words.jobs, words.seed, lambda _: time.monotonic() < until)
     print(corpus.counts())
-    print(f"{corpus.texts - corpus.differ} passed, {corpus.differ} failed")
-    return 1 if corpus.differ or not corpus.texts else 0
+    # (each text that differs was shown when it was found)
+    trials.passed, trials.failed = corpus.texts - corpus.differ, corpus.differ
+    return trials.end()
 
 
 if __name__ == "__main__":

@@ -46,11 +46,15 @@ import time
 from concurrent.futures import ProcessPoolExecutor
 from pathlib import Path
 
+import beside  # noqa: F401 (it finds the modules of cases/)
+from harness import TOP, Trials
+
+import faults
 import fuzz
 import mutations
+import rules
+from drawing import PAIRS, damaged_rows, drawn_rows, text_of
 
-TOP = Path(__file__).resolve().parent.parent
-faults, rules, second_answer = fuzz.faults, fuzz.rules, fuzz.second_answer
 WORKERS = range(1, 9)
 PROCESSORS = (1, 2, 4)
 # Of each drawn day so many more are made.
@@ -72,12 +76,12 @@ DATE, LAST_RECORD, MOST_INSTRUCTIONS = "2025-03-31", 10**15, 16_384
 
 def drawn_text(seed, chance, is_damaged):
     """A drawn day as bytes, seldom a large one."""
-    rows = (second_answer.damaged_rows if is_damaged else second_answer.drawn_rows)(seed)
+    rows = (damaged_rows if is_damaged else drawn_rows)(seed)
     if chance.randrange(ONE_GROWS) == 0:
         rows = [row.encode() for row in rows]
         mutations.grow(chance, rows)
         return b"\n".join([*rows, b""])
-    return second_answer.text_of(rows, seed)
+    return text_of(rows, seed)
 
 
 def expected_of(text):
@@ -213,7 +217,7 @@ def try_text(task):
     chance = random.Random(f"long {words.seed} {seed}")
     number = 10_000_000 * words.seed + seed
     if words.part == "orders":
-        text, runs, said = ordered_wrongly(words, second_answer.drawn_rows(number), number)
+        text, runs, said = ordered_wrongly(words, drawn_rows(number), number)
         return text, 1 + MORE_DAYS, runs, said
     if words.part == "seams" and seed % 2:
         text = mutations.mutated(chance, chance.choice(cases), chance.choice(cases), False)
@@ -245,7 +249,7 @@ def heading(is_whole):
     """The rows before the accounts: as many as there may be of each kind."""
     yield f"format,2\nday,{DATE},{LAST_RECORD - MOST_INSTRUCTIONS + 1}\n"
     yield "".join(f"period,{year},{year}\n" for year in range(2021, 2029)) + "current,8\nlags,0,1000,1000,1000\n"
-    yield "".join(f"surrender,{pair}\n" for pair in second_answer.PAIRS)
+    yield "".join(f"surrender,{pair}\n" for pair in PAIRS)
     yield "".join(f"admin,{number}\n" for number in range(901, 965))
     first, days = datetime.date(2021, 1, 1), 29_219 if is_whole else 2_000
     yield "".join(f"work,{first + datetime.timedelta(place)}\n" for place in range(days))
@@ -413,16 +417,16 @@ def arguments():
 
 
 def main():
-    words, words.library = arguments(), ""
+    words, trials = arguments(), Trials()
+    words.library = ""
     with tempfile.TemporaryDirectory() as work:
         if words.part == "days":
             words.library = os.path.join(work, "delay.so")
             source = str(TOP / "bench" / "delay.c")
             subprocess.run(["cc", "-shared", "-fPIC", "-O1", "-o", words.library, source, "-ldl"], check=True)
         parts = {"limits": try_limits, "gigabyte": try_gigabyte}
-        passed, failed = parts.get(words.part, try_drawn)(words)
-    print(f"{passed} passed, {failed} failed")
-    return 1 if failed or not passed else 0
+        trials.passed, trials.failed = parts.get(words.part, try_drawn)(words)
+    return trials.end()
 
 
 if __name__ == "__main__":

@@ -22,11 +22,13 @@ from concurrent.futures import ThreadPoolExecutor
 from dataclasses import dataclass
 from pathlib import Path
 
-import days
-import fuzz
-import mutations
+import beside  # noqa: F401 (it finds the modules of cases/)
+from harness import TOP, Trials
 
-TOP = Path(__file__).resolve().parent.parent
+import days
+import mutations
+from refusing import LOGGED, cases_of
+
 TOOLS = {"memcheck": ["--leak-check=no"], "helgrind": ["--history-level=none"], "drd": []}
 WORKERS = 4
 TRANSFERS = 2_000
@@ -46,24 +48,23 @@ class Run:
 
 def runs(words):
     """All runs: those of the program, and those of the calls."""
-    refusals = fuzz.script("run-refusals")
     settle = (words.program, "settle", "--workers", str(WORKERS))
     for path in sorted((TOP / "examples").glob("*.csv")):
         yield Run(path.stem, settle, path.read_bytes())
-    large = large_day(refusals)
+    large = large_day()
     yield Run("a day of several parts and pieces", settle, large)
     for command in ("plan", "figures", "totals", "statement 1"):
         yield Run(f"{command} of this day", (words.program, *command.split()), large)
     yield Run("many transfers", settle, "\n".join(days.day_text(600, TRANSFERS, 2)).encode())
-    for case in refusals.cases_of("", "", words.refusals or "", words.program):
+    for case in cases_of("", "", words.refusals or "", words.program):
         program = case.program
         if words.refusals or program.path == words.program:
             yield Run(case.name, (program.path, *program.words), program.text)
 
 
-def large_day(refusals):
+def large_day():
     """A day of some 200 KB, with more log rows than one thread spells."""
-    rows = refusals.LOGGED.text.splitlines()
+    rows = LOGGED.text.splitlines()
     mutations.grow(random.Random(1), rows)
     return b"\n".join([*rows, b""])
 
@@ -73,7 +74,14 @@ def difference(tool, run):
     plain = subprocess.run(run.words, input=run.text, capture_output=True)
     with tempfile.NamedTemporaryFile() as log:
         # With `--fair-sched` each thread has its turn; otherwise one worker is done before the next has begun.
-        valgrind = ["valgrind", f"--tool={tool}", *TOOLS[tool], "--fair-sched=yes", "--quiet", f"--error-exitcode={TOLD}"]
+        valgrind = [
+            "valgrind",
+            f"--tool={tool}",
+            *TOOLS[tool],
+            "--fair-sched=yes",
+            "--quiet",
+            f"--error-exitcode={TOLD}",
+        ]
         valgrind += [f"--log-file={log.name}", f"--suppressions={TOP / 'bench' / 'valgrind.supp'}"]
         try:
             under = subprocess.run([*valgrind, *run.words], input=run.text, capture_output=True, timeout=MOST_SECONDS)
@@ -98,16 +106,12 @@ def main():
     for program in filter(None, (words.program, words.refusals)):
         if not os.access(program, os.X_OK):
             parser.error(f"there is no program {program}")
-    passed = failed = 0
-    every = [*runs(words)]
+    trials, every = Trials(), [*runs(words)]
     for tool in [words.tool] if words.tool else TOOLS:
         with ThreadPoolExecutor(words.jobs) as pool:
             for run, (said, told) in zip(every, pool.map(lambda run: difference(tool, run), every)):
-                passed, failed = passed + (not said), failed + bool(said)
-                if said:
-                    print(f"FAILED: {tool}: {run.name}: {said}\n{told if words.show else ''}", end="", flush=True)
-    print(f"{passed} passed, {failed} failed")
-    return 1 if failed or not passed else 0
+                trials.add(f"{tool}: {run.name}", said and f"{said}\n{told if words.show else ''}".rstrip())
+    return trials.end()
 
 
 if __name__ == "__main__":

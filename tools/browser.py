@@ -10,12 +10,14 @@ import shutil
 import subprocess
 import tempfile
 import time
+from collections.abc import Iterator
+from typing import Any
 
 NAME = "chromium"
 MOST_SECONDS = 60
 
 
-def find():
+def find() -> str | None:
     """The browser of the PATH; None if there is none."""
     return shutil.which(NAME)
 
@@ -27,13 +29,14 @@ class BrowserFault(Exception):
 class Browser:
     """A running browser with one page. Use it as a context."""
 
-    def __enter__(self):
+    def __enter__(self) -> "Browser":
         self.home = tempfile.TemporaryDirectory()
         to_browser, self.out = os.pipe()
         self.into, from_browser = os.pipe()
         words = [
-            find(), "--headless", "--no-sandbox", "--disable-gpu", "--disable-dev-shm-usage", "--hide-scrollbars",
-            "--disable-background-networking", "--no-first-run", "--remote-debugging-pipe", f"--user-data-dir={self.home.name}",
+            NAME, "--headless", "--no-sandbox", "--disable-gpu", "--disable-dev-shm-usage", "--hide-scrollbars",
+            "--disable-background-networking", "--no-first-run", "--remote-debugging-pipe",
+            f"--user-data-dir={self.home.name}",
         ]  # fmt: skip
         # The browser reads from descriptor 3, and writes to descriptor 4.
         script = f'exec "$@" 3<&{to_browser} 4>&{from_browser}'
@@ -47,14 +50,16 @@ class Browser:
         )
         os.close(to_browser)
         os.close(from_browser)
-        self.number, self.rest, self.session, self.events = 0, b"", None, []
+        self.number, self.rest = 0, b""
+        self.session: str | None = None
+        self.events: list[dict[str, Any]] = []
         target = self.do("Target.createTarget", url="about:blank")["targetId"]
         self.session = self.do("Target.attachToTarget", targetId=target, flatten=True)["sessionId"]
         for part in ("Page", "Runtime", "Log", "Network"):
             self.do(f"{part}.enable")
         return self
 
-    def __exit__(self, *_):
+    def __exit__(self, *_: object) -> None:
         try:
             self.do("Browser.close", of_page=False)
         except BrowserFault:
@@ -71,7 +76,7 @@ class Browser:
         except OSError:
             pass
 
-    def do(self, method, of_page=True, **arguments):
+    def do(self, method: str, of_page: bool = True, **arguments: Any) -> Any:
         """Does one thing, and gives its answer. What the browser tells meanwhile goes to `events`."""
         self.number += 1
         said = {"id": self.number, "method": method, "params": arguments}
@@ -90,7 +95,7 @@ class Browser:
             else:
                 return answer["result"]
 
-    def read(self, method):
+    def read(self, method: str) -> Any:
         """The next thing that the browser tells."""
         end = time.monotonic() + MOST_SECONDS
         while b"\0" not in self.rest:
@@ -102,7 +107,7 @@ class Browser:
         text, _, self.rest = self.rest.partition(b"\0")
         return json.loads(text)
 
-    def open(self, url, width, is_dark=False, height=900):
+    def open(self, url: str, width: int, is_dark: bool = False, height: int = 900) -> None:
         """Opens a page in a window of this width, and waits until all of it is there."""
         self.do("Emulation.setDeviceMetricsOverride", width=width, height=height, deviceScaleFactor=1, mobile=False)
         scheme = "dark" if is_dark else "light"
@@ -111,37 +116,41 @@ class Browser:
         answer = self.do("Page.navigate", url=url)
         if "errorText" in answer:
             raise BrowserFault(f"{url}: {answer['errorText']}")
-        while not any(it.get("method") == "Page.loadEventFired" for it in self.events):
+        while not any(event.get("method") == "Page.loadEventFired" for event in self.events):
             self.events.append(self.read(url))
 
-    def log(self):
+    def log(self) -> Iterator[str]:
         """The errors and warnings that the browser told of the page that is open."""
-        for it in self.events:
-            if it.get("method") == "Log.entryAdded":
-                yield it["params"]["entry"]["text"]
-            elif it.get("method") == "Runtime.exceptionThrown":
-                yield it["params"]["exceptionDetails"]["text"]
+        for event in self.events:
+            if event.get("method") == "Log.entryAdded":
+                yield event["params"]["entry"]["text"]
+            elif event.get("method") == "Runtime.exceptionThrown":
+                yield event["params"]["exceptionDetails"]["text"]
 
-    def fetched(self):
+    def fetched(self) -> list[str]:
         """The addresses of all that was loaded for the page."""
-        return [it["params"]["request"]["url"] for it in self.events if it.get("method") == "Network.requestWillBeSent"]
+        return [
+            event["params"]["request"]["url"]
+            for event in self.events
+            if event.get("method") == "Network.requestWillBeSent"
+        ]
 
-    def value(self, expression):
+    def value(self, expression: str) -> Any:
         """The value of a script's expression in the page."""
         answer = self.do("Runtime.evaluate", expression=expression, returnByValue=True)
         if "exceptionDetails" in answer:
             raise BrowserFault(f"{expression}: {answer['exceptionDetails']['text']}")
         return answer["result"].get("value")
 
-    def picture(self):
+    def picture(self) -> bytes:
         """The whole page, as a PNG."""
         return base64.b64decode(self.do("Page.captureScreenshot", captureBeyondViewport=True, **self.whole())["data"])
 
-    def whole(self):
+    def whole(self) -> dict[str, Any]:
         size = self.do("Page.getLayoutMetrics")["cssContentSize"]
         # (a picture has at most so many rows of points)
         return {"clip": {"x": 0, "y": 0, "width": size["width"], "height": min(size["height"], 8_000), "scale": 1}}
 
-    def printed(self):
+    def printed(self) -> bytes:
         """The page as it prints, as a PDF on A4."""
         return base64.b64decode(self.do("Page.printToPDF", printBackground=False, preferCSSPageSize=True)["data"])

@@ -42,6 +42,7 @@ most_at_once() {
 need_rt() {
   command -v rt >/dev/null && return
   echo "The command rt is not on the PATH. It proves and builds the program: install the Rattle kit"
-  echo "that README.md names, or put the folder of its rt on the PATH."
+  echo "that README.md names, or put the folder of its rt on the PATH. Without it, ./demo shows what Python"
+  echo "alone can do, and tools/rules.py settle < DAY gives the second answer."
   return 1
 }

@@ -7,6 +7,7 @@ passed=0 failed=0
 # has no such line, counts as one failure at least.
 count_part() {
   local name=$1 status=0 shown
+  part_name=$name part_begun=$SECONDS
   shift
   rm -f -- "$work/pipe"
   mkfifo -- "$work/pipe"
@@ -15,6 +16,15 @@ count_part() {
   run_child "$@" >"$work/pipe" 2>&1 || status=$?
   wait "$shown" || true
   count_said "$name" "$status" "$work/said"
+  say_took "$name" $((SECONDS - part_begun))
+  part_name=
+}
+
+# The part that runs now before all eyes, if one does.
+part_name=
+
+say_took() {
+  echo "check: $1 took $(time_of "$2")"
 }
 
 # Adds the counts of the last line of what a part has printed ($3). $2 is the status with which it ended.
@@ -34,65 +44,146 @@ count_said() {
   passed=$((passed + p)) failed=$((failed + f))
 }
 
-# The parts that run side by side: their processes, and what each is called.
-side=() side_names=()
+# The parts that run side by side: their processes, what each is called, when it began, and how it ended, once it has.
+side=() side_names=() side_begun=() side_statuses=()
 
-count_running() {
-  jobs -rp | grep -cFxf <(printf '%s\n' "${side[@]}") || true
+# Keeps the exit status of each part that has ended, and counts the others. Bash forgets a status as soon as it starts
+# another process of the same number, and numbers come again within a minute of cases: so nothing is started here.
+look_at_parts() {
+  local number status ids id
+  jobs -rp >"$work/running"
+  mapfile -t ids <"$work/running"
+  parts_running=0
+  for number in "${!side[@]}"; do
+    [ -z "${side_statuses[number]-}" ] || continue
+    for id in "${ids[@]}"; do
+      [ "$id" != "${side[number]}" ] || {
+        parts_running=$((parts_running + 1))
+        continue 2
+      }
+    done
+    status=0
+    wait "${side[number]}" || status=$?
+    side_statuses[number]=$status
+  done
 }
 
 # Starts a part beside the others, once a processor is free. Its output waits in the work folder.
 begin_part() {
-  while [ "${#side[@]}" != 0 ] && [ "$(count_running)" -ge "$(nproc)" ]; do sleep 0.1; done
+  local most
+  most=$(nproc)
+  while look_at_parts && [ "$parts_running" -ge "$most" ]; do sleep 0.1; done
   "$@" >"$work/part.${#side[@]}" 2>&1 </dev/null 3>&- &
-  side+=("$!") side_names+=("$1")
+  side+=("$!") side_names+=("$1") side_begun+=("$(date +%s)")
 }
 
-# Waits for the parts that were started, and shows and counts each, in the order in which they were.
+# Waits for the parts that were started, and shows and counts each, in the order in which they were. A part ended when it
+# wrote its last line.
 finish_parts() {
-  local number status
+  local number
   for number in "${!side[@]}"; do
-    status=0
-    wait "${side[number]}" || status=$?
+    while look_at_parts && [ -z "${side_statuses[number]-}" ]; do sleep 0.1; done
     cat -- "$work/part.$number"
-    count_said "${side_names[number]}" "$status" "$work/part.$number"
+    count_said "${side_names[number]}" "${side_statuses[number]}" "$work/part.$number"
+    say_took "${side_names[number]}" $(($(stat -c %Y -- "$work/part.$number") - side_begun[number]))
   done
-  side=() side_names=()
+  side=() side_names=() side_begun=() side_statuses=()
+}
+
+# Says which parts have not ended yet. What those beside others have printed so far is not shown.
+say_running_parts() {
+  local number
+  [ -z "$part_name" ] || echo "check: $part_name was still running, after $(time_of $((SECONDS - part_begun)))"
+  look_at_parts
+  for number in "${!side[@]}"; do
+    [ -n "${side_statuses[number]-}" ] ||
+      echo "check: ${side_names[number]} was still running, after $(time_of $(($(date +%s) - side_begun[number])))"
+  done
 }
 
 stop_parts() {
-  [ "${#side[@]}" != 0 ] || return 0
-  kill -- "${side[@]}" 2>/dev/null || true
-  wait "${side[@]}" 2>/dev/null || true
+  local number running=()
+  look_at_parts
+  for number in "${!side[@]}"; do
+    [ -n "${side_statuses[number]-}" ] || running+=("${side[number]}")
+  done
+  [ "${#running[@]}" != 0 ] || return 0
+  kill -- "${running[@]}" 2>/dev/null || true
+  wait "${running[@]}" 2>/dev/null || true
 }
 
 # The time of this file says when all cases passed last.
 cases_passed=out/cases-passed
 
-# Starts all cases on a program. The first takes the longest.
+# Starts the cases that are tried in the same way on each program, whether it is proved or not.
 begin_cases() {
-  begin_part cases/run-first-answers --try "$1"
   begin_part cases/run-cases "$1" cases
   begin_part cases/run-decision-table "$1"
-  begin_part cases/run-second-answer "$1"
-  begin_part cases/run-large-cases "$1"
   begin_part cases/run-prefixes "$1"
-  begin_part cases/run-streams "$1"
   begin_part cases/run-documents "$1"
+  begin_part tools/types
   begin_part cases/run-tools
   begin_part cases/run-pages
+  begin_part cases/run-office
+  begin_part cases/run-forms
   begin_part cases/run-day "$1"
   begin_part cases/run-misuse
+  begin_part cases/run-handover
+  begin_part cases/run-audit
+  begin_part cases/run-commands
+  begin_part cases/run-release
+  begin_part cases/run-strangers
   begin_part cases/run-explain "$1"
   begin_part cases/run-words
 }
 
-# Tries all cases on a program, and waits for what else was started.
+# Starts all cases on the program $1, which is proved and was built in the folder $2. The first takes the longest.
+begin_all_cases() {
+  begin_part cases/run-first-answers --try "$1"
+  begin_part cases/run-second-answer "$1"
+  begin_part cases/run-large-cases "$1"
+  begin_part cases/run-streams "$1"
+  begin_cases "$1"
+  begin_part check_library "$2" "$1"
+}
+
+# Starts the cases on an unproved build, without those for which it is too slow.
+begin_unproved_cases() {
+  begin_part cases/run-first-answers "$1"
+  begin_part cases/run-second-answer "$1" --days 100
+  begin_part cases/run-streams --short "$1"
+  begin_cases "$1"
+}
+
+# Builds the library for other languages in the folder $1, in which its crates are proved, and tries it beside the
+# program $2. If the libraries below were proved again, that would take an hour: it is ended before. A proof takes much
+# memory: see tools/with-memory.
+check_library() {
+  local status=0
+  (tools/note-libraries "$1" && cd -- "$1/crates/registry_c" && "$top/tools/with-memory" 6 timeout 20m rt lib) \
+    >"$work/library.log" 2>&1 || status=$?
+  case $status in
+  0) ;;
+  75)
+    echo "LEFT OUT: the library for other languages: $(tail -n 1 -- "$work/library.log")"
+    echo "0 passed, 0 failed"
+    return
+    ;;
+  *)
+    tail -n 20 -- "$work/library.log"
+    return 1
+    ;;
+  esac
+  tools/library --from "$1/crates/registry_c/out/libregistry_c.a" "$work/library" &&
+    cases/run-library "$work/library" "$2"
+}
+
+# Tries all cases on the program $1, which was built in the folder $2, and waits for what else was started.
 try_cases() {
   local failed_before=$failed
   mkdir -p out
   : >"$work/cases-begun"
-  begin_cases "$1"
+  begin_all_cases "$1" "$2"
   finish_parts
   rm -f -- "$cases_passed"
   [ "$failed" != "$failed_before" ] || mv -- "$work/cases-begun" "$cases_passed"
@@ -116,10 +207,18 @@ begin_workers() {
   begin_part cases/run-workers "$workers"
 }
 
+# The example of a whole program over the crates.
+embed=crates/registry_embed/out/registry_embed
+
+# Tries it on the example days, and on standard streams that fail.
+begin_embed() {
+  begin_part cases/run-embed "$embed"
+}
+
 # Whether all cases have passed on this program since it was built, and as they are now.
 have_cases_passed() {
   [ -e "$cases_passed" ] && [ ! "$1" -nt "$cases_passed" ] &&
-    [ -z "$(find run day cases examples docs README.md tools -newer "$cases_passed" -print -quit)" ]
+    [ -z "$(find run day demo cases examples include docs README.md tools -newer "$cases_passed" -print -quit)" ]
 }
 
 # Watches from now on which crates the processor time goes to. Nothing but the table is lost if

@@ -98,7 +98,17 @@ try_program() {
   if have_cases_passed "$program"; then
     left_out="the cases, since they and the program are as they were when all of them passed"
   else
-    try_cases "$program"
+    try_cases "$program" "$top"
+  fi
+}
+
+# Tries the library for other languages, if its crate was proved and the cases were left out.
+try_library_if_built() {
+  if [ ! -x "$program" ]; then
+    library_left_out="the library, since there is no program beside which it is tried"
+  else
+    begin_part check_library "$top" "$program"
+    finish_parts
   fi
 }
 
@@ -125,6 +135,16 @@ try_workers_if_built() {
   fi
 }
 
+# Builds the example of a whole program over the crates, and tries it.
+try_embed_if_built() {
+  if try_rt registry_embed "building the program" run; then
+    begin_embed
+    finish_parts
+  else
+    embed_left_out="the example of a program, since registry_embed was not built"
+  fi
+}
+
 # Says what a whole check does beside.
 say_what_was_left_out() {
   local others
@@ -135,11 +155,13 @@ say_what_was_left_out() {
   [ -z "$left_out" ] || echo "  $left_out"
   [ -z "$refusals_left_out" ] || echo "  $refusals_left_out"
   [ -z "$workers_left_out" ] || echo "  $workers_left_out"
+  [ -z "$library_left_out" ] || echo "  $library_left_out"
+  [ -z "$embed_left_out" ] || echo "  $embed_left_out"
   echo "  proofs from nothing, and what else only rt ci looks at"
 }
 
 check_some() {
-  local crates left_out= refusals_left_out= workers_left_out=
+  local crates left_out= refusals_left_out= workers_left_out= library_left_out= embed_left_out=
   crates=$(tools/crates above "$@") || exit 2
   need_rt || {
     failed=1
@@ -159,6 +181,11 @@ check_some() {
   else
     try_program
   fi
+  if [[ " ${proved[*]-} " != *" registry_c "* ]]; then
+    library_left_out="the library, since registry_c is not one of these crates, or was not proved"
+  elif [ -n "$left_out" ]; then
+    try_library_if_built
+  fi
   if [[ " ${proved[*]-} " == *" registry_refusals "* ]]; then
     try_refusals_if_built
   else
@@ -168,6 +195,11 @@ check_some() {
     try_workers_if_built
   else
     workers_left_out="workers that are delayed, since registry_workers is not one of these crates, or was not proved"
+  fi
+  if [[ " ${proved[*]-} " == *" registry_embed "* ]]; then
+    try_embed_if_built
+  else
+    embed_left_out="the example of a program, since registry_embed is not one of these crates, or was not proved"
   fi
   say_what_was_left_out "${crates[@]}"
 }

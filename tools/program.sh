@@ -8,24 +8,38 @@ built=$top/crates/registry/out/registry
 program=$top/out/registry
 built_from=$program.source
 build_logs=$top/out/proofs
+library=$top/out/library
 
 # About how long the first proof takes on four cores, fast ones and slow ones.
 minutes_to_build='15 to 45'
 
-# Says why the program has to be built. Says nothing if it is there, and newer than all that it is
-# made of: folders count too, so that a removed file is noticed.
+# Prints the files and folders that the program is made of, one a line.
+parts_of_program() {
+  local crate part
+  echo "$top/crates.txt"
+  for crate in $("$top/tools/crates" below registry </dev/null); do
+    for part in src specs proofs; do
+      [ ! -d "$top/crates/$crate/$part" ] || echo "$top/crates/$crate/$part"
+    done
+  done
+}
+
+# Prints one of them that is newer than the file $1, if there is one: folders count too, so that a removed file
+# is noticed.
+newer_source() {
+  local parts
+  mapfile -t parts < <(parts_of_program)
+  find "${parts[@]}" -newer "$1" -print -quit
+}
+
+# Says why the program has to be built. Says nothing if it is there, and newer than all that it is made of.
 reason_to_build() {
-  local crate part newer parts=("$top/crates.txt")
+  local newer
   [ -x "$program" ] || {
     echo "there is no program yet"
     return
   }
-  for crate in $("$top/tools/crates" below registry); do
-    for part in src specs proofs; do
-      [ ! -d "$top/crates/$crate/$part" ] || parts+=("$top/crates/$crate/$part")
-    done
-  done
-  newer=$(find "${parts[@]}" -newer "$program" -print -quit)
+  newer=$(newer_source "$program")
   [ -z "$newer" ] || echo "${newer#"$top"/} is newer than the program"
 }
 
@@ -55,6 +69,29 @@ keep_program() {
   rm -f -- "$copy"
   [ "$status" != 0 ] || printf '%s\nproved and built with %s\n' "$2" "$(rt version)" >"$built_from"
   return "$status"
+}
+
+# Says why the library for other languages has to be built. Says nothing if it is there, and newer than all that it is made of.
+reason_to_build_library() {
+  local made=$library/lib/libregistry.a parts=("$top/crates.txt" "$top/include" "$top/tools/library") crate part newer
+  [ -e "$made" ] || {
+    echo "there is no library"
+    return
+  }
+  for crate in $("$top/tools/crates" below registry_c </dev/null); do
+    for part in src specs proofs; do
+      [ ! -d "$top/crates/$crate/$part" ] || parts+=("$top/crates/$crate/$part")
+    done
+  done
+  newer=$(find "${parts[@]}" -newer "$made" -print -quit)
+  [ -z "$newer" ] || echo "${newer#"$top"/} is newer than the library"
+}
+
+# Builds the library beside the program, unless that was done and nothing has changed. The program stands without it.
+build_library() {
+  [ -n "$(reason_to_build_library)" ] || return 0
+  run_child env -C "$top/crates/registry_c" rt lib >"$build_logs/registry_c.log" 2>&1 </dev/null &&
+    run_child "$top/tools/library" --from "$top/crates/registry_c/out/libregistry_c.a" </dev/null
 }
 
 # Proves all that the program uses, and builds it.

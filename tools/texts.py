@@ -3,12 +3,16 @@ and laying out a table."""
 import csv
 import re
 import sys
+from collections.abc import Callable, Collection, Iterable, Iterator, Sequence
+from pathlib import Path
+from typing import NoReturn
 
 import rules
 import streams
 
-# How many fields each act has, and its words: {0} is its first field. Fields at the places of the third part are amounts.
-ACTS = {
+# How many fields each act has, and its words: {0} is its first field. Fields at the places of the third part are
+# amounts.
+ACTS: dict[str, tuple[int, str, tuple[int, ...]]] = {
     "transfer": (4, "transfer of {3} {2}, {0} to {1}", (3,)),
     "return": (4, "return of {3} {2}, {0} to {1}", (3,)),
     "central": (4, "central move of {3} {2}, {0} to {1}", (3,)),
@@ -31,7 +35,7 @@ class Wrong(Exception):
     """Says what is wrong with a text."""
 
 
-def read_rows(stream):
+def read_rows(stream: Iterable[str]) -> Iterator[tuple[int, list[str]]]:
     """Gives the rows of a text as lists of fields, its last row `end` left out."""
     is_over = False
     try:
@@ -47,14 +51,14 @@ def read_rows(stream):
         raise Wrong("the text has no row end")
 
 
-def refuse(number, row):
+def refuse(number: int, row: list[str]) -> NoReturn:
     """Ends the reading at a row that the text cannot have."""
     raise Wrong(f"row {number} does not fit: {','.join(row)}")
 
 
-def read_instructions(path):
+def read_instructions(path: str | Path) -> dict[int, rules.Instruction]:
     """The instructions of a day text, by their places."""
-    instructions = {}
+    instructions: dict[int, rules.Instruction] = {}
     with open(path, encoding="utf-8-sig", newline="") as stream:
         try:
             for number, row in read_rows(stream):
@@ -65,36 +69,37 @@ def read_instructions(path):
     return instructions
 
 
-def read_instruction(number, row):
+def read_instruction(number: int, row: list[str]) -> rules.Instruction:
     try:
         return rules.read_instruction(row[1:])
     except (ValueError, IndexError):
         refuse(number, row)
 
 
-def grouped(digits):
+def grouped(digits: str | int) -> str:
     """A number with a comma after each three digits."""
     return f"{int(digits):,}"
 
 
-def words_of(act, fields):
+def words_of(act: str, fields: Sequence[str]) -> str:
     """An instruction in words, from its act and the act's fields."""
     if act == "distribute":
         giver, kind, *shares = fields
         parts = [f"{grouped(amount)} to {account}" for account, amount in zip(shares[::2], shares[1::2])]
         return f"distribution of {kind} from {giver}: {', '.join(parts)}"
     _, words, amounts = ACTS[act]
-    return words.format(*(grouped(it) if place in amounts else it for place, it in enumerate(fields)))
+    return words.format(*(grouped(word) if place in amounts else word for place, word in enumerate(fields)))
 
 
-def box_lines(name, i):
-    """An instruction in the lines of a box: its place or record number with its act, its accounts, and what it is about."""
+def box_lines(name: object, i: rules.Instruction) -> list[str]:
+    """An instruction in the lines of a box: its place or record number with its act, its accounts, and what it is
+    about."""
     receivers = [to for to, _ in i.shares]
     to = f" → {receivers[0]}" if len(receivers) == 1 else f" → {len(receivers)} accounts" if receivers else ""
     return [f"{name} {i.act}", f"{i.first}{to}", subject_of(i)]
 
 
-def subject_of(i):
+def subject_of(i: rules.Instruction) -> str:
     """What an instruction is about, beside its accounts."""
     if i.amounts:
         return f"{grouped(sum(i.amounts))} {i.kind}"
@@ -107,26 +112,31 @@ def subject_of(i):
     return f"{i.year}: {grouped(i.tonnes)} tonnes" if i.act == "emissions" else f"year {i.year}"
 
 
-def table(head, rows, right):
+def table(head: Sequence[str], rows: Sequence[Sequence[str]], right: Collection[str]) -> list[str]:
     """The lines of a table. The columns of `right` stand at the right, all others at the left."""
     widths = [max(len(row[place]) for row in [head, *rows]) for place in range(len(head))]
 
-    def line(row):
-        cells = [cell.rjust(width) if name in right else cell.ljust(width) for name, cell, width in zip(head, row, widths)]
+    def line(row: Sequence[str]) -> str:
+        cells = [
+            cell.rjust(width) if name in right else cell.ljust(width) for name, cell, width in zip(head, row, widths)
+        ]
         return "  ".join(cells).rstrip()
 
     return [line(head), *map(line, rows)]
 
 
-def draw(name, help_text, drawing, most=0):
-    """Runs a tool, and answers its exit status: writes the lines that `drawing` makes of standard input and of the tool's
-    arguments, of which there are at most so many."""
+def draw(name: str, help_text: str, drawing: Callable[..., list[str]], most: int = 0) -> int:
+    """Runs a tool, and answers its exit status: writes the lines that `drawing` makes of standard input and of the
+    tool's arguments, of which there are at most so many."""
     arguments = sys.argv[1:]
     if {"-h", "--help"} & {*arguments}:
         return streams.write(name, help_text, 1)
-    if len(arguments) > most or any(it.startswith("-") for it in arguments):
+    if len(arguments) > most or any(argument.startswith("-") for argument in arguments):
         print(help_text, end="", file=sys.stderr)
         return 2
+    if not streams.is_open(sys.stdin):
+        print("read failed", file=sys.stderr)
+        return 5
     try:
         lines = drawing(sys.stdin, *arguments)
     except (Wrong, OSError) as wrong:

@@ -3,9 +3,12 @@
 The rows are taken apart here and not read into accounts: a book may have a million of them.
 """
 from collections import Counter
+from collections.abc import Iterable, Iterator
 from typing import NamedTuple
 
 import rules
+from day.accounts import Block
+from day.report import Report
 from faults import RETIRED_AS
 
 
@@ -21,10 +24,11 @@ class Retired(NamedTuple):
     is_reversed: str
 
 
-def retired_of(block):
+def retired_of(block: Block) -> Iterator[Retired]:
     for place, row in enumerate(block.list_rows, 1):
         if row.startswith("retired,"):
-            yield Retired(place, *row.split(",")[1:7])
+            number, what, kind, amount, day, is_reversed = row.split(",")[1:7]
+            yield Retired(place, number, what, kind, amount, day, is_reversed)
 
 
 class Sums(NamedTuple):
@@ -35,14 +39,15 @@ class Sums(NamedTuple):
     deleted: int
 
     @property
-    def allowances(self):
+    def allowances(self) -> int:
         """How many there are: held and surrendered together."""
         return self.held + self.surrendered
 
 
-def sums_of(rows):
+def sums_of(rows: Iterable[str]) -> dict[str, Sums]:
     """The sums over the accounts of these rows, by kind."""
-    held, retired = dict.fromkeys(rules.KINDS, 0), {(what, kind): 0 for what in RETIRED_AS for kind in rules.KINDS}
+    held = dict.fromkeys(rules.KINDS, 0)
+    retired = {(what, kind): 0 for what in RETIRED_AS for kind in rules.KINDS}
     for row in rows:
         # (only these two of the rows of a book begin with these letters)
         if row[0] == "r":
@@ -53,15 +58,19 @@ def sums_of(rows):
             fields = row.split(",")
             held["general"] += int(fields[8])
             held["aviation"] += int(fields[9])
-    return {kind: Sums(held[kind], *(retired[what, kind] for what in RETIRED_AS)) for kind in rules.KINDS}
+    return {kind: Sums(held[kind], retired["surrender", kind], retired["deletion", kind]) for kind in rules.KINDS}
 
 
 class Movements:
     """What the creations, deletions and reversals of deletions of a report changed, by kind of allowance."""
 
-    def __init__(self, report):
-        self.created, self.deleted, self.undeleted = Counter(), Counter(), Counter()
-        self.report, self.deletions = report, {}
+    def __init__(self, report: Report) -> None:
+        self.created: Counter[str] = Counter()
+        self.deleted: Counter[str] = Counter()
+        self.undeleted: Counter[str] = Counter()
+        # By account and record number: the kind and the amount.
+        self.deletions: dict[int, dict[int, tuple[str, int]]] = {}
+        self.report = report
         for logged in report.log:
             i = logged.instruction
             if not logged.is_done:
@@ -73,7 +82,7 @@ class Movements:
             elif i.act == "reverse":
                 self.add_reversal(i)
 
-    def add_reversal(self, i):
+    def add_reversal(self, i: rules.Instruction) -> None:
         """Adds a reversal, if it is that of a deletion."""
         if i.first not in self.deletions:
             self.deletions[i.first] = deletions_of(self.report.book.get(i.first))
@@ -81,15 +90,15 @@ class Movements:
         self.undeleted[kind] += amount
 
 
-def deletions_of(block):
+def deletions_of(block: Block | None) -> dict[int, tuple[str, int]]:
     """The kind and the amount of each deletion of a block, if there is one, by its record number."""
     rows = retired_of(block) if block else ()
     return {int(row.number): (row.kind, int(row.amount)) for row in rows if row.what == "deletion"}
 
 
-def open_by_late_begin(head, book):
-    """The surrenders and deletions from before the calendar of a day that could be reversed on it: the block of each, and its
-    place in the block. When their window ended is not known."""
+def open_by_late_begin(head: rules.Day, book: dict[int, Block]) -> Iterator[tuple[Block, int]]:
+    """The surrenders and deletions from before the calendar of a day that could be reversed on it: the block of each,
+    and its place in the block. When their window ended is not known."""
     first = head.working_days[0] if head.working_days else None
     end = first and head.due(first, head.lags["reversal"])
     if first is None or (end is not None and end < head.date):

@@ -1,273 +1,188 @@
 """Looks whether days follow from each other: each report from its day, and each day from the report before it.
 
-  each pair      the instructions one by one, their record numbers, the accounts; the totals are the sums over the accounts
-  the next day   its date is later, its NEXT is that of the report, its accounts are those of the report; each difference
-                 is shown. One that somebody may make by hand, since no act can make it, is called `by hand`. One that
-                 stands so in a file of --changes, as it was given to ./day next, does not count
-  the rules      periods are kept, and only added to; calendars agree where they overlap, and none of them opens a window for a
-                 reversal that was closed
-  allowances     of each kind, what there is at the end is what there was at the beginning, and what was created, deleted,
-                 reversed and changed by hand
+  each pair      the report is what follows from the day, as docs/FORMATS.md says it of a pair
+  the next day   its date is later, its NEXT is that of the report, its accounts are those of the report; each
+                 difference is shown. One that somebody may make by hand, since no act makes it, is called `by hand`,
+                 and so is each difference of the first rows. One of an account that stands so in a file of --changes,
+                 as it was given to ./day next, does not count
+  what waits     what was refused as NotDue comes on its due day, with the same fields
+  the rules      periods are kept, and only added to; calendars agree where they overlap, and none of them opens a
+                 window for a reversal that was closed
+  allowances     of each kind, what there is at the end is what there was at the beginning, and what was created,
+                 deleted, reversed and changed by hand
 
-With --settle, PROGRAM settles each day again by `PROGRAM settle`, and must write the same bytes as its report has.
+With --settle, PROGRAM settles each day again by `PROGRAM settle`, or without PROGRAM the library does, if it was built:
+the report must have the same bytes. Of many equal differences the first three are shown, and the others counted.
 
 exit status: 0 if nothing was found, else 1.
 """
-import bisect
-import datetime
-import itertools
-import subprocess
-from dataclasses import dataclass, field
+import argparse
+from dataclasses import dataclass
 
 import faults
 import rules
-from day.books import Movements, open_by_late_begin, retired_of, sums_of
+from day.accounts import Block
+from day.blocks import differences_of
+from day.books import Movements, Sums, sums_of
+from day.by_hand import refusals, why_not
+from day.calendars import Calendars
+from day.day_text import DayText, read_blocks, read_day
 from day.errors import FOUND, FileFault, WordsFault, shown
-from day.pairs import ACCOUNT_FIELDS, differences, line_behind, list_of
+from day.findings import Findings
+from day.follows import differences, line_behind
+from day.headings import heading_differences, lost_period
+from day.options import add_to
+from day.output import write_answer
 from day.progress import progress
-from day.reading import bytes_of, read_blocks, read_day, read_report
+from day.report import Report, read_report
+from day.rows import bytes_of
+from day.settling import NotSettled, Settler, settler_of
+from day.waits import Waits
 
-EXAMPLE = "./day chain monday.csv monday.report tuesday.csv tuesday.report --settle ./run"
-# What may be changed by hand in the next day's text: these fields of the `account` row, the rows of these lists, and rows of the
-# others if they are left out.
-BY_HAND_FIELDS = {"HOLDER", "OUTSIDE", "WAIVER", "CORRECTION"}
-BY_HAND_LISTS = {"correction", "user"}
-MAY_BE_LEFT_OUT = {"emissions", "figure"}
-
-
-def add_words(parser):
-    parser.add_argument("files", metavar="DAY REPORT", nargs="+", help="day texts, each with its report behind it, in order")
-    parser.add_argument("--settle", metavar="PROGRAM", help="a program that settles each day again, such as ./run")
-    parser.add_argument("--changes", metavar="FILE", nargs="+", default=[], help="files that were given to ./day next as changes")
+EXAMPLE = (
+    "./day chain examples/week/monday.csv examples/week/monday-report.csv examples/week/tuesday.csv "
+    "examples/week/tuesday-report.csv"
+)
 
 
-@dataclass
-class Findings:
-    """What was found, in order: `by_hand` counts what somebody may have changed on purpose, `agreed` what stands in a file of
-    changes."""
-
-    lines: list = field(default_factory=list)
-    faults: int = 0
-    by_hand: int = 0
-    agreed: int = 0
-
-    def add(self, fault):
-        self.faults += 1
-        self.lines.append(str(fault))
-
-    def add_by_hand(self, fault, agreed_in):
-        if agreed_in:
-            self.agreed += 1
-            self.lines.append(f"by hand, as {agreed_in} says: {fault}")
-        else:
-            self.by_hand += 1
-            self.lines.append(f"by hand: {fault}")
+def add_words(parser: argparse.ArgumentParser) -> None:
+    parser.add_argument(
+        "files", metavar="DAY REPORT", nargs="+", help="day texts, each with its report behind it, in order"
+    )
+    parser.add_argument(
+        "--settle",
+        metavar="PROGRAM",
+        nargs="?",
+        const="",
+        help="settle each day again: by a program, such as ./run, or else the library",
+    )
+    parser.add_argument(
+        "--changes", metavar="FILE", nargs="+", default=[], help="files that were given to ./day next as changes"
+    )
+    add_to(parser)
 
 
 # A day and its report.
 
 
-def look_at_pair(day, report, sums, found):
-    for difference in differences(day, report):
-        found.add(difference)
-    for kind in rules.KINDS:
-        for name, there, expected in zip(("HELD", "SURRENDERED", "DELETED"), report.totals[kind], sums[kind]):
-            if there != expected:
-                found.add(FileFault(report.path, report.totals_line(kind), name, there, f"{expected}, the sum over all accounts"))
-
-
-def settle_again(program, day, report, found):
-    """Compares the report with what a program writes."""
+def settle_again(settler: Settler, day: DayText, report: Report, found: Findings) -> None:
+    """Compares the report with what the engine writes."""
     progress.tell(f"settling {day.path}")
     try:
-        with open(day.path, "rb") as text:
-            run = subprocess.run([program, "settle"], stdin=text, capture_output=True)
-    except OSError as error:
-        raise WordsFault(f"--settle {program} cannot be run: {error.strerror}") from None
-    if run.returncode:
-        said = run.stderr.decode(errors="replace").strip()
-        found.add(FileFault(day.path, 0, "", f"{program} settle ends with status {run.returncode}: {said}", ""))
-    elif run.stdout != bytes_of(report.path):
-        written, there = run.stdout.split(b"\n"), bytes_of(report.path).split(b"\n")
+        settled = settler.settle(bytes_of(day.path))
+    except NotSettled as fault:
+        found.add(FileFault(day.path, 0, "", str(fault), ""))
+        return
+    if settled != bytes_of(report.path):
+        written, there = settled.split(b"\n"), bytes_of(report.path).split(b"\n")
         pairs = enumerate(zip(written + [b""] * len(there), there + [b""] * len(written)), 1)
-        line, (expected, other) = next((it for it in pairs if it[1][0] != it[1][1]))
-        expected = f"{shown(text_of(expected))}, as {program} settles it"
+        line, (row, other) = next((line, pair) for line, pair in pairs if pair[0] != pair[1])
+        expected = f"{shown(text_of(row))}, as {settler.name} settles it"
         found.add(FileFault(report.path, line, "row", shown(text_of(other)), expected))
 
 
-def text_of(row):
+def text_of(row: bytes) -> str:
     return row.decode("utf-8", "surrogateescape")
 
 
 # The next day.
 
 
-def look_at_next_day(before, report, day, changes, found):
+def look_at_next_day(before: DayText, report: Report, day: DayText, changes: "Changes", found: Findings) -> None:
     """Whether a day begins as the report of the day before ends."""
     line = day.line_of_tag("day")
     if day.head.date <= before.head.date:
-        found.add(FileFault(day.path, line, "DATE", day.head.date, f"a day after {before.head.date}, that of {before.path}"))
+        found.add(
+            FileFault(day.path, line, "DATE", day.head.date, f"a day after {before.head.date}, that of {before.path}")
+        )
     if day.head.next_record != report.next_record:
         expected = f"{report.next_record}, as {report.path}:{report.book_line}"
         found.add(FileFault(day.path, line, "NEXT", day.head.next_record, expected))
-    look_at_periods(before, day, found)
+    lost = lost_period(before, day)
+    if lost:
+        found.add(lost)
+    for fault in heading_differences(before, day):
+        found.add_by_hand(fault)
     if is_copied_from(before, report, day):
-        first = next(it for it in day.book.values() if it.rows != report.book[it.number].rows)
-        found.add(FileFault(day.path, first.line, "accounts", f"the accounts of {before.path}", f"those of {report.path}"))
+        first = next(block for block in day.book.values() if block.rows != report.book[block.number].rows)
+        found.add(
+            FileFault(day.path, first.line, "accounts", f"the accounts of {before.path}", f"those of {report.path}")
+        )
     for number in sorted({*report.book, *day.book}):
         look_at_account(report, day, number, changes, found)
 
 
-def is_copied_from(before, report, day):
+def is_copied_from(before: DayText, report: Report, day: DayText) -> bool:
     """Whether the accounts of a day are those of the day before, and not those of its report."""
     if before.book.keys() != day.book.keys() or day.book.keys() != report.book.keys():
         return False
-    others = [it for it in day.book.values() if it.rows != report.book[it.number].rows]
-    return bool(others) and all(it.rows == before.book[it.number].rows for it in others)
+    others = [block for block in day.book.values() if block.rows != report.book[block.number].rows]
+    return bool(others) and all(block.rows == before.book[block.number].rows for block in others)
 
 
-def look_at_periods(before, day, found):
-    old, new = before.head.periods, day.head.periods
-    for place, period in enumerate(old):
-        there = new[place] if place < len(new) else None
-        if there != period:
-            rows = [row for row in day.heading if row.startswith("period,")]
-            line = day.line_of(rows[place]) if there else day.line_of_tag("lags")
-            kept = f"period {place + 1} of {before.path}, {period[0]} to {period[1]}: periods are kept, and only added to"
-            found.add(FileFault(day.path, line, "period", f"{there[0]} to {there[1]}" if there else "no such row", kept))
-            return
-
-
-def look_at_account(report, day, number, changes, found):
+def look_at_account(report: Report, day: DayText, number: int, changes: "Changes", found: Findings) -> None:
     """What is different in an account."""
     old, new = report.book.get(number), day.book.get(number)
     if old and new and old.rows == new.rows:
         return
-    agreed = next((f"{it.source.path}:{it.line}" for it in changes.get(number, []) if new and it.rows == new.rows), "")
+    if new is None:
+        if old:
+            where = f"account {number} of {report.path}:{old.line}"
+            found.add(FileFault(day.path, line_behind(day, number), "account", f"no account {number}", where))
+        return
+    agreed = changes.place_of(new)
     if old is None:
-        fault = FileFault(day.path, new.line, "account", f"account {number}, which is new", f"the accounts of {report.path}")
+        fault = FileFault(
+            day.path, new.line, "account", f"account {number}, which is new", f"the accounts of {report.path}"
+        )
         found.add_by_hand(fault, agreed)
-    elif new is None:
-        where = f"account {number} of {report.path}:{old.line}"
-        found.add(FileFault(day.path, line_behind(day, number), "account", f"no account {number}", where))
-    else:
-        for fault, is_by_hand in account_differences(report, day, old, new):
-            if is_by_hand or agreed:
-                found.add_by_hand(fault, agreed)
-            else:
-                found.add(fault)
-
-
-def account_differences(report, day, old, new):
-    """The differences of two blocks, each with whether it may be made by hand."""
-    fields = zip(ACCOUNT_FIELDS, old.rows[0].split(","), new.rows[0].split(","))
-    for name, before, after in fields:
-        if before != after:
-            expected = f"{shown(before)}, as {report.path}:{old.line}"
-            fault = FileFault(day.path, new.line, f"{name} of account {new.number}", shown(after), expected)
-            yield fault, name in BY_HAND_FIELDS
-    for tag in faults.BLOCK[1:]:
-        if list_of(old, tag) != list_of(new, tag):
-            yield from list_differences(report, day, old, new, tag)
-
-
-def list_differences(report, day, old, new, tag):
-    """The differences of a list, by the field by which it rises."""
-    before, after = places_by_key(old, tag), places_by_key(new, tag)
-    name = f"{tag} row of account {new.number}"
-    for key, (place, row) in after.items():
-        there, written = before.get(key, (0, ""))
-        if written != row:
-            what = shown(written) if written else "no such row"
-            expected = f"{what}, as {report.path}:{old.line_of(there)}"
-            yield FileFault(day.path, new.line_of(place), name, shown(row), expected), tag in BY_HAND_LISTS
-    for key, (place, row) in before.items():
-        if key not in after:
-            expected = f"{shown(row)}, as {report.path}:{old.line_of(place)}"
-            fault = FileFault(day.path, new.line, name, "no such row", expected)
-            yield fault, tag in BY_HAND_LISTS | MAY_BE_LEFT_OUT
-
-
-def places_by_key(block, tag):
-    """The rows of a list with their places in the block, by the field by which they rise."""
-    rows = ((place, row) for place, row in enumerate(block.rows) if row.startswith(tag + ","))
-    return {row.split(",", 2)[1]: (place, row) for place, row in rows}
-
-
-# Calendars.
-
-
-class Calendars:
-    """All working days that were named so far, to compare the next calendar with."""
-
-    def __init__(self):
-        self.days = []
-
-    def look_at(self, day, found):
-        """Compares the calendar of a day with those before it."""
-        new = day.head.working_days
-        if self.days and new:
-            self.compare(day, new, found)
-        if self.days:
-            self.look_at_begin(day, found)
-        else:
-            look_at_first_calendar(day, found)
-        self.days = sorted({*self.days, *new})
-
-    def compare(self, day, new, found):
-        """The two agree from the later of their first days to the earlier of their last ones."""
-        first, last = max(self.days[0], new[0]), min(self.days[-1], new[-1])
-        old_days, new_days = ({it for it in days if first <= it <= last} for days in (self.days, new))
-        for it in sorted(old_days ^ new_days):
-            line = day.line_of(f"work,{new[bisect.bisect_left(new, it)]}")
-            if it in new_days:
-                fault = FileFault(day.path, line, "work", it, "no working day: the days before have none")
-            else:
-                fault = FileFault(day.path, line, "work", f"no row work,{it}", "it, as the days before have it")
+        for fault in refusals(None, new):
             found.add(fault)
-
-    def look_at_begin(self, day, found):
-        """Whether a calendar that begins later than those before it opens a window, or delays a due day."""
-        head = day.head
-        first = head.working_days[0] if head.working_days else datetime.date.max
-        if first <= self.days[0]:
-            return
-        longer = rules.Day(head.date, 0, working_days=sorted({*self.days, *head.working_days}))
-        place = next((place for place, i in enumerate(day.instructions) if delays(longer, head, i.proposed)), None)
-        if place is not None:
-            why = f"{day.path}:{day.line_of_instruction(place)} was proposed then"
-            found.add(begins_late(day, day.instructions[place].proposed, why))
-        for block in day.book.values():
-            for row in retired_of(block):
-                if row.is_reversed == "no" and row.day < str(first) and opens(longer, head, row):
-                    why = f"{day.path}:{block.line_of(row.place)} can be reversed again, and its window was closed"
-                    found.add(begins_late(day, row.day, why))
+        return
+    for difference in differences_of(old.rows, new.rows):
+        place = f"{report.path}:{old.line_of(difference.place_before or 0)}"
+        line, why = new.line_of(difference.place_after or 0), why_not(difference)
+        fault = FileFault(
+            day.path,
+            line,
+            f"{difference.name} of account {number}",
+            difference.found,
+            f"{difference.expected}, as {place}",
+        )
+        if why:
+            found.add(fault)
+        else:
+            found.add_by_hand(fault, agreed)
 
 
-def look_at_first_calendar(day, found):
-    """Whether the calendar of the first day begins so late that something older can be reversed; tells the first of them."""
-    for block, place in itertools.islice(open_by_late_begin(day.head, day.book), 1):
-        why = f"{day.path}:{block.line_of(place)} can be reversed on {day.head.date}, whenever its window ended"
-        found.add(begins_late(day, block.rows[place].split(",")[5], why))
+class Changes:
+    """The accounts of files of changes, and which of them a day has so."""
 
+    def __init__(self, paths: list[str]) -> None:
+        self.blocks: dict[int, list[Block]] = {}
+        self.unused = [*paths]
+        years = [*range(faults.MOST_PERIODS)]
+        for path in paths:
+            reading = faults.Reading(last="work", version=2, next_record=faults.MOST_RECORD + 1, last_years=years)
+            for number, block in read_blocks(path, reading).items():
+                self.blocks.setdefault(number, []).append(block)
 
-def begins_late(day, date, why):
-    """That a calendar has to begin on a date, or before it."""
-    days = day.head.working_days
-    there = f"a calendar that begins on {days[0]}" if days else "no calendar"
-    return FileFault(day.path, day.line_of_tag("work"), "work", there, f"the working days from {date} on: {why}")
+    def place_of(self, block: Block) -> str:
+        """Where an account stands so in a file of changes; nothing if it does not."""
+        own = next((known for known in self.blocks.get(block.number, []) if known.rows == block.rows), None)
+        if own is None:
+            return ""
+        path = own.source.path
+        if str(path) in self.unused:
+            self.unused.remove(str(path))
+        return f"{path}:{own.line}"
 
-
-def delays(longer, head, proposed):
-    """Whether a longer calendar has another first working day for an instruction."""
-    return longer.due(proposed, 0) not in (None, head.due(proposed, 0))
-
-
-def opens(longer, head, row):
-    """Whether the window of a row is closed by the longer calendar, and open by that of the day."""
-    date, window = datetime.date.fromisoformat(row.day), head.lags["reversal"]
-    end, longer_end = head.due(date, window), longer.due(date, window)
-    return longer_end is not None and longer_end < head.date and (end is None or end >= head.date)
+    def in_words(self) -> list[str]:
+        """A line for each file of which no day has anything."""
+        return [
+            f"{path}: nothing of this file was applied: no day has one of its accounts as a change"
+            for path in self.unused
+        ]
 
 
 # Allowances.
@@ -286,17 +201,17 @@ class Balance:
     told: int = 0
 
     @property
-    def expected(self):
+    def expected(self) -> int:
         return self.begin + self.created - self.deleted + self.undeleted + self.by_hand
 
-    def in_words(self, kind, end):
+    def in_words(self, kind: str, end: int) -> str:
         changes = f"+ {self.created:,} created - {self.deleted:,} deleted + {self.undeleted:,} undeleted"
         by_hand = f"{'+' if self.by_hand >= 0 else '-'} {abs(self.by_hand):,} by hand"
         said = f"{kind}: {self.begin:,} before {changes} {by_hand} = {self.expected:,}"
         return said if self.expected == end else f"{said}, but there are {end:,}"
 
 
-def count_changes(report, balances):
+def count_changes(report: Report, balances: dict[str, Balance]) -> None:
     """Adds what the log of a day created, deleted and undeleted."""
     moved = Movements(report)
     for kind, balance in balances.items():
@@ -305,7 +220,7 @@ def count_changes(report, balances):
         balance.undeleted += moved.undeleted[kind]
 
 
-def look_at_allowances(balances, report, end, found):
+def look_at_allowances(balances: dict[str, Balance], report: Report, end: dict[str, int], found: Findings) -> None:
     """Whether the allowances of a report are those that there have to be. What is wrong once is told once."""
     for kind, balance in balances.items():
         if end[kind] != balance.expected + balance.told:
@@ -318,47 +233,59 @@ def look_at_allowances(balances, report, end, found):
 # All together.
 
 
-def changes_of(paths):
-    """The blocks of the files of changes, by number."""
-    changes, years = {}, [*range(faults.MOST_PERIODS)]
-    for path in paths:
-        reading = faults.Reading(last="work", version=2, next_record=faults.MOST_RECORD + 1, last_years=years)
-        for number, block in read_blocks(path, reading).items():
-            changes.setdefault(number, []).append(block)
-    return changes
+class Chain:
+    """What is found of days that were read one after another, and what there is at the end."""
 
+    def __init__(self, changes: Changes, settler: Settler | None) -> None:
+        self.changes, self.settler = changes, settler
+        self.found, self.calendars, self.waits = Findings(), Calendars(), Waits()
+        self.balances: dict[str, Balance] = {}
+        self.end: dict[str, int] = {}
+        self.before: tuple[DayText, Report] | None = None
 
-def look_at(pairs, changes, program):
-    """All that is found, and the balances at the end with what there is."""
-    found, calendars, balances, before, end = Findings(), Calendars(), {}, None, {}
-    for day_path, report_path in pairs:
-        day = read_day(day_path, before and before[1].known(before[0]))
+    def follow(self, day_path: str, report_path: str) -> None:
+        """Looks at the next day and its report."""
+        day = read_day(day_path, self.before and self.before[1].known(self.before[0]))
         report = read_report(report_path, day)
         begin, sums = sums_of(day.book_rows), sums_of(report.book_rows)
-        if before:
-            look_at_next_day(*before, day, changes, found)
-            for kind, balance in balances.items():
-                balance.by_hand += begin[kind].allowances - end[kind]
-        else:
-            balances = {kind: Balance(begin[kind].allowances) for kind in rules.KINDS}
-        calendars.look_at(day, found)
-        look_at_pair(day, report, sums, found)
-        if program:
-            settle_again(program, day, report, found)
-        count_changes(report, balances)
-        end = {kind: sums[kind].allowances for kind in rules.KINDS}
-        look_at_allowances(balances, report, end, found)
-        before = day, report
-    return found, balances, end
+        self.look_at_begin(day, begin)
+        self.calendars.look_at(day, self.found)
+        self.waits.look_at(day, self.found)
+        for difference in differences(day, report, sums):
+            self.found.add(difference)
+        if self.settler:
+            settle_again(self.settler, day, report, self.found)
+        count_changes(report, self.balances)
+        self.end = {kind: sums[kind].allowances for kind in rules.KINDS}
+        look_at_allowances(self.balances, report, self.end, self.found)
+        self.waits.add(report)
+        self.before = day, report
+
+    def look_at_begin(self, day: DayText, begin: dict[str, Sums]) -> None:
+        """Whether a day follows from the report before it, if there is one."""
+        if self.before is None:
+            self.balances = {kind: Balance(begin[kind].allowances) for kind in rules.KINDS}
+            return
+        look_at_next_day(*self.before, day, self.changes, self.found)
+        for kind, balance in self.balances.items():
+            balance.by_hand += begin[kind].allowances - self.end[kind]
+
+    def lines(self) -> list[str]:
+        words = (balance.in_words(kind, self.end[kind]) for kind, balance in self.balances.items())
+        return [*map(str, self.found.lines), *self.changes.in_words(), *self.waits.in_words(), *words]
 
 
-def run(words):
+def run(words: argparse.Namespace) -> int:
     if len(words.files) % 2:
         raise WordsFault(f"{len(words.files)} files: each DAY needs its REPORT behind it")
     pairs = [*zip(words.files[::2], words.files[1::2])]
-    found, balances, end = look_at(pairs, changes_of(words.changes), words.settle)
-    lines = [*found.lines, *(balance.in_words(kind, end[kind]) for kind, balance in balances.items())]
+    settler = None if words.settle is None else settler_of(words.settle, "--settle")
+    chain = Chain(Changes(words.changes), settler)
+    for pair in pairs:
+        chain.follow(*pair)
+    found = chain.found
     agreed = f", {found.agreed} by hand as files of changes say" if words.changes else ""
     days = "1 day" if len(pairs) == 1 else f"{len(pairs)} days"
-    print("\n".join([*lines, f"{days}: {found.faults} differences, {found.by_hand} changes by hand{agreed}"]))
+    last = f"{days}: {found.faults} differences, {found.by_hand} changes by hand{agreed}"
+    write_answer("\n".join([*chain.lines(), last, ""]), words.to)
     return FOUND if found.faults or found.by_hand else 0

@@ -1,6 +1,7 @@
 """What each check means and what to do about it, as docs/RULES.md says it: there it stands once."""
 import functools
 import re
+from collections.abc import Iterator
 from dataclasses import dataclass
 from pathlib import Path
 
@@ -21,12 +22,16 @@ class Check:
     advice: str
 
 
-def plain(text):
+def plain(text: str) -> str:
     """A cell of a table without its marks. A link that only says `below` names the place."""
-    return LINK.sub(lambda link: f"docs/RULES.md{link[2]}" if link[1] == "below" else link[1], text).replace("`", "").strip()
+    return (
+        LINK.sub(lambda link: f"docs/RULES.md{link[2]}" if link[1] == "below" else link[1], text)
+        .replace("`", "")
+        .strip()
+    )
 
 
-def document(path):
+def document(path: Path) -> str:
     """The text of a document."""
     try:
         return path.read_text(encoding="utf-8")
@@ -34,7 +39,7 @@ def document(path):
         raise FileFault(path, 0, "", f"it cannot be read: {error.strerror}", "") from None
 
 
-def written_checks(text):
+def written_checks(text: str) -> Iterator[Check]:
     """The checks of RULES.md in their order, with the marks of its words."""
     for row in filter(None, map(ROW.fullmatch, text.splitlines())):
         code, name, meaning, advice = row.groups()
@@ -42,11 +47,12 @@ def written_checks(text):
 
 
 @functools.lru_cache(maxsize=None)
-def checks():
+def checks() -> dict[str, Check]:
     """All checks by their names, in the order in which they are asked."""
-    return {it.name: Check(it.code, it.name, plain(it.meaning), plain(it.advice)) for it in written_checks(document(RULES))}
+    written = written_checks(document(RULES))
+    return {own.name: Check(own.code, own.name, plain(own.meaning), plain(own.advice)) for own in written}
 
 
-def advice_for(name):
+def advice_for(name: str) -> str:
     """What to do after a refusal by the check of this name."""
     return checks()[name].advice

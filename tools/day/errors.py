@@ -1,6 +1,10 @@
 """What goes wrong: each ends a command with a line on standard error and an exit status."""
+from pathlib import Path
+from typing import Any
 
 FOUND, WORDS, FILE = 1, 2, 3
+# As in the program: standard output did not take all.
+NOT_WRITTEN = 5
 # No value of a message is longer.
 MOST_SHOWN = 160
 
@@ -12,16 +16,16 @@ class WordsFault(Exception):
 
 
 class FileFault(Exception):
-    """A file is not what it must be: where, the name of the field or row, what was found there, and what was expected. If the
-    whole file is meant, `found` says all."""
+    """A file is not what it must be: where, the name of the field or row, what was found there, and what was expected.
+    If the whole file is meant, `found` says all."""
 
     status = FILE
 
-    def __init__(self, path, line, field, found, expected):
+    def __init__(self, path: str | Path, line: int, field: str, found: object, expected: str) -> None:
         super().__init__(path, line, field, found, expected)
         self.path, self.line, self.field, self.found, self.expected = path, line, field, found, expected
 
-    def __str__(self):
+    def __str__(self) -> str:
         place = f"{self.path}:{self.line}" if self.line else str(self.path)
         if not self.expected:
             return f"{place}: {self.found}"
@@ -32,25 +36,37 @@ class FileFault(Exception):
 class RowFault(FileFault):
     """A row has a fault: its number and the cause, as the program says it."""
 
-    def __init__(self, number, cause, *parts):
+    def __init__(self, number: int, cause: str, *parts: Any) -> None:
         super().__init__(*parts)
         self.number, self.cause = number, cause
 
-    def as_program(self):
+    def as_program(self) -> str:
         return f"row {self.number}: {self.cause}"
 
 
-def shown(word):
+def shown(word: str) -> str:
     """A field as a message shows it: between quotes, with what nobody sees made visible."""
     if word == "":
         return "nothing"
     cut = word if len(word) <= MOST_SHOWN else word[:MOST_SHOWN] + ".."
-    return "'" + "".join(it if it.isprintable() and (it == " " or not it.isspace()) else escaped(it) for it in cut) + "'"
+    return f"'{''.join(map(visible, cut))}'"
 
 
-def escaped(character):
+def visible(character: str) -> str:
+    is_seen = character.isprintable() and (character == " " or not character.isspace())
+    return character if is_seen else escaped(character)
+
+
+def escaped(character: str) -> str:
     """A character that nobody sees, by its name or its number."""
-    names = {"\t": "<tab>", "\n": "<line feed>", "\r": "<carriage return>", "\ufeff": "<byte order mark>", "\xa0": "<no-break space>"}
+    names = {
+        "\0": "<NUL>",
+        "\t": "<tab>",
+        "\n": "<line feed>",
+        "\r": "<carriage return>",
+        "\ufeff": "<byte order mark>",
+        "\xa0": "<no-break space>",
+    }
     if character in names:
         return names[character]
     number = ord(character)

@@ -1,11 +1,14 @@
-"""What may have happened where a day text has a fault: a guess in words for whoever wrote the row. None is a value to take."""
+"""What may have happened where a day text has a fault: a guess in words for whoever wrote the row. None is a value to
+take."""
 import calendar
 import difflib
 import re
+from collections.abc import Iterable
 
 import faults
 from day.errors import shown
 from day.mending import stripped
+from faults import Fault
 
 TAGS = ("format", "day", "period", "current", "lags", "surrender", "admin", "work", *faults.BLOCK, "do", "end")
 # A misspelled tag has no more letters.
@@ -14,19 +17,26 @@ ONLY_VERSION_2 = {"current", "correction"}
 # Tags of other texts of the program, and columns of ./day log.
 OTHER_TEXTS = {
     "log": "a report", "book": "a report", "totals": "a report", "opening": "a statement", "closing": "a statement",
-    "statement": "a statement", "task": "a plan", "arrow": "a plan", "determined": "the figures", "record": "the table of ./day log",
-    "waits": "a pending file", "entered": "a pending file",
+    "statement": "a statement", "task": "a plan", "arrow": "a plan", "determined": "the figures",
+    "record": "the table of ./day log", "waits": "a pending file", "entered": "a pending file",
 }  # fmt: skip
 YES = dict.fromkeys(("true", "y", "1", "ja", "oui"), "yes") | dict.fromkeys(("false", "n", "0", "nein", "non"), "no")
 OTHER_WORDS = {"delete": "deletion", "deletion": "delete", "surrendered": "surrender", "deleted": "deletion"}
 SEPARATED = re.compile(r"-?[0-9]{1,3}([.,'_\u00a0\u202f\u2009 ][0-9]{3})+")
 
 
-def guess(fault, row, version):
+def guess(fault: Fault, row: list[str], version: int) -> str:
     """A guess for a fault of a row, given as its fields; nothing if there is no likely one."""
-    if any("\n" in it for it in row):
+    if any("\n" in word for word in row):
         return "a double quote is not closed: the field goes on over the lines behind it"
-    by_cause = {"tag": of_tag, "fields": of_fields, "number": of_number, "date": of_date, "word": of_word, "order": of_order}
+    by_cause = {
+        "tag": of_tag,
+        "fields": of_fields,
+        "number": of_number,
+        "date": of_date,
+        "word": of_word,
+        "order": of_order,
+    }
     if fault.cause in by_cause:
         return by_cause[fault.cause](fault, row, version)
     if fault.cause == "version":
@@ -34,7 +44,7 @@ def guess(fault, row, version):
     return of_limit(fault, row)
 
 
-def near(word, words):
+def near(word: str, words: Iterable[str]) -> str:
     """The word that is meant, if it is written with capitals or a slip."""
     plain = stripped(word).lower()
     if plain in words:
@@ -42,12 +52,12 @@ def near(word, words):
     return next(iter(difflib.get_close_matches(plain, words, 1, 0.7)), "")
 
 
-def meant_tag(tag):
+def meant_tag(tag: str) -> str:
     """The tag that is meant: this one, or one of which this is a misspelling; nothing if there is none."""
     return tag if tag in TAGS else near(tag, TAGS) if len(tag) <= MOST_LETTERS else ""
 
 
-def of_tag(fault, row, version):
+def of_tag(fault: Fault, row: list[str], version: int) -> str:
     tag = row[0]
     if ";" in tag or "\t" in tag:
         return "semicolons or tabs stand between the fields of this row: it needs commas"
@@ -69,14 +79,16 @@ def of_tag(fault, row, version):
     return ""
 
 
-def of_known_tag(fault, tag):
+def of_known_tag(fault: Fault, tag: str) -> str:
     expected = fault.expected.removeprefix("a row ").split(" or ")
+    if expected == ["period", "current"] and TAGS.index(tag) > TAGS.index("current"):
+        return "the row current is missing: version 2 has one behind the periods"
     if len(expected) == 1:
         return f"the row {expected[0]} is missing, or this row stands too early"
     return "this row stands at another place: the rows of a day text have an order"
 
 
-def of_fields(_fault, row, version):
+def of_fields(_fault: Fault, row: list[str], version: int) -> str:
     if row[0] == "format" and len(row) > 9:
         return "all rows stand in one line: the line ends are lost"
     if row[0] == "retired" and len(row) == 8 and version == 1:
@@ -87,12 +99,15 @@ def of_fields(_fault, row, version):
         return "semicolons or tabs stand between the fields of this row: it needs commas"
     if not row[-1]:
         return "empty fields stand at the end of the row, as a spreadsheet writes them"
-    if any(re.fullmatch("-?[1-9][0-9]{0,2}", it) and re.fullmatch("[0-9]{3}", after) for it, after in zip(row[1:], row[2:])):
+    if any(
+        re.fullmatch("-?[1-9][0-9]{0,2}", before) and re.fullmatch("[0-9]{3}", after)
+        for before, after in zip(row[1:], row[2:])
+    ):
         return "a comma in a number, as it groups digits? Write the digits alone"
     return ""
 
 
-def of_number(fault, row, _version):
+def of_number(fault: Fault, row: list[str], _version: int) -> str:
     word = row[fault.place - 1]
     for pattern, said in NUMBERS:
         if re.fullmatch(pattern, word):
@@ -133,7 +148,7 @@ DATES = [
 ]  # fmt: skip
 
 
-def of_date(fault, row, _version):
+def of_date(fault: Fault, row: list[str], _version: int) -> str:
     word = row[fault.place - 1]
     if re.fullmatch("[0-9]{4}-[0-9]{2}-[0-9]{2}", word):
         return of_missing_day(*map(int, word.split("-")))
@@ -145,14 +160,14 @@ def of_date(fault, row, _version):
     return ""
 
 
-def of_missing_day(year, month, day):
+def of_missing_day(year: int, month: int, day: int) -> str:
     if not 1 <= month <= 12:
         return "months are 01 to 12: are month and day exchanged?"
     days = calendar.monthrange(year or 2000, month)[1]
     return f"{calendar.month_name[month]} {year} has {days} days" if day else "days are 01 to 31"
 
 
-def of_word(fault, row, _version):
+def of_word(fault: Fault, row: list[str], _version: int) -> str:
     word = row[fault.place - 1]
     if fault.name == "ACT" and len(row) > 3 and row[3] in faults.ACT_WORDS:
         return "APPROVER was left out: if there is none, leave its field empty, and its two commas stand"
@@ -170,19 +185,21 @@ def of_word(fault, row, _version):
     return "this is a number: a field before it may be left out or doubled" if word.isdecimal() else ""
 
 
-def of_order(fault, row, _version):
+def of_order(fault: Fault, row: list[str], _version: int) -> str:
     if row[0] == "period" or not fault.earlier:
         return ""
     if fault.earlier == ",".join(row):
         return "this row stands twice: leave one out"
-    if fault.earlier.split(",")[1] == row[1] and row[0] != "surrender":
+    # (the row before may be cut behind its tag)
+    if fault.earlier.split(",")[1:2] == row[1:2] and row[0] != "surrender":
         return f"{row[1]} stands twice: {shown(fault.earlier)} is another row of it"
     return "the rows are not sorted: sort them, or move this one"
 
 
-def of_limit(fault, row):
+def of_limit(fault: Fault, row: list[str]) -> str:
     if fault.name == "NUMBER" and row[0] == "retired" and "next one" in fault.expected:
-        return "is NEXT of the day row that of an earlier day? It is above all record numbers that were used"
+        above = f": at least {fault.highest + 1}" if fault.highest else ""
+        return f"is NEXT of the day row that of an earlier day? It is above all record numbers that were used{above}"
     word = row[fault.place - 1] if fault.place else ""
     if re.fullmatch("[0-9]{4}-[0-9]{2}-[0-9]{2}", word):
         return "the day exists, but is outside the limits: a slip in the year?"

@@ -1,12 +1,11 @@
-"""Mends what a spreadsheet or an editor does to a day text: UTF-16, semicolons or tabs in place of commas, blanks round fields, and
-empty fields or rows that only pad a table. No value is guessed: no such thing is a part of any value."""
+"""Mends what a spreadsheet or an editor does to a day text: UTF-16, semicolons or tabs in place of commas, blanks round
+fields, and empty fields or rows that only pad a table. No value is guessed: no such thing is a part of any value."""
 import csv
 import io
 import re
-import sys
 from dataclasses import dataclass, field
 
-from day.reading import Rows, bytes_of, rows_of_text
+from day.rows import Rows, bytes_of, records_of, rows_of_text
 
 # What stands at the start of a text of 16 bits a character, and how it is read.
 MARKS = {b"\xff\xfe": "utf-16-le", b"\xfe\xff": "utf-16-be"}
@@ -19,20 +18,25 @@ MAY_BE_MENDED = re.compile(rf'[^\S\r\n]|[{UNSEEN}]|^,|,$|,\r|,""', re.MULTILINE)
 ROWS_LOOKED_AT = 1_000
 
 
+# What was changed: the first line of it, and what in words.
+Change = tuple[int, str]
+
+
 @dataclass
 class Mended:
-    """A text as it has to be: its rows, the fields as they stand in the file, and what was changed, each with the first line."""
+    """A text as it has to be: its rows, the fields as they stand in the file, and what was changed, each with the first
+    line."""
 
     source: Rows
     # The fields of each row as they stand in the file; nothing if they stand so already.
-    raw: list | None
-    changes: list = field(default_factory=list)
+    raw: list[list[str]] | None
+    changes: list[Change] = field(default_factory=list)
     is_plain: bool = True
 
-    def raw_fields(self, index):
+    def raw_fields(self, index: int) -> list[str]:
         return self.raw[index] if self.raw is not None else self.source.fields(index)
 
-    def text(self):
+    def text(self) -> str:
         """The rows as a text of the program."""
         stream = io.StringIO()
         writer = csv.writer(stream, lineterminator="\n")
@@ -40,7 +44,7 @@ class Mended:
         return stream.getvalue()
 
 
-def decoded(content):
+def decoded(content: bytes) -> tuple[str, str]:
     """A text, and the name of its encoding if it is not the one that it must have."""
     for mark, encoding in MARKS.items():
         if content.startswith(mark):
@@ -52,7 +56,7 @@ def decoded(content):
     return content.decode("utf-8-sig", "surrogateescape"), ""
 
 
-def separator_of(text):
+def separator_of(text: str) -> str:
     """What stands between the fields, by most of the rows."""
     rows = [row for row in text[: 100 * ROWS_LOOKED_AT].splitlines() if row.strip()][:ROWS_LOOKED_AT]
     for separator in SEPARATORS:
@@ -62,17 +66,17 @@ def separator_of(text):
     return ","
 
 
-def stripped(word):
+def stripped(word: str) -> str:
     """A field without what nobody sees round it."""
     while word != (word := word.strip().strip(UNSEEN)):
         pass
     return word
 
 
-def mended(path):
+def mended(path: str) -> Mended:
     """The text of a file, mended."""
     text, encoding = decoded(bytes_of(path))
-    changes = []
+    changes: list[Change] = []
     if encoding:
         changes.append((1, f"the file is {encoding}, and must be UTF-8 or plain ASCII"))
     separator = separator_of(text)
@@ -88,23 +92,20 @@ def mended(path):
     return Mended(*tidied(path, raw, lines, changes), changes, is_plain='"' not in text)
 
 
-def separated(text, separator):
+def separated(text: str, separator: str) -> tuple[list[list[str]], list[int]]:
     """The rows of a text with another separator, and their lines."""
-    csv.field_size_limit(sys.maxsize)
-    reader = csv.reader(io.StringIO(text, newline=""), delimiter=separator)
-    raw, lines, last = [], [], 0
-    for fields in reader:
-        line, last = last + 1, reader.line_num
-        if fields:
-            raw.append(fields)
-            lines.append(line)
-    return raw, lines
+    records = [*records_of(text, separator)]
+    return [fields for _, fields in records], [line for line, _ in records]
 
 
-def tidied(path, raw, lines, changes):
+def tidied(path: str, raw: list[list[str]], lines: list[int], changes: list[Change]) -> tuple[Rows, list[list[str]]]:
     """The rows without blanks and padding, and the fields of each as they stand in the file. Adds what was changed."""
-    source, kept = Rows(path, [], []), []
-    padded, blank, empty = [], [], []
+    numbers: list[int] = []
+    source = Rows(path, [], numbers)
+    kept: list[list[str]] = []
+    padded: list[int] = []
+    blank: list[int] = []
+    empty: list[int] = []
     for line, fields in zip(lines, raw):
         words = [*map(stripped, fields)]
         if words != fields:
@@ -116,10 +117,10 @@ def tidied(path, raw, lines, changes):
             continue
         if len(words) < len(fields):
             padded.append(line)
-        if any("," in it or "\n" in it or "\r" in it for it in words):
+        if any("," in word or "\n" in word or "\r" in word for word in words):
             source.unplain[len(source.rows)] = words
         source.rows.append(",".join(words))
-        source.lines.append(line)
+        numbers.append(line)
         kept.append(fields)
     for found, what in (
         (blank, "blanks or characters that nobody sees stand round fields"),

@@ -1,62 +1,71 @@
-"""Writes the next day's text to standard output, from a day and its report.
+"""Writes the next day's text, from a day and its report.
 
   heading       that of DAY, with --date and the next record number of REPORT
   calendar      every work row of DAY, and those of --work, rising; a repeated one is left out
   accounts      the book of REPORT; whole account blocks of --changes are added, or put in place of those of the book
-  instructions  what DAY refused as NotDue, and what waits in the --pending file, with their old dates, as far as they are due on
-                --date; then those of --do. The others go to the pending file, each with its due day
+  instructions  what DAY refused as NotDue, and what waits in the --pending file, with their old dates, as far as they
+                are due on --date; then those of --do. The others go to the pending file, each with its due day
 
-REPORT must be that of DAY: the same instructions one by one under the record numbers from NEXT, and the same accounts. --work,
---do and --changes have only such rows, with or without a row end. The pending file is made if it is not there, and written anew;
-the command may be run again for the same day. Standard error tells each change by hand, what to look at, and the counts.
+REPORT must be what follows from DAY. --work, --do and --changes have only such rows, with or without a row end.
+--pending-new makes the pending file, and --pending reads it and writes it anew; the command may be run again for the
+same day. Standard error tells each change by hand, what to look at, and the counts.
 
 Nothing is written if something is wrong.
+
+exit status: 0 if the text was written, 1 if it was written and something is to be looked at.
 """
+import argparse
 import dataclasses
 import datetime
 import sys
+from typing import Iterator
 
 import faults
 import rules
 from day import pending, weekdays
-from day.books import open_by_late_begin, sums_of
-from day.errors import FileFault, WordsFault
-from day.output import NewFile
+from day.accounts import Accounts, Block
+from day.books import open_by_late_begin
+from day.by_hand import refusals
+from day.day_text import DayText, read_blocks, read_rows_of
+from day.due import NOT_DUE, due_day_after, is_due
+from day.errors import FOUND, FileFault, RowFault, WordsFault
+from day.notes import Notes
+from day.options import add_to
+from day.output import NewFile, write_answer
 from day.pairs import read_pair
-from day.reading import Accounts, Rows, read_blocks, read_rows_of
+from day.repeated import Handed, tell_dates, tell_repeated
+from day.report import Report
+from day.rows import Rows, begins_with
 
-EXAMPLE = "./day next monday.report monday.csv --date 2025-05-15 --do new.csv --pending waiting.csv > tuesday.csv"
+EXAMPLE = (
+    "./day next examples/week/monday.csv examples/week/monday-report.csv --date 2025-09-23 "
+    "--do examples/week/tuesday-do.csv --pending-new out/waiting.csv --to out/tuesday.csv"
+)
 LAGS = {"trusted": "TRUSTED", "other": "OTHER", "list": "LIST"}
-NOT_DUE, OUTSIDE = (rules.name_of(it) for it in (rules.not_due, rules.outside_calendar))
+OUTSIDE = rules.name_of(rules.outside_calendar)
 
 
-def add_words(parser):
-    parser.add_argument("report", metavar="REPORT", help="the report of the day")
-    parser.add_argument("day", metavar="DAY", help="the day text that it is of")
+def add_words(parser: argparse.ArgumentParser) -> None:
+    parser.add_argument("day", metavar="DAY", help="a day text")
+    parser.add_argument("report", metavar="REPORT", help="its report")
     parser.add_argument("--date", required=True, metavar="DATE", help="the next settlement day")
     parser.add_argument("--do", metavar="FILE", help="the new instructions: do rows")
+    parser.add_argument(
+        "--again", action="store_true", help="new instructions may stand in DAY, in the pending file or twice in --do"
+    )
     parser.add_argument("--work", metavar="FILE", help="more working days: work rows")
-    parser.add_argument("--changes", metavar="FILE", help="accounts that are new, or changed by hand: whole account blocks")
+    parser.add_argument(
+        "--changes", metavar="FILE", help="accounts that are new, or changed by hand: whole account blocks"
+    )
     parser.add_argument("--pending", metavar="FILE", help="the instructions that wait for their due day")
-
-
-class Notes:
-    """What is told on standard error, if all goes well."""
-
-    def __init__(self):
-        self.lines = []
-
-    def add(self, line):
-        self.lines.append(line)
-
-    def warn(self, line):
-        self.lines.append(f"LOOK AT THIS: {line}")
+    parser.add_argument("--pending-new", metavar="FILE", help="the same, for the first time: the file is made")
+    add_to(parser)
 
 
 # The calendar.
 
 
-def calendar_of(day, path, notes):
+def calendar_of(day: DayText, path: str | None, notes: Notes) -> list[datetime.date]:
     """The working days of the next day."""
     old = day.head.working_days
     if path is None:
@@ -64,19 +73,22 @@ def calendar_of(day, path, notes):
     source = read_rows_of("work", path, faults.Reading(last="lags"))
     new = [datetime.date.fromisoformat(row.split(",")[1]) for row in source.rows]
     added = sorted({*new} - {*old})
-    between = [it for it in added if old and it < old[-1]]
+    between = [date for date in added if old and date < old[-1]]
     if between:
-        notes.warn(f"{path}:{source.line(new.index(between[0]))}: {between[0]} was no working day in {day.path}, whose calendar "
-                   f"goes on to {old[-1]}: due days change")  # fmt: skip
+        place = f"{path}:{source.line(new.index(between[0]))}"
+        notes.warn(
+            f"{place}: {between[0]} was no working day in {day.path}, whose calendar goes on to {old[-1]}: "
+            "due days change"
+        )
     notes.add(f"calendar: {len(added)} working days added, {len(new) - len(added)} repeated left out")
     every = sorted([*old, *added])
-    left_out = [it for it in weekdays.left_out(every) if not old or it > old[-1]]
+    left_out = [missing for missing in weekdays.left_out(every) if not old or missing > old[-1]]
     if left_out:
         notes.add(f"calendar: weekdays without a work row: {weekdays.in_words(left_out)}")
     return every
 
 
-def look_at_calendar(head, book, notes):
+def look_at_calendar(head: rules.Day, book: dict[int, Block], notes: Notes) -> None:
     """Warns where the calendar is too short for what may be proposed or done on the day."""
     last = head.working_days[-1] if head.working_days else None
     end = f"the calendar ends on {last}" if last else "the calendar is empty"
@@ -90,8 +102,9 @@ def look_at_calendar(head, book, notes):
     begins_late(head, book, notes)
 
 
-def begins_late(head, book, notes):
-    """Warns of surrenders and deletions from before the calendar, whose window seems open only because it begins so late."""
+def begins_late(head: rules.Day, book: dict[int, Block], notes: Notes) -> None:
+    """Warns of surrenders and deletions from before the calendar, whose window seems open only because it begins so
+    late."""
     early = [*open_by_late_begin(head, book)]
     if early:
         block, place = early[0]
@@ -103,23 +116,47 @@ def begins_late(head, book, notes):
 # The accounts.
 
 
-def book_with_changes(day, report, path, notes):
+def book_with_changes(day: DayText, report: Report, path: str | None, notes: Notes) -> dict[int, Block]:
     """The book of the next day, with the blocks of a file."""
     if path is None:
         return report.book
-    years = [last for _, last in day.head.periods]
-    reading = faults.Reading(last="work", version=2, next_record=report.next_record, last_years=years)
-    changes = read_blocks(path, reading)
+    changes = read_changes(day, report, path)
     for number, block in changes.items():
-        tell_change(report, report.book.get(number), block, notes)
-    tell_effect(report, changes, notes)
-    book = {number: changes.get(number, report.book.get(number)) for number in sorted({*report.book, *changes})}
+        old = report.book.get(number)
+        for fault in refusals(old, block):
+            raise fault
+        tell_change(report, old, block, notes)
+    if all(number in report.book and report.book[number].rows == block.rows for number, block in changes.items()):
+        notes.warn(f"{path}: nothing of this file was applied: {len(changes)} accounts, and none is new or another one")
+    both = {**report.book, **changes}
+    book = {number: both[number] for number in sorted(both)}
     if len(book) > faults.MOST["account"]:
-        raise FileFault(path, 0, "", f"with it there are {len(book)} accounts, and at most {faults.MOST['account']} may be", "")
+        raise FileFault(
+            path, 0, "", f"with it there are {len(book)} accounts, and at most {faults.MOST['account']} may be", ""
+        )
     return book
 
 
-def tell_change(report, old, new, notes):
+def read_changes(day: DayText, report: Report, path: str) -> dict[int, Block]:
+    """The accounts of a file of changes. One that names a period which the day does not have is told what the day
+    lacks."""
+    years = [last for _, last in day.head.periods]
+    reading = faults.Reading(last="work", version=2, next_record=report.next_record, last_years=years)
+    try:
+        return read_blocks(path, reading)
+    except RowFault as fault:
+        if fault.field != "PERIOD":
+            raise
+        periods = "1 period" if len(years) == 1 else f"{len(years)} periods"
+        lacking = (
+            f"{day.path} has {periods}: add the row of that period to it, and in version 1 also format,2 and current,1"
+        )
+        raise FileFault(
+            fault.path, fault.line, fault.field, fault.found, f"{lacking} (docs/FORMATS.md#from-version-1-to-version-2)"
+        ) from None
+
+
+def tell_change(report: Report, old: Block | None, new: Block, notes: Notes) -> None:
     """Tells what a block of the changes changes, row by row."""
     where = f"{new.source.path}:{new.line}"
     if old is None:
@@ -133,85 +170,74 @@ def tell_change(report, old, new, notes):
         notes.lines += [f"  + {row}" for row in new.rows if row not in before]
 
 
-def tell_effect(report, changes, notes):
-    """Warns if the changes create allowances or make them vanish."""
-    old = [report.book[it] for it in changes if it in report.book]
-    before, after = (sums_of(row for block in blocks for row in block.rows) for blocks in (old, changes.values()))
-    for kind in rules.KINDS:
-        change = after[kind].allowances - before[kind].allowances
-        if change:
-            notes.warn(f"by hand: {change:+,} {kind} allowances, held and surrendered together")
-
-
 # The instructions.
 
 
-def due_day(head, i):
-    """The due day of an instruction by the calendar and the trusted lists of the day."""
-    asked = rules.Asked(head, i)
-    return head.due(i.proposed, 0) if rules.unknown_account(asked) else asked.due()
-
-
-def waiting_after(day, report, path, date, notes):
+def waiting_after(
+    day: DayText, report: Report, file: pending.PendingFile | None, date: datetime.date, notes: Notes
+) -> list[pending.Waiting]:
     """The instructions that wait after the day: those of the pending file, and those that the day refused as NotDue."""
     waiting = []
-    if path:
-        waiting, lost = pending.still_waiting(path, day, report, date)
-        for it in lost:
-            notes.warn(f"{path} says that this was entered into {day.path}, which does not have it: {it.do_row()}")
-    return waiting + [pending.Waiting(it.record, it.instruction) for it in report.log if it.name == NOT_DUE]
+    if file:
+        found = pending.still_waiting(file, day, report, date)
+        notes.warn(*found.warnings)
+        notes.warn(
+            *(
+                f"{lost.place}: this was entered into {day.path}, which does not have it: {lost.do_row()}"
+                for lost in found.lost
+            )
+        )
+        waiting += found.waiting
+    not_due = (logged for logged in report.log if logged.name == NOT_DUE)
+    return waiting + [
+        pending.Waiting(logged.record, logged.instruction, place=f"{report.path}:{logged.line}") for logged in not_due
+    ]
 
 
-def enter_due(head, waiting, notes):
+def enter_due(head: rules.Day, waiting: list[pending.Waiting], notes: Notes) -> list[pending.Waiting]:
     """Marks those that are due on the day as entered, and gives each other one its due day."""
-    for it in waiting:
-        it.due = due_day(head, it.instruction)
-        if it.due is None:
-            notes.warn(f"the calendar has no due day for this, which goes on waiting: {it.do_row()}")
-        elif it.due <= head.date:
-            it.entered = head.date
-    return [it for it in waiting if it.entered]
+    for waits in waiting:
+        if is_due(head, waits.instruction):
+            waits.entered = head.date
+            continue
+        waits.due = due_day_after(head, waits.instruction)
+        if waits.due is None:
+            notes.warn(f"the calendar has no due day for this, which goes on waiting: {waits.do_row()}")
+    return [waits for waits in waiting if waits.entered]
 
 
-def new_instructions(path, report, count):
+def new_instructions(path: str | None, report: Report, count: int) -> Rows:
     """The `do` rows of a file; so many stand before them."""
     if path is None:
-        return Rows(path, [], [])
+        return Rows("", [], [])
     return read_rows_of("do", path, faults.Reading(last="do", next_record=report.next_record, counts={"do": count}))
 
 
-def tell_repeated(new, waiting, notes):
-    """Warns of new instructions that wait already: they are entered on their due day in any case, and would be done twice."""
-    waits = {it.do_row() for it in waiting}
-    for place, row in enumerate(new.rows):
-        if row in waits:
-            notes.warn(f"{new.path}:{new.line(place)}: this one waits already, and comes into the text of its due day by itself. "
-                       f"With this row it comes twice: {row}")  # fmt: skip
-
-
-def tell_refused(report, notes):
+def tell_refused(report: Report, notes: Notes) -> None:
     """Tells what the day refused, and nobody enters again."""
-    for logged in (it for it in report.log if it.name == OUTSIDE):
+    for logged in (own for own in report.log if own.name == OUTSIDE):
         notes.warn(f"{report.path}:{logged.line}: refused as {OUTSIDE}. Add working days and enter it again: "
                    f"do,{','.join(logged.instruction.fields)}")  # fmt: skip
-    others = sum(not it.is_done and it.name not in (NOT_DUE, OUTSIDE) for it in report.log)
-    notes.add(f"refused by {report.path} for other reasons: {others}{' (./day log --refused shows each)' if others else ''}")
+    others = sum(not logged.is_done and logged.name not in (NOT_DUE, OUTSIDE) for logged in report.log)
+    notes.add(
+        f"refused by {report.path} for other reasons: {others}{' (./day log --refused shows each)' if others else ''}"
+    )
 
 
 # All together.
 
 
-def heading_of(day, date, next_record, calendar):
+def heading_of(day: DayText, date: datetime.date, next_record: int, calendar: list[datetime.date]) -> Iterator[str]:
     """The rows before the accounts."""
     for row in day.heading:
         if row.startswith("day,"):
             yield f"day,{date},{next_record}"
         elif not row.startswith("work,"):
             yield row
-    yield from (f"work,{it}" for it in calendar)
+    yield from (f"work,{working}" for working in calendar)
 
 
-def date_of(word, day):
+def date_of(word: str, day: DayText) -> datetime.date:
     try:
         date = datetime.date.fromisoformat(faults.date("DATE").read(word))
     except faults.Fault:
@@ -221,54 +247,75 @@ def date_of(word, day):
     return date
 
 
-def run(words):
-    notes = Notes()
-    day, report = read_pair(words.day, words.report)
+def in_order(first: str, second: str, notes: Notes) -> tuple[str, str]:
+    """The paths of the day and of its report, also if they are named the other way round, as it was before."""
+    if begins_with(first, ("log,", "book,")) and begins_with(second, ("format,",)):
+        notes.add(f"{first} is a report, and {second} its day: the day is named first")
+        return second, first
+    return first, second
+
+
+def tell_days(before: DayText, head: rules.Day, notes: Notes) -> None:
+    """Tells if the day is no working day, and which working days lie between."""
+    if head.date not in head.working_days:
+        notes.add(f"{head.date:%A} {head.date} is no working day by the calendar")
+    between = [skipped for skipped in head.working_days if before.head.date < skipped < head.date]
+    if between:
+        notes.add(f"working days that have no text: {weekdays.in_words(between)}")
+
+
+def next_head(
+    words: argparse.Namespace, day: DayText, report: Report, notes: Notes
+) -> tuple[rules.Day, dict[int, Block]]:
+    """The next day as the rules see it, without instructions: its calendar and its book; and the book in blocks."""
     date = date_of(words.date, day)
     calendar = calendar_of(day, words.work, notes)
     book = book_with_changes(day, report, words.changes, notes)
     head = dataclasses.replace(day.head, date=date, working_days=calendar, accounts=Accounts(book))
+    tell_days(day, head, notes)
     look_at_calendar(head, book, notes)
-    waiting = waiting_after(day, report, words.pending, date, notes)
+    return head, book
+
+
+def run(words: argparse.Namespace) -> int:
+    notes = Notes()
+    path = pending.chosen_path(words.pending, words.pending_new)
+    file = pending.read_pending(words.pending) if words.pending else None
+    day, report = read_pair(*in_order(words.day, words.report, notes))
+    head, book = next_head(words, day, report, notes)
+    waiting = waiting_after(day, report, file, head.date, notes)
     entered = enter_due(head, waiting, notes)
     left = len(waiting) - len(entered)
-    if left and not words.pending:
-        raise WordsFault(f"instructions that are not due on {date}: {left}; name a file for them by --pending")
+    if left and not path:
+        raise WordsFault(
+            f"instructions that are not due on {head.date}: {left}; name a file for them by --pending or --pending-new"
+        )
     new = new_instructions(words.do, report, len(entered))
-    tell_repeated(new, waiting, notes)
+    tell_repeated(Handed(new, day, report, waiting), words.again, notes)
+    tell_dates(new, head, notes)
     check_count(report, len(entered) + len(new))
     tell_refused(report, notes)
     notes.add(f"accounts: {len(book)}")
     counts = f"{len(entered)} waited and {len(new)} are new; {left} go on waiting"
     notes.add(f"instructions: {len(entered) + len(new)}, of which {counts}")
-    notes.add(f"next day: {date}, records from {report.next_record}")
-    rows = [*heading_of(day, date, report.next_record, calendar)]
+    notes.add(f"next day: {head.date}, records from {report.next_record}")
+    rows = [*heading_of(day, head.date, report.next_record, head.working_days)]
     for block in book.values():
         rows += block.rows
-    rows += [*(it.do_row() for it in entered), *new.rows, "end", ""]
-    write(rows, waiting, words.pending, notes)
-    return 0
+    rows += [*(own.do_row() for own in entered), *new.rows, "end", ""]
+    made = pending.Made(head.date, report.next_record)
+    others = [NewFile(path, pending.text_of(waiting, made))] if path else []
+    write_answer("\n".join(rows), words.to, *others)
+    print("\n".join(notes.lines), file=sys.stderr)
+    return FOUND if notes.has_warnings else 0
 
 
-def check_count(report, count):
+def check_count(report: Report, count: int) -> None:
     """Ends the command if the day would have more instructions than it may."""
     if count > faults.MOST["do"]:
         most = faults.MOST["do"]
-        raise WordsFault(f"the day would have {count} instructions, and at most {most} may be: move some to another day")
+        raise WordsFault(
+            f"the day would have {count} instructions, and at most {most} may be: move some to another day"
+        )
     if count and report.next_record + count - 1 > faults.MOST_RECORD:
         raise WordsFault(f"the day would need records above {faults.MOST_RECORD}")
-
-
-def write(rows, waiting, path, notes):
-    """Writes the text, and then the pending file: neither is written if the other cannot be."""
-    new_file = NewFile(path, pending.text_of(waiting)) if path else None
-    try:
-        sys.stdout.write("\n".join(rows))
-        sys.stdout.flush()
-    except (OSError, KeyboardInterrupt):
-        if new_file:
-            new_file.forget()
-        raise
-    if new_file:
-        new_file.keep()
-    print("\n".join(notes.lines), file=sys.stderr)

@@ -1,6 +1,10 @@
 """Says on a terminal what a command is doing, from its second second on."""
 import sys
 import time
+from collections.abc import Iterable, Iterator
+from typing import TextIO, TypeVar
+
+T = TypeVar("T")
 
 FIRST, NEXT = 2.0, 0.2
 
@@ -8,13 +12,13 @@ FIRST, NEXT = 2.0, 0.2
 class Progress:
     """A line on standard error that says how far a piece of work is; nothing where standard error is no terminal."""
 
-    def __init__(self, stream=None):
+    def __init__(self, stream: TextIO | None = None) -> None:
         self.stream = stream or sys.stderr
         self.is_shown = self.stream.isatty()
         self.next_time = time.monotonic() + FIRST
         self.has_line = False
 
-    def tell(self, what, done=0, of=0):
+    def tell(self, what: str, done: int = 0, of: int = 0) -> None:
         """Says what is done, and how much of it, if the time for the next line has come."""
         now = time.monotonic() if self.is_shown else 0
         if not self.is_shown or now < self.next_time:
@@ -23,14 +27,14 @@ class Progress:
         share = f" {100 * done // of} %" if of else ""
         print(f"\r\033[K{what} ..{share}", end="", file=self.stream, flush=True)
 
-    def over(self, items, what, of, step=1_000):
+    def over(self, items: Iterable[T], what: str, of: int, step: int = 1_000) -> Iterator[T]:
         """Gives the items, and says now and then how many of them are done."""
         for place, item in enumerate(items):
             if place % step == 0:
                 self.tell(what, place, of)
             yield item
 
-    def clear(self):
+    def clear(self) -> None:
         """Takes the line away again."""
         if self.has_line:
             print("\r\033[K", end="", file=self.stream, flush=True)

@@ -15,7 +15,7 @@ use Rattle.std.proofs.lemmas.List.Sorted.{Contains-permutation, IsPermutation-ma
 use Rattle.std.proofs.lemmas.List.Elements.{All-from_recursion, All-push}
 use Rattle.std.proofs.lemmas.Map.Keys.{IsDistinct-push, IsDistinct-IsPermutation, IsDistinct-tail, apart_from_distinct}
 use Rattle.reg_base.specs.declared.kinds.AccountKind.{AccountKind}
-use Rattle.reg_base.specs.Directory.{DirectoryValue}
+use Rattle.reg_base.specs.Directory.{DirectoryValue, entry_numbers}
 use Rattle.reg_base.specs.declared.limits.TheConstants.{MOST_ACCOUNTS}
 use Rattle.reg_base.specs.Footprint.{is_among}
 use Rattle.reg_account.specs.declared.rows.RetirementRow.{RetirementRow}
@@ -37,6 +37,11 @@ listing v = (v.kind, v.holder)
 pub length-numbers : (xs : State) → length (numbers xs) ≡ length xs
 length-numbers [] = refl
 length-numbers (v ∷ vs) = ap suc (length-numbers vs)
+
+-- the numbers of the entries of accounts are theirs
+pub entry-numbers : (xs : State) → entry_numbers (map entry_of xs) ≡ numbers xs
+entry-numbers [] = refl
+entry-numbers (v ∷ vs) = ap (λ (ns : List ℕ). v.number ∷ ns) (entry-numbers vs)
 
 -- the number at an index is that of the account there
 pub number_at : (xs : State) (k : ℕ) (d : AccountValue) → k < length xs

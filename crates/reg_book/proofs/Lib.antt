@@ -18,4 +18,3 @@ pub mod Values
 pub mod Conserved
 pub mod ClosedStay
 pub mod Chains
-pub mod Appends

@@ -1,6 +1,5 @@
 pub mod Book
 pub mod Totals
-pub mod Appending
 pub mod Fold
 pub mod Settled
 pub mod Day

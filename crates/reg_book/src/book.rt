@@ -9,11 +9,13 @@ ghost use Rattle.reg_rules.specs.State.{account, numbers};
 ghost use Rattle.reg_book.specs.Book.{overlay, AreHigher};
 ghost use Rattle.reg_book.specs.Totals.{totals_of};
 
+use crate::listed::ListedAccounts;
 use crate::settled::{Settled, Stale};
 use crate::totals::{BothTotals, Totals, add_up};
 use reg_account::Account;
 use reg_base::{AccountNo, AllowanceKind, Directory};
 use reg_rules::LogRow;
+use std::alloc::Global;
 use std::marker::Model;
 use std::mem;
 
@@ -64,6 +66,19 @@ impl Book {
         Book {
             accounts,
             directory,
+            next,
+        }
+    }
+
+    /// The book of these accounts, which stand by rising number, and the next record number. Takes no memory.
+    pub fn of_rising(alloc: Global, listed: ListedAccounts, next: u64) -> Self
+        requires { IsBook (record { accounts = listed; next = next }) }
+        ensures { result ≡ record { accounts = listed; next = next } }
+    {
+        let (accounts, entries) = listed.into_parts();
+        Book {
+            accounts,
+            directory: Directory::of_rising(alloc, entries),
             next,
         }
     }

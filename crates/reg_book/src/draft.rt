@@ -9,7 +9,6 @@ ghost use Rattle.reg_rules.specs.State.{numbers};
 ghost use Rattle.reg_rules.specs.Effect.{IsBehind};
 ghost use Rattle.reg_account.specs.Account.{IsAccount};
 ghost use Rattle.reg_book.specs.Book.{directory_of, has_row_ahead, first_fault, IsBookFault};
-ghost use Rattle.reg_book.specs.Appending.{IsMoveFault};
 
 use crate::book::Book;
 use reg_account::Account;
@@ -24,8 +23,7 @@ pub enum BookFault {
     /// The draft already has an account with this number.
     #[error("an account of this number is there already")]
     Repeated,
-    /// A surrender or a deletion of the account has a number that is not below the next record number. Of two drafts
-    /// that are to be joined: they have different next record numbers.
+    /// A surrender or a deletion of the account has a number that is not below the next record number.
     #[error("a surrender or a deletion is recorded under a number that comes only later")]
     RowAhead,
     /// The draft already has 100,000 accounts.
@@ -56,7 +54,6 @@ impl Model for BookDraft {
 
 impl BookDraft {
     ghost use Rattle.reg_book.specs.Book.{with_account, IsNext, IsFinished, IsBookFault, first_fault};
-    ghost use Rattle.reg_book.specs.Appending.{with_accounts, IsAppendFault};
 
     /// A draft without accounts. `next` is the next record number, 1 to 10^15 + 1. Takes no memory.
     pub fn new(alloc: Global, next: u64) -> Self
@@ -89,47 +86,6 @@ impl BookDraft {
         }
     }
 
-    /// A draft without accounts that has the same next record number. Takes no memory.
-    pub fn emptied(&self, alloc: Global) -> Self
-        ensures { result ≡ record { accounts = []; next = self.now.next } }
-    {
-        BookDraft::new(alloc, self.next)
-    }
-
-    /// This draft with the accounts of another one behind its own, in their order. If it has none of its own, nothing
-    /// is moved.
-    ///
-    /// # Errors
-    /// `RowAhead` if the two have different next record numbers. `Full` if they have more than 100,000 accounts
-    /// together. `Repeated` if both have an account with the same number. `NoMemory` if memory ran out. Both drafts are
-    /// given up then.
-    pub fn append(self, other: BookDraft) -> Result<BookDraft, BookFault>
-        ensures { MatchResult result
-            (λ both. both ≡ with_accounts self other.accounts)
-            (IsAppendFault self other) }
-    {
-        if self.next != other.next {
-            return Err(BookFault::RowAhead);
-        }
-        if other.accounts.len() > MOST_ACCOUNTS - self.accounts.len() {
-            return Err(BookFault::Full);
-        }
-        if self.accounts.is_empty() {
-            return Ok(other);
-        }
-        let BookDraft {
-            mut accounts,
-            mut directory,
-            next,
-        } = self;
-        move_behind(&mut accounts, &mut directory, other.accounts)?;
-        Ok(BookDraft {
-            accounts,
-            directory,
-            next,
-        })
-    }
-
     /// The book of these accounts, by rising number. Takes no memory.
     pub fn finish(self) -> Book
         ensures { IsFinished self result }
@@ -142,52 +98,6 @@ impl BookDraft {
         put_in_order(&mut accounts);
         Book::from_sorted(accounts, directory, next)
     }
-}
-
-// Moves accounts behind others, and enters each into the directory of all.
-fn move_behind(
-    accounts: &mut Vec<Account>,
-    directory: &mut Directory,
-    others: Vec<Account>,
-) -> Result<(), BookFault>
-    requires listed { directory.old ≡ directory_of accounts.old.items }
-    requires distinct { IsDistinct nat_eq (numbers accounts.old.items) }
-    ensures items { OnOk result (accounts.new.items ≡ accounts.old.items ++ others.items) }
-    ensures listed { OnOk result (directory.new ≡ directory_of accounts.new.items) }
-    ensures distinct { OnOk result (IsDistinct nat_eq (numbers accounts.new.items)) }
-    ensures fault { IfErr result (IsMoveFault (accounts.old.items ++ others.items)) }
-{
-    let Ok(()) = accounts.reserve(others.len()) else {
-        return Err(BookFault::NoMemory);
-    };
-    for account in others {
-        let Ok(added) = enter(accounts, directory, &account) else {
-            return Err(BookFault::NoMemory);
-        };
-        if !added {
-            return Err(BookFault::Repeated);
-        }
-        let Ok(()) = accounts.push(account) else {
-            return Err(BookFault::NoMemory);
-        };
-    }
-    Ok(())
-}
-
-// Enters an account into the directory of others, or answers false if one of them has its number.
-fn enter(
-    accounts: &[Account],
-    directory: &mut Directory,
-    account: &Account,
-) -> Result<bool, NoMemory>
-    requires listed { directory.old ≡ directory_of accounts.now }
-    ensures added { IfOk result
-        (λ added. is_among (numbers accounts.now) account.now.number ≡ (if added then false else true)) }
-    ensures entered { IfOk result
-        (λ added. IsTrue added → directory.new ≡ directory_of (accounts.now ++ account.now ∷ [])) }
-{
-    let added = directory.insert(account.number(), account.kind(), account.holder())?;
-    Ok(added)
 }
 
 // Sorts the accounts by number, in place. Accounts that are in order already are not moved.

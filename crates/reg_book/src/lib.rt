@@ -42,6 +42,7 @@ mod closing;
 mod draft;
 mod indexes;
 mod laws;
+mod listed;
 mod settle;
 mod settled;
 mod totals;
@@ -57,6 +58,8 @@ pub use laws::{
     log_is_made_again, settled_is_closing, settled_is_of_book, stays_ready, untouched_stay,
     value_is_last_touchers,
 };
+pub use listed::ListedAccounts;
 pub use settle::{SettleFault, settle_plain};
 pub use settled::{Settled, Stale};
 pub use totals::{BothTotals, Totals, add_up};
+pub use turn::take_turn;

@@ -22,7 +22,7 @@ use std::alloc::Global;
 ///
 /// # Errors
 /// `NoMemory` if there was no memory for the closing holdings.
-pub(crate) fn take_turn(
+pub fn take_turn(
     alloc: Global,
     setting: &Setting,
     number: RecordNo,

@@ -1,4 +1,4 @@
-//! The records of a csv text, and of parts of it: where a text may be cut so that the records of its parts, one after
+//! The rows of a csv text, and of parts of it: where a text may be cut so that the rows of its parts, one after
 //! another, are those of the whole.
 //!
 //! A use of it, proved in `registry_uses/src/cuts.rt`:

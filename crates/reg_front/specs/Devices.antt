@@ -1,7 +1,7 @@
 -- What a call did to a reader or a writer.
 use Rattle.std.specs.Prelude.{ℕ, ◌<◌, ◌≤◌, List, length, Option, IfSome, ◌++◌, ◌≡◌}
 use Rattle.std.specs.Io.KnownBytes.{Appends, Consumes, IsAtEnd, Keeps}
-use Rattle.reg_front.specs.Streams.{Stream, IsGood, HasFailed}
+use Rattle.reg_front.specs.Streams.{Stream, IsFlushed, IsGood, HasFailed}
 
 -- the writer has taken a prefix of the text and nothing else
 abbrev pub AppendsFrontOf : List ℕ → Option (List ℕ) → Option (List ℕ) → Type 0
@@ -40,6 +40,12 @@ IsTooLong input = IfSome input.bytes (λ bytes. most_input < length bytes)
 pub record Writes (text : List ℕ) (old new : Stream) : Type 0 where
   pub good : IsGood old new
   pub bytes : Appends old.bytes new.bytes text
+
+-- the writer has not failed, holds the whole text after what it held before, and has handed all of it on
+pub record HandsOn (text : List ℕ) (old new : Stream) : Type 0 where
+  pub good : IsGood old new
+  pub bytes : Appends old.bytes new.bytes text
+  pub flushed : IsFlushed new
 
 -- the writer has failed, and holds a prefix of the text after what it held before
 pub record FailsToWrite (text : List ℕ) (old new : Stream) : Type 0 where

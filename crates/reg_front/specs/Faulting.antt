@@ -9,11 +9,16 @@ abbrev pub source_of : Faulty → Stream
 source_of device = record {
   bytes = cursor_remaining (λ bytes. Some bytes.items) device.left;
   failures = device.calls.failures;
+  flushed = device.flushed;
 }
 
 -- the device as a writer
 abbrev pub sink_of : Faulty → Stream
-sink_of device = record { bytes = Some device.written.items; failures = device.calls.failures }
+sink_of device = record {
+  bytes = Some device.written.items;
+  failures = device.calls.failures;
+  flushed = device.flushed;
+}
 
 -- the most bytes that one call moves
 abbrev pub most_of : Faulty → ℕ

@@ -6,7 +6,7 @@ use Rattle.reg_front.specs.declared.fault.FrontFault.{FrontFault}
 use Rattle.reg_front.specs.declared.fault.FrontFault.TheVariants.{Row, Read, Workers, NoAccount, NoThread, NoMemory}
 use Rattle.reg_front.specs.declared.fault.FrontFault.TheVariants.{WriteFailed}
 use Rattle.reg_front.specs.Streams.{Stream}
-use Rattle.reg_front.specs.Devices.{FailsToWrite, Writes}
+use Rattle.reg_front.specs.Devices.{FailsToWrite, HandsOn}
 
 -- what the line of a faulty row says
 abbrev pub faulty_row_text : ℕ → Cause → List ℕ
@@ -26,6 +26,6 @@ fault_text WriteFailed = codes "write failed"
 abbrev pub fault_line : FrontFault → List ℕ
 fault_line fault = fault_text fault ++ 10 ∷ []
 
--- the writer has got the line of the fault, whole if none of its calls failed, else a prefix of it
+-- the writer has got the line of the fault, whole and handed on if none of its calls failed, else a prefix of it
 abbrev pub IsTold : FrontFault → Stream → Stream → Type 0
-IsTold fault old new = Writes (fault_line fault) old new ⊎ FailsToWrite (fault_line fault) old new
+IsTold fault old new = HandsOn (fault_line fault) old new ⊎ FailsToWrite (fault_line fault) old new

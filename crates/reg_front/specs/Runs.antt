@@ -1,5 +1,5 @@
 -- What a command makes of an input: the text that it writes, or the fault that it answers.
-use Rattle.std.specs.Prelude.{◌≡◌, ℕ, List, Option, Some, None, Err, ⊤, ◌⊎◌, IfSome, if◌then◌else◌}
+use Rattle.std.specs.Prelude.{◌≡◌, ◌≤◌, ℕ, List, Option, Some, None, Err, ⊤, ◌⊎◌, IfSome, if◌then◌else◌}
 use Rattle.std.specs.Io.KnownBytes.{Appends}
 use Rattle.reg_plan.specs.Plans.{PlanValue, IsPlan}
 use Rattle.reg_book.specs.Book.{BookValue, directory_of}
@@ -20,7 +20,7 @@ use Rattle.reg_front.specs.declared.command.Command.TheVariants.{Settle, Plan, S
 use Rattle.reg_front.specs.declared.fault.FrontFault.{FrontFault}
 use Rattle.reg_front.specs.declared.fault.FrontFault.TheVariants.{Row, Read, Workers, NoAccount, NoThread, NoMemory}
 use Rattle.reg_front.specs.declared.fault.FrontFault.TheVariants.{WriteFailed}
-use Rattle.reg_front.specs.Streams.{Stream, IsGood, HasFailed}
+use Rattle.reg_front.specs.Streams.{Stream, IsFlushed, IsGood, HasFailed}
 use Rattle.reg_front.specs.Devices.{AppendsFrontOf, FailsToRead, IsPartlyRead, IsReadWhole, IsTooLong, IsUntouched}
 
 -- why the command is refused for a day with this book, if it is
@@ -54,12 +54,12 @@ abbrev pub IsRefused : Command → List ℕ → FrontFault → Type 0
 IsRefused command input fault =
     (day : Day) × IsReading (rows_in_text input) day × (command_fault command day.book ≡ Some fault)
 
--- the command starts threads
+-- the command settles by several workers, for whom threads are started
 abbrev pub StartsThreads : Command → Type 0
-StartsThreads command = (workers : ℕ) × (command ≡ Settle workers)
+StartsThreads command = (workers : ℕ) × (command ≡ Settle workers) × (2 ≤ workers)
 
 -- the command may answer this fault for this input; a lack of threads can occur with every day text that is to be
--- settled by workers, a lack of memory with every input; when an input is not read, the reader tells (`Reads`)
+-- settled by several workers, a lack of memory with every input; when an input is not read, the reader tells (`Reads`)
 abbrev pub IsFault : Command → List ℕ → FrontFault → Type 0
 IsFault command input (Row row cause) = day_of_rows (rows_in_text input) ≡ Err (row, cause)
 IsFault command input Workers = IsRefused command input Workers
@@ -104,11 +104,13 @@ Reads WriteFailed input rest = IsReadWhole input rest
 Reads Read input rest = FailsToRead input rest ⊎ (IsPartlyRead input rest × IsTooLong input)
 Reads NoMemory input rest = IsPartlyRead input rest
 
--- the command has read the whole input and written its text, and no call of the reader or the writer has failed
+-- the command has read the whole input and written its text, which the writer has handed on, and no call of the reader
+-- or the writer has failed
 pub record IsDone (command : Command) (input rest old new : Stream) : Type 0 where
   pub read : IsReadWhole input rest
   pub good : IsGood old new
   pub wrote : WritesText command input.bytes old.bytes new.bytes
+  pub flushed : IsFlushed new
 
 -- the command has answered this fault: why, and what became of the reader and of the writer
 pub record Fails (command : Command) (fault : FrontFault) (input rest old new : Stream) : Type 0 where

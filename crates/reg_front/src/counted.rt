@@ -1,17 +1,19 @@
 //! A reader or a writer of the standard library whose failed calls are counted.
 
 ghost use Rattle.std.specs.Prelude.{◌≡◌, ◌<◌, ◌+◌, ◌-◌, ◌^◌};
-ghost use Rattle.reg_front.specs.Counting.{counted_inner, counted_failures, counted_stream};
+ghost use Rattle.reg_front.specs.Counting.{counted_inner, counted_failures, counted_flushed, counted_stream};
 
 use crate::stream::{CallFailed, Sink, Source};
 use std::io;
 use std::io::{Read, Write};
 
-/// Any reader or writer, with the number of its calls that have failed.
+/// Any reader or writer, with the number of its calls that have failed, and whether it has accepted a flush since the
+/// last call of `write`.
 #[derive(Drop)]
 pub struct Counted<T> {
     inner: T,
     failures: u64,
+    flushed: bool,
     expected: usize,
 }
 
@@ -24,6 +26,7 @@ impl<T> Counted<T> {
         Counted {
             inner,
             failures: 0,
+            flushed: false,
             expected: 0,
         }
     }
@@ -32,10 +35,12 @@ impl<T> Counted<T> {
     pub fn expecting(self, expected: usize) -> Counted<T>
         ensures inner { counted_inner result ≡ counted_inner self }
         ensures failures { counted_failures result ≡ counted_failures self }
+        ensures flushed { counted_flushed result ≡ counted_flushed self }
     {
         Counted {
             inner: self.inner,
             failures: self.failures,
+            flushed: self.flushed,
             expected,
         }
     }
@@ -45,6 +50,7 @@ impl<T> Counted<T> {
         requires { counted_failures self.old < 2 ^ 64 - 1 }
         ensures inner { counted_inner self.new ≡ counted_inner self.old }
         ensures failures { counted_failures self.new ≡ counted_failures self.old + 1 }
+        ensures flushed { counted_flushed self.new ≡ counted_flushed self.old }
     {
         self.failures += 1;
         CallFailed
@@ -70,6 +76,7 @@ impl<W: Write> Sink for Counted<W> {
     ghost stream = { counted_stream W.contents };
 
     fn write(&mut self, buf: &[u8]) -> Result<usize, CallFailed> {
+        self.flushed = false;
         match self.inner.write(buf) {
             Ok(count) if count > 0 || buf.is_empty() => Ok(count),
             Ok(_) | Err(_) => Err(self.fail()),
@@ -78,7 +85,10 @@ impl<W: Write> Sink for Counted<W> {
 
     fn flush(&mut self) -> Result<(), CallFailed> {
         match self.inner.flush() {
-            Ok(()) => Ok(()),
+            Ok(()) => {
+                self.flushed = true;
+                Ok(())
+            }
             Err(_) => Err(self.fail()),
         }
     }
@@ -89,6 +99,7 @@ impl<W: Write> Write for Counted<W> {
     ghost contents = { λ counted. W.contents counted.inner };
 
     fn write(&mut self, buf: &[u8]) -> io::Result<usize> {
+        self.flushed = false;
         self.inner.write(buf)
     }
 

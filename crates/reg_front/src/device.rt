@@ -4,7 +4,7 @@ ghost use Rattle.std.specs.Prelude.{◌≡◌, ◌<◌, ◌≤◌, ◌+◌, [], 
 ghost use Rattle.std.specs.Prelude.{vec_len};
 ghost use Rattle.std.specs.Io.KnownBytes.{Consumes, IsAtEnd, Keeps};
 ghost use Rattle.reg_front.specs.Streams.{CanFail, HasFailed, IsGood};
-ghost use Rattle.reg_front.specs.Devices.{FailsToWrite, IsReadWhole, Writes, most_input};
+ghost use Rattle.reg_front.specs.Devices.{FailsToWrite, HandsOn, IsReadWhole, Writes, most_input};
 ghost use Rattle.reg_front.specs.Faults.{IsReadFault};
 
 use crate::stream::{CallFailed, Sink, Source};
@@ -143,7 +143,7 @@ pub(crate) fn put_all<W: Sink>(writer: &mut W, text: &[u8]) -> Result<(), CallFa
 /// the text, possibly all of it.
 pub(crate) fn write_all<W: Sink>(writer: &mut W, text: &[u8]) -> Result<(), CallFailed>
     requires { CanFail (W.stream writer.old) }
-    ensures ok { OnOk result (Writes text.now (W.stream writer.old) (W.stream writer.new)) }
+    ensures ok { OnOk result (HandsOn text.now (W.stream writer.old) (W.stream writer.new)) }
     ensures err { OnErr result (FailsToWrite text.now (W.stream writer.old) (W.stream writer.new)) }
 {
     let Ok(()) = put_all(writer, text) else {

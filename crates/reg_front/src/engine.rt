@@ -32,7 +32,7 @@ use std::{mem, thread};
 /// - `Row` if the input is not a day text, with the first faulty row and the first cause that applies to it.
 /// - `Workers` if the input is a day text and the number of workers is not 1 to 8.
 /// - `NoAccount` if the input is a day text and the account of a statement is not in its book.
-/// - `NoThread` if the input is a day text to be settled and a thread could not be started.
+/// - `NoThread` if the input is a day text to be settled by several workers and a thread could not be started.
 /// - `NoMemory` if memory ran out.
 /// - `WriteFailed` if a call of the writer fails, the last one among them, which flushes it. A prefix of the text has
 ///   then been written.

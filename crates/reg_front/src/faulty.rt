@@ -1,9 +1,9 @@
 //! A reader and a writer in memory that fails at one of its calls.
 
-ghost use Rattle.std.specs.Prelude.{◌≡◌, ◌≢◌, ◌<◌, ◌≤◌, [], Some, length, IfOk, OnErr, OnOk};
+ghost use Rattle.std.specs.Prelude.{◌≡◌, ◌≢◌, ◌<◌, ◌≤◌, [], Some, false, length, IfOk, OnErr, OnOk};
 ghost use Rattle.std.specs.Io.{ReadsAtMost, WritesAtMost};
 ghost use Rattle.std.specs.Io.KnownBytes.{Keeps, ReadConsumes, WriteAppends};
-ghost use Rattle.reg_front.specs.Streams.{CanFail, HasFailed, IsGood};
+ghost use Rattle.reg_front.specs.Streams.{CanFail, HasFailed, IsFlushed, IsGood};
 ghost use Rattle.reg_front.specs.Faulting.{IsCalled, failing_call, most_of, sink_of, source_of};
 
 use crate::calls::Calls;
@@ -17,6 +17,7 @@ use std::io::{Cursor, Read};
 pub struct Faulty {
     left: Cursor<Vec<u8>>,
     written: Vec<u8>,
+    flushed: bool,
     calls: Calls,
 }
 
@@ -25,14 +26,15 @@ impl Faulty {
     /// `call`, counted from 1. If that is 0, it fails only if memory runs out.
     pub fn new(alloc: Global, bytes: Vec<u8>, most: usize, call: usize) -> Faulty
         requires { 0 < most }
-        ensures source { source_of result ≡ record { bytes = Some bytes.items; failures = 0 } }
-        ensures sink { sink_of result ≡ record { bytes = Some []; failures = 0 } }
+        ensures source { source_of result ≡ record { bytes = Some bytes.items; failures = 0; flushed = false } }
+        ensures sink { sink_of result ≡ record { bytes = Some []; failures = 0; flushed = false } }
         ensures most { most_of result ≡ most }
         ensures call { failing_call result ≡ call }
     {
         Faulty {
             left: Cursor::new(bytes),
             written: Vec::new(alloc),
+            flushed: false,
             calls: Calls {
                 most,
                 until_failure: call,
@@ -80,12 +82,14 @@ impl Sink for Faulty {
         ensures bound { WritesAtMost result buf.now }
         ensures some { 0 < length buf.now → IfOk result (λ count. 0 < count) }
         ensures bytes { WriteAppends (sink_of self.old).bytes (sink_of self.new).bytes result buf.now }
+        ensures unflushed { (sink_of self.new).flushed ≡ false }
         ensures good { OnOk result (IsGood (sink_of self.old) (sink_of self.new)) }
         ensures failed { OnErr result (HasFailed (sink_of self.old) (sink_of self.new)) }
         ensures called { IsCalled self.old self.new }
         ensures most { IfOk result (λ count. count ≤ most_of self.old) }
         ensures not_due { OnOk result (failing_call self.old ≢ 1) }
     {
+        self.flushed = false;
         self.calls.begin()?;
         let most = buf.len().min(self.calls.most);
         match self.written.extend_from_slice(&buf[..most]) {
@@ -97,12 +101,15 @@ impl Sink for Faulty {
     fn flush(&mut self) -> Result<(), CallFailed>
         requires { CanFail (sink_of self.old) }
         ensures bytes { Keeps (sink_of self.old).bytes (sink_of self.new).bytes }
+        ensures flushed { OnOk result (IsFlushed (sink_of self.new)) }
         ensures good { OnOk result (IsGood (sink_of self.old) (sink_of self.new)) }
         ensures failed { OnErr result (HasFailed (sink_of self.old) (sink_of self.new)) }
         ensures called { IsCalled self.old self.new }
         ensures due { OnErr result (failing_call self.old ≡ 1) }
         ensures not_due { OnOk result (failing_call self.old ≢ 1) }
     {
-        self.calls.begin()
+        self.calls.begin()?;
+        self.flushed = true;
+        Ok(())
     }
 }

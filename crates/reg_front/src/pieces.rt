@@ -3,7 +3,7 @@
 ghost use Rattle.std.specs.Prelude.{◌++◌, OnErr, OnOk};
 ghost use Rattle.reg_text.specs.Pieces.{text_of_pieces};
 ghost use Rattle.reg_front.specs.Streams.{CanFail};
-ghost use Rattle.reg_front.specs.Devices.{FailsToWrite, Writes};
+ghost use Rattle.reg_front.specs.Devices.{FailsToWrite, HandsOn, Writes};
 
 use crate::device::{put_all, write_all};
 use crate::stream::{CallFailed, Sink};
@@ -34,7 +34,7 @@ pub(crate) fn write_pieces<W: Sink>(
 ) -> Result<(), CallFailed>
     requires { CanFail (W.stream writer.old) }
     ensures ok { OnOk result
-        (Writes (text_of_pieces pieces.now ++ end.now) (W.stream writer.old) (W.stream writer.new)) }
+        (HandsOn (text_of_pieces pieces.now ++ end.now) (W.stream writer.old) (W.stream writer.new)) }
     ensures err { OnErr result
         (FailsToWrite (text_of_pieces pieces.now ++ end.now) (W.stream writer.old) (W.stream writer.new)) }
 {

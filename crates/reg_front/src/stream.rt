@@ -1,9 +1,9 @@
 //! What a command reads from and writes to.
 
-ghost use Rattle.std.specs.Prelude.{◌<◌, length, IfOk, OnErr, OnOk};
+ghost use Rattle.std.specs.Prelude.{◌≡◌, ◌<◌, false, length, IfOk, OnErr, OnOk};
 ghost use Rattle.std.specs.Io.{ReadsAtMost, WritesAtMost};
 ghost use Rattle.std.specs.Io.KnownBytes.{Keeps, ReadConsumes, WriteAppends};
-ghost use Rattle.reg_front.specs.Streams.{CanFail, HasFailed, IsGood, Stream};
+ghost use Rattle.reg_front.specs.Streams.{CanFail, HasFailed, IsFlushed, IsGood, Stream};
 
 use thiserror::Error;
 
@@ -35,9 +35,11 @@ pub trait Source {
     }
 }
 
-/// A writer that tells its bytes and counts its failed calls. Both are for proofs alone.
+/// A writer that tells its bytes, counts its failed calls, and tells whether it is flushed. All this is for proofs
+/// alone.
 pub trait Sink {
-    // The bytes that it holds, if they are known, and how many of its calls have failed.
+    // The bytes that it holds, if they are known, how many of its calls have failed, and whether it has accepted a
+    // flush since the last call of `write`.
     ghost stream: { Self → Stream };
 
     /// Takes bytes from the front of `buf`, and answers how many. To take none of some is a failed call.
@@ -49,6 +51,7 @@ pub trait Sink {
         ensures bound { WritesAtMost result buf.now }
         ensures some { 0 < length buf.now → IfOk result (λ count. 0 < count) }
         ensures bytes { WriteAppends (stream self.old).bytes (stream self.new).bytes result buf.now }
+        ensures unflushed { (stream self.new).flushed ≡ false }
         ensures good { OnOk result (IsGood (stream self.old) (stream self.new)) }
         ensures failed { OnErr result (HasFailed (stream self.old) (stream self.new)) };
 
@@ -59,6 +62,7 @@ pub trait Sink {
     fn flush(&mut self) -> Result<(), CallFailed>
         requires { CanFail (stream self.old) }
         ensures bytes { Keeps (stream self.old).bytes (stream self.new).bytes }
+        ensures flushed { OnOk result (IsFlushed (stream self.new)) }
         ensures good { OnOk result (IsGood (stream self.old) (stream self.new)) }
         ensures failed { OnErr result (HasFailed (stream self.old) (stream self.new)) };
 }

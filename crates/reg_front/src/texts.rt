@@ -32,8 +32,8 @@ use std::alloc::Global;
 use std::sync::Wait;
 use std::thread::Threads;
 
-/// What a command has used: its text, and the closed day that the text was made from, if the command closed the day.
-/// Nothing is done with it but to free it, or not to.
+/// The text of a command, and the closed day from which it was made, if the command closed the day. Whoever has it
+/// frees it, or leaves that to the end of the program.
 #[derive(Drop)]
 pub(crate) struct Used {
     // What comes before `text`: none, unless several workers have spelled it.

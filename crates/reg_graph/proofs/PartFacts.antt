@@ -26,7 +26,7 @@ use Rattle.reg_schedules.specs.Schedules.{IsReached}
 use Rattle.reg_tasks.specs.Parcels.{parcels_of}
 use Rattle.reg_graph.specs.WorldParts.{first_head, IsWhy}
 
--- what is read at a place of a list that is a view of another
+-- what is read at an index of a list that is a view of another
 pub view-at : {X Y : Type 0} (f : X → Y) (xs : List X) (k : ℕ) (x : X) → k < length xs → x ≡ get_or xs k x
     → slice_get (map f xs) k ≡ Some (f x)
 view-at f xs k x lt is = slice_get-map f xs k ∙ ap (option_map f) (slice_get-get_or xs k x lt ∙ ap Some (sym is))

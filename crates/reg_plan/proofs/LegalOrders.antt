@@ -183,7 +183,7 @@ module _ (arrows : List Arrow) (places : ℕ) where
       let lt : p < q = tail_first w m (before ++ x ∷ []) xs p q h.1 s.fresh tail head in
       omega (arith, lt)
 
-  -- the other way round: by each place of the list
+  -- the other way round: by each position of the list
   by_indexes : (before xs : List ℕ)
       → ((k x : ℕ) → slice_get xs k ≡ Some x → MayCome arrows places (before ++ take k xs) x)
       → MayFollow arrows places before xs

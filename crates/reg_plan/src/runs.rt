@@ -1,6 +1,6 @@
 //! What the instructions of a batch touch, found run by run, by several threads.
 
-ghost use Rattle.std.specs.Prelude.{◌≡◌, ◌+◌, ◌≤◌, ◌++◌, length, IfOk};
+ghost use Rattle.std.specs.Prelude.{◌≡◌, ◌⊎◌, ◌+◌, ◌*◌, ◌≤◌, ◌++◌, length, IfOk};
 ghost use Rattle.std.specs.Thread.{IsSync};
 ghost use Rattle.reg_base.specs.declared.limits.TheConstants.{MOST_INSTRUCTIONS};
 ghost use Rattle.reg_plan.specs.Runs.{IsFound};
@@ -59,7 +59,8 @@ fn append(front: Found, back: Found) -> Result<Found, NoMemory>
 /// The number of runs of so many instructions, at most the wanted one: each of several runs has `least` instructions or
 /// more.
 pub(crate) fn count_runs(instructions: u32, wanted: u32, least: u32) -> u32
-    ensures { 1 ≤ result }
+    ensures some { 1 ≤ result }
+    ensures few { (result ≡ 1) ⊎ ((result ≤ wanted) × (result * least ≤ instructions)) }
 {
     (instructions / least.max(1)).min(wanted).max(1)
 }

@@ -31,7 +31,7 @@ kept-all x (y ∷ ys) none =
     (or-left (eqb y x) (list_any (λ z. eqb z x) ys) none)
     ∙ ap (λ zs. y ∷ zs) (kept-all x ys (or-right (eqb y x) (list_any (λ z. eqb z x) ys) none))
 
-once-distinct : (xs : List ℕ) → has_repeat xs ≡ false → each_once xs ≡ xs
+pub once-distinct : (xs : List ℕ) → has_repeat xs ≡ false → each_once xs ≡ xs
 once-distinct [] none = refl
 once-distinct (x ∷ xs) none =
     ap (λ ys. x ∷ filter (λ y. not (eqb y x)) ys)

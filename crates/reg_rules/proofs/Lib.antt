@@ -11,6 +11,7 @@ pub mod Repeats
 pub mod Firsts
 pub mod Reversals
 pub mod Applied
+pub mod Standing
 pub mod Figures
 pub mod LatestFigures
 pub mod Limits

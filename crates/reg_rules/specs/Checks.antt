@@ -87,7 +87,7 @@ is_unknown_transaction made e = is_reversal made && is_none (row_to_reverse made
 abbrev pub is_already_reversed : Change → Seen → Bool
 is_already_reversed made e = option_map_or (λ row. row.reversed) (row_to_reverse made e) false
 
--- the last day on which the row could be reversed is over; without such a day in the calendar, the window stays open
+-- the last day on which the row could be reversed is over; without such a day in the calendar, it is not over
 abbrev pub is_past_window : Setting → RetirementRow → Bool
 is_past_window c row = option_map_or (λ last. nat_lt last c.day)
     (due c.rules.calendar row.day c.rules.reversal_window) false

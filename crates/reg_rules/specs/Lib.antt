@@ -3,6 +3,7 @@ pub mod ActRules
 pub mod Entitlements
 pub mod Trust
 pub mod Checks
+pub mod Cases
 pub mod Effect
 pub mod Step
 pub mod Laws

@@ -1,31 +1,31 @@
 //! The checks of an instruction, in the order of the table of checks.
 
-ghost use Rattle.std.specs.Prelude.{◌≡◌, false, nat_lt, find};
+ghost use Rattle.std.specs.Prelude.{◌≡◌, ◌∷◌, false, nat_lt, find};
 ghost use Rattle.std.specs.Option.{option_map_or};
 ghost use Rattle.reg_base.specs.Acts.{movement_of};
 ghost use Rattle.reg_base.specs.Footprint.{footprint};
 ghost use Rattle.reg_base.specs.Refusals.{checks};
-ghost use Rattle.reg_rules.specs.State.{numbers, seen, seen_by};
-ghost use Rattle.reg_rules.specs.Trust.{trusts_receivers, due_day};
-ghost use Rattle.reg_rules.specs.Checks.{row_to_reverse, fails, refusal};
+ghost use Rattle.reg_rules.specs.State.{numbers, seen};
+ghost use Rattle.reg_rules.specs.Cases.{seen_in};
+ghost use Rattle.reg_rules.specs.Checks.{fails, refusal};
 
 use crate::amounts::{
     are_rows_full, is_kind_not_allowed, is_retired_too_large, is_short, overfills_first,
     overfills_some,
 };
+use crate::case::Case;
 use crate::compliance::{enters_too_much, lacks_emissions, names_year_outside};
 use crate::entitlement::{is_not_approver, is_not_proposer, is_same_representative};
+use crate::found::Found;
 use crate::parties::{destination_allows, has_right_kinds, names_one_twice, source_allows};
-use crate::reversal::{
-    is_reversal, is_reversed, is_window_over, row_to_reverse, would_become_non_compliant,
-};
-use crate::rule::rule_of;
+use crate::reversal::{is_reversal, is_reversed, is_window_over, would_become_non_compliant};
 use crate::setting::Setting;
 use crate::trust::{
-    due_day, has_no_effective_day, is_already_trusted, is_list_full, is_not_on_list,
-    is_not_trusted, lacks_approval, trusts_receivers,
+    has_no_effective_day, is_already_trusted, is_list_full, is_not_on_list, is_not_trusted,
+    lacks_approval,
 };
-use reg_account::{Account, RetirementRow};
+use reg_account::Account;
+use reg_base::laws::each_footprint_is_sound;
 use reg_base::{CHECKS, Day, Directory, Instruction, Movement, RecordNo, Refusal, Rules};
 
 /// The first check that fails, or `None` if no check fails. Takes no memory.
@@ -65,82 +65,88 @@ pub(crate) fn first_failing(
     requires movement { movement.now ≡ movement_of instruction.now.act }
     ensures { result ≡ find (fails setting.now (seen accounts.now instruction.now.act) instruction.now) checks }
 {
-    // Several checks read whether the destination is trusted, the due day, or the row that is to be reversed. Each is
-    // searched for once.
-    let trusted = trusts_receivers(setting.day, movement, accounts);
-    let due = due_day(setting, instruction, trusted);
-    let row = row_to_reverse(movement, accounts);
-    CHECKS.iter().copied().find(|check| refuses(
-        *check,
+    match accounts.split_first() {
+        // The footprint is empty exactly if an account that must be known is not.
+        None => Some(Refusal::UnknownAccount),
+        Some((first, receivers)) => {
+            first_among(setting, instruction, movement, first, receivers)
+        }
+    }
+}
+
+// The first check that fails if these are the first account of the instruction and those behind it.
+fn first_among<'a>(
+    setting: &'a Setting,
+    instruction: &'a Instruction,
+    movement: &'a Movement,
+    first: &'a Account,
+    receivers: &'a [Account],
+) -> Option<Refusal>
+    requires own { numbers (first.now ∷ receivers.now)
+        ≡ footprint setting.now.directory instruction.now.act }
+    requires movement { movement.now ≡ movement_of instruction.now.act }
+    ensures { result ≡ find (fails setting.now (seen (first.now ∷ receivers.now) instruction.now.act)
+        instruction.now) checks }
+{
+    if names_one_twice(movement) {
+        return Some(Refusal::SameAccount);
+    }
+    each_footprint_is_sound();
+    let found = Found::of(setting, instruction, movement, first, receivers);
+    let case = Case {
         setting,
         instruction,
         movement,
-        trusted,
-        due,
-        row,
-        accounts,
-    ))
+        first,
+        receivers,
+        found,
+    };
+    first_in(&case)
+}
+
+// The first check that fails in this case.
+fn first_in(case: &Case) -> Option<Refusal>
+    ensures { result ≡ find (fails case.now.setting (seen_in case.now) case.now.instruction) checks }
+{
+    CHECKS.iter().copied().find(|check| refuses(*check, case))
 }
 
 // Whether this check fails.
-fn refuses(
-    check: Refusal,
-    setting: &Setting,
-    instruction: &Instruction,
-    movement: &Movement,
-    trusted: bool,
-    due: Option<Day>,
-    row: Option<RetirementRow>,
-    accounts: &[Account],
-) -> bool
-    requires own { numbers accounts.now ≡ footprint setting.now.directory instruction.now.act }
-    requires movement { movement.now ≡ movement_of instruction.now.act }
-    requires trusted { trusted ≡ trusts_receivers setting.now.day (seen accounts.now instruction.now.act) }
-    requires due { due ≡ due_day setting.now (seen accounts.now instruction.now.act) instruction.now }
-    requires row { row ≡ row_to_reverse movement.now.change (seen_by movement.now accounts.now) }
-    ensures { result ≡ fails setting.now (seen accounts.now instruction.now.act) instruction.now check }
+fn refuses(check: Refusal, case: &Case) -> bool
+    ensures { result ≡ fails case.now.setting (seen_in case.now) case.now.instruction check }
 {
     use Refusal::*;
+    let found = case.found;
+    let setting = case.setting;
     match check {
-        // The footprint is empty exactly if an account that must be known is not.
-        UnknownAccount => accounts.is_empty(),
-        SameAccount => names_one_twice(movement),
-        WrongAccountKind => !has_right_kinds(rule_of(&instruction.act), movement, accounts),
-        SourceStatus => !source_allows(rule_of(&instruction.act), movement, accounts),
-        DestinationStatus => !destination_allows(rule_of(&instruction.act), movement, accounts),
-        NotProposer => is_not_proposer(setting.rules, instruction, movement, accounts),
-        ApprovalMissing => lacks_approval(setting, instruction, movement, trusted, accounts),
-        SameRepresentative => is_same_representative(instruction),
-        NotApprover => is_not_approver(setting.rules, instruction, movement, accounts),
-        NotTrusted => is_not_trusted(
-            setting,
-            rule_of(&instruction.act).lag,
-            movement,
-            trusted,
-            accounts,
-        ),
-        OutsideCalendar => due.is_none() || has_no_effective_day(setting, &movement.change),
-        NotDue => is_after(due, setting.day),
-        KindNotAllowed => is_kind_not_allowed(setting.rules, movement, accounts),
-        ZeroAmount => movement.names_zero(),
-        UnknownTransaction => is_reversal(&movement.change) && row.is_none(),
-        AlreadyReversed => is_reversed(row),
-        WindowClosed => is_window_over(setting, row),
-        NotEnough => is_short(movement, accounts),
-        HoldingTooLarge => {
-            overfills_first(movement, row, accounts) || overfills_some(movement, accounts)
-        }
-        RetiredTooLarge => is_retired_too_large(movement, accounts),
-        RowsFull => are_rows_full(movement, accounts),
-        WouldBecomeNonCompliant => {
-            would_become_non_compliant(setting.rules, movement, row, accounts)
-        }
-        AlreadyTrusted => is_already_trusted(movement, accounts),
-        NotOnList => is_not_on_list(movement, accounts),
-        ListFull => is_list_full(movement, accounts),
-        YearOutsidePeriod => names_year_outside(setting.rules, &movement.change),
-        AmountTooLarge => enters_too_much(&movement.change),
-        EmissionsMissing => lacks_emissions(setting.rules, movement, accounts),
+        // Where they fail, there is no case.
+        UnknownAccount | SameAccount => false,
+        WrongAccountKind => !has_right_kinds(case),
+        SourceStatus => !source_allows(case),
+        DestinationStatus => !destination_allows(case),
+        NotProposer => is_not_proposer(case),
+        ApprovalMissing => lacks_approval(case),
+        SameRepresentative => is_same_representative(case.instruction),
+        NotApprover => is_not_approver(case),
+        NotTrusted => is_not_trusted(case),
+        OutsideCalendar => found.due.is_none() || has_no_effective_day(case),
+        NotDue => is_after(found.due, setting.day),
+        KindNotAllowed => is_kind_not_allowed(case),
+        ZeroAmount => case.movement.names_zero(),
+        UnknownTransaction => is_reversal(&case.movement.change) && found.row.is_none(),
+        AlreadyReversed => is_reversed(found.row),
+        WindowClosed => is_window_over(setting, found.row),
+        NotEnough => is_short(case),
+        HoldingTooLarge => overfills_first(case) || overfills_some(case),
+        RetiredTooLarge => is_retired_too_large(case),
+        RowsFull => are_rows_full(case),
+        WouldBecomeNonCompliant => would_become_non_compliant(case),
+        AlreadyTrusted => is_already_trusted(case),
+        NotOnList => is_not_on_list(case),
+        ListFull => is_list_full(case),
+        YearOutsidePeriod => names_year_outside(case),
+        AmountTooLarge => enters_too_much(case),
+        EmissionsMissing => lacks_emissions(case),
     }
 }
 

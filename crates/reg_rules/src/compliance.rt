@@ -1,42 +1,45 @@
 //! Years and emissions that an instruction names.
 
 ghost use Rattle.std.specs.Prelude.{◌≡◌};
-ghost use Rattle.reg_rules.specs.State.{seen_by};
+ghost use Rattle.reg_base.specs.Acts.{change_of};
 ghost use Rattle.reg_rules.specs.Checks.{names_year_outside, enters_too_much, is_missing, lacks_emissions};
+ghost use Rattle.reg_rules.specs.Cases.{seen_in};
 
-use crate::parties::find_account;
-use reg_account::{Account, FigureFault};
-use reg_base::{Change, MOST_EMISSIONS, Movement, Rules};
+use crate::case::Case;
+use reg_account::FigureFault;
+use reg_base::{Change, MOST_EMISSIONS};
 
 /// Whether a year that the act names is outside every period.
-pub(crate) fn names_year_outside(rules: &Rules, change: &Change) -> bool
-    ensures { result ≡ names_year_outside rules.now change.now }
+pub(crate) fn names_year_outside(case: &Case) -> bool
+    ensures { result ≡ names_year_outside case.now.setting.rules (change_of case.now.instruction.act) }
 {
-    match *change {
-        Change::SetEmissions { year, .. } | Change::Determine { year } => !rules.is_in_period(year),
+    let setting = case.setting;
+    match case.movement.change {
+        Change::SetEmissions { year, .. } | Change::Determine { year } => {
+            !setting.rules.is_in_period(year)
+        },
         _ => false,
     }
 }
 
 /// Whether emissions that are entered are too large.
-pub(crate) fn enters_too_much(change: &Change) -> bool
-    ensures { result ≡ enters_too_much change.now }
+pub(crate) fn enters_too_much(case: &Case) -> bool
+    ensures { result ≡ enters_too_much (change_of case.now.instruction.act) }
 {
-    match *change {
+    match case.movement.change {
         Change::SetEmissions { tonnes, .. } => MOST_EMISSIONS < tonnes,
         _ => false,
     }
 }
 
 /// Whether the figure that is to be determined lacks the emissions of a year.
-pub(crate) fn lacks_emissions(rules: &Rules, movement: &Movement, accounts: &[Account]) -> bool
-    ensures { result ≡ lacks_emissions rules.now movement.now.change (seen_by movement.now accounts.now) }
+pub(crate) fn lacks_emissions(case: &Case) -> bool
+    ensures { result ≡ lacks_emissions case.now.setting.rules (change_of case.now.instruction.act)
+        (seen_in case.now) }
 {
-    match movement.change {
-        Change::Determine { year } => match find_account(accounts, movement.first) {
-            Some(account) => is_missing(account.figure(rules, year)),
-            None => false,
-        },
+    let setting = case.setting;
+    match case.movement.change {
+        Change::Determine { year } => is_missing(case.first.figure(setting.rules, year)),
         _ => false,
     }
 }

@@ -1,34 +1,29 @@
 //! Who may propose and approve an instruction.
 
-ghost use Rattle.std.specs.Prelude.{◌≡◌, false};
+ghost use Rattle.std.specs.Prelude.{◌≡◌, Some, false};
 ghost use Rattle.std.specs.Option.{option_map_or};
 ghost use Rattle.reg_account.specs.Users.{right_in};
-ghost use Rattle.reg_rules.specs.State.{account, seen_by};
+ghost use Rattle.reg_rules.specs.Cases.{seen_in};
 ghost use Rattle.reg_rules.specs.Entitlements.{includes, is_entitled, is_not_proposer, is_same_representative};
 ghost use Rattle.reg_rules.specs.Entitlements.{is_not_approver};
 
-use crate::parties::find_account;
-use crate::rule::{Role, Who, rule_of};
+use crate::case::Case;
+use crate::rule::{Role, Who};
 use reg_account::Account;
-use reg_base::{AccountNo, Instruction, Movement, Right, Rules, UserNo};
+use reg_base::{Instruction, Right, Rules, UserNo};
 
 /// Whether the proposer may not propose the act.
-pub(crate) fn is_not_proposer(
-    rules: &Rules,
-    instruction: &Instruction,
-    movement: &Movement,
-    accounts: &[Account],
-) -> bool
-    ensures { result ≡ is_not_proposer rules.now instruction.now (seen_by movement.now accounts.now) }
+pub(crate) fn is_not_proposer(case: &Case) -> bool
+    ensures { result ≡ is_not_proposer case.now.setting.rules case.now.instruction (seen_in case.now) }
 {
-    let who = rule_of(&instruction.act).who;
+    let setting = case.setting;
+    let who = case.found.rule.who;
     !is_entitled(
-        rules,
+        setting.rules,
         who,
         Role::Proposer,
-        instruction.proposer,
-        movement.first,
-        accounts,
+        case.first,
+        case.instruction.proposer,
     )
 }
 
@@ -43,44 +38,23 @@ pub(crate) fn is_same_representative(instruction: &Instruction) -> bool
 }
 
 /// Whether the approver, if there is one, may not approve the act.
-pub(crate) fn is_not_approver(
-    rules: &Rules,
-    instruction: &Instruction,
-    movement: &Movement,
-    accounts: &[Account],
-) -> bool
-    ensures { result ≡ is_not_approver rules.now instruction.now (seen_by movement.now accounts.now) }
+pub(crate) fn is_not_approver(case: &Case) -> bool
+    ensures { result ≡ is_not_approver case.now.setting.rules case.now.instruction (seen_in case.now) }
 {
-    let who = rule_of(&instruction.act).who;
-    match instruction.approver {
-        Some(approver) => !is_entitled(
-            rules,
-            who,
-            Role::Approver,
-            approver,
-            movement.first,
-            accounts,
-        ),
+    let setting = case.setting;
+    let who = case.found.rule.who;
+    match case.instruction.approver {
+        Some(approver) => !is_entitled(setting.rules, who, Role::Approver, case.first, approver),
         None => false,
     }
 }
 
 // Whether the user may take this role: as a representative of this account, or as an administrator.
-fn is_entitled(
-    rules: &Rules,
-    who: Who,
-    role: Role,
-    user: UserNo,
-    number: AccountNo,
-    accounts: &[Account],
-) -> bool
-    ensures { result ≡ is_entitled rules.now who role (account accounts.now number) user }
+fn is_entitled(rules: &Rules, who: Who, role: Role, account: &Account, user: UserNo) -> bool
+    ensures { result ≡ is_entitled rules.now who role (Some account.now) user }
 {
     match who {
-        Who::Representatives => match find_account(accounts, number) {
-            Some(account) => is_included(role, account.right(user)),
-            None => false,
-        },
+        Who::Representatives => is_included(role, account.right(user)),
         Who::Administrators => rules.is_admin(user),
     }
 }

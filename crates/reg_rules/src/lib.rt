@@ -51,9 +51,11 @@
 #![tactic(auto)]
 
 mod amounts;
+mod case;
 mod checks;
 mod compliance;
 mod entitlement;
+mod found;
 mod laws;
 mod parties;
 mod reply;

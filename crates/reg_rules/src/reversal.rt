@@ -1,31 +1,29 @@
 //! Reversals: the surrender or deletion that is to be reversed, the window for it, and what it makes of the figure.
 
-ghost use Rattle.std.specs.Prelude.{◌≡◌, ◌&&◌, false, nat_lt, find, reverse, Some};
+ghost use Rattle.std.specs.Prelude.{◌≡◌, ◌&&◌, [], false, nat_lt, find, reverse, Some};
 ghost use Rattle.std.specs.Option.{option_map_or};
+ghost use Rattle.reg_base.specs.Acts.{change_of};
 ghost use Rattle.reg_base.specs.Rules.{is_year_of};
 ghost use Rattle.reg_account.specs.Rows.{row_in};
 ghost use Rattle.reg_account.specs.Figure.{is_for_year};
 ghost use Rattle.reg_account.specs.Laws.{lowered_by};
-ghost use Rattle.reg_rules.specs.State.{seen_by};
+ghost use Rattle.reg_rules.specs.Cases.{seeing, seen_in};
 ghost use Rattle.reg_rules.specs.Checks.{is_reversal, row_to_reverse, is_past_window, counted_amount, is_compliant};
 ghost use Rattle.reg_rules.specs.Checks.{is_negative, becomes_negative, becomes_negative_in, becomes_negative_by};
 ghost use Rattle.reg_rules.specs.Checks.{loses_compliance, would_become_non_compliant};
 
-use crate::parties::find_account;
+use crate::case::Case;
 use crate::setting::Setting;
 use reg_account::laws::figure_laws;
 use reg_account::{Account, Fate, Figure, FigureFault, RetirementRow};
-use reg_base::{Change, Day, Movement, RecordNo, Rules, Year};
+use reg_base::{Change, Day, RecordNo, Rules, Year};
 
-/// The surrender or deletion that is to be reversed.
-pub(crate) fn row_to_reverse(movement: &Movement, accounts: &[Account]) -> Option<RetirementRow>
-    ensures { result ≡ row_to_reverse movement.now.change (seen_by movement.now accounts.now) }
+/// The surrender or deletion that is to be reversed, if the first account has it.
+pub(crate) fn row_to_reverse(change: &Change, first: &Account) -> Option<RetirementRow>
+    ensures { result ≡ row_to_reverse change.now (seeing first.now [] []) }
 {
-    match movement.change {
-        Change::Unretire { number } => match find_account(accounts, movement.first) {
-            Some(account) => account.row(number),
-            None => None,
-        },
+    match *change {
+        Change::Unretire { number } => first.row(number),
         _ => None,
     }
 }
@@ -75,19 +73,14 @@ fn is_before(last: Option<Day>, day: Day) -> bool
 }
 
 /// Whether the reversal would make the account non-compliant.
-pub(crate) fn would_become_non_compliant(
-    rules: &Rules,
-    movement: &Movement,
-    row: Option<RetirementRow>,
-    accounts: &[Account],
-) -> bool
-    requires { row ≡ row_to_reverse movement.now.change (seen_by movement.now accounts.now) }
-    ensures { result ≡ would_become_non_compliant rules.now movement.now.change (seen_by movement.now accounts.now) }
+pub(crate) fn would_become_non_compliant(case: &Case) -> bool
+    ensures { result ≡ would_become_non_compliant case.now.setting.rules (change_of case.now.instruction.act)
+        (seen_in case.now) }
 {
-    match movement.change {
-        Change::Unretire { number } => match find_account(accounts, movement.first) {
-            Some(account) => loses_compliance(rules, number, row, account),
-            None => false,
+    let setting = case.setting;
+    match case.movement.change {
+        Change::Unretire { number } => {
+            loses_compliance(setting.rules, number, case.found.row, case.first)
         },
         _ => false,
     }

@@ -2,10 +2,11 @@
 
 ghost use Rattle.std.specs.Prelude.{◌≡◌, ◌≤◌, [], None, IfOk, OnOk, OnErr, length, map, nat_eq, All};
 ghost use Rattle.std.specs.List.{AllByRecursion, IsDistinct};
+ghost use Rattle.std.specs.Option.{option_copied};
 ghost use Rattle.reg_base.specs.Acts.{movement_of, parties};
 ghost use Rattle.reg_base.specs.Footprint.{footprint};
 ghost use Rattle.reg_account.specs.Figure.{figure_of};
-ghost use Rattle.reg_rules.specs.State.{numbers};
+ghost use Rattle.reg_rules.specs.State.{numbers, account};
 ghost use Rattle.reg_account.specs.Account.{held_by, debited, CanTrust};
 ghost use Rattle.reg_account.specs.Rows.{FateFits};
 ghost use Rattle.reg_rules.specs.Trust.{effective_day};
@@ -16,7 +17,6 @@ ghost use Rattle.reg_rules.specs.Effect.{CanChange, IsBehind};
 ghost use Rattle.reg_rules.specs.Step.{step, holdings_of, figure_made};
 
 use crate::checks::first_failing;
-use crate::parties::find_account;
 use crate::reply::{Closing, HeldNow, Holdings, LogRow, Reply};
 use crate::setting::Setting;
 use crate::trust::effective_day;
@@ -257,6 +257,12 @@ fn figure_made(movement: &Movement, accounts: &[Account]) -> Option<i64>
         },
         _ => None,
     }
+}
+
+fn find_account(accounts: &[Account], number: AccountNo) -> Option<&Account>
+    ensures { option_copied result ≡ account accounts.now number }
+{
+    accounts.iter().find(|account| account.number() == number)
 }
 
 // What the accounts hold now, in the room that was made for it.

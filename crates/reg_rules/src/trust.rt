@@ -3,56 +3,44 @@
 ghost use Rattle.std.specs.Prelude.{◌≡◌, nat_le, length};
 ghost use Rattle.std.specs.List.{list_all};
 ghost use Rattle.reg_base.specs.declared.limits.TheConstants.{MOST_TRUSTED};
+ghost use Rattle.reg_base.specs.Acts.{change_of};
 ghost use Rattle.reg_base.specs.Calendar.{due};
 ghost use Rattle.reg_account.specs.Account.{trusts};
 ghost use Rattle.reg_rules.specs.ActRules.{rule_of};
-ghost use Rattle.reg_rules.specs.State.{account, seen_by, passes};
-ghost use Rattle.reg_rules.specs.Trust.{trusts_receivers, lag_by, is_waived, lacks_approval, is_not_trusted};
-ghost use Rattle.reg_rules.specs.Trust.{effective_day, has_no_effective_day, is_already_trusted, is_not_on_list};
-ghost use Rattle.reg_rules.specs.Trust.{is_list_full};
+ghost use Rattle.reg_rules.specs.Trust.{lag_by, is_waived, lacks_approval, is_not_trusted, effective_day};
+ghost use Rattle.reg_rules.specs.Trust.{has_no_effective_day, is_already_trusted, is_not_on_list, is_list_full};
+ghost use Rattle.reg_rules.specs.Cases.{seen_in};
 
-use crate::parties::find_account;
-use crate::rule::{LagRule, rule_of};
+use crate::case::Case;
+use crate::rule::LagRule;
 use crate::setting::Setting;
 use reg_account::Account;
-use reg_base::{AccountNo, Change, Day, Instruction, MOST_TRUSTED, Movement, Rules, Share};
+use reg_base::{Change, Day, Instruction, MOST_TRUSTED, Rules};
 
-/// Whether the first account trusts each that receives on this day.
-pub(crate) fn trusts_receivers(day: Day, movement: &Movement, accounts: &[Account]) -> bool
-    ensures { result ≡ trusts_receivers day (seen_by movement.now accounts.now) }
+/// Whether the first account trusts each of these on this day.
+pub(crate) fn trusts_each(day: Day, first: &Account, receivers: &[Account]) -> bool
+    ensures { result ≡ list_all (λ w. trusts first.now w.number w.holder day) receivers.now }
 {
-    match find_account(accounts, movement.first) {
-        Some(first) => trusts_each(day, first, movement.shares.as_slice(), accounts),
-        None => false,
-    }
-}
-
-fn trusts_each(day: Day, first: &Account, shares: &[Share], accounts: &[Account]) -> bool
-    ensures { result ≡ list_all
-        (λ share. passes (λ w. trusts first.now w.number w.holder day) (account accounts.now share.to)) shares.now }
-{
-    shares
+    receivers
         .iter()
-        .all(|share| trusts_one(day, first, share.to, accounts))
+        .all(|other| first.trusted(other.number(), other.holder(), day))
 }
 
-fn trusts_one(day: Day, first: &Account, to: AccountNo, accounts: &[Account]) -> bool
-    ensures { result ≡ passes (λ w. trusts first.now w.number w.holder day) (account accounts.now to) }
-{
-    match find_account(accounts, to) {
-        Some(other) => first.trusted(other.number(), other.holder(), day),
-        None => false,
-    }
-}
-
-/// The day on which the instruction falls due, if the calendar has it, given whether each account that receives is
-/// trusted.
-pub(crate) fn due_day(setting: &Setting, instruction: &Instruction, trusted: bool) -> Option<Day>
+/// The day on which the instruction falls due, if the calendar has it, given the lag of its act, and whether each
+/// account that receives is trusted.
+pub(crate) fn due_day(
+    setting: &Setting,
+    instruction: &Instruction,
+    lag: LagRule,
+    trusted: bool,
+) -> Option<Day>
     ensures { result ≡ due setting.now.rules.calendar instruction.now.proposed
-        (lag_by setting.now.rules (rule_of instruction.now.act).lag trusted) }
+        (lag_by setting.now.rules lag trusted) }
 {
-    let lag = lag_by(setting.rules, rule_of(&instruction.act).lag, trusted);
-    setting.rules.calendar().due(instruction.proposed, lag)
+    let rules = setting.rules;
+    rules
+        .calendar()
+        .due(instruction.proposed, lag_by(rules, lag, trusted))
 }
 
 fn lag_by(rules: &Rules, lag: LagRule, trusted: bool) -> u16
@@ -71,71 +59,29 @@ fn lag_by(rules: &Rules, lag: LagRule, trusted: bool) -> u16
 }
 
 /// Whether there is no approver, and one is needed.
-pub(crate) fn lacks_approval(
-    setting: &Setting,
-    instruction: &Instruction,
-    movement: &Movement,
-    trusted: bool,
-    accounts: &[Account],
-) -> bool
-    requires { trusted ≡ trusts_receivers setting.now.day (seen_by movement.now accounts.now) }
-    ensures { result ≡ lacks_approval setting.now instruction.now (seen_by movement.now accounts.now) }
+pub(crate) fn lacks_approval(case: &Case) -> bool
+    ensures { result ≡ lacks_approval case.now.setting case.now.instruction (seen_in case.now) }
 {
-    instruction.approver.is_none()
-        && !is_waived(
-            setting,
-            rule_of(&instruction.act).lag,
-            movement,
-            trusted,
-            accounts,
-        )
+    case.instruction.approver.is_none() && !is_waived(case)
 }
 
-fn is_waived(
-    setting: &Setting,
-    lag: LagRule,
-    movement: &Movement,
-    trusted: bool,
-    accounts: &[Account],
-) -> bool
-    requires { trusted ≡ trusts_receivers setting.now.day (seen_by movement.now accounts.now) }
-    ensures { result ≡ is_waived setting.now lag (seen_by movement.now accounts.now) }
+fn is_waived(case: &Case) -> bool
+    ensures { result ≡ is_waived case.now.setting (rule_of case.now.instruction.act).lag (seen_in case.now) }
 {
-    let _day = setting.day;
-    match lag {
-        LagRule::ByTrust => has_waiver(movement.first, accounts) && trusted,
+    match case.found.rule.lag {
+        LagRule::ByTrust => case.first.waiver() && case.found.trusted,
         LagRule::NoLag => false,
     }
-}
-
-fn has_waiver(number: AccountNo, accounts: &[Account]) -> bool
-    ensures { result ≡ passes (λ v. v.waiver) (account accounts.now number) }
-{
-    find_account(accounts, number).is_some_and(|account| account.waiver())
 }
 
 /// Whether an account that receives is not trusted, although the act depends on it and the first account asks for it.
-pub(crate) fn is_not_trusted(
-    setting: &Setting,
-    lag: LagRule,
-    movement: &Movement,
-    trusted: bool,
-    accounts: &[Account],
-) -> bool
-    requires { trusted ≡ trusts_receivers setting.now.day (seen_by movement.now accounts.now) }
-    ensures { result ≡ is_not_trusted setting.now lag (seen_by movement.now accounts.now) }
+pub(crate) fn is_not_trusted(case: &Case) -> bool
+    ensures { result ≡ is_not_trusted case.now.setting (rule_of case.now.instruction.act).lag (seen_in case.now) }
 {
-    let _day = setting.day;
-    match lag {
-        LagRule::ByTrust => !trusted && !allows_others(movement.first, accounts),
+    match case.found.rule.lag {
+        LagRule::ByTrust => !case.found.trusted && !case.first.outside(),
         LagRule::NoLag => false,
     }
-}
-
-fn allows_others(number: AccountNo, accounts: &[Account]) -> bool
-    ensures { result ≡ passes (λ v. v.outside) (account accounts.now number) }
-{
-    find_account(accounts, number).is_some_and(|account| account.outside())
 }
 
 /// The day of effect of what is added to a trusted list today, if the calendar has it.
@@ -147,56 +93,47 @@ pub(crate) fn effective_day(setting: &Setting) -> Option<Day>
 }
 
 /// Whether an addition to a trusted list would have no day of effect.
-pub(crate) fn has_no_effective_day(setting: &Setting, change: &Change) -> bool
-    ensures { result ≡ has_no_effective_day setting.now change.now }
+pub(crate) fn has_no_effective_day(case: &Case) -> bool
+    ensures { result ≡ has_no_effective_day case.now.setting (change_of case.now.instruction.act) }
 {
-    match *change {
-        Change::Trust { .. } => effective_day(setting).is_none(),
+    match case.movement.change {
+        Change::Trust { .. } => effective_day(case.setting).is_none(),
         _ => false,
     }
 }
 
 /// Whether the account that is to be added is on the first account's list, in effect or not.
-pub(crate) fn is_already_trusted(movement: &Movement, accounts: &[Account]) -> bool
-    ensures { result ≡ is_already_trusted movement.now.change (seen_by movement.now accounts.now) }
+pub(crate) fn is_already_trusted(case: &Case) -> bool
+    ensures { result ≡ is_already_trusted (change_of case.now.instruction.act) (seen_in case.now) }
 {
-    match movement.change {
-        Change::Trust { other } => match find_account(accounts, movement.first) {
-            Some(account) => account.effective(other).is_some(),
-            None => false,
-        },
+    match case.movement.change {
+        Change::Trust { other } => case.first.effective(other).is_some(),
         _ => false,
     }
 }
 
 /// Whether the account that is to be removed is not on the first account's list.
-pub(crate) fn is_not_on_list(movement: &Movement, accounts: &[Account]) -> bool
-    ensures { result ≡ is_not_on_list movement.now.change (seen_by movement.now accounts.now) }
+pub(crate) fn is_not_on_list(case: &Case) -> bool
+    ensures { result ≡ is_not_on_list (change_of case.now.instruction.act) (seen_in case.now) }
 {
-    match movement.change {
-        Change::Untrust { other } => match find_account(accounts, movement.first) {
-            Some(account) => account.effective(other).is_none(),
-            None => false,
-        },
+    match case.movement.change {
+        Change::Untrust { other } => case.first.effective(other).is_none(),
         _ => false,
     }
 }
 
 /// Whether the first account's list has no room for another entry.
-pub(crate) fn is_list_full(movement: &Movement, accounts: &[Account]) -> bool
-    ensures { result ≡ is_list_full movement.now.change (seen_by movement.now accounts.now) }
+pub(crate) fn is_list_full(case: &Case) -> bool
+    ensures { result ≡ is_list_full (change_of case.now.instruction.act) (seen_in case.now) }
 {
-    match movement.change {
-        Change::Trust { .. } => has_full_list(movement.first, accounts),
+    match case.movement.change {
+        Change::Trust { .. } => has_full_list(case.first),
         _ => false,
     }
 }
 
-fn has_full_list(number: AccountNo, accounts: &[Account]) -> bool
-    ensures { result ≡ passes (λ v. nat_le MOST_TRUSTED (length v.trusted)) (account accounts.now number) }
+fn has_full_list(account: &Account) -> bool
+    ensures { result ≡ nat_le MOST_TRUSTED (length account.now.trusted) }
 {
-    match find_account(accounts, number) {
-        Some(account) => MOST_TRUSTED <= account.trusted_entries().len(),
-        None => false,
-    }
+    MOST_TRUSTED <= account.trusted_entries().len()
 }

@@ -402,7 +402,7 @@ module _ (k : Known) (day : Day) (plan : PlanValue) (made : IsPlan (directory da
           (record { hand = in_it; run = run; now = refl });
     }
 
-  -- what does not run leaves rows and closing accounts as they are
+  -- what does not run leaves rows and closing values as they are
   same-order : (order : List ℕ) (w x : WorldValue) → Ordered order w → w.rows ≡ x.rows → w.closing ≡ x.closing
       → IsEachParcel (IsRight day) x → Ordered order x
   same-order order w x h rows closing right = record {

@@ -38,8 +38,7 @@ pub record WorldValue : Type 0 where
 
 -- ---- docks
 
--- what stands at a place in a list that has one item for each place, counted from 1; and the list with another item
--- there
+-- what a list with one item for each place has for a place, counted from 1; and the list with another item there
 abbrev pub at_place : {X : Type 0} → List X → ℕ → Option X
 at_place xs zero = None
 at_place xs (suc k) = slice_get xs k

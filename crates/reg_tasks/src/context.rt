@@ -25,7 +25,8 @@ use std::alloc::Global;
 use std::marker::PhantomData;
 use std::thread::Threads;
 
-// The accounts of so few instructions are looked up by one thread: to start another one would take longer.
+// So many instructions or more are what one of several threads looks up: to start one for fewer would take longer. So
+// threads begin at twice as many.
 const FEW: u32 = 1_024;
 
 /// The book, the rules and the batch of a day, and the plan of its instructions.

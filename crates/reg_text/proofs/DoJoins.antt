@@ -68,7 +68,7 @@ count-drafted (r ∷ rows) d e eq =
 -- a row that is taken behind an instruction of the part is taken behind the draft
 after-at : (t : Tag) (h d e o : DraftValue) (r : Record) (x : Said t) → HasHeading h d → HasHeading h e
     → 90 ≤ stage e.last → length d.instructions + length o.instructions ≤ MOST_INSTRUCTIONS
-    → is_number_left (next_in d.days) (length d.instructions + length o.instructions - 1) ≡ true
+    → is_number_left (next_in d.heading.days) (length d.instructions + length o.instructions - 1) ≡ true
     → named cause.Tag tag_word all_tags (field r 0) ≡ Ok t → may_follow (scope_of e).version e.last t ≡ true
     → (row (scope_of e) t).read r ≡ Ok x → has_space t e x ≡ true → with t e x ≡ o → IsTaken (after d e) r (after d o)
 after-at tag.Do h d e o r x k l begun few left named stands reads space gives =
@@ -86,7 +86,7 @@ after-at tag.Do h d e o r x k l begun few left named stands reads space gives =
       stands = may;
       reads = subst (λ (s : Scope). (row s tag.Do).read r ≡ Ok x) scopes reads;
       ordered = refl;
-      space = space-left (next_in d.days) (length (d.instructions ++ e.instructions))
+      space = space-left (next_in d.heading.days) (length (d.instructions ++ e.instructions))
           (length d.instructions + length o.instructions) count few left;
       gives = subst (λ (y : DraftValue). with tag.Do (after d e) x ≡ after d y) gives (rw append_assoc refl);
     }
@@ -119,7 +119,7 @@ last-late t version last may begun = absurd (too-late version last t refl may be
 -- the rows behind the first instruction of a part
 rows-after : (rows : List Record) (h d e f : DraftValue) → HasHeading h d → HasHeading h e → 90 ≤ stage e.last
     → length d.instructions + length f.instructions ≤ MOST_INSTRUCTIONS
-    → is_number_left (next_in d.days) (length d.instructions + length f.instructions - 1) ≡ true
+    → is_number_left (next_in d.heading.days) (length d.instructions + length f.instructions - 1) ≡ true
     → drafted e rows ≡ Ok f → drafted (after d e) rows ≡ Ok (after d f)
 rows-after [] h d e f k l begun few left eq = ap (λ (x : DraftValue). Ok (after d x)) (ok_is e f eq)
 rows-after (r ∷ rows) h d e f k l begun few left eq =
@@ -127,7 +127,7 @@ rows-after (r ∷ rows) h d e f k l begun few left eq =
     let t = taken e x.0 r x.1 in
     let fewer = count-drafted rows x.0 f x.2 in
     let less : length d.instructions + length x.0.instructions ≤ MOST_INSTRUCTIONS = omega (arith, few, fewer) in
-    let there = number-left (next_in d.days) (length d.instructions + length x.0.instructions - 1)
+    let there = number-left (next_in d.heading.days) (length d.instructions + length x.0.instructions - 1)
     (length d.instructions + length f.instructions - 1) (omega (arith, fewer)) left in
     let step = takes (after d e) (after d x.0) r
     (after-at t.tag h d e x.0 r t.says k l begun less there t.named_by t.stands t.reads t.space t.gives) in
@@ -139,7 +139,8 @@ rows-after (r ∷ rows) h d e f k l begun few left eq =
 -- the first instruction of a part that is taken behind a heading is taken behind what has the same heading
 seam-at : (t : Tag) (h d o : DraftValue) (r : Record) (x : Said t) → IsHeading h → HasHeading h d
     → may_follow (scope_of d).version d.last tag.Do ≡ true
-    → (nat_lt (length d.instructions) MOST_INSTRUCTIONS && is_number_left (next_in d.days) (length d.instructions))
+    → (nat_lt (length d.instructions) MOST_INSTRUCTIONS && is_number_left (next_in d.heading.days) (length
+    d.instructions))
     ≡ true
     → named cause.Tag tag_word all_tags (field r 0) ≡ Ok t → (row (scope_of h) t).read r ≡ Ok x → with t h x ≡ o
     → o.last ≡ Some tag.Do → IsTaken d r (after d o)
@@ -161,17 +162,7 @@ seam-at t h d o r x is k may space named reads gives last =
 first-at : (t : Tag) (h o : DraftValue) (x : Said t) → IsHeading h → with t h x ≡ o → o.last ≡ Some tag.Do
     → HasHeading h o × (length o.instructions ≡ 1)
 first-at tag.Do h o x is gives last = (
-  subst (HasHeading h) gives
-      (record {
-        versions = refl;
-        days = refl;
-        periods = refl;
-        current = refl;
-        lags = refl;
-        surrender = refl;
-        admins = refl;
-        work = refl;
-      }),
+  subst (HasHeading h) gives refl,
   ap (λ (y : DraftValue). length y.instructions) (sym gives) ∙ rw is.no_instructions refl,
 )
 first-at t h o x is gives last = let other : Some t ≡ Some tag.Do =
@@ -186,7 +177,8 @@ instructions-join h d e rows is same m p =
     let more = count-drafted p.others p.after_first e p.goes_on in
     let one = first.1 in
     let begun : 90 ≤ stage p.after_first.last = rw p.begins (omega arith) in
-    let space = space-left (next_in d.days) (length d.instructions) (length d.instructions + length e.instructions)
+    let space = space-left (next_in d.heading.days) (length d.instructions) (length d.instructions + length
+    e.instructions)
     (omega (arith, more, one)) m.few m.left in
     let seam = takes d (after d p.after_first) p.row
     (seam-at k.tag h d p.after_first p.row k.says is same m.stands space k.named_by k.reads k.gives p.begins) in

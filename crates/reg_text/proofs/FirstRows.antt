@@ -1,15 +1,14 @@
 -- What has not come before a row that comes once, and what comes of a row that was read.
-use Rattle.std.proofs.Common.{◌≡◌, ℕ, Bool, true, false, List, [], Option, Some, None, Result, Ok, Err, refl, arith}
-use Rattle.reg_text.proofs.Names.{Tag, Version, One, Two, Record, DraftValue, IsDraft, Said, row_read, scope_of, stage}
-use Rattle.reg_text.proofs.Names.{is_once, option_to_list, tag_after, SectionStandsAt, in_order, has_space, placed}
+use Rattle.std.proofs.Common.{◌≡◌, ℕ, Bool, true, false, List, [], Result, Ok, Err, refl}
+use Rattle.reg_text.proofs.Names.{Tag, Version, One, Two, Record, DraftValue, IsDraft, Said, row_read, scope_of}
+use Rattle.reg_text.proofs.Names.{is_once, tag_after, in_order, has_space, placed}
 use Rattle.reg_text.proofs.Names.{with, with_row, Cause}
 use Rattle.std.specs.Result.{IsErrAnd}
 use Rattle.reg_text.specs.declared.cause.RowError.{RowError}
 use Rattle.reg_text.specs.declared.cause.RowError.TheVariants as failure
 use Rattle.reg_text.specs.Faults.{TakesRow}
 use Rattle.reg_text.specs.declared.reading.tag.Tag.TheVariants as tag
-use Rattle.reg_text.proofs.TagLaws.{stage-of, tag-spelled}
-use Rattle.reg_text.proofs.DraftSteps.{at-tag, at-blocks, none-before}
+use Rattle.reg_text.proofs.DraftSteps.{none-before}
 
 once-current : (version : Version) → is_once version tag.Current ≡ true
 once-current One = refl
@@ -20,27 +19,12 @@ once-lags One = refl
 once-lags Two = refl
 
 pub no-current : (d : DraftValue) (f : List ℕ) → IsDraft d → tag_after (scope_of d).version d.last f ≡ Ok tag.Current
-    → d.current ≡ []
+    → d.heading.current ≡ []
 no-current d f h tagged = none-before d tag.Current f h tagged (once-current (scope_of d).version)
 
 pub no-lags : (d : DraftValue) (f : List ℕ) → IsDraft d → tag_after (scope_of d).version d.last f ≡ Ok tag.Lags
-    → d.lags ≡ []
+    → d.heading.lags ≡ []
 no-lags d f h tagged = none-before d tag.Lags f h tagged (once-lags (scope_of d).version)
-
-none-of : {X : Type 0} (o : Option X) → option_to_list o ≡ [] → o ≡ None
-none-of None e = refl
-none-of (Some x) e = absurd cc
-
--- before the row of the day no account has come
-pub no-blocks : (d : DraftValue) (f : List ℕ) → IsDraft d → tag_after (scope_of d).version d.last f ≡ Ok tag.Day
-    → (d.accounts ≡ []) × (d.head ≡ None)
-no-blocks d f h tagged =
-    let version = (scope_of d).version in
-    let p = stage-of version d.last tag.Day (tag-spelled version d.last f tag.Day tagged).1 in (
-      (at-blocks (SectionStandsAt version (stage d.last)) d h.fits.stand).begun (omega (arith, p.high)),
-      none-of d.head ((at-tag (SectionStandsAt version (stage d.last)) d tag.Account h.fits.stand).begun
-          (omega (arith, p.high))),
-    )
 
 -- ---- what comes of a row
 

@@ -4,7 +4,7 @@ use Rattle.std.proofs.Common.{◌≡◌, ℕ, ◌+◌, ◌<◌, ◌≤◌, Bool,
 use Rattle.std.proofs.Common.{rules, Option, Some, None, Ok, refl, sym, ap, subst, ◌∙◌, arith, append_assoc}
 use Rattle.std.proofs.Common.{length-append}
 use Rattle.std.specs.Prelude.{option_map}
-use Rattle.std.proofs.lemmas.Bool.{lt-ltb}
+use Rattle.std.proofs.lemmas.Bool.{cases_lt, lt-ltb}
 use Rattle.std.proofs.lemmas.List.{append-nil}
 use Rattle.reg_text.proofs.Names.{MOST_ACCOUNTS, AccountValue, AccountHead, Tag, Version, One, Two, Scope, Record}
 use Rattle.reg_text.proofs.Names.{field, ◌>>=◌, test, option_to_list, named, all_tags, tag_word, stages, stage}
@@ -141,57 +141,33 @@ last-with tag.Format d x = refl
 last-with t d x = refl
 
 -- a row of the heading stands behind rows of the heading alone
-abbrev is_early : Tag → Bool
-is_early tag.Format = true
-is_early tag.Day = true
-is_early tag.Period = true
-is_early tag.Current = true
-is_early tag.Lags = true
-is_early tag.Surrender = true
-is_early tag.Admin = true
-is_early tag.Work = true
-is_early t = false
-
-early-stands : (version : Version) (t : Tag) → is_early t ≡ true → (stages version t).to ≤ 79
+early-stands : (version : Version) (t : Tag) → tag_stage t ≤ 79 → (stages version t).to ≤ 79
 early-stands One tag.Format e = grind arith
 early-stands One t e = grind arith
 early-stands Two tag.Format e = grind arith
 early-stands Two t e = grind arith
 
-early : (version : Version) (last : Option Tag) (t : Tag) → is_early t ≡ true → may_follow version last t ≡ true
+early : (version : Version) (last : Option Tag) (t : Tag) → tag_stage t ≤ 79 → may_follow version last t ≡ true
     → 80 ≤ stage last → ⊥
 early version last t e may begun = let p = stage-of version last t may in let low = early-stands version t e in
     omega (arith, p.high, low, begun)
 
-late-stands : (t : Tag) → (is_early t ≡ true) ⊎ (80 ≤ tag_stage t)
-late-stands tag.Format = search rules
-late-stands t = search rules
+-- and every other row leaves the heading as it is
+heading-stays : (t : Tag) (d : DraftValue) (x : Said t) → (tag_stage t ≤ 79) ⊎ ((with t d x).heading ≡ d.heading)
+heading-stays tag.Format d x = search rules
+heading-stays t d x = search rules
 
 pub heading-with : (h : DraftValue) (t : Tag) (d : DraftValue) (x : Said t) → may_follow (scope_of d).version d.last t
     ≡ true → 80 ≤ stage d.last → HasHeading h d → HasHeading h (with t d x)
-heading-with h tag.Format d x may begun k = absurd (early (scope_of d).version d.last tag.Format refl may begun)
-heading-with h tag.Day d x may begun k = absurd (early (scope_of d).version d.last tag.Day refl may begun)
-heading-with h tag.Period d x may begun k = absurd (early (scope_of d).version d.last tag.Period refl may begun)
-heading-with h tag.Current d x may begun k = absurd (early (scope_of d).version d.last tag.Current refl may begun)
-heading-with h tag.Lags d x may begun k = absurd (early (scope_of d).version d.last tag.Lags refl may begun)
-heading-with h tag.Surrender d x may begun k = absurd (early (scope_of d).version d.last tag.Surrender refl may begun)
-heading-with h tag.Admin d x may begun k = absurd (early (scope_of d).version d.last tag.Admin refl may begun)
-heading-with h tag.Work d x may begun k = absurd (early (scope_of d).version d.last tag.Work refl may begun)
-heading-with h t d x may begun k = record {
-  versions = k.versions;
-  days = k.days;
-  periods = k.periods;
-  current = k.current;
-  lags = k.lags;
-  surrender = k.surrender;
-  admins = k.admins;
-  work = k.work;
-}
+heading-with h t d x may begun k = elim (heading-stays t d x) [
+  | inl low ↦ absurd (early (scope_of d).version d.last t low may begun)
+  | inr same ↦ same ∙ k
+]
 
 begun-with : (t : Tag) (d : DraftValue) (x : Said t) → may_follow (scope_of d).version d.last t ≡ true
     → 80 ≤ stage d.last → 80 ≤ stage (with t d x).last
-begun-with t d x may begun = elim (late-stands t) [
-  | inl e ↦ absurd (early (scope_of d).version d.last t e may begun)
+begun-with t d x may begun = elim (cases_lt (tag_stage t) 80) [
+  | inl low ↦ absurd (early (scope_of d).version d.last t (omega (arith, low)) may begun)
   | inr late ↦ late
 ]
 
@@ -213,7 +189,7 @@ last-head None = refl
 last-head (Some a) = refl
 
 pub same-scope : (h d : DraftValue) → HasHeading h d → scope_of h ≡ scope_of d
-same-scope h d k = rw (k.versions, k.periods) refl
+same-scope h d k = rw k refl
 
 -- the row of an account that is taken behind a heading is taken behind what has the same heading
 seam-at : (t : Tag) (h d o : DraftValue) (r : Record) (x : Said t) (first : ℕ) → IsHeading h → HasHeading h d
@@ -234,21 +210,7 @@ seam-at tag.Account h d o r x first is k none may order few named reads gives la
       ordered = rw (last-head d.head, number) order;
       space = lt-ltb _ _ few;
       gives = subst (λ (y : DraftValue). with tag.Account d x ≡ behind (accounts_in d) y) gives
-          (rw (
-            is.no_accounts,
-            is.no_head,
-            is.no_instructions,
-            k.versions,
-            k.days,
-            k.periods,
-            k.current,
-            k.lags,
-            k.surrender,
-            k.admins,
-            k.work,
-            none,
-            append-nil,
-          ) refl);
+          (rw (is.no_accounts, is.no_head, is.no_instructions, k, none, append-nil) refl);
     }
 seam-at t h d o r x first is k none may order few named reads gives last first_is =
     let other : Some t ≡ Some tag.Account = sym (last-with t h x) ∙ ap (λ (y : DraftValue). y.last) gives ∙ last in
@@ -256,18 +218,7 @@ seam-at t h d o r x first is k none may order few named reads gives last first_i
 
 -- the row that begins an account changes no heading
 heading-at : (t : Tag) (h o : DraftValue) (x : Said t) → with t h x ≡ o → o.last ≡ Some tag.Account → HasHeading h o
-heading-at tag.Account h o x gives last =
-    subst (HasHeading h) gives
-    (record {
-      versions = refl;
-      days = refl;
-      periods = refl;
-      current = refl;
-      lags = refl;
-      surrender = refl;
-      admins = refl;
-      work = refl;
-    })
+heading-at tag.Account h o x gives last = subst (HasHeading h) gives refl
 heading-at t h o x gives last = let other : Some t ≡ Some tag.Account =
     sym (last-with t h x) ∙ ap (λ (y : DraftValue). y.last) gives ∙ last in absurd cc
 
@@ -278,24 +229,7 @@ one-head (Some h) first e = refl
 -- a draft with the same heading, and accounts before its own, is both drafts joined
 behind-joined : (h d e : DraftValue) (first : ℕ) → HasHeading h d → HasHeading h e
     → behind (accounts_in d) e ≡ joined_drafts (Some first) d e
-behind-joined h d e first k l = rw (
-  k.versions,
-  k.days,
-  k.periods,
-  k.current,
-  k.lags,
-  k.surrender,
-  k.admins,
-  k.work,
-  l.versions,
-  l.days,
-  l.periods,
-  l.current,
-  l.lags,
-  l.surrender,
-  l.admins,
-  l.work,
-) refl
+behind-joined h d e first k l = rw (k, l) refl
 
 -- the rows of a part that begins with an account, read behind the draft before it, give both drafts joined
 pub accounts-join : (h d e : DraftValue) (rows : List Record) (first : ℕ) → IsHeading h → HasHeading h d

@@ -55,7 +55,9 @@ pub use Rattle.reg_text.specs.Tags.{may_follow, stage, stages, tag_after, tag_st
 pub use Rattle.std.specs.Prelude.{option_to_list}
 pub use Rattle.reg_text.specs.Lasts.{is_above, last_item}
 pub use Rattle.reg_text.specs.Drafts.{DraftValue, account_count, accounts_in, with_block_over, draft_of, ended}
-pub use Rattle.reg_text.specs.Drafts.{items_said, nothing_read, scope_of, section_of, sections, sections_to, version_in}
+pub use Rattle.reg_text.specs.Drafts.{behind_heading, heading_of, items_said, no_heading, nothing_read}
+pub use Rattle.reg_text.specs.Drafts.{only_heading, read_behind, scope_of, section_of, sections}
+pub use Rattle.reg_text.specs.Drafts.{sections_to, version_in}
 pub use Rattle.reg_book.specs.Day.{Day}
 pub use Rattle.reg_text.specs.Day.{current_said, day_said, day_with, is_text_over}
 pub use Rattle.reg_text.specs.Reading.{Begins, CanBeSaid, IsFirstFaulty, IsPair, IsReading, IsVersionOf}

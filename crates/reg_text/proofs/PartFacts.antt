@@ -7,7 +7,8 @@ use Rattle.std.specs.Result.{result_ok}
 use Rattle.std.specs.Borrow.{Bor}
 use Rattle.reg_cuts.specs.Parts.{IsCut, HasNoMark, EachCutSplits, CutsGoOn, text_of_parts}
 use Rattle.reg_text.proofs.Names.{AccountValue, AccountHead, option_to_list, DraftValue, Record, IsDraft, FitsSoFar}
-use Rattle.reg_text.proofs.Names.{nothing_read, draft_of, next_draft, drafted, after_rows, at_end, day_of_rows}
+use Rattle.reg_text.proofs.Names.{nothing_read, behind_heading, only_heading, next_draft}
+use Rattle.reg_text.proofs.Names.{drafted, after_rows, at_end, day_of_rows}
 use Rattle.reg_text.proofs.Names.{day_said, is_text_over, rows_in_text}
 use Rattle.reg_text.specs.declared.reading.tag.Tag.TheVariants as tag
 use Rattle.reg_text.specs.declared.reading.parts.Part.{Part}
@@ -38,6 +39,17 @@ pub one-taken : (d e : DraftValue) (r : Record) (rows others : List Record) → 
     → drafted e others ≡ drafted d rows
 one-taken d e r rows others is step = rw (is, step) refl
 
+-- a heading with nothing behind it
+pub heading-is : (d : DraftValue) → IsHeading d → d ≡ only_heading d.heading d.last
+heading-is d h = λ i. record {
+  last = d.last;
+  heading = d.heading;
+  accounts = h.no_accounts i;
+  head = h.no_head i;
+  lists = h.no_lists i;
+  instructions = h.no_instructions i;
+}
+
 -- what rows make of a draft is a draft
 drafts : (rows : List Record) (d e : DraftValue) → IsDraft d → drafted d rows ≡ Ok e → IsDraft e
 drafts [] d e h eq = subst IsDraft (ok_is d e eq) h
@@ -67,26 +79,8 @@ finished h d text s over =
 -- ---- a part behind a text
 
 heading-joined : (h d e : DraftValue) (first : Option ℕ) → HasHeading h d → HasHeading h (joined_drafts first d e)
-heading-joined h d e (Some number) k = record {
-  versions = k.versions;
-  days = k.days;
-  periods = k.periods;
-  current = k.current;
-  lags = k.lags;
-  surrender = k.surrender;
-  admins = k.admins;
-  work = k.work;
-}
-heading-joined h d e None k = record {
-  versions = k.versions;
-  days = k.days;
-  periods = k.periods;
-  current = k.current;
-  lags = k.lags;
-  surrender = k.surrender;
-  admins = k.admins;
-  work = k.work;
-}
+heading-joined h d e (Some number) k = k
+heading-joined h d e None k = k
 
 -- the rows of a part, read behind the draft before it, give both drafts joined
 pub joins : (h d e : DraftValue) (rows : List Record) (first : Option ℕ) → IsHeading h → HasHeading h d
@@ -154,12 +148,13 @@ pub record IsJoined (h : DraftValue) (whole : List ℕ) (rest : List (Bor (List 
 
 pub part-joined : (h d e : DraftValue) (whole : List ℕ) (rest : List (Bor (List ℕ))) (p : Part)
     (others : List (Option Part)) → EachCutSplits → CutsGoOn → IsHeading h → IsJoined h whole rest d
-    → ReadsEach h rest (Some p ∷ others) → MayJoin p.first d (draft_of p.draft)
-    → e ≡ joined_drafts p.first d (draft_of p.draft)
+    → ReadsEach h rest (Some p ∷ others) → MayJoin p.first d (behind_heading h.heading p.body)
+    → e ≡ joined_drafts p.first d (behind_heading h.heading p.body)
     → ReadsEach h (drop 1 rest) others × IsJoined h whole (drop 1 rest) e
 part-joined h d e whole rest p others splits go_on heading j each may joins =
     let f = first-of h rest (Some p) others each in
-    let one = one-more h d (draft_of p.draft) j.text f.part.now p.first splits go_on heading j.so_far may f.read.0
+    let one = one-more h d (behind_heading h.heading p.body) j.text f.part.now p.first splits go_on heading j.so_far
+    may f.read.0
     f.read.1 f.read.2 in (
       f.others_read,
       record {

@@ -15,6 +15,7 @@ use Rattle.reg_text.proofs.Names.{day_with, is_text_over, day_said, day_text, Is
 use Rattle.reg_text.proofs.Names.{AccountValue, IsAccount, IsBehind, IsPair, CanBeSaid, IsReading, FitsSoFar, IsDraft}
 use Rattle.reg_text.proofs.Names.{next_draft, at_row, at_end, after_rows}
 use Rattle.reg_text.proofs.Names.{day_of_rows}
+use Rattle.reg_book.specs.Book.{IsBook}
 use Rattle.reg_text.specs.Day.{day_headed}
 use Rattle.reg_text.specs.declared.reading.tag.Tag.TheVariants as tag
 use Rattle.reg_text.proofs.ListFacts.{all-weaker}
@@ -48,27 +49,27 @@ pub record IsHeaded (d : DraftValue) : Type 0 where
   pub day : ℕ × ℕ
   pub current : ℕ
   pub lags : Said tag.Lags
-  pub one_version : d.versions ≡ version ∷ []
-  pub one_day : d.days ≡ day ∷ []
-  pub one_lags : d.lags ≡ lags ∷ []
-  pub some_periods : 1 ≤ length d.periods
-  pub one_period : version ≡ One → length d.periods ≡ 1
-  pub said : current_said version d.current ≡ Some current
-  pub current_is : d.current ≡ current_rows version current
+  pub one_version : d.heading.versions ≡ version ∷ []
+  pub one_day : d.heading.days ≡ day ∷ []
+  pub one_lags : d.heading.lags ≡ lags ∷ []
+  pub some_periods : 1 ≤ length d.heading.periods
+  pub one_period : version ≡ One → length d.heading.periods ≡ 1
+  pub said : current_said version d.heading.current ≡ Some current
+  pub current_is : d.heading.current ≡ current_rows version current
 
 pub headed : (d : DraftValue) → FitsSoFar d → is_text_over d.last ≡ true → IsHeaded d
 headed d h over =
     let at : stage d.last ≡ 100 = ap stage (over-last d.last over) in
     let of : (t : Tag) → SectionStandsAt (scope_of d).version (stage d.last) (Some t, items_said t d) =
     λ t. at-tag (SectionStandsAt (scope_of d).version (stage d.last)) d t h.stand in
-    let f = the-one d.versions ((of tag.Format).come (omega (arith, at)) refl) ((of tag.Format).once refl) in
-    let a = the-one d.days ((of tag.Day).come (omega (arith, at)) refl) ((of tag.Day).once refl) in
+    let f = the-one d.heading.versions ((of tag.Format).come (omega (arith, at)) refl) ((of tag.Format).once refl) in
+    let a = the-one d.heading.days ((of tag.Day).come (omega (arith, at)) refl) ((of tag.Day).once refl) in
     let p = (of tag.Period).come (omega (arith, at)) refl in
-    let l = the-one d.lags ((of tag.Lags).come (omega (arith, at)) refl)
+    let l = the-one d.heading.lags ((of tag.Lags).come (omega (arith, at)) refl)
     (once-lags (scope_of d).version d (of tag.Lags)) in
     let same : (scope_of d).version ≡ f.0 = ap version_in f.1 in
-    let c = current-came (scope_of d).version d.current
-    (λ known. the-one d.current ((of tag.Current).come (omega (arith, at)) known)
+    let c = current-came (scope_of d).version d.heading.current
+    (λ known. the-one d.heading.current ((of tag.Current).come (omega (arith, at)) known)
     (once-current (scope_of d).version d known (of tag.Current))) (of tag.Current).known in
     record {
       version = f.0;
@@ -83,18 +84,21 @@ headed d h over =
       said = rw (sym same) c.1;
       current_is = rw (sym same) c.2;
     } where
-      once-lags : (version : Version) (d : DraftValue) → SectionStandsAt version (stage d.last) (Some tag.Lags, d.lags)
-          → length d.lags ≤ 1
+      once-lags : (version : Version) (d : DraftValue) → SectionStandsAt version (stage d.last) (
+        Some tag.Lags,
+        d.heading.lags,
+      )
+          → length d.heading.lags ≤ 1
       once-lags One d s = s.once refl
       once-lags Two d s = s.once refl
 
       once-current : (version : Version) (d : DraftValue) → is_in_version version tag.Current ≡ true
-          → SectionStandsAt version (stage d.last) (Some tag.Current, d.current) → length d.current ≤ 1
+          → SectionStandsAt version (stage d.last) (Some tag.Current, d.heading.current) → length d.heading.current ≤ 1
       once-current One d known s = absurd cc
       once-current Two d known s = s.once refl
 
       once-period : (version : Version) (d : DraftValue) → version ≡ One
-          → SectionStandsAt version (stage d.last) (Some tag.Period, d.periods) → length d.periods ≤ 1
+          → SectionStandsAt version (stage d.last) (Some tag.Period, d.heading.periods) → length d.heading.periods ≤ 1
       once-period One d is s = s.once refl
       once-period Two d is s = absurd cc
 
@@ -114,7 +118,7 @@ current-within Two (m ∷ k ∷ ms) n count some h e = absurd cc
 
 -- it says a day within the limits
 pub says-a-day : (d : DraftValue) (h : FitsSoFar d) (k : IsHeaded d)
-    → CanBeSaid (day_with k.day d.periods k.current k.lags (accounts_in d) d)
+    → CanBeSaid (day_with k.day d.heading.periods k.current k.lags (accounts_in d) d)
 says-a-day d h k =
     let scope = scope_of d in
     let of : (t : Tag) → IsSection scope (Some t, items_said t d) = λ t. at-tag (IsSection scope) d t h.within in
@@ -140,15 +144,15 @@ says-a-day d h k =
         };
         rules = record {
           working_days = record {
-            rising = subst IsRising (map-id d.work) work.listed.ordered;
-            each_day = All-from_recursion IsDayNo d.work work.fits;
+            rising = subst IsRising (map-id d.heading.work) work.listed.ordered;
+            each_day = All-from_recursion IsDayNo d.heading.work work.fits;
           };
-          each_admin = All-from_recursion IsUserNo d.admins (of tag.Admin).fits;
+          each_admin = All-from_recursion IsUserNo d.heading.admins (of tag.Admin).fits;
           each_year = each-one (row scope tag.Period).Fits (λ (p : ℕ × ℕ). IsYearNo p.0 × IsYearNo p.1)
-              (λ p f. f.0) d.periods periods.fits;
+              (λ p f. f.0) d.heading.periods periods.fits;
           fit = record {
             few_admins = (of tag.Admin).listed.few;
-            admins_rise = subst IsRising (map-id d.admins) (of tag.Admin).listed.ordered;
+            admins_rise = subst IsRising (map-id d.heading.admins) (of tag.Admin).listed.ordered;
             lags_fit = record {
               trusted = lags.trusted;
               other = lags.other;
@@ -159,10 +163,11 @@ says-a-day d h k =
               some = k.some_periods;
               few = periods.listed.few;
               each = all-weaker (row scope tag.Period).Fits (λ (p : ℕ × ℕ). p.0 ≤ p.1)
-                  (λ p f. leb-true p.0 p.1 f.1) d.periods periods.fits;
+                  (λ p f. leb-true p.0 p.1 f.1) d.heading.periods periods.fits;
               rise = periods.listed.ordered;
             };
-            current_fits = current-within k.version d.current k.current (length d.periods) k.some_periods
+            current_fits = current-within k.version d.heading.current k.current (length d.heading.periods)
+                k.some_periods
                 (of tag.Current).fits k.said;
           };
         };
@@ -174,10 +179,10 @@ says-a-day d h k =
         };
         follows = omega arith;
       };
-      periods = each-one (Fits scope None) (IsOfPeriods (length d.periods)) (λ a f. f.1) (accounts_in d) blocks;
+      periods = each-one (Fits scope None) (IsOfPeriods (length d.heading.periods)) (λ a f. f.1) (accounts_in d) blocks;
       shares = each-one (row scope tag.Do).Fits (λ (i : Instruction). IsShared i.act) instruction-shared d.instructions
           due.fits;
-      pairs = each-one (row scope tag.Surrender).Fits IsPair (λ p f. f.1) d.surrender (of tag.Surrender).fits;
+      pairs = each-one (row scope tag.Surrender).Fits IsPair (λ p f. f.1) d.heading.surrender (of tag.Surrender).fits;
       pairs_rise = (of tag.Surrender).listed.ordered;
     }
 
@@ -193,16 +198,18 @@ pub said-in : (d : DraftValue) (accounts : List AccountValue) (last : Option Tag
     (one : Said tag.Lags) → last ≡ Some tag.End → versions ≡ version ∷ [] → days ≡ day ∷ [] → lags ≡ one ∷ []
     → current_said version current ≡ Some n
     → (if is_text_over last then day_headed versions days (current_said (version_in versions) current) lags accounts d
-    else None) ≡ Some (day_with day d.periods n one accounts d)
+    else None) ≡ Some (day_with day d.heading.periods n one accounts d)
 said-in d accounts last versions days current lags version day n one over v a l said = rw (over, v, a, l, said) refl
 
 said-by : (d : DraftValue) (k : IsHeaded d) → d.last ≡ Some tag.End
-    → day_said d ≡ Some (day_with k.day d.periods k.current k.lags (accounts_in d) d)
-said-by d k over = said-in d (accounts_in d) d.last d.versions d.days d.current d.lags k.version k.day k.current k.lags
+    → day_said d ≡ Some (day_with k.day d.heading.periods k.current k.lags (accounts_in d) d)
+said-by d k over = said-in d (accounts_in d) d.last d.heading.versions d.heading.days d.heading.current
+    d.heading.lags k.version k.day k.current k.lags
     over k.one_version k.one_day k.one_lags k.said
 
 stands-by : (d : DraftValue) (k : IsHeaded d) → d.last ≡ Some tag.End
-    → rows_so_far (with_block_over d) ≡ day_text k.version (day_with k.day d.periods k.current k.lags (accounts_in d) d)
+    → rows_so_far (with_block_over d) ≡ day_text k.version (day_with k.day d.heading.periods k.current k.lags
+    (accounts_in d) d)
 stands-by d k over = rw (over, k.one_version, k.one_day, k.current_is, k.one_lags) refl
 
 -- the draft with all blocks over says the same
@@ -210,9 +217,10 @@ pub over-says : (d : DraftValue) → FitsSoFar d → is_text_over d.last ≡ tru
 over-says d h over =
     let k = headed d h over in
     let last = over-last d.last over in
-    let all = ap (λ (l : List AccountValue). Some (day_with k.day d.periods k.current k.lags l d))
+    let all = ap (λ (l : List AccountValue). Some (day_with k.day d.heading.periods k.current k.lags l d))
     (append-nil (accounts_in d)) in
-    said-in (with_block_over d) (accounts_in (with_block_over d)) d.last d.versions d.days d.current d.lags k.version
+    said-in (with_block_over d) (accounts_in (with_block_over d)) d.last d.heading.versions d.heading.days
+    d.heading.current d.heading.lags k.version
     k.day k.current k.lags last k.one_version k.one_day k.one_lags k.said ∙ all ∙ sym (said-by d k last)
 
 version-of : (version : Version) (v : Day) → (version ≡ One → length v.rules.periods ≡ 1) → IsVersionOf v version
@@ -223,7 +231,7 @@ pub closes : (d : DraftValue) → FitsSoFar d → is_text_over d.last ≡ true �
 closes d h over =
     let k = headed d h over in
     let last = over-last d.last over in
-    let v = day_with k.day d.periods k.current k.lags (accounts_in d) d in
+    let v = day_with k.day d.heading.periods k.current k.lags (accounts_in d) d in
     record {
       day = v;
       said = said-by d k last;
@@ -236,6 +244,12 @@ closes d h over =
     }
 
 -- ---- the parts of a draft that is over
+
+pub book-of : (xs ys : List AccountValue) (d e : ℕ × ℕ) → xs ≡ ys → d ≡ e
+    → IsBook (record { accounts = xs; next = d.1 }) → IsBook (record { accounts = ys; next = e.1 })
+book-of xs ys d e same day book =
+    subst (λ (l : List AccountValue). IsBook (record { accounts = l; next = e.1 })) same
+    (subst (λ (p : ℕ × ℕ). IsBook (record { accounts = xs; next = p.1 })) day book)
 
 pub some-of : {X : Type 0} (o : Option X) (x : X) → option_to_list o ≡ x ∷ [] → o ≡ Some x
 some-of None x e = absurd cc

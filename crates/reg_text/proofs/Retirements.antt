@@ -1,14 +1,14 @@
 -- Surrenders and deletions, one more at the end: the sums over them, and their numbers below the next one.
-use Rattle.std.proofs.Common.{◌≡◌, ◌⊎◌, inl, inr, ℕ, ◌+◌, ◌<◌, ◌≤◌, length, true, false, cond, ◌&&◌, nat_le, List, []}
+use Rattle.std.proofs.Common.{◌≡◌, ◌⊎◌, inl, inr, ℕ, ◌+◌, ◌<◌, true, cond, ◌&&◌, List, []}
 use Rattle.std.proofs.Common.{◌∷◌, ◌++◌, map, Option, Some, None, refl, arith}
 use Rattle.std.specs.Prelude.{not, IfSome}
-use Rattle.std.specs.List.{AllByRecursion, list_any}
-use Rattle.std.proofs.lemmas.Bool.{leb-true, le-leb, lt-leb, ltb-true, lt-ltb}
+use Rattle.std.specs.List.{AllByRecursion}
+use Rattle.std.proofs.lemmas.Bool.{leb-true, le-leb, ltb-true, lt-ltb}
 use Rattle.std.proofs.lemmas.List.{append-nil}
 use Rattle.std.proofs.lemmas.List.Sums.{sum_by-append, sum_by-cons}
 use Rattle.reg_text.proofs.Names.{AllowanceKind, General, Aviation, Retirement, Surrendered, Deleted, RetirementRow}
 use Rattle.reg_text.proofs.Names.{RetiredFits, AreBelow, AccountValue, AccountHead, ListsValue, IsBehind, AreRecorded}
-use Rattle.reg_text.proofs.Names.{amount_in, retired_in, row_numbers, option_to_list, account_with, next_in}
+use Rattle.reg_text.proofs.Names.{amount_in, retired_in, row_numbers, option_to_list, account_with}
 use Rattle.reg_text.proofs.Names.{is_recorded, is_sum_left}
 use Rattle.reg_account.specs.Rows.{retirement_of, is_same_kind, is_same_retirement}
 use Rattle.reg_text.proofs.ListFacts.{all-push}
@@ -92,15 +92,3 @@ pub below-at : (next : ℕ) (rows : List RetirementRow) (x : RetirementRow) (oth
     → AreBelow next (row_numbers (rows ++ x ∷ others)) → is_recorded (Some next) x ≡ true
 below-at next [] x others h = lt-ltb _ _ h.0
 below-at next (y ∷ rows) x others h = below-at next rows x others h.1
-
--- the rows of the begun account, once the next number is known
-pub begun-below : (day : Option (ℕ × ℕ)) (next : ℕ) (accounts : List AccountValue) (rows : List RetirementRow)
-    → 1 ≤ length (option_to_list day) → IfSome day (λ d. next ≡ d.1)
-    → IfSome (next_in (option_to_list day)) (AreRecorded accounts rows) → AreBelow next (row_numbers rows)
-begun-below None next accounts rows some same recorded = absurd (omega arith)
-begun-below (Some day) next accounts rows some same recorded = rw same recorded.begun
-
-pub not-ahead : (next : ℕ) (rows : List RetirementRow) → AreBelow next (row_numbers rows)
-    → list_any (λ (row : RetirementRow). nat_le next row.number) rows ≡ false
-not-ahead next [] h = refl
-not-ahead next (x ∷ rows) h = rw (lt-leb _ _ h.0) (not-ahead next rows h.1)

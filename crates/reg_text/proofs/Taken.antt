@@ -14,7 +14,7 @@ use Rattle.reg_text.proofs.Names.{Fits, IsOfPeriods, Correction, Version, One, T
 use Rattle.reg_text.proofs.Names.{tag_word, last_item, option_to_list, Said, row, account_head, lists_of, account_with}
 use Rattle.reg_text.proofs.Names.{account_block, list_tags, each_row, section_rows, all_rows, key, follows, IsOrdered}
 use Rattle.reg_text.proofs.Names.{most, is_space, AreAtMost, stages, Section, IsSection, DraftValue, items_said}
-use Rattle.reg_text.proofs.Names.{accounts_in, account_count, nothing_read, scope_of, Day}
+use Rattle.reg_text.proofs.Names.{accounts_in, account_count, no_heading, nothing_read, scope_of, Day}
 use Rattle.reg_text.proofs.Names.{lags_in, heading, saying, current_rows, day_text, current_said, IsPair, CanBeSaid}
 use Rattle.reg_text.proofs.Names.{IsVersionOf, with, in_order, has_space, with_row, next_in, next_draft, after_rows}
 use Rattle.reg_text.specs.declared.reading.tag.Tag.TheVariants as tag
@@ -281,7 +281,8 @@ corrections-taken Two d next a rest v is low high p h more =
       behind-correction Two last is may = later Two last tag.Correction next (low Two) (high Two) may
 
 -- behind the row of an account the rows of its lists are taken
-lists-taken : (d : DraftValue) (next : ℕ) (a : AccountValue) (rest : List Record) (v : Day) → next_in d.days ≡ Some next
+lists-taken : (d : DraftValue) (next : ℕ) (a : AccountValue) (rest : List Record) (v : Day) → next_in d.heading.days
+    ≡ Some next
     → ArePeriodsOf (scope_of d) → Fits (scope_of d) None a → IsBehind next a
     → ((last : Option Tag) → MayFollow (scope_of d).version last tag.Account
     → Reach (record d { last = last; lists = lists_of a }) rest v)
@@ -311,7 +312,7 @@ lists-taken d next a rest v is p h behind more =
             again = refl;
             fits = fit tag.Retired;
             space = λ last l x others same.
-                retired-space next d.days l x others is (rw same (fit tag.Retired).listed.few) (rw same behind)
+                retired-space next d.heading.days l x others is (rw same (fit tag.Retired).listed.few) (rw same behind)
                 (rw same h.0.retired_fits);
             low = omega arith;
             high = omega arith;
@@ -340,7 +341,7 @@ next-account accounts (Some h) l a others rises =
 
 pub blocks-taken : (d : DraftValue) (next : ℕ) (others : List AccountValue) (last : Option Tag)
     (accounts : List AccountValue) (head : Option AccountHead) (l : ListsValue) (rest : List Record) (v : Day)
-    → next_in d.days ≡ Some next → MayFollow (scope_of d).version last tag.Account
+    → next_in d.heading.days ≡ Some next → MayFollow (scope_of d).version last tag.Account
     → ArePeriodsOf (scope_of d) → AllByRecursion (Fits (scope_of d) None) others → AllByRecursion (IsBehind next) others
     → IsRising (map account_number ((accounts ++ map (account_with l) (option_to_list head)) ++ others))
     → length ((accounts ++ map (account_with l) (option_to_list head)) ++ others) ≤ MOST_ACCOUNTS
@@ -431,20 +432,24 @@ period-section scope v h =
       listed = record { ordered = periods.rise; few = periods.few };
     }
 
+-- a draft with these periods
+abbrev with_periods : DraftValue → Option Tag → List (ℕ × ℕ) → DraftValue
+with_periods d last periods = record d { last = last; heading = record d.heading { periods = periods } }
+
 -- in the first version one row of a period is taken, and in the second one or more
 periods-taken : (version : Version) (d : DraftValue) (periods : List (ℕ × ℕ)) (rest : List Record) (v : Day)
     → (scope_of d).version ≡ version → (version ≡ One → length periods ≡ 1) → 1 ≤ length periods
     → IsSection (scope_of d) (Some tag.Period, periods)
-    → Reach (record d { last = Some tag.Period; periods = periods }) rest v
-    → Reach (record d { last = Some tag.Day; periods = [] }) (section_rows (Some tag.Period, periods) ++ rest) v
+    → Reach (with_periods d (Some tag.Period) periods) rest v
+    → Reach (with_periods d (Some tag.Day) []) (section_rows (Some tag.Period, periods) ++ rest) v
 periods-taken version d [] rest v is one some within more = absurd (omega arith)
 periods-taken One d (p ∷ []) rest v is one some within more =
-    reach-row (record d { last = Some tag.Day; periods = [] }) (record d { last = Some tag.Period; periods = p ∷ [] })
+    reach-row (with_periods d (Some tag.Day) []) (with_periods d (Some tag.Period) (p ∷ []))
     (row_text tag.Period p) rest v
-    (taken tag.Period (record d { last = Some tag.Day; periods = [] }) p (rw is refl) within.fits.0 refl refl) more
+    (taken tag.Period (with_periods d (Some tag.Day) []) p (rw is refl) within.fits.0 refl refl) more
 periods-taken One d (p ∷ q ∷ ps) rest v is one some within more = let size = one refl in absurd (omega arith)
 periods-taken Two d (p ∷ ps) rest v is one some within more =
-    let state : Option Tag → List (ℕ × ℕ) → DraftValue = λ last l. record d { last = last; periods = l } in
+    let state : Option Tag → List (ℕ × ℕ) → DraftValue = with_periods d in
     reach-row (state (Some tag.Day) []) (state (Some tag.Period) (p ∷ [])) (row_text tag.Period p)
     (section_rows (Some tag.Period, ps) ++ rest) v
     (taken tag.Period (state (Some tag.Day) []) p (rw is refl) within.fits.0 refl refl)
@@ -465,32 +470,43 @@ periods-taken Two d (p ∷ ps) rest v is one some within more =
 
 -- the row of the current period, where the version has one, and that of the lags
 lags-taken : (version : Version) (d : DraftValue) (current : ℕ) (lags : Said tag.Lags) (rest : List Record) (v : Day)
-    → (scope_of d).version ≡ version → d.current ≡ [] → d.lags ≡ [] → IsWithin 1 (length d.periods) current
+    → (scope_of d).version ≡ version → d.heading.current ≡ [] → d.heading.lags ≡ [] → IsWithin 1 (length
+    d.heading.periods) current
     → current < 2 ^ 64 → (row widest tag.Lags).Fits lags
-    → Reach (record d { last = Some tag.Lags; current = current_rows version current; lags = lags ∷ [] }) rest v
+    → Reach (record d {
+      last = Some tag.Lags;
+      heading = record d.heading { current = current_rows version current; lags = lags ∷ [] };
+    }) rest v
     → Reach (record d { last = Some tag.Period }) (section_rows (Some tag.Current, current_rows version current)
     ++ row_text tag.Lags lags ∷ rest) v
 lags-taken One d current lags rest v is none no_lags fit small fits more =
     let from = record d { last = Some tag.Period } in
-    reach-row from (record d { last = Some tag.Lags; lags = d.lags ++ lags ∷ [] }) (row_text tag.Lags lags) rest v
+    reach-row from
+    (record d { last = Some tag.Lags; heading = record d.heading { lags = d.heading.lags ++ lags ∷ [] } })
+    (row_text tag.Lags lags) rest v
     (taken tag.Lags from lags (rw is refl) fits refl refl) (rw (no_lags, none) more)
 lags-taken Two d current lags rest v is none no_lags fit small fits more =
     let from = record d { last = Some tag.Period } in
-    let then = record d { last = Some tag.Current; current = d.current ++ current ∷ [] } in
+    let then : DraftValue =
+    record d { last = Some tag.Current; heading = record d.heading { current = d.heading.current ++ current ∷ [] } } in
     reach-row from then (row_text tag.Current current) (row_text tag.Lags lags ∷ rest) v
     (taken tag.Current from current (rw is refl) (fit, small) refl refl)
-    (reach-row then (record then { last = Some tag.Lags; lags = d.lags ++ lags ∷ [] }) (row_text tag.Lags lags) rest v
+    (reach-row then
+    (record then { last = Some tag.Lags; heading = record then.heading { lags = d.heading.lags ++ lags ∷ [] } })
+    (row_text tag.Lags lags) rest v
     (taken tag.Lags then lags (rw is refl) fits refl refl) (rw (no_lags, none) more))
 
 -- the drafts on the way
 abbrev headed : Version → Day → DraftValue
 headed version v = record nothing_read {
   last = Some tag.Lags;
-  versions = version ∷ [];
-  days = (v.batch.day, v.book.next) ∷ [];
-  periods = v.rules.periods;
-  current = current_rows version v.rules.current;
-  lags = lags_in v.rules ∷ [];
+  heading = record no_heading {
+    versions = version ∷ [];
+    days = (v.batch.day, v.book.next) ∷ [];
+    periods = v.rules.periods;
+    current = current_rows version v.rules.current;
+    lags = lags_in v.rules ∷ [];
+  };
 }
 
 -- the lists behind the row of the lags
@@ -515,7 +531,7 @@ head-taken version v rest known h more =
     let day : ℕ × ℕ = (v.batch.day, v.book.next) in
     let d1 = with tag.Format nothing_read version in
     let d2 = with tag.Day d1 day in
-    let d3 = record d2 { last = Some tag.Period; periods = v.rules.periods } in
+    let d3 = with_periods d2 (Some tag.Period) v.rules.periods in
     let rows3 : List Record = section_rows (Some tag.Current, current_rows version v.rules.current)
     ++ row_text tag.Lags (lags_in v.rules) ∷ rest in
     let rows2 : List Record = section_rows (Some tag.Period, v.rules.periods) ++ rows3 in

@@ -54,8 +54,8 @@ pub record FitsSoFar (d : DraftValue) : Type 0 where
   pub known : may_come (scope_of d).version d.last ≡ true
   pub rising : IsRising (map (λ a. a.number) (accounts_in d))
   pub few : account_count d ≤ MOST_ACCOUNTS
-  pub numbered : IfSome (next_in d.days) (λ next. next + length d.instructions ≤ MOST_RECORD + 1)
-  pub recorded : IfSome (next_in d.days) (AreRecorded d.accounts d.lists.rows)
+  pub numbered : IfSome (next_in d.heading.days) (λ next. next + length d.instructions ≤ MOST_RECORD + 1)
+  pub recorded : IfSome (next_in d.heading.days) (AreRecorded d.accounts d.lists.rows)
   pub retired : RetiredFits d.lists.rows
   pub unbegun : d.head ≡ None → d.lists ≡ no_lists
 

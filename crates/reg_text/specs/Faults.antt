@@ -70,9 +70,9 @@ has_row_space next rows row = nat_lt (length rows) MOST_ROWS && (is_recorded nex
 -- the day, and not too much
 abbrev pub has_space : (t : Tag) → DraftValue → Said t → Bool
 has_space tag.Account d x = nat_lt (account_count d) MOST_ACCOUNTS
-has_space tag.Retired d x = has_row_space (next_in d.days) d.lists.rows x
+has_space tag.Retired d x = has_row_space (next_in d.heading.days) d.lists.rows x
 has_space tag.Do d x = nat_lt (length d.instructions) MOST_INSTRUCTIONS
-    && is_number_left (next_in d.days) (length d.instructions)
+    && is_number_left (next_in d.heading.days) (length d.instructions)
 has_space t d x = is_space (most t) (length (items_said t d))
 
 -- a value, if two tests pass

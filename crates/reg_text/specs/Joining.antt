@@ -8,6 +8,7 @@ use Rattle.reg_cuts.specs.Rows.{rows_in_text}
 use Rattle.reg_text.specs.Records.{Record}
 use Rattle.reg_text.specs.Lasts.{is_above}
 use Rattle.reg_text.specs.declared.reading.account_row.AccountHead.{AccountHead}
+use Rattle.reg_text.specs.declared.reading.tag.Tag.{Tag}
 use Rattle.reg_text.specs.declared.reading.tag.Tag.TheVariants as tag
 use Rattle.reg_text.specs.Tags.{may_follow}
 use Rattle.reg_text.specs.Drafts.{DraftValue, accounts_in, account_count, nothing_read, scope_of}
@@ -25,20 +26,13 @@ pub record IsHeading (h : DraftValue) : Type 0 where
   pub no_instructions : h.instructions ≡ []
 
 -- the rows before the accounts say the same
-pub record HasHeading (h d : DraftValue) : Type 0 where
-  pub versions : d.versions ≡ h.versions
-  pub days : d.days ≡ h.days
-  pub periods : d.periods ≡ h.periods
-  pub current : d.current ≡ h.current
-  pub lags : d.lags ≡ h.lags
-  pub surrender : d.surrender ≡ h.surrender
-  pub admins : d.admins ≡ h.admins
-  pub work : d.work ≡ h.work
+abbrev pub HasHeading : DraftValue → DraftValue → Type 0
+HasHeading h d = d.heading ≡ h.heading
 
 -- the last row is that of an account with this number, or if there is none, an instruction
-abbrev pub BeginsWith : DraftValue → Option ℕ → Type 0
-BeginsWith d (Some number) = (d.last ≡ Some tag.Account) × (number_in d.head ≡ Some number)
-BeginsWith d None = d.last ≡ Some tag.Do
+abbrev pub BeginsWith : Option Tag → Option AccountHead → Option ℕ → Type 0
+BeginsWith last head (Some number) = (last ≡ Some tag.Account) × (number_in head ≡ Some number)
+BeginsWith last head None = last ≡ Some tag.Do
 
 -- the rows of a part, read behind a heading, give this draft. The first row is this one
 pub record IsPart (h : DraftValue) (rows : List Record) (first : Option ℕ) (d : DraftValue) : Type 0 where
@@ -47,7 +41,7 @@ pub record IsPart (h : DraftValue) (rows : List Record) (first : Option ℕ) (d 
   pub after_first : DraftValue
   pub rows_are : rows ≡ row ∷ others
   pub takes_first : next_draft h row ≡ Ok after_first
-  pub begins : BeginsWith after_first first
+  pub begins : BeginsWith after_first.last after_first.head first
   pub goes_on : drafted after_first others ≡ Ok d
 
 -- a draft, and behind it what a part adds that begins with an account of this number, or with an instruction
@@ -72,7 +66,7 @@ pub record AccountsMayFollow (number : ℕ) (d e : DraftValue) : Type 0 where
 pub record InstructionsMayFollow (d e : DraftValue) : Type 0 where
   pub stands : may_follow (scope_of d).version d.last tag.Do ≡ true
   pub few : length d.instructions + length e.instructions ≤ MOST_INSTRUCTIONS
-  pub left : is_number_left (next_in d.days) (length d.instructions + length e.instructions - 1) ≡ true
+  pub left : is_number_left (next_in d.heading.days) (length d.instructions + length e.instructions - 1) ≡ true
 
 -- the draft of a part may stand behind a draft
 abbrev pub MayJoin : Option ℕ → DraftValue → DraftValue → Type 0

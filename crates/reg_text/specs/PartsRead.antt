@@ -4,14 +4,14 @@ use Rattle.std.specs.Borrow.{Bor}
 use Rattle.reg_cuts.specs.Parts.{IsCut, HasNoMark}
 use Rattle.reg_cuts.specs.Rows.{rows_in_text}
 use Rattle.reg_text.specs.declared.reading.parts.Part.{Part}
-use Rattle.reg_text.specs.Drafts.{DraftValue, draft_of}
+use Rattle.reg_text.specs.Drafts.{DraftValue, behind_heading}
 use Rattle.reg_text.specs.Joining.{IsPart}
 
 -- what was read of a part is what its rows say behind the heading, or nothing was read
 abbrev pub IsReadPart : DraftValue → List ℕ → Option Part → Type 0
 IsReadPart h text None = Unit {0}
 IsReadPart h text (Some part) =
-    IsCut text × HasNoMark text × IsPart h (rows_in_text text) part.first (draft_of part.draft)
+    IsCut text × HasNoMark text × IsPart h (rows_in_text text) part.first (behind_heading h.heading part.body)
 
 -- the same of each part, one after another
 unfoldable pub ReadsEach : DraftValue → List (Bor (List ℕ)) → List (Option Part) → Type 0

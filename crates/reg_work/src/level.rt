@@ -1,10 +1,10 @@
 //! Running the tasks of a level.
 
-ghost use Rattle.std.specs.Prelude.{◌≡◌, ◌≤◌, ◌++◌, [], Err, flat_map, vec_len, vec_capacity, IfOk, IfErr, OnOk, is_ok};
-ghost use Rattle.std.specs.Prelude.{true};
+ghost use Rattle.std.specs.Prelude.{◌≡◌, ◌≤◌, ◌++◌, [], Err, map, flat_map, vec_len, vec_capacity, IfOk, IfErr, OnOk};
+ghost use Rattle.std.specs.Prelude.{is_ok, true};
 ghost use Rattle.reg_work.specs.declared.fault.Shortage.TheVariants.{Thread};
 ghost use Rattle.reg_levels.specs.Levels.{places_of, places_run};
-ghost use Rattle.reg_work.specs.Parts.{joined};
+ghost use Rattle.reg_work.specs.Parts.{joined, AreEven};
 ghost use Rattle.reg_work.specs.Shortages.{IsShortage};
 
 use crate::fault::Shortage;
@@ -118,17 +118,22 @@ fn first_lack(started: Result<(), Shortage>, joined: Result<(), NoMemory>) -> Re
     Ok(())
 }
 
-// Runs each part in a thread of its own, and joins all threads. There are so many tasks in all.
+// Runs each part in a thread of its own, and joins all threads. There are so many tasks in all, and no more parts than
+// workers, of sizes that differ by at most one.
 fn run_parts<N: Naming + Send + Sync, R: Threads + Wait, G: Gate>(
     rt: &R,
     alloc: Global,
     context: &Context<N>,
     gate: &G,
+    workers: u32,
     parts: Vec<Vec<Task<N>>>,
     count: usize,
 ) -> Result<Vec<Outcome<N>>, Shortage>
+    requires few { vec_len parts ≤ workers }
+    requires even { AreEven (map vec_len parts.items) }
     ensures { IfOk result (λ outcomes. places_run outcomes.items ≡ places_of (joined parts.items)) }
 {
+    let _workers = workers;
     thread::scope(
         thread::scope_env(),
         rt,
@@ -174,6 +179,7 @@ pub(crate) fn run_level<N: Naming + Send + Sync, R: Threads + Wait, G: Gate>(
         alloc,
         context,
         gate,
+        workers,
         divide(alloc, tasks, parts)?,
         count,
     )

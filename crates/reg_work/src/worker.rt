@@ -208,9 +208,9 @@ impl<N: Naming, I: SharedIds> Worker<N, I> {
         ensures none { IfNone result (views self.new.pass ≡ views self.old.pass) }
     {
         let own = self.pass.worker();
-        let workers = shared.yard.workers();
-        for from in 0..MOST_WORKERS {
-            if from != own && (from as usize) < workers {
+        let workers = shared.yard.workers().min(MOST_WORKERS as usize) as u32;
+        for from in 0..workers {
+            if from != own {
                 let stolen = shared.yard.steal(&mut self.pass, from);
                 if stolen.is_some() {
                     return stolen;
@@ -220,8 +220,8 @@ impl<N: Naming, I: SharedIds> Worker<N, I> {
         None
     }
 
-    /// Claims the place of a task, passes the gate and runs the task. If the place is claimed already, the task is not
-    /// run, and there is no execution.
+    /// Claims the place of a task, then passes the gate and runs the task. If the place is claimed already, the task is
+    /// not run, and there is no execution.
     ///
     /// # Errors
     /// `Memory` if memory ran out. If no day is named, also if the task is of another context, and `Foreign` if its
@@ -251,12 +251,32 @@ impl<N: Naming, I: SharedIds> Worker<N, I> {
         if !shared.table.claim(&mut self.seat, place) {
             return Ok(None);
         }
+        let execution = self.run_claimed(alloc, shared, gate, worker, task)?;
+        Ok(Some(execution))
+    }
+
+    // Passes the gate with a task whose place the worker has claimed, and runs it. No worker that steals runs a task
+    // anywhere else.
+    fn run_claimed<G: Gate>(
+        &self,
+        alloc: Global,
+        shared: &Shared<'_, N, I>,
+        gate: &G,
+        worker: u32,
+        task: Task<N>,
+    ) -> Result<Execution<N>, Lack>
+        requires claimed { IsToFinish task.place (known self.now.seat) }
+        ensures place { IfOk result (λ t. t.ran.place ≡ task.place) }
+        ensures made { IfOk result
+            (λ t. reply_at (the_day shared.now.context.now) task.place (values_of task.parcels.items)
+            ≡ Some (values_of t.left.items, t.done.reply)) }
+    {
         gate.enter(worker, &task);
         let Ok(outcome) = task.run(alloc, shared.context) else {
             return Err(Lack::Memory);
         };
         let (ran, done, left) = outcome.into_done();
-        Ok(Some(Execution { ran, done, left }))
+        Ok(Execution { ran, done, left })
     }
 
     /// Hands on what an instruction left: to the dock of the instruction that waits for it, and each task that is

@@ -19,7 +19,7 @@ pub(crate) fn file_length<F: Files>(files: &F) -> usize {
     }
 }
 
-/// Standard input. If somebody types the text, they get a hint before the program waits for it.
+/// Standard input. If somebody types the text, they get notice before the program waits for it.
 #[derive(Drop)]
 pub(crate) struct Input {
     stream: Stdin,

@@ -122,13 +122,16 @@ fn status(fault: FrontFault) -> u8
     }
 }
 
-// The arguments after the program's name, or none if one of them is not UTF-8: then the help is shown.
-fn read_arguments<R: Env + AllocGlobal>(rt: &R) -> Result<Vec<String>, AllocError> {
+// What is said if a word is not UTF-8.
+const NOT_UTF8: &str = "error: a word is not UTF-8\n\nFor more information, try '--help'.\n";
+
+// The arguments after the program's name. Nothing, if one of them is not UTF-8.
+fn read_arguments<R: Env + AllocGlobal>(rt: &R) -> Result<Option<Vec<String>>, AllocError> {
     match env::args(rt) {
-        Ok(args) => args.skip(1).collect(rt.alloc()),
+        Ok(args) => Ok(Some(args.skip(1).collect(rt.alloc())?)),
         Err(fault) => match fault.kind() {
             io::ErrorKind::OutOfMemory => Err(AllocError),
-            _ => Ok(Vec::new(rt.alloc())),
+            _ => Ok(None),
         },
     }
 }
@@ -137,7 +140,7 @@ fn main(rt: HostRuntime) -> ExitCode {
     let mut reader = Counted::new(Input::new(rt.stdin(), rt.stderr())).expecting(file_length(&rt));
     let mut faults = Counted::new(rt.stderr());
     let status = match read_arguments(&rt) {
-        Ok(words) => serve(
+        Ok(Some(words)) => serve(
             &rt,
             rt.alloc(),
             words.as_slice(),
@@ -145,6 +148,10 @@ fn main(rt: HostRuntime) -> ExitCode {
             &mut Counted::new(rt.stdout()),
             &mut faults,
         ),
+        Ok(None) => {
+            let _ = write!(faults, "{NOT_UTF8}");
+            WORDS_NOT_TAKEN
+        }
         Err(AllocError) => tell(FrontFault::NoMemory, &mut faults),
     };
     ExitCode::from(status)

@@ -15,6 +15,9 @@ use reg_front::Command;
 use std::alloc::{AllocError, Global};
 use std::convert::AsStr;
 
+// The command that takes a number of workers.
+const SETTLE: &str = "settle";
+
 // The version of the program. No source can name its own commit: `./run --version` tells that.
 const VERSION: &str = "1.0";
 
@@ -40,10 +43,23 @@ Exit statuses:
 /// if memory ran out.
 pub(crate) fn read_words<'a, S: AsStr>(alloc: Global, words: &'a [S]) -> Result<Command, Error> {
     let mut program = describe_program(alloc)?;
-    match find_words(&mut program, words)? {
-        Some(command) => Ok(command),
-        None => Err(program.error(ErrorKind::MissingSubcommand, "a command is needed")?),
+    match find_words(&mut program, words) {
+        Ok(Some(command)) => Ok(command),
+        Ok(None) => Err(program.error(ErrorKind::MissingSubcommand, "a command is needed")?),
+        Err(error) if is_of_workers(&error, words) => Err(workers_refused(alloc)?),
+        Err(error) => Err(error),
     }
+}
+
+// Whether the word for the number of workers is none. `clap` tells the limits of the type, which are others.
+fn is_of_workers<S: AsStr>(error: &Error, words: &[S]) -> bool {
+    let is_settle = words.first().is_some_and(|word| word.as_str() == SETTLE);
+    is_settle && error.kind() == ErrorKind::ValueValidation
+}
+
+fn workers_refused(alloc: Global) -> Result<Error, AllocError> {
+    let mut settle = describe_settle(alloc)?.bin_name("registry settle")?;
+    settle.error(ErrorKind::ValueValidation, "workers must be 1 to 8")
 }
 
 // The command among the words, if the program takes them.

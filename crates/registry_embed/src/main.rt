@@ -4,7 +4,8 @@
 //! `registry` does more: it takes words, settles by workers, tells what failed, and reads no more than 2^30 bytes.
 #![tactic(auto)]
 
-ghost use Rattle.std.specs.Prelude.{◌≡◌, IfSome};
+ghost use Rattle.std.specs.Prelude.{◌≡◌, IfSome, OnOk};
+ghost use Rattle.std.specs.Io.KnownBytes.{Appends};
 ghost use Rattle.reg_book.specs.Day.{Day};
 ghost use Rattle.reg_cuts.specs.Rows.{rows_in_text};
 ghost use Rattle.reg_text.specs.Inputs.{day_of_input};
@@ -41,16 +42,40 @@ fn report_from_text(alloc: Global, text: &[u8]) -> Option<Vec<u8>>
     report_from_day(alloc, day)
 }
 
-fn main(rt: HostRuntime) -> ExitCode {
-    let mut text = Vec::new(rt.alloc());
-    if rt.stdin().read_to_end(&mut text).is_err() {
-        return ExitCode::FAILURE;
-    }
-    let Some(report) = report_from_text(rt.alloc(), text.as_slice()) else {
-        return ExitCode::FAILURE;
+/// No report was written, or not all of it.
+struct Unanswered;
+
+/// Reads the whole input, and writes the report of the day that it describes.
+///
+/// # Errors
+/// [`Unanswered`] if the input can't be read or is no day text, if the report can't be written, or if memory ran out.
+fn answer<R: Read, W: Write>(
+    alloc: Global,
+    reader: &mut R,
+    writer: &mut W,
+) -> Result<(), Unanswered>
+    ensures { OnOk result (IfSome (R.remaining reader.old) (λ text. (day : Day) × IsReading (rows_in_text text) day
+        × Appends (W.contents writer.old) (W.contents writer.new) (report_of day))) }
+{
+    let mut text = Vec::new(alloc);
+    let Ok(_) = reader.read_to_end(&mut text) else {
+        return Err(Unanswered);
     };
-    match rt.stdout().write_all(report.as_slice()) {
+    let Some(report) = report_from_text(alloc, text.as_slice()) else {
+        return Err(Unanswered);
+    };
+    let Ok(()) = writer.write_all(report.as_slice()) else {
+        return Err(Unanswered);
+    };
+    let Ok(()) = writer.flush() else {
+        return Err(Unanswered);
+    };
+    Ok(())
+}
+
+fn main(rt: HostRuntime) -> ExitCode {
+    match answer(rt.alloc(), &mut rt.stdin(), &mut rt.stdout()) {
         Ok(()) => ExitCode::SUCCESS,
-        Err(_) => ExitCode::FAILURE,
+        Err(Unanswered) => ExitCode::FAILURE,
     }
 }

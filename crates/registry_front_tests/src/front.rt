@@ -4,6 +4,7 @@
 ghost use Rattle.reg_front.specs.Faulting.{sink_of, source_of};
 ghost use Rattle.reg_front.specs.Streams.{CanFail};
 
+use reg_base::AccountNo;
 use reg_front::{Command, Counted, Faulty, FrontFault, run, run_plan, tell_fault};
 use std::alloc::Global;
 use std::io;
@@ -66,6 +67,20 @@ totals,general,100,0,0
 totals,aviation,50,0,0
 end
 ";
+
+// What account 1 held before that day, its log row, and what it holds after.
+const STATEMENT: &str = "\
+opening,1,100,0
+log,1,2025-03-31,2025-03-31,101,102,transfer,1,2,general,40,done,,1,60,0,2,40,0
+closing,1,60,0
+end
+";
+
+// Its plan.
+const PLAN: &str = "task,1,1\nend\n";
+
+// The totals after it.
+const TOTALS: &str = "totals,general,100,0,0\ntotals,aviation,50,0,0\nend\n";
 
 // A device that has these bytes to read, moves one byte in a call, and fails at this call, or at 0 never.
 fn make_device<A: Abort>(rt: &A, alloc: Global, text: &str, call: usize) -> Faulty
@@ -147,7 +162,7 @@ impl Write for Clogged {
     }
 }
 
-// The plan of the day is `task,1,1` and `end`. A flush that failed is not tried again.
+// A flush that failed is not tried again.
 #[test]
 fn reports_a_writer_of_which_the_flush_alone_fails(rt: HostRuntime) {
     let mut clogged = Clogged {
@@ -162,7 +177,7 @@ fn reports_a_writer_of_which_the_flush_alone_fails(rt: HostRuntime) {
         &mut Counted::new(&mut clogged),
     );
     assert_eq!(rt; answer, Err(FrontFault::WriteFailed));
-    assert_eq!(rt; clogged.taken, "task,1,1\nend\n".len());
+    assert_eq!(rt; clogged.taken, PLAN.len());
 }
 
 #[test]
@@ -174,6 +189,56 @@ fn hands_on_the_line_of_a_fault(rt: HostRuntime) {
     tell_fault(FrontFault::Read, &mut Counted::new(&mut clogged));
     assert_eq!(rt; clogged.taken, "read failed\n".len());
     assert_eq!(rt; clogged.flushes, 1);
+}
+
+// Takes every byte, and hands on none before it is flushed.
+#[derive(Drop)]
+struct Keeping {
+    taken: usize,
+    handed_on: usize,
+}
+
+impl Write for Keeping {
+    fn write(&mut self, buf: &[u8]) -> io::Result<usize> {
+        self.taken = self.taken.saturating_add(buf.len());
+        Ok(buf.len())
+    }
+
+    fn flush(&mut self) -> io::Result<()> {
+        self.handed_on = self.taken;
+        Ok(())
+    }
+}
+
+// How many bytes of the text of a command are handed on when it has ended.
+fn handed_on<T: Threads + Wait + Sync + Abort>(rt: &T, alloc: Global, command: Command) -> usize {
+    let mut keeping = Keeping {
+        taken: 0,
+        handed_on: 0,
+    };
+    let mut reader = Counted::new(DAY.as_bytes());
+    let mut writer = Counted::new(&mut keeping);
+    run(rt, alloc, &mut reader, &mut writer, command).expect(rt, "a text that is taken");
+    keeping.handed_on
+}
+
+#[test]
+fn hands_on_the_whole_text_of_each_command(rt: HostRuntime) {
+    let account = AccountNo::new(1).expect(&rt, "a number within its limits");
+    for (command, text) in [
+        (Command::Settle { workers: 1 }, REPORT),
+        (Command::Settle { workers: 4 }, REPORT),
+        (Command::Plan, PLAN),
+        (Command::Statement { account }, STATEMENT),
+        (Command::Figures, "end\n"),
+        (Command::Totals, TOTALS),
+    ] {
+        assert_eq!(rt;
+            handed_on(&rt, rt.alloc(), command),
+            text.len(),
+            "{command:?}"
+        );
+    }
 }
 
 // A reader at its end and a writer, of which the first call alone fails, as one that a signal interrupts.

@@ -28,8 +28,15 @@ do,2025-03-31,101,102,transfer,1,77,general,1
 do,2025-03-31,101,102,transfer,1,78,general,1
 ";
 
-// A gate that holds each task until so many have entered. It counts the tasks that waited in vain, and adds up the
-// numbers of the workers.
+// Three transfers to unknown accounts.
+const THREE: &str = "\
+do,2025-03-31,101,102,transfer,1,71,general,1
+do,2025-03-31,101,102,transfer,1,72,general,1
+do,2025-03-31,101,102,transfer,1,73,general,1
+";
+
+// A gate that holds each task until so many have entered. It counts the tasks that entered and those that waited in
+// vain, and adds up the numbers of the workers.
 #[derive(Drop)]
 pub(crate) struct Meeting {
     wanted: u32,
@@ -104,20 +111,24 @@ pub(crate) fn is_same<R: Abort + Threads + Wait>(
     by_workers(rt, alloc, day, workers, &FreeGate) == settled(rt, alloc, day)
 }
 
-// Of so many workers who each wait until so many have entered: how many waited in vain, and the sum of their numbers.
+// Of so many workers who wait until so many tasks have entered: how many tasks entered, how many of them waited in
+// vain, and the sum of the workers' numbers, one for each task.
 fn met<R: Abort + Threads + Wait>(
     rt: &R,
     alloc: Global,
     instructions: &str,
     workers: u32,
     wanted: u32,
-) -> (u32, u32) {
+) -> [u32; 3] {
     let day = worked(rt, alloc, instructions);
     let gate = Meeting::of(wanted);
     let left = by_workers(rt, alloc, &day, workers, &gate);
     assert!(rt; left == settled(rt, alloc, &day));
-    let missed = gate.missed.load(Ordering::SeqCst);
-    (missed, gate.workers.load(Ordering::SeqCst))
+    [
+        gate.entered.load(Ordering::SeqCst),
+        gate.missed.load(Ordering::SeqCst),
+        gate.workers.load(Ordering::SeqCst),
+    ]
 }
 
 // The places of two transfers in the order in which two workers enter with them.
@@ -149,18 +160,29 @@ pub(crate) fn full_batch(rt: &impl Abort, alloc: Global) -> String {
 }
 
 #[test]
-fn two_workers_run_at_once(rt: HostRuntime) {
-    assert_eq!(rt; met(&rt, rt.alloc(), APART, 2, 2), (0, 1));
+fn two_tasks_are_run_by_two_workers_at_once(rt: HostRuntime) {
+    for workers in [2, 8] {
+        assert_eq!(rt;
+            met(&rt, rt.alloc(), APART, workers, 2),
+            [2, 0, 1],
+            "{workers} workers"
+        );
+    }
 }
 
 #[test]
-fn eight_workers_run_at_once(rt: HostRuntime) {
-    assert_eq!(rt; met(&rt, rt.alloc(), UNKNOWN, 8, 8), (0, 28));
+fn three_tasks_are_run_by_three_workers_at_once(rt: HostRuntime) {
+    assert_eq!(rt; met(&rt, rt.alloc(), THREE, 3, 3), [3, 0, 3]);
 }
 
+// Three workers get 3, 3 and 2 tasks: 0 + 0 + 0, 1 + 1 + 1 and 2 + 2 are 7.
 #[test]
-fn more_workers_than_tasks_run_each_task_once(rt: HostRuntime) {
-    assert_eq!(rt; met(&rt, rt.alloc(), APART, 8, 2), (0, 1));
+fn eight_tasks_are_shared_by_all_workers_at_once(rt: HostRuntime) {
+    let sums = [0, 4, 7, 12, 13, 16, 21, 28];
+    for (workers, sum) in (1..9).zip(sums) {
+        let found = met(&rt, rt.alloc(), UNKNOWN, workers, workers);
+        assert_eq!(rt; found, [8, 0, sum], "{workers} workers");
+    }
 }
 
 #[test]

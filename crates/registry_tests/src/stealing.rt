@@ -119,6 +119,16 @@ fn met<R: Abort + Threads + Wait + Sync>(
     told
 }
 
+// Of so many workers who each wait until so many have entered, after the last one has opened all places: how many
+// waited in vain.
+fn missed_by_owners<R: Abort + Threads + Wait + Sync>(rt: &R, alloc: Global, workers: u32) -> u32 {
+    let DayInput { book, rules, batch } = worked(rt, alloc, UNKNOWN);
+    let gate = Meeting::of(workers);
+    let closed = close_with(rt, alloc, book, &rules, &batch, workers, &gate);
+    assert!(rt; closed.is_ok());
+    gate.missed.load(Ordering::SeqCst)
+}
+
 #[test]
 fn two_workers_run_at_once(rt: HostRuntime) {
     let told = met(&rt, rt.alloc(), APART, 2);
@@ -130,6 +140,23 @@ fn eight_workers_run_at_once(rt: HostRuntime) {
     let each = "0:1 1:1 2:1 3:1 4:1 5:1 6:1 7:1 ";
     let told = met(&rt, rt.alloc(), UNKNOWN, 8);
     assert_eq!(rt; told.as_str(), each);
+}
+
+// One of them opens all places, most often the first.
+#[test]
+fn all_of_several_workers_run_at_once(rt: HostRuntime) {
+    for workers in 3..8 {
+        let told = met(&rt, rt.alloc(), UNKNOWN, workers);
+        assert!(rt; !told.as_str().contains(":0"), "{told}");
+    }
+}
+
+#[test]
+fn all_others_steal_from_the_last_worker(rt: HostRuntime) {
+    for workers in 2..9 {
+        let missed = missed_by_owners(&rt, rt.alloc(), workers);
+        assert_eq!(rt; missed, 0, "{workers} workers");
+    }
 }
 
 #[test]

@@ -4,6 +4,7 @@
 pub mod account;
 pub mod base;
 pub mod book;
+pub mod bundles;
 pub mod claim;
 pub mod counting;
 pub mod cuts;
@@ -12,6 +13,7 @@ pub mod front;
 pub mod graph;
 pub mod levels;
 pub mod plan;
+pub mod regions;
 pub mod rules;
 pub mod schedules;
 pub mod tasks;

@@ -1,14 +1,15 @@
 """HTML in Python: elements whose texts are escaped, tables with heads, and the frame that all pages have."""
 import functools
 import re
+from collections.abc import Callable, Collection, Iterable, Mapping, Sequence
 from html import escape
 from pathlib import Path
 
 SPECIAL = re.compile("[&<>\"']")
 TAGS = re.compile("<[^>]*>")
-# A table with so few letters beside each other fits everywhere. The rows of another one are stacked, with the name of the column
-# before each cell, where the window is too narrow: by the class of the table, for how many letters it is, and in which windows. The
-# rows of a table with still more letters are stacked everywhere.
+# A table with so few letters beside each other fits everywhere. The rows of another one are stacked, with the name of
+# the column before each cell, where the window is too narrow: by the class of the table, for how many letters it is,
+# and in which windows. The rows of a table with still more letters are stacked everywhere.
 FITS, BETWEEN = 38, 2
 ROOMS = {"small": (60, "44rem"), "middle": (92, "62rem"), "dense": (145, "78rem")}
 EVERYWHERE = "everywhere"
@@ -17,67 +18,74 @@ MANY_ROWS = 100
 DATES = {"Day", "Proposed", "Due", "In effect from"}
 
 
+# The cells of a row: texts, elements, or what else has words.
+Cells = Sequence[object]
+
+
 class Markup(str):
     """A text that is HTML already."""
 
 
-def markup(it):
+def markup(words: object) -> str:
     """A text as HTML: escaped, if it is not HTML already."""
-    if type(it) is Markup:
-        return it
-    text = str(it)
+    if type(words) is Markup:
+        return words
+    text = str(words)
     # (most texts have nothing to escape, and looking is quicker)
     return escape(text) if SPECIAL.search(text) else text
 
 
-def attributes_of(attributes):
+def attributes_of(attributes: Mapping[str, object]) -> str:
     """The attributes of a start tag. `class_` is class, `_` is a hyphen; those without a value are left out."""
     said = ((name.rstrip("_").replace("_", "-"), value) for name, value in attributes.items())
     return "".join(f' {name}="{escape(str(value))}"' for name, value in said if value is not None)
 
 
-def tag(name, *children, **attributes):
+def tag(name: str, *children: object, **attributes: object) -> Markup:
     """An element with these children: texts, or elements."""
     inner = "".join(map(markup, children))
     return Markup(f"<{name}{attributes_of(attributes) if attributes else ''}>{inner}</{name}>")
 
 
 @functools.lru_cache(maxsize=1_000)
-def heading(words):
+def heading(words: str) -> Markup:
     """The heading of a section."""
     return tag("h2", words)
 
 
-def joined(*parts):
+def joined(*parts: object) -> Markup:
     """Elements one after another, a line each."""
     return Markup("\n".join(map(markup, parts)))
 
 
-def link(target, words, **attributes):
+def link(target: str, words: object, **attributes: object) -> Markup:
     return tag("a", words, href=target, **attributes)
 
 
-def paragraph(*children, **attributes):
+def paragraph(*children: object, **attributes: object) -> Markup:
     return tag("p", *children, **attributes)
 
 
-def items(rows):
+def items(rows: Iterable[object]) -> Markup:
     """A list of points."""
     return tag("ul", *(tag("li", row) for row in rows))
 
 
-def facts(pairs):
+def facts(pairs: Iterable[tuple[object, object]]) -> Markup:
     """Names and what they are, a line each. Pairs without a value are left out."""
-    return tag("dl", *(tag("div", tag("dt", name), tag("dd", it)) for name, it in pairs if it not in (None, "")))
+    return tag(
+        "dl", *(tag("div", tag("dt", name), tag("dd", value)) for name, value in pairs if value not in (None, ""))
+    )
 
 
-def visible(cell):
+def visible(cell: object) -> str:
     """The words of a cell."""
     return TAGS.sub("", cell) if type(cell) is Markup else str(cell)
 
 
-def letters_of(columns, right, rows):
-    """How many letters stand beside each other in the row of a table: all of a number, and the longest word of another cell."""
+def letters_of(columns: Sequence[str], right: Collection[str], rows: Sequence[Cells]) -> int:
+    """How many letters stand beside each other in the row of a table: all of a number, and the longest word of another
+    cell."""
     # Numbers differ from row to row. Of other cells the first and the last ones show how long they are.
     looked_at, needed = [*rows[:MANY_ROWS], *rows[-MANY_ROWS:]], 0
     for place, name in enumerate(columns):
@@ -87,7 +95,7 @@ def letters_of(columns, right, rows):
     return needed
 
 
-def room_of(letters):
+def room_of(letters: int) -> str | None:
     """The class of a table with so many letters beside each other; nothing if it fits everywhere."""
     if letters <= FITS:
         return None
@@ -97,26 +105,26 @@ def room_of(letters):
 class Table:
     """The head of a table: its columns, of which those of `right` hold numbers. The first column names each row."""
 
-    def __init__(self, columns, right=(), is_short=False):
+    def __init__(self, columns: Sequence[str], right: Collection[str] = (), is_short: bool = False) -> None:
         self.columns, self.right, self.is_short = columns, right, is_short
-        heads = (tag("th", it, scope="col", class_="n" if it in right else None) for it in columns)
+        heads = (tag("th", column, scope="col", class_="n" if column in right else None) for column in columns)
         self.head = tag("thead", tag("tr", *heads))
-        self.starts = [self.start(place, it) for place, it in enumerate(columns)]
+        self.starts = [self.start(place, column) for place, column in enumerate(columns)]
         self.end = "</td>" if len(columns) > 1 else "</th>"
 
-    def start(self, place, column):
+    def start(self, place: int, column: str) -> str:
         """The end tag of the cells of the column before, and the start tag of those of a column."""
         name, scope = ("th", "row") if place == 0 else ("td", None)
         kind = "n" if column in self.right else "d" if column in DATES else None
         end = "" if place == 0 else "</th>" if place == 1 else "</td>"
         return f"{end}<{name}{attributes_of({'scope': scope, 'class': kind, 'data_label': column})}>"
 
-    def row(self, cells):
+    def row(self, cells: Cells) -> str:
         """A row of the table."""
         pairs = zip(self.starts, cells)
         return f"<tr>{''.join([start + markup(cell) for start, cell in pairs])}{self.end}</tr>"
 
-    def of(self, caption, rows, foot=()):
+    def of(self, caption: object, rows: Iterable[Cells], foot: Sequence[Cells] = ()) -> Markup:
         """The whole table. `rows` and `foot` hold the cells of each row."""
         rows = [*rows]
         room = room_of(letters_of(self.columns, self.right, [*rows, *foot]))
@@ -128,20 +136,28 @@ class Table:
         return Markup(f"<table{attributes}>{said}{self.head}\n<tbody>{body}</tbody>{last}</table>")
 
 
-def table(caption, columns, rows, right=(), foot=(), is_short=False):
+def table(
+    caption: object,
+    columns: Sequence[str],
+    rows: Iterable[Cells],
+    right: Collection[str] = (),
+    foot: Sequence[Cells] = (),
+    is_short: bool = False,
+) -> Markup:
     """A table that is drawn once. A short one has only as much room as a paragraph."""
     return Table(columns, right, is_short).of(caption, rows, foot)
 
 
 @functools.lru_cache(maxsize=None)
-def style_of(*names):
+def style_of(*names: str) -> str:
     """Style sheets of this folder, without blanks that say nothing."""
     text = " ".join(Path(__file__).with_name(f"{name}.css").read_text(encoding="utf-8") for name in names)
     return re.sub(r"\s*([{};,])\s*", r"\1", " ".join(text.split()))
 
 
-def stacked(name):
-    """The style of tables of this class, whose rows are stacked. A page with the widest tables is as wide as they are."""
+def stacked(name: str) -> str:
+    """The style of tables of this class, whose rows are stacked. A page with the widest tables is as wide as they
+    are."""
     rules = style_of("stack").replace(".stack", f".{name}")
     if name == EVERYWHERE:
         return rules
@@ -151,35 +167,50 @@ def stacked(name):
 
 
 # What only some pages need: by a word that stands on such a page, its style.
-PARTS = {"<svg": lambda: style_of("picture"), **{f'{it}"': functools.partial(stacked, it) for it in (*ROOMS, EVERYWHERE)}}
+PARTS: dict[str, Callable[[], str]] = {
+    "<svg": lambda: style_of("picture"),
+    **{f'{name}"': functools.partial(stacked, name) for name in (*ROOMS, EVERYWHERE)},
+}
 
 
 class Frame:
-    """What all pages of a folder have around them: the links to each other, and the style. Nothing is fetched, and no script runs:
-    the policy in the head forbids it."""
+    """What all pages of a folder have around them: the links to each other, and the style. Nothing is fetched, and no
+    script runs: the policy in the head forbids it."""
 
-    def __init__(self, sections):
+    def __init__(self, sections: Sequence[tuple[str, str]]) -> None:
         """`sections` has the file and the name of each page that all pages link to."""
         self.sections = sections
-        self.starts = {}
+        self.starts: dict[tuple[object, ...], str] = {}
 
-    def navigation(self, root, current):
+    def navigation(self, root: str, current: str | None) -> Markup:
         own = ((f"{root}{file}", name, "page" if file == current else None) for file, name in self.sections)
-        return tag("nav", tag("ul", *(tag("li", link(*it[:2], aria_current=it[2])) for it in own)), aria_label="Pages")
+        return tag(
+            "nav", tag("ul", *(tag("li", link(*page[:2], aria_current=page[2])) for page in own)), aria_label="Pages"
+        )
 
-    def start(self, root, current, parts, is_across):
+    def start(self, root: str, current: str | None, parts: Sequence[str], is_across: bool) -> str:
         """What stands between the title and the content."""
         key = (root, current, is_across, *parts)
         if key not in self.starts:
-            style = style_of("colours", "style") + "".join(PARTS[it]() for it in parts)
+            style = style_of("colours", "style") + "".join(PARTS[part]() for part in parts)
             kind = ' class="across"' if is_across else ""
-            self.starts[key] = f"<style>{style}</style>\n</head>\n<body{kind}>\n{SKIP}\n{self.navigation(root, current)}\n"
+            self.starts[
+                key
+            ] = f"<style>{style}</style>\n</head>\n<body{kind}>\n{SKIP}\n{self.navigation(root, current)}\n"
         return self.starts[key]
 
-    def page(self, title, *body, root="", current=None, note="", is_across=False):
+    def page(
+        self,
+        title: object,
+        *body: object,
+        root: str = "",
+        current: str | None = None,
+        note: object = "",
+        is_across: bool = False,
+    ) -> str:
         """A page of the folder; `root` leads from it to the folder. It prints on A4, and if it is so, across."""
         content = joined(*body)
-        behind = self.start(root, current, [it for it in PARTS if it in content], is_across)
+        behind = self.start(root, current, [part for part in PARTS if part in content], is_across)
         name = markup(title)
         foot = f"<footer>{paragraph(note)}</footer>\n" if note else ""
         main = f'<main id="main">\n<h1>{name}</h1>\n{content}\n</main>\n'

@@ -1,5 +1,7 @@
-"""Turns the Markdown of docs/ into HTML: headings, paragraphs, lists, tables, code, links and emphasis, and nothing else."""
+"""Turns the Markdown of docs/ into HTML: headings, paragraphs, lists, tables, code, links and emphasis, and nothing
+else."""
 import re
+from collections.abc import Callable
 
 from day.pages.html import Markup, joined, markup, tag
 
@@ -11,11 +13,16 @@ CODE_INDENT = "    "
 # Tables of more columns are stacked in narrow windows, and those of many have small letters.
 FEW, MANY = 2, 12
 INLINE = re.compile(
-    r"`(?P<code>[^`]+)`|!?\[(?P<words>[^\]]*)\]\((?P<target>[^)\s]*)\)|\*\*(?P<bold>[^*]+)\*\*|\*(?P<stressed>[^*\s][^*]*)\*"
+    r"`(?P<code>[^`]+)`|!?\[(?P<words>[^\]]*)\]\((?P<target>[^)\s]*)\)|\*\*(?P<bold>[^*]+)\*\*"
+    r"|\*(?P<stressed>[^*\s][^*]*)\*"
 )
 
 
-def anchor_of(words):
+# What answers the id of a row of a table, from the cells of the head and of the row.
+RowId = Callable[[list[str], list[str]], str | None]
+
+
+def anchor_of(words: str) -> str:
     """The name by which links find a heading."""
     return re.sub(r"[^\w\- ]", "", words.lower()).replace(" ", "-")
 
@@ -23,22 +30,23 @@ def anchor_of(words):
 class Markdown:
     """A text in Markdown. `target_of` answers where a link of it leads now, or None if its words stand there alone."""
 
-    def __init__(self, text, target_of):
+    def __init__(self, text: str, target_of: Callable[[str], str | None]) -> None:
         without_comments = re.sub(r"<!--.*?-->\n?", "", text, flags=re.DOTALL)
         self.lines, self.target_of = without_comments.split("\n"), target_of
         self.place = 0
 
     # Words.
 
-    def inline(self, words):
+    def inline(self, words: str) -> Markup:
         """The words of a paragraph or a cell."""
-        parts, behind = [], 0
+        parts: list[str] = []
+        behind = 0
         for match in INLINE.finditer(words):
             parts += [markup(words[behind : match.start()]), self.element(match)]
             behind = match.end()
         return Markup("".join([*parts, markup(words[behind:])]))
 
-    def element(self, match):
+    def element(self, match: re.Match[str]) -> Markup:
         if match["code"]:
             return tag("code", match["code"])
         if match["bold"]:
@@ -50,28 +58,28 @@ class Markdown:
 
     # Blocks.
 
-    def peek(self):
+    def peek(self) -> str | None:
         return self.lines[self.place] if self.place < len(self.lines) else None
 
-    def take_while(self, fits):
+    def take_while(self, fits: Callable[[str], bool]) -> list[str]:
         """The next lines that fit."""
         begun = self.place
-        while self.peek() is not None and fits(self.peek()):
+        while (line := self.peek()) is not None and fits(line):
             self.place += 1
         return self.lines[begun : self.place]
 
-    def html(self, row_id=lambda head, cells: None):
-        """The whole text. `row_id` answers the id of a row of a table, from the cells of the head and of the row."""
-        self.row_id, blocks = row_id, []
-        while self.peek() is not None:
-            if not self.peek().strip():
+    def html(self, row_id: RowId = lambda head, cells: None) -> Markup:
+        """The whole text."""
+        self.row_id = row_id
+        blocks: list[Markup] = []
+        while (line := self.peek()) is not None:
+            if not line.strip():
                 self.place += 1
             else:
-                blocks.append(self.block())
+                blocks.append(self.block(line))
         return joined(*blocks)
 
-    def block(self):
-        line = self.peek()
+    def block(self, line: str) -> Markup:
         heading = HEADING.fullmatch(line)
         if heading:
             self.place += 1
@@ -79,48 +87,46 @@ class Markdown:
         if line.startswith("```"):
             return self.fenced()
         if line.startswith(CODE_INDENT):
-            rows = self.take_while(lambda it: it.startswith(CODE_INDENT))
-            return tag("pre", "\n".join(it[len(CODE_INDENT) :] for it in rows))
+            rows = self.take_while(lambda line: line.startswith(CODE_INDENT))
+            return tag("pre", "\n".join(row[len(CODE_INDENT) :] for row in rows))
         if line.startswith("|"):
             return self.table()
         if POINT.fullmatch(line):
-            return self.points()
+            return self.points(is_numbered=not line.startswith("-"))
         return tag("p", self.inline(" ".join(self.take_while(self.is_of_paragraph))))
 
-    def is_of_paragraph(self, line):
+    def is_of_paragraph(self, line: str) -> bool:
         return bool(line.strip()) and not line.startswith(("|", "```", "#")) and not POINT.fullmatch(line)
 
-    def fenced(self):
+    def fenced(self) -> Markup:
         self.place += 1
-        rows = self.take_while(lambda it: not it.startswith("```"))
+        rows = self.take_while(lambda line: not line.startswith("```"))
         self.place += 1
         return tag("pre", "\n".join(rows))
 
-    def points(self):
-        is_numbered = not self.peek().startswith("-")
+    def points(self, is_numbered: bool) -> Markup:
         points = []
-        while self.peek() is not None and POINT.fullmatch(self.peek()):
-            first = POINT.fullmatch(self.peek())[2]
+        while point := POINT.fullmatch(self.peek() or ""):
             self.place += 1
-            more = self.take_while(lambda it: it.startswith("  ") and it.strip())
-            points.append(tag("li", self.inline(" ".join([first, *map(str.strip, more)]))))
-            self.take_while(lambda it: not it.strip())
+            more = self.take_while(lambda line: line.startswith("  ") and bool(line.strip()))
+            points.append(tag("li", self.inline(" ".join([point[2], *map(str.strip, more)]))))
+            self.take_while(lambda line: not line.strip())
         return tag("ol" if is_numbered else "ul", *points)
 
-    def table(self):
-        head, rule, *rows = map(cells_of, self.take_while(lambda it: it.startswith("|")))
-        columns = tag("thead", tag("tr", *(tag("th", self.inline(it), scope="col") for it in head)))
+    def table(self) -> Markup:
+        head, rule, *rows = map(cells_of, self.take_while(lambda line: line.startswith("|")))
+        columns = tag("thead", tag("tr", *(tag("th", self.inline(cell), scope="col") for cell in head)))
         body = tag("tbody", *(self.row(head, row) for row in rows))
         kind = "many small" if len(head) > MANY else "small" if len(head) > FEW else None
         return tag("table", columns, body, class_=kind)
 
-    def row(self, head, cells):
-        labels = [re.sub(r"[*`]", "", it) for it in head]
+    def row(self, head: list[str], cells: list[str]) -> Markup:
+        labels = [re.sub(r"[*`]", "", cell) for cell in head]
         first = tag("th", self.inline(cells[0]), scope="row", data_label=labels[0])
-        more = (tag("td", self.inline(it), data_label=label) for it, label in zip(cells[1:], labels[1:]))
+        more = (tag("td", self.inline(cell), data_label=label) for cell, label in zip(cells[1:], labels[1:]))
         return tag("tr", first, *more, id=self.row_id(head, cells))
 
 
-def cells_of(line):
+def cells_of(line: str) -> list[str]:
     """The cells of a line of a table."""
-    return [it.strip().replace("\\|", "|") for it in CELLS.split(line.strip()[1:-1])]
+    return [cell.strip().replace("\\|", "|") for cell in CELLS.split(line.strip()[1:-1])]

@@ -1,10 +1,11 @@
-"""What docs/RULES.md says, for the pages: the checks, the acts, the kinds of account and the statuses, and the pages that are made
-of RULES.md and FORMATS.md themselves."""
+"""What docs/RULES.md says, for the pages: the checks, the acts, the kinds of account and the statuses, and the pages
+that are made of RULES.md and FORMATS.md themselves."""
 import functools
+from collections.abc import Iterator
 
 from day import checks
 from day.errors import FileFault
-from day.pages.html import link
+from day.pages.html import Frame, Markup, link
 from day.pages.markdown import RULE_OF_TABLE, Markdown, cells_of
 
 DOCS = checks.RULES.parent
@@ -33,7 +34,7 @@ ACTS = {
 }  # fmt: skip
 
 
-def tables_of(text):
+def tables_of(text: str) -> Iterator[tuple[list[str], list[list[str]]]]:
     """The tables of a document: the cells of each head, and of each of its rows."""
     lines = text.split("\n")
     for place, line in enumerate(lines[:-1]):
@@ -46,7 +47,7 @@ def tables_of(text):
             yield cells_of(line), rows
 
 
-def rows_under(text, head):
+def rows_under(text: str, head: list[str]) -> list[list[str]]:
     """The rows of the one table that has this head."""
     found = [rows for own, rows in tables_of(text) if own == head]
     if len(found) != 1:
@@ -54,40 +55,48 @@ def rows_under(text, head):
     return found[0]
 
 
-def anchor_of(code):
+def anchor_of(code: object) -> str:
     """Where the row of a check is found in the rules."""
     return f"check-{code}"
+
+
+@functools.lru_cache(maxsize=None)
+def cell_of(markdown: str, root: str) -> Markup:
+    # (on another page nothing stands below)
+    elsewhere = markdown.replace("[below]", "[the rules]")
+    return Markdown("", lambda target: target_from(target, "RULES.md", root, own="")).inline(elsewhere)
+
+
+@functools.lru_cache(maxsize=None)
+def link_to_check(code: int, name: str, root: str) -> Markup:
+    return link(f"{root}{RULES}#{anchor_of(code)}", name)
 
 
 class Rulebook:
     """The words of RULES.md."""
 
-    def __init__(self):
+    def __init__(self) -> None:
         text = checks.document(checks.RULES)
-        self.checks = {it.code: it for it in checks.written_checks(text)}
-        self.kinds = dict(rows_under(text, KIND_HEAD))
-        self.statuses = dict(rows_under(text, STATUS_HEAD))
+        self.checks = {check.code: check for check in checks.written_checks(text)}
+        self.kinds = {kind: name for kind, name in rows_under(text, KIND_HEAD)}
+        self.statuses = {status: allows for status, allows in rows_under(text, STATUS_HEAD)}
 
-    @functools.lru_cache(maxsize=None)
-    def words(self, markdown, root=""):
+    def words(self, markdown: str, root: str = "") -> str:
         """A cell of RULES.md, on a page from which `root` leads to the folder."""
-        # (on another page nothing stands below)
-        elsewhere = markdown.replace("[below]", "[the rules]")
-        return Markdown("", lambda target: target_from(target, "RULES.md", root, own="")).inline(elsewhere)
+        return cell_of(markdown, root)
 
-    @functools.lru_cache(maxsize=None)
-    def check_link(self, code, root=""):
+    def check_link(self, code: int, root: str = "") -> str:
         """The name of a check, which leads to its row in the rules."""
-        return link(f"{root}{RULES}#{anchor_of(code)}", self.checks[code].name)
+        return link_to_check(code, self.checks[code].name, root)
 
-    def act_link(self, act, root=""):
+    def act_link(self, act: str, root: str = "") -> Markup:
         name, anchor = ACTS[act]
         return link(f"{root}{RULES}#{anchor}", name)
 
 
-def target_from(target, document, root="", own=None):
-    """Where a link of a document leads in the folder: to a place of a page that is made of a document; None otherwise. Links within
-    the document itself stay as they are if `own` is None."""
+def target_from(target: str, document: str, root: str = "", own: str | None = None) -> str | None:
+    """Where a link of a document leads in the folder: to a place of a page that is made of a document; None otherwise.
+    Links within the document itself stay as they are if `own` is None."""
     file, _, anchor = target.partition("#")
     if not file and own is None:
         return f"#{anchor}"
@@ -97,12 +106,12 @@ def target_from(target, document, root="", own=None):
     return f"{root}{page}#{anchor}" if anchor else f"{root}{page}"
 
 
-def row_id(head, cells):
+def row_id(head: list[str], cells: list[str]) -> str | None:
     """The checks of RULES.md have anchors of their own."""
     return anchor_of(cells[0]) if head == CHECK_HEAD else None
 
 
-def document_page(frame, name):
+def document_page(frame: Frame, name: str) -> str:
     """A document as a page, whose first heading is the page's."""
     text = checks.document(DOCS / name)
     title, _, rest = text.partition("\n")

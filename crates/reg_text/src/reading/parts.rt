@@ -3,15 +3,15 @@
 
 ghost use Rattle.std.specs.Prelude.{◌≡◌, Ok, IfSome, OnSome};
 ghost use Rattle.reg_cuts.specs.Rows.{IsBetweenRows, rows_left};
-ghost use Rattle.reg_text.specs.Drafts.{draft_of};
+ghost use Rattle.reg_text.specs.Drafts.{draft_of, read_behind};
 ghost use Rattle.reg_text.specs.DraftLimits.{IsDraft};
 ghost use Rattle.reg_text.specs.Faults.{drafted};
 ghost use Rattle.reg_text.specs.Joining.{BeginsWith, IsHeading, IsReadSoFar};
 ghost use Rattle.reg_text.specs.PartsRead.{IsReadPart};
 
-use crate::reading::draft::Draft;
+use crate::reading::draft::{Body, Draft, Heading};
 use crate::reading::tag::Tag;
-use crate::reading::take::take_row;
+use crate::reading::take::{take_row, take_row_behind};
 use csv::{ByteRecord, Reader};
 use reg_base::AccountNo;
 use reg_cuts::{has_no_mark, is_cut, next_row, start_rows};
@@ -23,23 +23,38 @@ pub(crate) struct Part {
     /// The number of the account that it begins with. If there is none, it begins with an instruction.
     pub first: Option<AccountNo>,
     /// What its rows say, behind the heading.
-    pub draft: Draft,
+    pub body: Body,
 }
 
-// Takes all rows that a reader has left.
-fn take_rows(
-    alloc: Global,
-    reader: &mut Reader<&[u8]>,
-    row: &mut ByteRecord,
-    draft: &mut Draft,
-) -> Option<()>
+// Takes all rows of a heading.
+fn take_heading(reader: &mut Reader<&[u8]>, row: &mut ByteRecord, draft: &mut Draft) -> Option<()>
     requires ready { IsBetweenRows reader.old }
     requires fits { IsDraft (draft_of draft.old) }
     ensures taken { OnSome result (drafted (draft_of draft.old) (rows_left reader.old) ≡ Ok (draft_of draft.new)) }
     ensures fits { OnSome result (IsDraft (draft_of draft.new)) }
 {
     'rows: while next_row(reader, row).ok()? {
-        let Ok(()) = take_row(alloc, draft, row) else {
+        let Ok(()) = take_row(draft, row) else {
+            return None;
+        };
+    }
+    Some(())
+}
+
+// Takes all rows of a part that a reader has left.
+fn take_rows(
+    reader: &mut Reader<&[u8]>,
+    row: &mut ByteRecord,
+    heading: &Heading,
+    body: &mut Body,
+) -> Option<()>
+    requires ready { IsBetweenRows reader.old }
+    requires fits { IsDraft (read_behind heading.now body.old) }
+    ensures { OnSome result (drafted (read_behind heading.now body.old) (rows_left reader.old)
+        ≡ Ok (read_behind heading.now body.new)) }
+{
+    'rows: while next_row(reader, row).ok()? {
+        let Ok(()) = take_row_behind(heading, body, row) else {
             return None;
         };
     }
@@ -58,7 +73,7 @@ pub(crate) fn read_heading(alloc: Global, text: &[u8]) -> Option<Draft>
     let mut reader = start_rows(alloc, text);
     let mut row = ByteRecord::new(alloc);
     let mut draft = Draft::empty(alloc);
-    take_rows(alloc, &mut reader, &mut row, &mut draft)?;
+    take_heading(&mut reader, &mut row, &mut draft)?;
     if draft.is_heading() {
         Some(draft)
     } else {
@@ -66,11 +81,11 @@ pub(crate) fn read_heading(alloc: Global, text: &[u8]) -> Option<Draft>
     }
 }
 
-/// What the rows of a part say, read on their own behind the heading.
-pub(crate) fn read_part(alloc: Global, heading: &Draft, text: &[u8]) -> Option<Part>
-    requires heading { IsHeading (draft_of heading.now) }
-    requires fits { IsDraft (draft_of heading.now) }
-    ensures { IsReadPart (draft_of heading.now) text.now result }
+/// What the rows of a part say, read on their own behind the heading, which is only lent.
+pub(crate) fn read_part(alloc: Global, start: &Draft, text: &[u8]) -> Option<Part>
+    requires heading { IsHeading (draft_of start.now) }
+    requires fits { IsDraft (draft_of start.now) }
+    ensures { IsReadPart (draft_of start.now) text.now result }
 {
     if !is_cut(text) {
         return None;
@@ -80,30 +95,27 @@ pub(crate) fn read_part(alloc: Global, heading: &Draft, text: &[u8]) -> Option<P
     }
     let mut reader = start_rows(alloc, text);
     let mut row = ByteRecord::new(alloc);
-    let Ok(again) = heading.again(alloc) else {
-        return None;
-    };
-    let mut draft = again;
+    let mut body = Body::empty(alloc, start.body.last);
     let Ok(true) = next_row(&mut reader, &mut row) else {
         return None;
     };
-    let Ok(()) = take_row(alloc, &mut draft, &row) else {
+    let Ok(()) = take_row_behind(&start.heading, &mut body, &row) else {
         return None;
     };
-    let first = beginning_of(&draft)?;
-    take_rows(alloc, &mut reader, &mut row, &mut draft)?;
-    Some(Part { first, draft })
+    let first = beginning_of(&body)?;
+    take_rows(&mut reader, &mut row, &start.heading, &mut body)?;
+    Some(Part { first, body })
 }
 
 // How a part begins of which one row was taken: with an account of this number, or with an instruction.
-fn beginning_of(draft: &Draft) -> Option<Option<AccountNo>>
-    ensures { IfSome result (BeginsWith (draft_of draft.now)) }
+fn beginning_of(body: &Body) -> Option<Option<AccountNo>>
+    ensures { IfSome result (BeginsWith body.now.last body.now.head) }
 {
-    if draft.last == Some(Tag::Do) {
+    if body.last == Some(Tag::Do) {
         return Some(None);
     }
-    match draft.head {
-        Some(head) if draft.last == Some(Tag::Account) => Some(Some(head.number)),
+    match body.head {
+        Some(head) if body.last == Some(Tag::Account) => Some(Some(head.number)),
         _ => None,
     }
 }

@@ -2,17 +2,15 @@
 
 #![tactic(auto, unfolding(crate::specs::Faults::with_row))]
 
-ghost use Rattle.std.specs.Prelude.{◌≡◌, ◌+◌, ◌<◌, ◌≤◌, ◌&&◌, nat_lt, nat_le, ◌∷◌, ◌++◌, [], length, map, false, None};
+ghost use Rattle.std.specs.Prelude.{◌≡◌, ◌+◌, ◌<◌, ◌≤◌, ◌&&◌, nat_lt, nat_le, ◌∷◌, ◌++◌, [], length, Ok};
 ghost use Rattle.std.specs.Prelude.{if◌then◌else◌, option_to_list, OnOk, OnErr};
 ghost use Rattle.reg_base.specs.declared.limits.TheConstants.{MOST_ACCOUNTS, MOST_RETIRED, MOST_INSTRUCTIONS};
 ghost use Rattle.reg_base.specs.declared.limits.TheConstants.{MOST_RECORD, MOST_ROWS};
 ghost use Rattle.csv.specs.Records.{fields_of};
-ghost use Rattle.reg_base.specs.Rising.{IsRising};
 ghost use Rattle.reg_account.specs.Rows.{retired_in, retirement_of};
-ghost use Rattle.reg_book.specs.Book.{has_row_ahead, with_account};
 ghost use Rattle.reg_text.specs.Lasts.{last_item};
 ghost use Rattle.reg_text.specs.Sections.{key, follows};
-ghost use Rattle.reg_text.specs.Drafts.{draft_of, with_block_over};
+ghost use Rattle.reg_text.specs.Drafts.{draft_of, heading_of, read_behind, with_block_over};
 ghost use Rattle.reg_text.specs.DraftLimits.{FitsSoFar, IsDraft};
 ghost use Rattle.reg_text.specs.Faults.{TakesRow, placed, next_in, is_recorded, is_sum_left, is_number_left};
 ghost use Rattle.reg_text.specs.Faults.{has_row_space, with_row, next_draft};
@@ -24,7 +22,7 @@ use crate::reading::block_rows::{
     read_correction_row, read_emissions_row, read_figure_row, read_representative_row,
     read_retired_row, read_trusted_row,
 };
-use crate::reading::draft::Draft;
+use crate::reading::draft::{Body, Draft, Heading};
 use crate::reading::heading_rows::{
     read_current_row, read_day_row, read_format_row, read_lags_row, read_period_row,
 };
@@ -33,18 +31,17 @@ use crate::reading::list_rows::{pair_index, read_admin_row, read_surrender_row, 
 use crate::reading::row::{field_at, has_fields};
 use crate::reading::tag::{Tag, read_tag};
 use csv::ByteRecord;
-use reg_account::{Account, Lists, RetirementRow};
+use reg_account::{Lists, RetirementRow};
 use reg_base::{
     Day, Instruction, MOST_ACCOUNTS, MOST_ADMINISTRATORS, MOST_INSTRUCTIONS, MOST_PERIODS,
     MOST_RECORD, MOST_RETIRED, MOST_ROWS, MOST_TRUSTED, MOST_USERS, NoMemory,
 };
-use reg_book::{BookDraft, BookFault};
-use std::alloc::Global;
 
-// Takes a row of a list. A call names the draft and the tag, what the row says and how it is read, the value before it
-// in its list, when it comes after that value, how many there may be, if that is limited, and how it is added.
+// Takes a row of a list. A call names the body of the draft and the tag, what the row says and how it is read, the
+// value before it in its list, when it comes after that value, how many there may be, if that is limited, and how it is
+// added.
 macro_rules! take_listed {
-    ($draft:ident $tag:ident, $value:ident = $read:expr, $before:ident in $list:expr,
+    ($body:expr, $tag:ident, $value:ident = $read:expr, $before:ident in $list:expr,
     follows $follows:expr, $(at_most $most:expr,)? push $push:expr) => {{
         let $value = $read?;
         if let Some($before) = $list.last().copied() {
@@ -56,155 +53,145 @@ macro_rules! take_listed {
             return Err(RowError::Fault(Cause::Limit));
         })?
         $push?;
-        $draft.last = Some(Tag::$tag);
+        $body.last = Some(Tag::$tag);
         Ok(())
     }};
 }
 
-fn take_format(draft: &mut Draft, row: &ByteRecord) -> Result<(), RowError>
-    requires { (draft_of draft.old).versions ≡ [] }
-    ensures { TakesRow (draft_of draft.new) result (with_row tag.Format (draft_of draft.old) (fields_of row.now)) }
+fn take_format(heading: &mut Heading, body: &mut Body, row: &ByteRecord) -> Result<(), RowError>
+    requires { (heading_of heading.old).versions ≡ [] }
+    ensures { TakesRow (read_behind heading.new body.new) result
+        (with_row tag.Format (read_behind heading.old body.old) (fields_of row.now)) }
 {
     let version = read_format_row(row)?;
-    draft.version = Some(version);
-    draft.last = Some(Tag::Format);
+    heading.version = Some(version);
+    body.last = Some(Tag::Format);
     Ok(())
 }
 
-fn take_day(alloc: Global, draft: &mut Draft, row: &ByteRecord) -> Result<(), RowError>
-    requires none { (draft_of draft.old).days ≡ [] }
-    requires no_accounts { (draft_of draft.old).accounts ≡ [] }
-    requires unbegun { draft.old.head ≡ None }
-    ensures { TakesRow (draft_of draft.new) result (with_row tag.Day (draft_of draft.old) (fields_of row.now)) }
+fn take_day(heading: &mut Heading, body: &mut Body, row: &ByteRecord) -> Result<(), RowError>
+    requires { (heading_of heading.old).days ≡ [] }
+    ensures { TakesRow (read_behind heading.new body.new) result
+        (with_row tag.Day (read_behind heading.old body.old) (fields_of row.now)) }
 {
     let (day, next) = read_day_row(row)?;
-    draft.book = BookDraft::new(alloc, next);
-    draft.day = Some((day, next));
-    draft.last = Some(Tag::Day);
+    heading.day = Some((day, next));
+    body.last = Some(Tag::Day);
     Ok(())
 }
 
-fn take_period(draft: &mut Draft, row: &ByteRecord) -> Result<(), RowError>
-    ensures { TakesRow (draft_of draft.new) result (with_row tag.Period (draft_of draft.old) (fields_of row.now)) }
+fn take_period(heading: &mut Heading, body: &mut Body, row: &ByteRecord) -> Result<(), RowError>
+    ensures { TakesRow (read_behind heading.new body.new) result
+        (with_row tag.Period (read_behind heading.old body.old) (fields_of row.now)) }
 {
-    take_listed!(draft Period, period = read_period_row(row), before in draft.periods,
-        follows before.1 < period.0, at_most usize::from(MOST_PERIODS), push draft.periods.push(period))
+    take_listed!(body, Period, period = read_period_row(row), before in heading.periods,
+        follows before.1 < period.0, at_most usize::from(MOST_PERIODS), push heading.periods.push(period))
 }
 
-fn take_current(draft: &mut Draft, row: &ByteRecord) -> Result<(), RowError>
-    requires { (draft_of draft.old).current ≡ [] }
-    ensures { TakesRow (draft_of draft.new) result (with_row tag.Current (draft_of draft.old) (fields_of row.now)) }
+fn take_current(heading: &mut Heading, body: &mut Body, row: &ByteRecord) -> Result<(), RowError>
+    requires { (heading_of heading.old).current ≡ [] }
+    ensures { TakesRow (read_behind heading.new body.new) result
+        (with_row tag.Current (read_behind heading.old body.old) (fields_of row.now)) }
 {
-    let current = read_current_row(draft.scope(), row)?;
-    draft.current = Some(current);
-    draft.last = Some(Tag::Current);
+    let current = read_current_row(heading.scope(), row)?;
+    heading.current = Some(current);
+    body.last = Some(Tag::Current);
     Ok(())
 }
 
-fn take_lags(draft: &mut Draft, row: &ByteRecord) -> Result<(), RowError>
-    requires { (draft_of draft.old).lags ≡ [] }
-    ensures { TakesRow (draft_of draft.new) result (with_row tag.Lags (draft_of draft.old) (fields_of row.now)) }
+fn take_lags(heading: &mut Heading, body: &mut Body, row: &ByteRecord) -> Result<(), RowError>
+    requires { (heading_of heading.old).lags ≡ [] }
+    ensures { TakesRow (read_behind heading.new body.new) result
+        (with_row tag.Lags (read_behind heading.old body.old) (fields_of row.now)) }
 {
     let lags = read_lags_row(row)?;
-    draft.lags = Some(lags);
-    draft.last = Some(Tag::Lags);
+    heading.lags = Some(lags);
+    body.last = Some(Tag::Lags);
     Ok(())
 }
 
-fn take_surrender(draft: &mut Draft, row: &ByteRecord) -> Result<(), RowError>
-    ensures { TakesRow (draft_of draft.new) result (with_row tag.Surrender (draft_of draft.old) (fields_of row.now)) }
+fn take_surrender(heading: &mut Heading, body: &mut Body, row: &ByteRecord) -> Result<(), RowError>
+    ensures { TakesRow (read_behind heading.new body.new) result
+        (with_row tag.Surrender (read_behind heading.old body.old) (fields_of row.now)) }
 {
-    take_listed!(draft Surrender, pair = read_surrender_row(row), before in draft.surrender,
-        follows pair_index(before) < pair_index(pair), push draft.surrender.push(pair))
+    take_listed!(body, Surrender, pair = read_surrender_row(row), before in heading.surrender,
+        follows pair_index(before) < pair_index(pair), push heading.surrender.push(pair))
 }
 
-fn take_admin(draft: &mut Draft, row: &ByteRecord) -> Result<(), RowError>
-    ensures { TakesRow (draft_of draft.new) result (with_row tag.Admin (draft_of draft.old) (fields_of row.now)) }
+fn take_admin(heading: &mut Heading, body: &mut Body, row: &ByteRecord) -> Result<(), RowError>
+    ensures { TakesRow (read_behind heading.new body.new) result
+        (with_row tag.Admin (read_behind heading.old body.old) (fields_of row.now)) }
 {
-    take_listed!(draft Admin, admin = read_admin_row(row), before in draft.admins,
-        follows before < admin, at_most MOST_ADMINISTRATORS, push draft.admins.push(admin))
+    take_listed!(body, Admin, admin = read_admin_row(row), before in heading.admins,
+        follows before < admin, at_most MOST_ADMINISTRATORS, push heading.admins.push(admin))
 }
 
-fn take_work(draft: &mut Draft, row: &ByteRecord) -> Result<(), RowError>
-    ensures { TakesRow (draft_of draft.new) result (with_row tag.Work (draft_of draft.old) (fields_of row.now)) }
+fn take_work(heading: &mut Heading, body: &mut Body, row: &ByteRecord) -> Result<(), RowError>
+    ensures { TakesRow (read_behind heading.new body.new) result
+        (with_row tag.Work (read_behind heading.old body.old) (fields_of row.now)) }
 {
-    take_listed!(draft Work, day = read_work_row(row), before in draft.work,
-        follows before < day, push draft.work.push(day))
-}
-
-// Inserts an account whose number is above all others.
-fn insert_account(book: &mut BookDraft, account: Account) -> Result<(), NoMemory>
-    requires rising { IsRising (map (λ a. a.number) (book.old.accounts ++ account ∷ [])) }
-    requires space { length book.old.accounts < MOST_ACCOUNTS }
-    requires behind { has_row_ahead book.old.next account ≡ false }
-    ensures ok { OnOk result (book.new ≡ with_account book.old account) }
-    ensures err { OnErr result (book.new ≡ book.old) }
-{
-    match book.insert(account) {
-        Ok(()) => Ok(()),
-        Err((_, BookFault::NoMemory)) => Err(NoMemory),
-        // There is space, the account numbers rise, so that none of them is the new one, and all record numbers are
-        // below the next one.
-        Err((_, BookFault::Full)) => unreachable!(),
-        Err((_, BookFault::Repeated)) => unreachable!(),
-        Err((_, BookFault::RowAhead)) => unreachable!(),
-    }
+    take_listed!(body, Work, day = read_work_row(row), before in heading.work,
+        follows before < day, push heading.work.push(day))
 }
 
 /// Puts the begun account, if there is one, among those whose blocks are over.
-pub(crate) fn end_block(draft: &mut Draft) -> Result<(), NoMemory>
-    requires { FitsSoFar (draft_of draft.old) }
-    ensures over { OnOk result (draft_of draft.new ≡ with_block_over (draft_of draft.old)) }
-    ensures count { OnOk result (draft.new.count ≡ draft.old.count) }
+pub(crate) fn end_block(heading: &Heading, body: &mut Body) -> Result<(), NoMemory>
+    requires { FitsSoFar (read_behind heading.now body.old) }
+    ensures over { OnOk result (read_behind heading.now body.new ≡ with_block_over (read_behind heading.now body.old)) }
+    ensures count { OnOk result (body.new.count ≡ body.old.count) }
 {
-    if let Some(head) = draft.head {
-        let account = make_account(head, draft.lists.take());
-        insert_account(&mut draft.book, account)?;
-        draft.head = None;
+    if let Some(head) = body.head {
+        let account = make_account(head, body.lists.take());
+        body.accounts.push_last(account)?;
+        body.head = None;
     }
     Ok(())
 }
 
-fn take_account(draft: &mut Draft, row: &ByteRecord) -> Result<(), RowError>
-    requires { IsDraft (draft_of draft.old) }
-    ensures { TakesRow (draft_of draft.new) result (with_row tag.Account (draft_of draft.old) (fields_of row.now)) }
+fn take_account(heading: &Heading, body: &mut Body, row: &ByteRecord) -> Result<(), RowError>
+    requires { IsDraft (read_behind heading.now body.old) }
+    ensures { TakesRow (read_behind heading.now body.new) result
+        (with_row tag.Account (read_behind heading.now body.old) (fields_of row.now)) }
 {
     let head = read_account_row(row)?;
-    if let Some(before) = draft.head {
+    if let Some(before) = body.head {
         if head.number <= before.number {
             return Err(RowError::Fault(Cause::Order));
         }
     }
-    if draft.count >= MOST_ACCOUNTS {
+    if body.count >= MOST_ACCOUNTS {
         return Err(RowError::Fault(Cause::Limit));
     }
-    end_block(draft)?;
-    draft.head = Some(head);
-    draft.count += 1;
-    draft.last = Some(Tag::Account);
+    end_block(heading, body)?;
+    body.head = Some(head);
+    body.count += 1;
+    body.last = Some(Tag::Account);
     Ok(())
 }
 
-fn take_correction(draft: &mut Draft, row: &ByteRecord) -> Result<(), RowError>
-    ensures { TakesRow (draft_of draft.new) result (with_row tag.Correction (draft_of draft.old) (fields_of row.now)) }
+fn take_correction(heading: &Heading, body: &mut Body, row: &ByteRecord) -> Result<(), RowError>
+    ensures { TakesRow (read_behind heading.now body.new) result
+        (with_row tag.Correction (read_behind heading.now body.old) (fields_of row.now)) }
 {
-    take_listed!(draft Correction, correction = read_correction_row(draft.scope(), row),
-        before in draft.lists.corrections(),
-        follows before.period < correction.period, push draft.lists.push_correction(correction))
+    take_listed!(body, Correction, correction = read_correction_row(heading.scope(), row),
+        before in body.lists.corrections(),
+        follows before.period < correction.period, push body.lists.push_correction(correction))
 }
 
-fn take_user(draft: &mut Draft, row: &ByteRecord) -> Result<(), RowError>
-    ensures { TakesRow (draft_of draft.new) result (with_row tag.User (draft_of draft.old) (fields_of row.now)) }
+fn take_user(heading: &Heading, body: &mut Body, row: &ByteRecord) -> Result<(), RowError>
+    ensures { TakesRow (read_behind heading.now body.new) result
+        (with_row tag.User (read_behind heading.now body.old) (fields_of row.now)) }
 {
-    take_listed!(draft User, user = read_representative_row(row), before in draft.lists.users(),
-        follows before.user < user.user, at_most MOST_USERS, push draft.lists.push_user(user))
+    take_listed!(body, User, user = read_representative_row(row), before in body.lists.users(),
+        follows before.user < user.user, at_most MOST_USERS, push body.lists.push_user(user))
 }
 
-fn take_trusted(draft: &mut Draft, row: &ByteRecord) -> Result<(), RowError>
-    ensures { TakesRow (draft_of draft.new) result (with_row tag.Trusted (draft_of draft.old) (fields_of row.now)) }
+fn take_trusted(heading: &Heading, body: &mut Body, row: &ByteRecord) -> Result<(), RowError>
+    ensures { TakesRow (read_behind heading.now body.new) result
+        (with_row tag.Trusted (read_behind heading.now body.old) (fields_of row.now)) }
 {
-    take_listed!(draft Trusted, entry = read_trusted_row(row), before in draft.lists.trusted(),
-        follows before.account < entry.account, at_most MOST_TRUSTED, push draft.lists.push_trusted(entry))
+    take_listed!(body, Trusted, entry = read_trusted_row(row), before in body.lists.trusted(),
+        follows before.account < entry.account, at_most MOST_TRUSTED, push body.lists.push_trusted(entry))
 }
 
 // How many allowances of the row count: none if it was reversed.
@@ -274,29 +261,32 @@ fn check_row(lists: &Lists, day: Option<(Day, u64)>, row: &RetirementRow) -> Res
 }
 
 #[tactic(auto)]
-fn take_retired(draft: &mut Draft, row: &ByteRecord) -> Result<(), RowError>
-    requires { IsDraft (draft_of draft.old) }
-    ensures { TakesRow (draft_of draft.new) result (with_row tag.Retired (draft_of draft.old) (fields_of row.now)) }
+fn take_retired(heading: &Heading, body: &mut Body, row: &ByteRecord) -> Result<(), RowError>
+    requires { IsDraft (read_behind heading.now body.old) }
+    ensures { TakesRow (read_behind heading.now body.new) result
+        (with_row tag.Retired (read_behind heading.now body.old) (fields_of row.now)) }
 {
-    let retired = read_retired_row(draft.scope(), row)?;
-    check_row(&draft.lists, draft.day, &retired)?;
-    draft.lists.push_row(retired)?;
-    draft.last = Some(Tag::Retired);
+    let retired = read_retired_row(heading.scope(), row)?;
+    check_row(&body.lists, heading.day, &retired)?;
+    body.lists.push_row(retired)?;
+    body.last = Some(Tag::Retired);
     Ok(())
 }
 
-fn take_emissions(draft: &mut Draft, row: &ByteRecord) -> Result<(), RowError>
-    ensures { TakesRow (draft_of draft.new) result (with_row tag.Emissions (draft_of draft.old) (fields_of row.now)) }
+fn take_emissions(heading: &Heading, body: &mut Body, row: &ByteRecord) -> Result<(), RowError>
+    ensures { TakesRow (read_behind heading.now body.new) result
+        (with_row tag.Emissions (read_behind heading.now body.old) (fields_of row.now)) }
 {
-    take_listed!(draft Emissions, emission = read_emissions_row(row), before in draft.lists.emissions(),
-        follows before.year < emission.year, push draft.lists.push_emission(emission))
+    take_listed!(body, Emissions, emission = read_emissions_row(row), before in body.lists.emissions(),
+        follows before.year < emission.year, push body.lists.push_emission(emission))
 }
 
-fn take_figure(draft: &mut Draft, row: &ByteRecord) -> Result<(), RowError>
-    ensures { TakesRow (draft_of draft.new) result (with_row tag.Figure (draft_of draft.old) (fields_of row.now)) }
+fn take_figure(heading: &Heading, body: &mut Body, row: &ByteRecord) -> Result<(), RowError>
+    ensures { TakesRow (read_behind heading.now body.new) result
+        (with_row tag.Figure (read_behind heading.now body.old) (fields_of row.now)) }
 {
-    take_listed!(draft Figure, figure = read_figure_row(row), before in draft.lists.figures(),
-        follows before.year < figure.year, push draft.lists.push_figure(figure))
+    take_listed!(body, Figure, figure = read_figure_row(row), before in body.lists.figures(),
+        follows before.year < figure.year, push body.lists.push_figure(figure))
 }
 
 // Whether there is a record number for one more of so many instructions, if the next number is known.
@@ -317,8 +307,9 @@ pub(crate) fn has_number(day: Option<(Day, u64)>, count: usize) -> bool
     count < MOST_INSTRUCTIONS && is_number_left(day, count)
 }
 
-fn take_instruction(draft: &mut Draft, row: &ByteRecord) -> Result<(), RowError>
-    ensures { TakesRow (draft_of draft.new) result (with_row tag.Do (draft_of draft.old) (fields_of row.now)) }
+fn take_instruction(heading: &Heading, body: &mut Body, row: &ByteRecord) -> Result<(), RowError>
+    ensures { TakesRow (read_behind heading.now body.new) result
+        (with_row tag.Do (read_behind heading.now body.old) (fields_of row.now)) }
 {
     let Instruction {
         proposed,
@@ -326,55 +317,95 @@ fn take_instruction(draft: &mut Draft, row: &ByteRecord) -> Result<(), RowError>
         approver,
         act,
     } = read_instruction_row(row)?;
-    if !has_number(draft.day, draft.instructions.len()) {
+    if !has_number(heading.day, body.instructions.len()) {
         return Err(RowError::Fault(Cause::Limit));
     }
-    draft.instructions.push(Instruction {
+    body.instructions.push(Instruction {
         proposed,
         proposer,
         approver,
         act,
     })?;
-    draft.last = Some(Tag::Do);
+    body.last = Some(Tag::Do);
     Ok(())
 }
 
-fn take_end(draft: &mut Draft, row: &ByteRecord) -> Result<(), RowError>
-    ensures { TakesRow (draft_of draft.new) result (with_row tag.End (draft_of draft.old) (fields_of row.now)) }
+fn take_end(heading: &Heading, body: &mut Body, row: &ByteRecord) -> Result<(), RowError>
+    ensures { TakesRow (read_behind heading.now body.new) result
+        (with_row tag.End (read_behind heading.now body.old) (fields_of row.now)) }
 {
     if !has_fields(row, 1) {
         return Err(RowError::Fault(Cause::Fields));
     }
-    draft.last = Some(Tag::End);
+    body.last = Some(Tag::End);
     Ok(())
+}
+
+// Takes a row by its tag. Rows of the heading are taken by the arms that a call adds, in braces; the brackets have what
+// comes behind the call that takes another row.
+macro_rules! take_tagged {
+    ($tag:expr, $heading:expr, $body:expr, $row:ident, [$($end:tt)*] {$($early:tt)*}) => {
+        match $tag {
+            Tag::Account => { take_account($heading, $body, $row) $($end)* }
+            Tag::Correction => { take_correction($heading, $body, $row) $($end)* }
+            Tag::User => { take_user($heading, $body, $row) $($end)* }
+            Tag::Trusted => { take_trusted($heading, $body, $row) $($end)* }
+            Tag::Retired => { take_retired($heading, $body, $row) $($end)* }
+            Tag::Emissions => { take_emissions($heading, $body, $row) $($end)* }
+            Tag::Figure => { take_figure($heading, $body, $row) $($end)* }
+            Tag::Do => { take_instruction($heading, $body, $row) $($end)* }
+            Tag::End => { take_end($heading, $body, $row) $($end)* }
+            $($early)*
+        }
+    };
 }
 
 /// Adds what a row says, or answers the first cause that applies to it.
 #[tactic(auto)]
-pub(crate) fn take_row(alloc: Global, draft: &mut Draft, row: &ByteRecord) -> Result<(), RowError>
+pub(crate) fn take_row(draft: &mut Draft, row: &ByteRecord) -> Result<(), RowError>
     requires { IsDraft (draft_of draft.old) }
     ensures { TakesRow (draft_of draft.new) result (next_draft (draft_of draft.old) (fields_of row.now)) }
 {
-    if draft.last == Some(Tag::End) {
+    if draft.body.last == Some(Tag::End) {
         return Err(RowError::Fault(Cause::End));
     }
-    match read_tag(draft.scope().version, draft.last, field_at(row, 0))? {
-        Tag::Format => take_format(draft, row),
-        Tag::Day => take_day(alloc, draft, row),
-        Tag::Period => take_period(draft, row),
-        Tag::Current => take_current(draft, row),
-        Tag::Lags => take_lags(draft, row),
-        Tag::Surrender => take_surrender(draft, row),
-        Tag::Admin => take_admin(draft, row),
-        Tag::Work => take_work(draft, row),
-        Tag::Account => take_account(draft, row),
-        Tag::Correction => take_correction(draft, row),
-        Tag::User => take_user(draft, row),
-        Tag::Trusted => take_trusted(draft, row),
-        Tag::Retired => take_retired(draft, row),
-        Tag::Emissions => take_emissions(draft, row),
-        Tag::Figure => take_figure(draft, row),
-        Tag::Do => take_instruction(draft, row),
-        Tag::End => take_end(draft, row),
+    take_tagged!(
+        read_tag(draft.heading.scope().version, draft.body.last, field_at(row, 0))?,
+        &draft.heading,
+        &mut draft.body,
+        row,
+        [] {
+        Tag::Format => take_format(&mut draft.heading, &mut draft.body, row),
+        Tag::Day => take_day(&mut draft.heading, &mut draft.body, row),
+        Tag::Period => take_period(&mut draft.heading, &mut draft.body, row),
+        Tag::Current => take_current(&mut draft.heading, &mut draft.body, row),
+        Tag::Lags => take_lags(&mut draft.heading, &mut draft.body, row),
+        Tag::Surrender => take_surrender(&mut draft.heading, &mut draft.body, row),
+        Tag::Admin => take_admin(&mut draft.heading, &mut draft.body, row),
+        Tag::Work => take_work(&mut draft.heading, &mut draft.body, row),
+        }
+    )
+}
+
+/// Adds what a row says that stands behind a heading. If it is a row of the heading itself, it is not taken.
+#[tactic(auto)]
+pub(crate) fn take_row_behind(
+    heading: &Heading,
+    body: &mut Body,
+    row: &ByteRecord,
+) -> Result<(), RowError>
+    requires { IsDraft (read_behind heading.now body.old) }
+    ensures { OnOk result (next_draft (read_behind heading.now body.old) (fields_of row.now)
+        ≡ Ok (read_behind heading.now body.new)) }
+{
+    if body.last == Some(Tag::End) {
+        return Err(RowError::Fault(Cause::End));
     }
+    take_tagged!(
+        read_tag(heading.scope().version, body.last, field_at(row, 0))?,
+        heading,
+        body,
+        row,
+        [?; Ok(())] { _ => Err(RowError::Fault(Cause::Tag)), }
+    )
 }

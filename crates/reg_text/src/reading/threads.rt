@@ -36,19 +36,19 @@ fn count_parts(bytes: usize, wanted: usize, least: usize) -> usize
 fn read_parts<R: Threads + Sync>(
     rt: &R,
     alloc: Global,
-    heading: &Draft,
+    start: &Draft,
     parts: &[&[u8]],
 ) -> Result<Vec<Option<Part>>, AllocError>
-    requires heading { IsHeading (draft_of heading.now) }
-    requires fits { IsDraft (draft_of heading.now) }
+    requires heading { IsHeading (draft_of start.now) }
+    requires fits { IsDraft (draft_of start.now) }
     ensures len { IfOk result (λ read. vec_len read ≡ length parts.now) }
-    ensures each { IfOk result (λ read. ReadsAt (draft_of heading.now) parts.now read.items) }
+    ensures each { IfOk result (λ read. ReadsAt (draft_of start.now) parts.now read.items) }
 {
     thread::map_indices(
         rt,
         alloc,
         parts.len(),
-        &|i| { read_part(alloc, heading, parts[i]) },
+        &|i| { read_part(alloc, start, parts[i]) },
     )
 }
 
@@ -60,19 +60,19 @@ fn read_by_parts<R: Threads + Sync>(
     count: usize,
 ) -> Option<Draft>
     requires { 1 ≤ count }
-    ensures { IfSome result (λ draft. FitsSoFar (draft_of draft) × (draft.last ≡ Some tag.End)
+    ensures { IfSome result (λ draft. FitsSoFar (draft_of draft) × (draft.body.last ≡ Some tag.End)
         × (day_of_rows (rows_in_text text.now) ≡ at_end 0 (day_said (draft_of draft)))) }
 {
     let (head, body) = cut_near(text, &STARTS, 0);
-    let heading = read_heading(alloc, head)?;
+    let start = read_heading(alloc, head)?;
     let Ok(parts) = cut_parts(alloc, body, &STARTS, count) else {
         return None;
     };
-    let Ok(read) = read_parts(rt, alloc, &heading, &parts) else {
+    let Ok(read) = read_parts(rt, alloc, &start, &parts) else {
         return None;
     };
-    let draft = join_all(heading, head, &parts, read)?;
-    if draft.last == Some(Tag::End) {
+    let draft = join_all(start, head, &parts, read)?;
+    if draft.body.last == Some(Tag::End) {
         Some(draft)
     } else {
         None
@@ -89,7 +89,7 @@ pub(crate) fn read_rows_with<R: Threads + Sync>(
     least: usize,
 ) -> Result<Draft, DayFault>
     ensures { MatchResult result
-        (λ draft. FitsSoFar (draft_of draft) × (draft.last ≡ Some tag.End)
+        (λ draft. FitsSoFar (draft_of draft) × (draft.body.last ≡ Some tag.End)
         × (day_of_rows (rows_in_text text.now) ≡ at_end 0 (day_said (draft_of draft))))
         (λ e. AnswersFault e (day_of_rows (rows_in_text text.now))) }
 {

@@ -1,5 +1,4 @@
-use Rattle.std.proofs.Common.{◌∙◌, ap, sym}
-use Rattle.reg_rules.specs.State.{account}
+use Rattle.std.proofs.Common.{◌∙◌, ap, sym, Some}
 use Rattle.reg_rules.specs.Entitlements.{is_entitled}
 use Rattle.reg_rules.proofs.Administrators.{is-among}
 use Rattle.reg_rules.proofs.entitlement.is_entitled.Goals as goal
@@ -8,5 +7,4 @@ pub returns-in-Administrators : goal.returns-in-Administrators
 returns-in-Administrators c =
     let a = c.args in
     is-among a.rules.now.admins a.user c.is_admin.result c.is_admin.ensures
-    ∙ sym (ap (λ who. is_entitled a.rules.now who a.role (account a.accounts.now a.number) a.user)
-    c.in-Administrators.is)
+    ∙ sym (ap (λ who. is_entitled a.rules.now who a.role (Some a.account.now) a.user) c.in-Administrators.is)

@@ -1,10 +1,10 @@
-use Rattle.reg_rules.specs.ActRules.{is_not_closed}
-use Rattle.reg_rules.proofs.Mapped.{all-receivers, second-answer}
+use Rattle.std.proofs.Common.{◌∙◌, ap}
+use Rattle.reg_rules.specs.ActRules.{fits_first_receiver}
+use Rattle.reg_rules.proofs.Mapped.{closed-answer}
 use Rattle.reg_rules.proofs.parties.destination_allows.Goals as goal
 
-pub returns-then-first_may_receive : goal.returns-then-first_may_receive
-returns-then-first_may_receive c =
-    second-answer _ _ c.first_may_receive.result c.none_is_closed.result c.first_may_receive.ensures
-    c.if-first_may_receive.true
-    (all-receivers (λ v. is_not_closed v.status) c.args.accounts.now c.as_slice.result.now c.args.movement.now.shares
-    c.none_is_closed.result c.none_is_closed.ensures c.as_slice.ensures.value)
+pub returns-then-fits_first_receiver : goal.returns-then-fits_first_receiver
+returns-then-fits_first_receiver c =
+    closed-answer _ _ _ c.case.invariant _ c.case.view_is c.fits_first_receiver.result c.none_is_closed.result
+    (c.fits_first_receiver.ensures ∙ ap (fits_first_receiver _) c.status.ensures) c.if-fits_first_receiver.true
+    c.none_is_closed.ensures

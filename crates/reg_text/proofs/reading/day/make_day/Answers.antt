@@ -1,6 +1,7 @@
-use Rattle.std.proofs.Common.{◌≡◌, ap}
-use Rattle.reg_text.proofs.Names.{draft_of, is_text_over}
-use Rattle.reg_text.proofs.Readings.{headed, says-a-day, some-of, current-or}
+use Rattle.std.proofs.Common.{◌≡◌, ap, refl}
+use Rattle.std.proofs.lemmas.List.{append-nil}
+use Rattle.reg_text.proofs.Names.{accounts_in, draft_of, is_text_over}
+use Rattle.reg_text.proofs.Readings.{book-of, headed, says-a-day, some-of, current-or}
 use Rattle.reg_text.proofs.reading.day.make_day.Goals as goal
 
 pub make_calendar-requires : goal.make_calendar-requires
@@ -11,10 +12,19 @@ make_calendar-requires c =
 
 pub make_rules-rules-requires : goal.make_rules-rules-requires
 make_rules-rules-requires c =
-    let draft = c.args.draft in
-    let d = draft_of draft in
+    let heading = c.args.draft.heading in
+    let d = draft_of c.args.draft in
     let k = headed d c.requires.draft (ap is_text_over c.requires.over) in
-    let lags : k.lags ≡ c.unwrap-lags.result = cc (some-of draft.lags k.lags k.one_lags, c.unwrap-lags.ensures) in
-    let said = current-or k.version draft.current k.current k.current_is in
+    let lags : k.lags ≡ c.unwrap-lags.result = cc (some-of heading.lags k.lags k.one_lags, c.unwrap-lags.ensures) in
+    let said = current-or k.version heading.current k.current k.current_is in
     let current : k.current ≡ c.unwrap_or-current.result = cc (k.said, said, c.unwrap_or-current.ensures) in
     rw (c.make_calendar.ensures, ← lags, ← current) (says-a-day d c.requires.draft k).day.rules.fit
+
+pub of_rising-requires : goal.of_rising-requires
+of_rising-requires c =
+    let d = draft_of c.args.draft in
+    let k = headed d c.requires.draft (ap is_text_over c.requires.over) in
+    let day : k.day ≡ c.unwrap-day.result =
+    cc (some-of c.args.draft.heading.day k.day k.one_day, c.unwrap-day.ensures) in
+    book-of (accounts_in d) d.accounts k.day c.unwrap-day.result (rw (c.requires.unbegun, append-nil) refl) day
+    (says-a-day d c.requires.draft k).day.book

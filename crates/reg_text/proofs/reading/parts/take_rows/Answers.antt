@@ -1,5 +1,5 @@
 use Rattle.std.proofs.Common.{◌≡◌, ◌∙◌, [], ◌∷◌, rules}
-use Rattle.reg_text.proofs.Names.{draft_of, fields_of, rows_left}
+use Rattle.reg_text.proofs.Names.{read_behind, fields_of, rows_left}
 use Rattle.reg_text.proofs.DraftSteps.{grows}
 use Rattle.reg_text.proofs.PartFacts.{found-one, one-taken}
 use Rattle.reg_text.proofs.reading.parts.take_rows.Goals as goal
@@ -13,8 +13,10 @@ rows-preserved c =
     (before ≡ []) c.in_ok-ok.ensures.value c.if-branch.true c.next_row.ensures.rows in
     record {
       ready = search rules;
-      fits = (grows (draft_of c.rows.draft) (draft_of c.take_row.new.draft) row c.rows.invariant.fits
+      fits = (grows (read_behind c.args.heading.now c.rows.body) (read_behind c.args.heading.now
+          c.take_row_behind.new.body) row c.rows.invariant.fits
           c.in-Ok.ensures).draft;
-      so_far = one-taken (draft_of c.rows.draft) (draft_of c.take_row.new.draft) row before behind found c.in-Ok.ensures
+      so_far = one-taken (read_behind c.args.heading.now c.rows.body) (read_behind c.args.heading.now
+          c.take_row_behind.new.body) row before behind found c.in-Ok.ensures
           ∙ c.rows.invariant.so_far;
     }

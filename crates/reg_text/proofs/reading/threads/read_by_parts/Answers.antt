@@ -10,7 +10,7 @@ use Rattle.reg_text.proofs.reading.threads.read_by_parts.Goals as goal
 
 pub join_all-requires-clause-each : goal.join_all-requires-clause-each
 join_all-requires-clause-each g c =
-    let h = draft_of c.in_ok-heading.heading in
+    let h = draft_of c.in_ok-start.start in
     let read = c.in-Ok-read_parts.read in
     let parts = c.deref.ensures.value ∙ sym c.deref-2.ensures.value in
     let len : length read.items ≡ length c.deref.result.now =
@@ -20,10 +20,10 @@ join_all-requires-clause-each g c =
 
 pub returns-then-eq : goal.returns-then-eq
 returns-then-eq g c =
-    let h = draft_of c.in_ok-heading.heading in
+    let h = draft_of c.in_ok-start.start in
     let body = ap text_of_parts c.deref-2.ensures.value ∙ c.in-Ok.ensures.whole in
     let whole = ap (λ (text : List ℕ). c.cut_near.result.0.now ++ text) body ∙ c.cut_near.ensures in
-    let over : c.in_ok-draft.draft.last ≡ Some tag.End = search rules in
+    let over : c.in_ok-draft.draft.body.last ≡ Some tag.End = search rules in
     let f = finished h (draft_of c.in_ok-draft.draft) c.args.text.now
     (subst (λ (text : List ℕ). IsReadSoFar h text (draft_of c.in_ok-draft.draft)) whole c.in_ok-draft.ensures)
     over in

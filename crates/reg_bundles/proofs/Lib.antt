@@ -1,0 +1,2 @@
+mod Forest
+mod Joining

@@ -1,0 +1,12 @@
+mod Membership
+mod Keeping
+mod Restricted
+mod Exchanged
+mod Running
+mod Found
+mod Together
+mod AtHome
+mod Pieces
+mod Replying
+mod Closing
+mod Marking

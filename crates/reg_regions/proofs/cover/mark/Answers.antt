@@ -1,0 +1,7 @@
+use Rattle.std.proofs.Common.{arith}
+use Rattle.reg_regions.proofs.Marking.{marked-one}
+use Rattle.reg_regions.proofs.cover.mark.Goals as goal
+
+pub returns-clause-marked : goal.returns-clause-marked
+returns-clause-marked c truth done marked =
+    marked-one done c.args.marks.now c.args.place (omega (arith, c.if-place-lt1.false)) marked

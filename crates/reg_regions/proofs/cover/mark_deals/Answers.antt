@@ -1,0 +1,40 @@
+use Rattle.std.proofs.Common.{◌≡◌, ◌+◌, ◌<◌, ◌++◌, ℕ, List, length, take, true, sym, ap, subst, ◌∙◌, arith}
+use Rattle.std.specs.Prelude.{All, Contains}
+use Rattle.std.proofs.lemmas.List.{take_all}
+use Rattle.std.proofs.lemmas.List.Elements.{All-append}
+use Rattle.reg_regions.specs.declared.dealing.Deal.{Deal}
+use Rattle.reg_regions.specs.Homes.{AreMarked, IsPlaceUpTo, dealt_places}
+use Rattle.reg_regions.proofs.Marking.{all-marked, one-more}
+use Rattle.reg_regions.proofs.cover.mark_deals.Goals as goal
+
+pub loop-deal-preserved : goal.loop-deal-preserved
+loop-deal-preserved c =
+    let deals = c.args.deals.now in
+    let k = c.loop-deal.deal-index in
+    let before = c.loop-deal.invariant in
+    let done = dealt_places (take k deals) in
+    let more = one-more deals k c.deal-item.result c.loop-deal-test.true c.deal-item.is in
+    let truth : c.mark_all.result ≡ true = c.if-not-mark_all.false in
+    let whole : done ++ c.deref.result.now ≡ dealt_places (take (k + 1) deals) =
+    ap (λ (ps : List ℕ). done ++ ps) c.deref.ensures.value ∙ sym more in
+    record {
+      size = c.mark_all.ensures.size ∙ before.size;
+      marked = subst (λ ps. AreMarked ps c.mark_all.new.marks) whole
+          (c.mark_all.ensures.marked truth done before.marked);
+      within = subst (All (IsPlaceUpTo (length c.args.marks.now))) whole
+          (All-append (IsPlaceUpTo (length c.args.marks.now)) done c.deref.result.now before.within
+          (subst (λ n. All (IsPlaceUpTo n) c.deref.result.now) before.size (c.mark_all.ensures.within truth)));
+    }
+
+pub returns-clause-each : goal.returns-clause-each
+returns-clause-each c truth place low high =
+    let whole = take_all c.loop-deal.deal-index c.args.deals.now (omega arith) in
+    let size = c.loop-deal.invariant.size in
+    subst (λ (ds : List Deal). Contains (dealt_places ds) place) whole
+    (all-marked (dealt_places (take c.loop-deal.deal-index c.args.deals.now)) c.loop-deal.marks
+    c.loop-deal.invariant.marked (c.are_set.ensures truth) place low (omega (arith, high, size)))
+
+pub returns-clause-within : goal.returns-clause-within
+returns-clause-within c truth =
+    subst (λ (ds : List Deal). All (IsPlaceUpTo (length c.args.marks.now)) (dealt_places ds))
+    (take_all c.loop-deal.deal-index c.args.deals.now (omega arith)) c.loop-deal.invariant.within

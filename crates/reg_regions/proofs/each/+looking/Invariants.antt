@@ -1,0 +1,5 @@
+use Rattle.std.proofs.Common.{length}
+use Rattle.reg_regions.proofs.each.+looking.Given as goal
+
+abbrev pub decreases-are_all_home : goal.decreases-are_all_home
+decreases-are_all_home g l = length l.deals.now

@@ -1,0 +1,47 @@
+-- Regions whose instructions have their accounts at hand, where their indexes say.
+use Rattle.std.specs.Prelude.{◌≡◌, ℕ, ◌-◌, ◌<◌, ◌≤◌, List, [], ◌∷◌, length, take, drop, slice_get, slice_index}
+use Rattle.std.specs.Prelude.{suc, Bool, true, false, slice_index_or, Contains}
+use Rattle.std.specs.List.{flat_map}
+use Rattle.std.specs.Option.{option_map_or}
+use Rattle.reg_base.specs.Batch.{BatchValue}
+use Rattle.reg_base.specs.Footprint.{footprint}
+use Rattle.reg_rules.specs.State.{Setting}
+use Rattle.reg_book.specs.Indexes.{StandAt, index_lists}
+use Rattle.reg_regions.specs.declared.dealing.Deal.{Deal}
+use Rattle.reg_regions.specs.Regions.{RiseAbove}
+
+-- the accounts that the instruction at this place touches
+abbrev pub accounts_touched : Setting → BatchValue → ℕ → List ℕ
+accounts_touched c b place = option_map_or (λ i. footprint c.directory i.act) (slice_get b.instructions (place - 1)) []
+
+-- there is an instruction at this place, and the accounts that it touches stand at these indexes
+pub record IsHome (c : Setting) (b : BatchValue) (ns : List ℕ) (place : ℕ) (indexes : List ℕ) : Type 0 where
+  pub from_one : 1 ≤ place
+  pub within : place ≤ length b.instructions
+  pub there : StandAt ns indexes (accounts_touched c b place)
+
+-- the same for each place of a region; the places rise
+pub record AreHome (c : Setting) (b : BatchValue) (ns places : List ℕ) (indexes : List (List ℕ)) : Type 0 where
+  pub rising : RiseAbove 0 places
+  pub each : (k : ℕ) → k < length places → IsHome c b ns (slice_index places k) (slice_index_or indexes k [])
+  pub as_many : length places ≤ length indexes
+
+-- the same for each region of a list that is cut into regions
+abbrev pub AreAllHome : Setting → BatchValue → List ℕ → List Deal → Type 0
+AreAllHome c b ns [] = Unit {0}
+AreAllHome c b ns (d ∷ deals) =
+    (d.size ≤ length ns) × AreHome c b (take d.size ns) d.places.items (index_lists d.indexes.items)
+    × AreAllHome c b (drop d.size ns) deals
+
+-- the places of all regions, one region after another
+abbrev pub dealt_places : List Deal → List ℕ
+dealt_places deals = flat_map (λ d. d.places.items) deals
+
+-- a mark that is set stands for one of these places, counted from 1
+abbrev pub AreMarked : List ℕ → List Bool → Type 0
+AreMarked places marks = (k : ℕ) → slice_index_or marks k false ≡ true → Contains places (suc k)
+
+-- a place from 1 to this one
+pub record IsPlaceUpTo (count place : ℕ) : Type 0 where
+  pub from_one : 1 ≤ place
+  pub within : place ≤ count

@@ -1,0 +1,7 @@
+pub mod Regions
+pub mod Laws
+pub mod Settling
+pub mod Days
+pub mod Swaps
+pub mod Homes
+pub mod Dealing

@@ -1,0 +1,45 @@
+//! Regions of a day: accounts of their own, with the instructions that touch these alone.
+//!
+//! A use of it, proved in `registry_uses/src/regions.rt`:
+//!
+//! ```rust
+//! ghost use Rattle.reg_regions.specs.Laws.{RegionEndsAsTheDay};
+//!
+//! use reg_regions::region_is_as_the_day;
+//!
+//! /// Settled alone, the accounts of a region end as the day leaves them.
+//! pub fn a_region_ends_as_the_day()
+//!     ensures { RegionEndsAsTheDay }
+//! {
+//!     region_is_as_the_day();
+//! }
+//! ```
+#![tactic(auto)]
+
+mod cover;
+mod cut;
+mod dealing;
+mod dealt;
+mod each;
+mod fault;
+mod home;
+mod homes;
+mod laws;
+mod numbers;
+mod planning;
+mod region;
+mod replies;
+mod settle;
+mod swapping;
+mod swaps;
+mod touching;
+mod turned;
+mod turning;
+
+pub use dealt::settle_dealt;
+pub use fault::RegionFault;
+pub use laws::{region_is_as_the_day, regions_are_a_day};
+pub use region::{Indexes, Placed, Region, SettledRegion};
+pub use settle::settle_region;
+pub use swapping::{swap_all, swap_back};
+pub use swaps::Swap;

@@ -1,0 +1,28 @@
+//! Numbers in a list, where an index beyond its end is no fault.
+
+/// The number at an index, or 0 beyond the end.
+pub(crate) fn number_at(numbers: &[u32], index: u32) -> u32 {
+    match numbers.get(index as usize) {
+        Some(number) => *number,
+        None => 0,
+    }
+}
+
+/// Puts a number at an index, or nowhere beyond the end.
+pub(crate) fn put_number(numbers: &mut [u32], index: u32, number: u32) {
+    if (index as usize) < numbers.len() {
+        numbers[index as usize] = number;
+    }
+}
+
+/// Adds to the number at an index.
+pub(crate) fn raise(numbers: &mut [u32], index: u32, by: u32) {
+    let raised = number_at(numbers, index).saturating_add(by);
+    put_number(numbers, index, raised);
+}
+
+/// Takes from the number at an index.
+pub(crate) fn lower(numbers: &mut [u32], index: u32, by: u32) {
+    let lowered = number_at(numbers, index).saturating_sub(by);
+    put_number(numbers, index, lowered);
+}

@@ -1,0 +1,99 @@
+//! Where the accounts of instructions stand in a book.
+
+ghost use Rattle.std.specs.Prelude.{◌≤◌, ◌<◌, All, IsTrue};
+ghost use Rattle.reg_base.specs.Rising.{IsRising};
+ghost use Rattle.reg_rules.specs.State.{numbers};
+
+use crate::region::Indexes;
+use reg_account::Account;
+use reg_base::{Instruction, NoMemory};
+use reg_book::index_of;
+use reg_bundles::Touch;
+use std::alloc::Global;
+
+/// For each instruction the indexes of the accounts that it touches.
+///
+/// # Errors
+/// `NoMemory` if memory ran out.
+pub(crate) fn find_indexes(
+    alloc: Global,
+    accounts: &[Account],
+    instructions: &[Instruction],
+) -> Result<Vec<Indexes>, NoMemory>
+    requires { IsRising (numbers accounts.now) }
+{
+    let mut indexes = Vec::with_capacity(alloc, instructions.len())?;
+    for instruction in instructions {
+        indexes.push(indexes_of(accounts, instruction))?;
+    }
+    Ok(indexes)
+}
+
+// None if an account that must be known is not there.
+fn indexes_of(accounts: &[Account], instruction: &Instruction) -> Indexes
+    requires { IsRising (numbers accounts.now) }
+{
+    let movement = instruction.act.movement();
+    if let Some(number) = movement.also_known() {
+        if index_of(accounts, number).is_none() {
+            return Indexes::new();
+        }
+    }
+    let mut indexes = Indexes::new();
+    let parties = movement.parties();
+    for number in parties.as_slice() {
+        match index_of(accounts, *number) {
+            None => return Indexes::new(),
+            Some(index) => push_index(&mut indexes, index),
+        }
+    }
+    indexes
+}
+
+fn push_index(indexes: &mut Indexes, index: usize) {
+    if let Ok(short) = u32::try_from(index) {
+        if !indexes.is_full() {
+            indexes.push(short);
+        }
+    }
+}
+
+/// Each place with each account that it touches.
+///
+/// # Errors
+/// `NoMemory` if memory ran out.
+pub(crate) fn find_touches(alloc: Global, indexes: &[Indexes]) -> Result<Vec<Touch>, NoMemory> {
+    let mut touches = Vec::with_capacity(alloc, indexes.len())?;
+    let mut place: u32 = 0;
+    for own in indexes {
+        place = place.saturating_add(1);
+        push_touches(&mut touches, place, own)?;
+    }
+    Ok(touches)
+}
+
+fn push_touches(touches: &mut Vec<Touch>, place: u32, own: &Indexes) -> Result<(), NoMemory> {
+    for index in own.as_slice() {
+        touches.push(Touch {
+            place,
+            account: *index,
+        })?;
+    }
+    Ok(())
+}
+
+/// Whether each of these is of so many places and accounts.
+pub(crate) fn are_touches(touches: &[Touch], places: u32, accounts: u32) -> bool
+    ensures places { IsTrue result → All (λ touch. touch.place ≤ places) touches.now }
+    ensures accounts { IsTrue result → All (λ touch. touch.account < accounts) touches.now }
+{
+    for touch in touches {
+        if touch.place > places {
+            return false;
+        }
+        if touch.account >= accounts {
+            return false;
+        }
+    }
+    true
+}

@@ -1,0 +1,51 @@
+//! What several checks of an instruction ask. Each is found once.
+
+ghost use Rattle.std.specs.Prelude.{◌≡◌, map};
+ghost use Rattle.reg_base.specs.Acts.{movement_of, shares};
+ghost use Rattle.reg_rules.specs.State.{numbers};
+ghost use Rattle.reg_rules.specs.Cases.{seeing, found_of};
+
+use crate::reversal::row_to_reverse;
+use crate::rule::{ActRule, rule_of};
+use crate::setting::Setting;
+use crate::trust::{due_day, trusts_each};
+use reg_account::{Account, RetirementRow};
+use reg_base::{Day, Instruction, Movement};
+
+/// What several checks of an instruction ask.
+#[derive(Clone, Copy, Debug, PartialEq, Eq)]
+pub struct Found {
+    /// The row of the act.
+    pub rule: ActRule,
+    /// Whether the first account trusts each that receives on the settlement day.
+    pub trusted: bool,
+    /// The due day, if the calendar has it.
+    pub due: Option<Day>,
+    /// The surrender or deletion that is to be reversed, if there is one.
+    pub row: Option<RetirementRow>,
+}
+
+impl Found {
+    /// Finds all of it, for an instruction whose accounts are these: its first one, and those that receive, in order.
+    pub(crate) fn of(
+        setting: &Setting,
+        instruction: &Instruction,
+        movement: &Movement,
+        first: &Account,
+        receivers: &[Account],
+    ) -> Self
+        requires movement { movement.now ≡ movement_of instruction.now.act }
+        requires in_order { numbers receivers.now ≡ map (λ share. share.to) (shares instruction.now.act) }
+        ensures { result ≡ found_of setting.now instruction.now
+            (seeing first.now receivers.now (shares instruction.now.act)) }
+    {
+        let rule = rule_of(&instruction.act);
+        let trusted = trusts_each(setting.day, first, receivers);
+        Found {
+            rule,
+            trusted,
+            due: due_day(setting, instruction, rule.lag, trusted),
+            row: row_to_reverse(&movement.change, first),
+        }
+    }
+}

@@ -1,0 +1,85 @@
+//! What a call tells its caller, and what it writes.
+
+ghost use Rattle.std.specs.Prelude.{◌≡◌, Ok, Err};
+ghost use Rattle.registry_c.specs.Answers.{Tells, answer_of, cause_number, room_after};
+
+use crate::fault::Fault;
+use crate::question::Question;
+use crate::texts::text_for;
+use reg_text::Cause;
+use std::alloc::Global;
+
+/// What became of a call. Its fields lie in memory as in `struct registry_answer` of the header.
+#[repr(C)]
+#[derive(Clone, Copy, Debug, PartialEq, Eq)]
+pub struct Answer {
+    /// 0 if there is a text; 2 if there is no such account; 3 if the day text has a fault; 4 if memory ran out.
+    pub status: u32,
+    /// The first cause that applies to the faulty row, from 1 on in the order of [`Cause`]. Otherwise 0.
+    pub cause: u32,
+    /// The number of the first faulty row, counted from 1. Otherwise 0.
+    pub row: u64,
+    /// The number of bytes of the text, also if there was no room for them. Otherwise 0.
+    pub length: usize,
+}
+
+/// Answers a question of the day that a text describes, and writes the answer's text if there is room for all of it.
+pub(crate) fn tell(alloc: Global, question: Question, day: &[u8], room: &mut [u8]) -> Answer
+    ensures { Tells question day.now result room.old room.new }
+{
+    match text_for(alloc, question, day) {
+        Ok(text) => put(text.as_slice(), room),
+        Err(fault) => refuse(fault),
+    }
+}
+
+// Writes a text to the front of the room, if there is room for all of it.
+fn put(text: &[u8], room: &mut [u8]) -> Answer
+    ensures answer { result ≡ answer_of (Ok text.now) }
+    ensures room { room.new ≡ room_after (Ok text.now) room.old }
+{
+    let length = text.len();
+    if length <= room.len() {
+        room[..length].copy_from_slice(text);
+    }
+    Answer {
+        status: 0,
+        cause: 0,
+        row: 0,
+        length,
+    }
+}
+
+// What is told of a fault.
+fn refuse(fault: Fault) -> Answer
+    ensures { result ≡ answer_of (Err fault) }
+{
+    let (status, cause, row) = match fault {
+        Fault::NoAccount => (2, 0, 0),
+        Fault::Row { row, cause } => (3, number_of(cause), row),
+        Fault::NoMemory => (4, 0, 0),
+    };
+    Answer {
+        status,
+        cause,
+        row,
+        length: 0,
+    }
+}
+
+// The number of a cause, in the order of `Cause`.
+fn number_of(cause: Cause) -> u32
+    ensures { result ≡ cause_number cause }
+{
+    match cause {
+        Cause::End => 1,
+        Cause::Tag => 2,
+        Cause::Fields => 3,
+        Cause::Number => 4,
+        Cause::Date => 5,
+        Cause::Word => 6,
+        Cause::Version => 7,
+        Cause::Limit => 8,
+        Cause::Order => 9,
+    }
+}

@@ -1,0 +1,87 @@
+//! The engine for programs in other languages: a static library whose functions read a day text in the caller's memory
+//! and write the text of a command into the caller's memory. `include/registry.h` tells their callers in C all that is
+//! here.
+//!
+//! Nothing outlives a call, and nothing is shared between two: a call takes memory from the C library and gives all of
+//! it back. So calls may come from several threads at once. None of them starts a thread or waits for one.
+#![tactic(auto)]
+
+ghost use Rattle.std.specs.Prelude.{◌≡◌};
+ghost use Rattle.registry_c.specs.Answers.{Tells};
+ghost use Rattle.registry_c.specs.declared.question.Question.TheVariants.{Figures, Log, Plan};
+ghost use Rattle.registry_c.specs.declared.question.Question.TheVariants.{Report, Statement, Totals};
+
+mod answer;
+mod fault;
+mod question;
+mod texts;
+
+use crate::answer::tell;
+pub use answer::Answer;
+pub use fault::Fault;
+pub use question::Question;
+use std::alloc::Global;
+
+// The version of what the header says. A change that breaks a caller raises it.
+const VERSION: u32 = 1;
+
+/// Settles the day: its report, byte for byte that of the program's command `settle`.
+#[unsafe(no_mangle)]
+pub extern "C" fn registry_settle(alloc: Global, day: &[u8], room: &mut [u8]) -> Answer
+    ensures { Tells Report day.now result room.old room.new }
+{
+    tell(alloc, Question::Report, day, room)
+}
+
+/// Settles the day as a trial: the log rows of its report alone, which say why each instruction is done or refused.
+#[unsafe(no_mangle)]
+pub extern "C" fn registry_try(alloc: Global, day: &[u8], room: &mut [u8]) -> Answer
+    ensures { Tells Log day.now result room.old room.new }
+{
+    tell(alloc, Question::Log, day, room)
+}
+
+/// The plan of the day, which settles nothing.
+#[unsafe(no_mangle)]
+pub extern "C" fn registry_plan(alloc: Global, day: &[u8], room: &mut [u8]) -> Answer
+    ensures { Tells Plan day.now result room.old room.new }
+{
+    tell(alloc, Question::Plan, day, room)
+}
+
+/// The statement of an account over the day. The answer says so if the account is not in the book of the day.
+#[unsafe(no_mangle)]
+pub extern "C" fn registry_statement(
+    alloc: Global,
+    day: &[u8],
+    account: u32,
+    room: &mut [u8],
+) -> Answer
+    ensures { Tells (Statement account) day.now result room.old room.new }
+{
+    tell(alloc, Question::Statement { account }, day, room)
+}
+
+/// The determined compliance figures of all accounts after the day.
+#[unsafe(no_mangle)]
+pub extern "C" fn registry_figures(alloc: Global, day: &[u8], room: &mut [u8]) -> Answer
+    ensures { Tells Figures day.now result room.old room.new }
+{
+    tell(alloc, Question::Figures, day, room)
+}
+
+/// The totals after the day.
+#[unsafe(no_mangle)]
+pub extern "C" fn registry_totals(alloc: Global, day: &[u8], room: &mut [u8]) -> Answer
+    ensures { Tells Totals day.now result room.old room.new }
+{
+    tell(alloc, Question::Totals, day, room)
+}
+
+/// The version of the library's interface: 1. A caller compares it with that of the header it was made with.
+#[unsafe(no_mangle)]
+pub extern "C" fn registry_version() -> u32
+    ensures { result ≡ 1 }
+{
+    VERSION
+}

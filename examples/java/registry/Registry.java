@@ -1,0 +1,73 @@
+package registry;
+
+import java.nio.charset.StandardCharsets;
+
+/** The settlement engine. Each call may come from any thread, and several at once. */
+public final class Registry {
+    // The numbers of the commands, as registry_jni.c knows them.
+    private static final int SETTLE = 0;
+    private static final int TRY = 1;
+    private static final int PLAN = 2;
+    private static final int FIGURES = 3;
+    private static final int TOTALS = 4;
+    private static final int STATEMENT = 5;
+
+    // The statuses of the library.
+    private static final long DONE = 0;
+    private static final long NO_ACCOUNT = 2;
+    private static final long FAULT = 3;
+
+    static {
+        System.loadLibrary("registry_jni");
+    }
+
+    private Registry() {}
+
+    /** The report of the day that these bytes describe. */
+    public static String settle(byte[] day) throws Fault {
+        return ask(SETTLE, day, 0);
+    }
+
+    /** The log of the day alone: why each instruction is done or refused. */
+    public static String attempt(byte[] day) throws Fault {
+        return ask(TRY, day, 0);
+    }
+
+    /** Which instructions of the day must wait for which others. */
+    public static String plan(byte[] day) throws Fault {
+        return ask(PLAN, day, 0);
+    }
+
+    /** The determined compliance figures after the day. */
+    public static String figures(byte[] day) throws Fault {
+        return ask(FIGURES, day, 0);
+    }
+
+    /** The totals after the day. */
+    public static String totals(byte[] day) throws Fault {
+        return ask(TOTALS, day, 0);
+    }
+
+    /** The statement of an account over the day. */
+    public static String statement(byte[] day, int account) throws Fault {
+        return ask(STATEMENT, day, account);
+    }
+
+    private static String ask(int command, byte[] day, int account) throws Fault {
+        long[] told = new long[3];
+        byte[] text = call(command, day, account, told);
+        if (told[0] == DONE) {
+            return new String(text, StandardCharsets.US_ASCII);
+        }
+        if (told[0] == FAULT) {
+            throw new Fault(told[2], Cause.values()[(int) told[1] - 1]);
+        }
+        if (told[0] == NO_ACCOUNT) {
+            throw new IllegalArgumentException("no such account: " + Integer.toUnsignedString(account));
+        }
+        throw new OutOfMemoryError("the registry library ran out of memory");
+    }
+
+    // Fills `told` with status, cause and row, and answers the text if there is one.
+    private static native byte[] call(int command, byte[] day, int account, long[] told);
+}

@@ -1,0 +1,59 @@
+/* The native method of registry.Registry: copies the day text out of the Java heap, asks the library, and copies the
+ * text back. No array of Java is locked while the library works. */
+#include <jni.h>
+#include <registry.h>
+#include <stdlib.h>
+
+typedef struct registry_answer (*command)(const char *, size_t, char *, size_t);
+
+static const command commands[] = {registry_settle, registry_try, registry_plan, registry_figures, registry_totals};
+enum { STATEMENT = sizeof commands / sizeof *commands };
+
+static struct registry_answer ask(jint number, const char *day, size_t length, jint account, char *room, size_t size) {
+  if (number == STATEMENT) return registry_statement(day, length, (uint32_t)account, room, size);
+  return commands[number](day, length, room, size);
+}
+
+/* Asks with a room, and if that is too small, once more with one of the right size. The caller frees the room. */
+static struct registry_answer ask_with_room(jint number, const char *day, size_t length, jint account, char **room) {
+  size_t size = 2 * length + 4096;
+  for (;;) {
+    *room = malloc(size);
+    if (!*room) return (struct registry_answer){REGISTRY_NO_MEMORY, 0, 0, 0};
+    struct registry_answer answer = ask(number, day, length, account, *room, size);
+    if (answer.status != REGISTRY_DONE || answer.length <= size) return answer;
+    free(*room);
+    size = answer.length;
+  }
+}
+
+/* The text as an array of Java, or null if there is none or it does not fit into one. */
+static jbyteArray text_of(JNIEnv *env, struct registry_answer *answer, const char *room) {
+  if (answer->status != REGISTRY_DONE) return NULL;
+  jbyteArray text = answer->length <= INT32_MAX ? (*env)->NewByteArray(env, (jsize)answer->length) : NULL;
+  if (text)
+    (*env)->SetByteArrayRegion(env, text, 0, (jsize)answer->length, (const jbyte *)room);
+  else
+    answer->status = REGISTRY_NO_MEMORY;
+  return text;
+}
+
+JNIEXPORT jbyteArray JNICALL Java_registry_Registry_call(JNIEnv *env, jclass self, jint number, jbyteArray bytes,
+                                                         jint account, jlongArray told) {
+  (void)self;
+  jsize length = (*env)->GetArrayLength(env, bytes);
+  char *day = malloc(length ? (size_t)length : 1), *room = NULL;
+  struct registry_answer answer = {REGISTRY_NO_MEMORY, 0, 0, 0};
+  if (day) {
+    (*env)->GetByteArrayRegion(env, bytes, 0, length, (jbyte *)day);
+    answer = ask_with_room(number, day, (size_t)length, account, &room);
+  }
+  jbyteArray text = text_of(env, &answer, room);
+  free(room);
+  free(day);
+  if (!(*env)->ExceptionCheck(env)) {
+    jlong values[] = {answer.status, answer.cause, (jlong)answer.row};
+    (*env)->SetLongArrayRegion(env, told, 0, 3, values);
+  }
+  return text;
+}

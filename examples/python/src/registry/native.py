@@ -1,0 +1,134 @@
+"""The calls of the library on bytes: each takes a day text and gives the text of a command, or raises what is wrong.
+
+While a call runs, other Python threads go on: the library shares nothing between two calls.
+"""
+from __future__ import annotations
+
+import ctypes
+import os
+from enum import IntEnum
+from pathlib import Path
+from typing import Any, Callable, Optional, Union
+
+# The version of the library that this package was written for.
+VERSION = 1
+LIBRARY = "libregistry.so"
+DONE, NO_ACCOUNT, FAULT, NO_MEMORY = 0, 2, 3, 4
+# The library takes account numbers of 32 bits: a larger number is that of no account.
+MOST_NUMBER = 2**32 - 1
+
+Text = Union[bytes, bytearray, memoryview]
+
+
+class Cause(IntEnum):
+    """What is wrong with a row, by the numbers of the library. `str` gives the word of the program."""
+
+    END = 1
+    TAG = 2
+    FIELDS = 3
+    NUMBER = 4
+    DATE = 5
+    WORD = 6
+    VERSION = 7
+    LIMIT = 8
+    ORDER = 9
+
+    def __str__(self) -> str:
+        return self.name.lower()
+
+
+class Fault(ValueError):
+    """The bytes are no day text: the number of the first faulty row, counted from 1, and the first cause that applies to it."""
+
+    def __init__(self, row: int, cause: Cause) -> None:
+        super().__init__(row, cause)
+        self.row, self.cause = row, cause
+
+    def __str__(self) -> str:
+        return f"row {self.row}: {self.cause}"
+
+
+class NoAccount(LookupError):
+    """No account of the day has the number of the statement that was asked for."""
+
+    def __init__(self, account: int) -> None:
+        super().__init__(account)
+        self.account = account
+
+    def __str__(self) -> str:
+        return f"no such account: {self.account}"
+
+
+class Answer(ctypes.Structure):
+    """`struct registry_answer` of registry.h."""
+
+    _fields_ = [
+        ("status", ctypes.c_uint32),
+        ("cause", ctypes.c_uint32),
+        ("row", ctypes.c_uint64),
+        ("length", ctypes.c_size_t),
+    ]
+
+
+def _load() -> ctypes.CDLL:
+    """The library: the file that REGISTRY_LIBRARY names, or the one beside this module."""
+    path = os.environ.get("REGISTRY_LIBRARY") or str(Path(__file__).resolve().parent / LIBRARY)
+    library = ctypes.CDLL(path)
+    library.registry_version.restype = ctypes.c_uint32
+    version = library.registry_version()
+    if version != VERSION:
+        raise ImportError(f"{path} has version {version}, and this package needs {VERSION}")
+    return library
+
+
+_library = _load()
+_DAY = [ctypes.c_char_p, ctypes.c_size_t]
+_ROOM = [ctypes.c_void_p, ctypes.c_size_t]
+
+
+def _function(name: str, *parameters: Any) -> Callable[..., Answer]:
+    """A function of the library, with the types of its parameters behind the day text and before the room."""
+    function = getattr(_library, f"registry_{name}")
+    function.restype, function.argtypes = Answer, [*_DAY, *parameters, *_ROOM]
+    return function
+
+
+def _ask(call: Callable[[ctypes.Array[ctypes.c_char]], Answer], room: int, account: Optional[int] = None) -> bytes:
+    """Asks with so much room, and if that is too little, once more with as much as is needed."""
+    while True:
+        space = bytearray(room)
+        answer = call((ctypes.c_char * room).from_buffer(space))
+        if answer.status == FAULT:
+            raise Fault(answer.row, Cause(answer.cause))
+        if answer.status == NO_ACCOUNT:
+            raise NoAccount(account or 0)
+        if answer.status == NO_MEMORY:
+            raise MemoryError("the registry library ran out of memory")
+        if answer.length <= room:
+            return bytes(memoryview(space)[: answer.length])
+        room = answer.length
+
+
+def _command(name: str) -> Callable[[Text], bytes]:
+    call = _function(name)
+
+    def run(day: Text) -> bytes:
+        text = bytes(day)
+        return _ask(lambda room: call(text, len(text), room, len(room)), 2 * len(text) + 4096)
+
+    return run
+
+
+settle = _command("settle")
+attempt = _command("try")
+plan = _command("plan")
+figures = _command("figures")
+totals = _command("totals")
+_statement = _function("statement", ctypes.c_uint32)
+
+
+def statement(day: Text, account: int) -> bytes:
+    text = bytes(day)
+    # (any other number is asked for as 0, which no account has: a fault of the text is told first, as always)
+    number = account if 0 <= account <= MOST_NUMBER else 0
+    return _ask(lambda room: _statement(text, len(text), number, room, len(room)), len(text) + 4096, account)

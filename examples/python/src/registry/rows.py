@@ -1,0 +1,189 @@
+"""The rows of day texts and reports as typed values."""
+from __future__ import annotations
+
+from dataclasses import dataclass, field
+from datetime import date
+from enum import Enum
+from typing import Optional, Sequence, Union
+
+
+class Act(Enum):
+    """What an instruction asks for, by its word in a text."""
+
+    TRANSFER = "transfer"
+    RETURN = "return"
+    SURRENDER = "surrender"
+    DELETE = "delete"
+    REVERSE = "reverse"
+    CREATE = "create"
+    CENTRAL = "central"
+    DISTRIBUTE = "distribute"
+    TRUST = "trust"
+    UNTRUST = "untrust"
+    STATUS = "status"
+    EMISSIONS = "emissions"
+    ASSESS = "assess"
+
+
+@dataclass(frozen=True)
+class Instruction:
+    """A row `do`. `fields` are those of the act, as docs/FORMATS.md names them: numbers as numbers, words as words."""
+
+    proposed: date
+    proposer: int
+    approver: Optional[int]
+    act: Act
+    fields: tuple[Union[int, str], ...]
+
+    @classmethod
+    def of(cls, fields: Sequence[str]) -> Instruction:
+        proposed, proposer, approver, act, *rest = fields
+        numbers = tuple(int(it) if it.isdigit() else it for it in rest)
+        return cls(date.fromisoformat(proposed), int(proposer), int(approver) if approver else None, Act(act), numbers)
+
+
+@dataclass(frozen=True)
+class Holding:
+    """What an account holds, in allowances."""
+
+    account: int
+    general: int
+    aviation: int
+
+
+@dataclass(frozen=True)
+class Done:
+    """An instruction was done: what an assessment determined, in tonnes, and what the accounts of the act then held."""
+
+    closing: tuple[Holding, ...]
+    figure: Optional[int] = None
+
+
+@dataclass(frozen=True)
+class Refused:
+    """An instruction was refused: the code and the name of the first check that failed."""
+
+    code: int
+    name: str
+
+
+@dataclass(frozen=True)
+class LogRow:
+    """A row of the log."""
+
+    record: int
+    day: date
+    instruction: Instruction
+    outcome: Union[Done, Refused]
+
+    @property
+    def is_done(self) -> bool:
+        return isinstance(self.outcome, Done)
+
+    @classmethod
+    def of(cls, row: str) -> LogRow:
+        _, record, day, *rest = row.split(",")
+        # (no field of an act is one of these words)
+        end = next(place for place, it in enumerate(rest) if it in ("done", "refused"))
+        outcome, behind = rest[end], rest[end + 1 :]
+        instruction = Instruction.of(rest[:end])
+        made = _done(behind) if outcome == "done" else Refused(int(behind[0]), behind[1])
+        return cls(int(record), date.fromisoformat(day), instruction, made)
+
+
+def _done(fields: Sequence[str]) -> Done:
+    figure, *closing = fields
+    numbers = [int(it) for it in closing]
+    holdings = tuple(Holding(*numbers[start : start + 3]) for start in range(0, len(numbers), 3))
+    return Done(holdings, int(figure) if figure else None)
+
+
+@dataclass(frozen=True)
+class Retired:
+    """A surrender or a deletion of an account. `period` is that of a surrender, and None for a deletion."""
+
+    record: int
+    what: str
+    kind: str
+    amount: int
+    day: date
+    is_reversed: bool
+    period: Optional[int]
+
+    @classmethod
+    def of(cls, fields: Sequence[str]) -> Retired:
+        record, what, kind, amount, day, is_reversed, *period = fields
+        of_period = None if what == "deletion" else int(period[0]) if period else 1
+        return cls(int(record), what, kind, int(amount), date.fromisoformat(day), is_reversed == "yes", of_period)
+
+
+@dataclass
+class Account:
+    """An account with the rows of its lists. Amounts are allowances; corrections, emissions and figures are tonnes."""
+
+    number: int
+    kind: str
+    holder: int
+    status: str
+    allows_outside: bool
+    has_waiver: bool
+    general: int
+    aviation: int
+    # By period.
+    corrections: dict[int, int]
+    # The right of each representative.
+    users: dict[int, str] = field(default_factory=dict)
+    # The day on which each entry of the trusted list takes effect.
+    trusted: dict[int, date] = field(default_factory=dict)
+    retired: list[Retired] = field(default_factory=list)
+    # By year.
+    emissions: dict[int, int] = field(default_factory=dict)
+    figures: dict[int, int] = field(default_factory=dict)
+
+    @classmethod
+    def of(cls, fields: Sequence[str]) -> Account:
+        number, kind, holder, status, outside, waiver, correction, general, aviation = fields
+        return cls(
+            int(number), kind, int(holder), status, outside == "yes", waiver == "yes", int(general), int(aviation), {1: int(correction)}
+        )
+
+    def add(self, tag: str, fields: Sequence[str]) -> None:
+        """Takes a row of one of its lists."""
+        if tag == "user":
+            self.users[int(fields[0])] = fields[1]
+        elif tag == "trusted":
+            self.trusted[int(fields[0])] = date.fromisoformat(fields[1])
+        elif tag == "retired":
+            self.retired.append(Retired.of(fields))
+        else:
+            numbers = {"correction": self.corrections, "emissions": self.emissions, "figure": self.figures}[tag]
+            numbers[int(fields[0])] = int(fields[1])
+
+
+@dataclass(frozen=True)
+class Totals:
+    """What all accounts together hold, have surrendered and have deleted of a kind of allowance."""
+
+    kind: str
+    held: int
+    surrendered: int
+    deleted: int
+
+
+@dataclass(frozen=True)
+class Task:
+    """The place of an instruction in the plan: it waits for those of lower levels that the arrows name."""
+
+    place: int
+    level: int
+    # The places that it waits for, each with the account that both touch.
+    waits_for: tuple[tuple[int, int], ...]
+
+
+@dataclass(frozen=True)
+class Determined:
+    """A determined compliance figure, in tonnes."""
+
+    account: int
+    year: int
+    figure: int

@@ -1,0 +1,79 @@
+use std::error::Error;
+use std::fmt;
+
+/// What is wrong with the first faulty row.
+#[derive(Clone, Copy, Debug, PartialEq, Eq, Hash)]
+pub enum Cause {
+    /// The text ends although a row must follow, or a row follows the row `end`.
+    End,
+    /// The tag is unknown or not allowed here.
+    Tag,
+    /// The number of fields is wrong.
+    Fields,
+    /// A field is not a number in its one spelling.
+    Number,
+    /// A field is not a date.
+    Date,
+    /// A field is not one of the words allowed here.
+    Word,
+    /// The version of the format is neither 1 nor 2.
+    Version,
+    /// Something is outside its limits.
+    Limit,
+    /// A row is out of order in its list.
+    Order,
+}
+
+impl Cause {
+    /// All causes, in the order of their numbers in the library, which count from 1.
+    pub const ALL: [Cause; 9] = [
+        Cause::End,
+        Cause::Tag,
+        Cause::Fields,
+        Cause::Number,
+        Cause::Date,
+        Cause::Word,
+        Cause::Version,
+        Cause::Limit,
+        Cause::Order,
+    ];
+
+    /// The word of the cause, as the program writes it.
+    pub fn word(self) -> &'static str {
+        ["end", "tag", "fields", "number", "date", "word", "version", "limit", "order"][self as usize]
+    }
+}
+
+impl fmt::Display for Cause {
+    fn fmt(&self, f: &mut fmt::Formatter<'_>) -> fmt::Result {
+        f.write_str(self.word())
+    }
+}
+
+/// Why there is no text.
+#[derive(Clone, Copy, Debug, PartialEq, Eq, Hash)]
+pub enum Fault {
+    /// The bytes are no day text.
+    Row {
+        /// The number of the first faulty row, counted from 1.
+        row: u64,
+        /// The first cause that applies to it.
+        cause: Cause,
+    },
+    /// The day has no such account.
+    NoAccount,
+    /// Memory ran out.
+    NoMemory,
+}
+
+impl fmt::Display for Fault {
+    fn fmt(&self, f: &mut fmt::Formatter<'_>) -> fmt::Result {
+        match self {
+            Fault::Row { row, cause } => write!(f, "row {row}: {cause}"),
+            Fault::NoAccount => f.write_str("no such account"),
+            Fault::NoMemory => f.write_str("out of memory"),
+        }
+    }
+}
+
+impl Error for Fault {}

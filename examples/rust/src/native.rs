@@ -1,0 +1,94 @@
+//! The calls of the library. Each `unsafe` block stands on what registry.h asks of a caller: pointers that are valid for
+//! their lengths, and a room that nothing else uses during the call.
+
+use crate::fault::{Cause, Fault};
+
+/// `struct registry_answer` of registry.h.
+#[repr(C)]
+struct Answer {
+    status: u32,
+    cause: u32,
+    row: u64,
+    length: usize,
+}
+
+const DONE: u32 = 0;
+const NO_ACCOUNT: u32 = 2;
+const FAULT: u32 = 3;
+
+extern "C" {
+    fn registry_settle(day: *const u8, day_length: usize, room: *mut u8, room_length: usize) -> Answer;
+    fn registry_try(day: *const u8, day_length: usize, room: *mut u8, room_length: usize) -> Answer;
+    fn registry_plan(day: *const u8, day_length: usize, room: *mut u8, room_length: usize) -> Answer;
+    fn registry_figures(day: *const u8, day_length: usize, room: *mut u8, room_length: usize) -> Answer;
+    fn registry_totals(day: *const u8, day_length: usize, room: *mut u8, room_length: usize) -> Answer;
+    fn registry_statement(
+        day: *const u8,
+        day_length: usize,
+        account: u32,
+        room: *mut u8,
+        room_length: usize,
+    ) -> Answer;
+}
+
+type Call = unsafe extern "C" fn(*const u8, usize, *mut u8, usize) -> Answer;
+
+/// Asks with so much room, and if that is too little, once more with as much as is needed.
+fn ask(guess: usize, mut call: impl FnMut(&mut [u8]) -> Answer) -> Result<Vec<u8>, Fault> {
+    let mut length = guess;
+    loop {
+        let mut room = vec![0; length];
+        let answer = call(&mut room);
+        match answer.status {
+            DONE if answer.length <= room.len() => {
+                room.truncate(answer.length);
+                return Ok(room);
+            }
+            DONE => length = answer.length,
+            NO_ACCOUNT => return Err(Fault::NoAccount),
+            FAULT => return Err(fault_of(&answer)),
+            _ => return Err(Fault::NoMemory),
+        }
+    }
+}
+
+fn fault_of(answer: &Answer) -> Fault {
+    Fault::Row {
+        row: answer.row,
+        cause: Cause::ALL[answer.cause as usize - 1],
+    }
+}
+
+fn command(call: Call, day: &[u8]) -> Result<Vec<u8>, Fault> {
+    ask(2 * day.len() + 4096, |room| {
+        // SAFETY: both pointers are valid for these lengths, and `room` is borrowed for this call alone.
+        unsafe { call(day.as_ptr(), day.len(), room.as_mut_ptr(), room.len()) }
+    })
+}
+
+pub(crate) fn settle(day: &[u8]) -> Result<Vec<u8>, Fault> {
+    command(registry_settle, day)
+}
+
+pub(crate) fn attempt(day: &[u8]) -> Result<Vec<u8>, Fault> {
+    command(registry_try, day)
+}
+
+pub(crate) fn plan(day: &[u8]) -> Result<Vec<u8>, Fault> {
+    command(registry_plan, day)
+}
+
+pub(crate) fn figures(day: &[u8]) -> Result<Vec<u8>, Fault> {
+    command(registry_figures, day)
+}
+
+pub(crate) fn totals(day: &[u8]) -> Result<Vec<u8>, Fault> {
+    command(registry_totals, day)
+}
+
+pub(crate) fn statement(day: &[u8], account: u32) -> Result<Vec<u8>, Fault> {
+    ask(day.len() + 4096, |room| {
+        // SAFETY: as in `command`.
+        unsafe { registry_statement(day.as_ptr(), day.len(), account, room.as_mut_ptr(), room.len()) }
+    })
+}

@@ -1,0 +1,99 @@
+/* The settlement engine of an emission allowance registry, for programs in other languages.
+ *
+ *   char room[65536];
+ *   struct registry_answer answer = registry_settle(day, day_length, room, sizeof room);
+ *   if (answer.status == REGISTRY_DONE && answer.length <= sizeof room)
+ *     fwrite(room, 1, answer.length, stdout);
+ *
+ * Each call reads a day text and writes the text of a command. docs/FORMATS.md describes all of these texts. Amounts in
+ * them are whole allowances, each of one tonne of carbon dioxide equivalent; figures are tonnes; dates are YYYY-MM-DD.
+ *
+ * What a caller gives
+ *   day, day_length    the day text: so many bytes that may be read. Any bytes will do: if they are no day text, the
+ *                      answer says where. There is no zero at the end.
+ *   room, room_length  where the text goes: so many bytes that may be read and written. They do not overlap the day
+ *                      text, and nothing else reads or writes them during the call.
+ *   A pointer with the length 0 may be null. A length is below 2^63, and in bytes.
+ *   All of this memory stays the caller's. A call keeps no pointer.
+ *
+ * What a caller gets
+ *   If there is room for all of the text, it stands at the front of the room, without a zero at the end. If there is
+ *   not, the room is unchanged, and the answer has the length that is needed: 0 bytes of room ask for it. The bytes
+ *   behind the text, and after a fault all bytes of the room, are as they were.
+ *
+ * A call takes memory by malloc and realloc and gives all of it back by free. It has no state, starts no thread, takes
+ * no lock, and uses no file and no stream. So calls may come from several threads at once, each with a room of its own;
+ * day texts may be shared. Not from a signal handler, and not in a forked child of a process with several threads.
+ *
+ * The library was proved to answer as it is said here (crates/registry_c). This header is written by hand.
+ */
+#ifndef REGISTRY_H
+#define REGISTRY_H
+
+#include <stddef.h>
+#include <stdint.h>
+
+#ifdef __cplusplus
+extern "C" {
+#endif
+
+/* The version of this header: registry_version() of a library that fits it answers the same. */
+#define REGISTRY_VERSION 1
+
+/* What became of a call. The numbers are the exit statuses of the program. */
+enum registry_status {
+  REGISTRY_DONE = 0,       /* there is a text */
+  REGISTRY_NO_ACCOUNT = 2, /* the account of a statement is not in the book of the day */
+  REGISTRY_FAULT = 3,      /* the bytes are no day text: cause and row tell the first fault */
+  REGISTRY_NO_MEMORY = 4   /* memory ran out: all that the call took was given back */
+};
+
+/* What is wrong with the first faulty row: the first of these that applies to it. */
+enum registry_cause {
+  REGISTRY_END = 1,     /* the text ends although a row must follow, or a row follows the row `end` */
+  REGISTRY_TAG = 2,     /* the tag is unknown or not allowed here */
+  REGISTRY_FIELDS = 3,  /* the number of fields is wrong */
+  REGISTRY_NUMBER = 4,  /* a field is not a number in its one spelling, or the number is 2^64 or more */
+  REGISTRY_DATE = 5,    /* a field is not a date */
+  REGISTRY_WORD = 6,    /* a field is not one of the words allowed here */
+  REGISTRY_FORMAT = 7,  /* the version of the format is neither 1 nor 2; the program says `version` */
+  REGISTRY_LIMIT = 8,   /* something is outside its limits */
+  REGISTRY_ORDER = 9    /* a row is out of order in its list, or a period ends before it begins */
+};
+
+struct registry_answer {
+  uint32_t status; /* one of enum registry_status */
+  uint32_t cause;  /* after REGISTRY_FAULT one of enum registry_cause, else 0 */
+  uint64_t row;    /* after REGISTRY_FAULT the number of the row, counted from 1, else 0 */
+  size_t length;   /* after REGISTRY_DONE the bytes of the text, also if there was no room for them, else 0 */
+};
+
+/* Settles the day: its report, which has the log, the accounts after the day, and the totals. The same day gives the
+ * same bytes as `registry settle`. Instructions that are refused are no fault: the log says why. */
+struct registry_answer registry_settle(const char *day, size_t day_length, char *room, size_t room_length);
+
+/* Settles the day as a trial: the log rows of the report alone, one for each instruction. The text may be empty. */
+struct registry_answer registry_try(const char *day, size_t day_length, char *room, size_t room_length);
+
+/* Which instructions must wait for which others, as `registry plan`. Nothing is settled. */
+struct registry_answer registry_plan(const char *day, size_t day_length, char *room, size_t room_length);
+
+/* What an account held before the day, its log rows, and what it holds after, as `registry statement ACCOUNT`. Any
+ * number will do: REGISTRY_NO_ACCOUNT says that no account of the day has it. */
+struct registry_answer registry_statement(const char *day, size_t day_length, uint32_t account, char *room,
+                                          size_t room_length);
+
+/* The determined compliance figures of all accounts after the day, as `registry figures`. */
+struct registry_answer registry_figures(const char *day, size_t day_length, char *room, size_t room_length);
+
+/* What all accounts together hold, have surrendered and have deleted after the day, as `registry totals`. */
+struct registry_answer registry_totals(const char *day, size_t day_length, char *room, size_t room_length);
+
+/* The version of the library's interface, to be compared with REGISTRY_VERSION. */
+uint32_t registry_version(void);
+
+#ifdef __cplusplus
+}
+#endif
+
+#endif

@@ -1,0 +1,29 @@
+"""What `./day next` tells on standard error, if all goes well: what it did, and what to look at."""
+from typing import Iterable
+
+# Of more lines about the same thing the first ones are told, and the others counted.
+MOST_TOLD = 3
+
+
+def first_ones(lines: Iterable[str], more: str) -> list[str]:
+    """The first of these lines; of more, a last line tells how many: `more` says of what."""
+    every = [*lines]
+    left = len(every) - MOST_TOLD
+    return every if left <= 0 else [*every[:MOST_TOLD], f"and {left:,} more {more}"]
+
+
+class Notes:
+    """Lines in the order in which they came. A warning asks somebody to look at something: then the exit status is
+    1."""
+
+    def __init__(self) -> None:
+        self.lines: list[str] = []
+        self.has_warnings = False
+
+    def add(self, line: str) -> None:
+        self.lines.append(line)
+
+    def warn(self, *lines: str) -> None:
+        for line in lines:
+            self.lines.append(f"LOOK AT THIS: {line}")
+            self.has_warnings = True

@@ -1,0 +1,73 @@
+/* Stands in front of the C library's calls that change files, and ends the process at one of them, or has it fail.
+ *
+ * `cases/run-office` compiles it and puts it in front of Python by LD_PRELOAD. Nothing is counted before the process calls
+ * `interrupt_at`:
+ *
+ *   interrupt_at(number, error)   counts from now on. At the call with this number, counted from 1, the process ends at once if
+ *                                 `error` is 0: a write writes half of its bytes before. Else the call fails with this error.
+ *                                 If the number is 0, nothing happens but counting.
+ *   interrupt_count()             how many calls were counted
+ *
+ * Standard streams do not count.
+ */
+#define _GNU_SOURCE
+#include <dlfcn.h>
+#include <errno.h>
+#include <fcntl.h>
+#include <stdarg.h>
+#include <sys/stat.h>
+#include <sys/types.h>
+#include <unistd.h>
+
+static long counted, wanted;
+static int watching, wanted_error;
+
+void interrupt_at(long number, int error) {
+  counted = 0;
+  wanted = number;
+  wanted_error = error;
+  watching = 1;
+}
+
+long interrupt_count(void) { return counted; }
+
+/* Whether this call has to fail; `errno` is set then. If the process has to end here, it does. */
+static int fails(void) {
+  if (!watching || ++counted != wanted) return 0;
+  if (wanted_error == 0) _exit(137);
+  errno = wanted_error;
+  return 1;
+}
+
+#define REAL(name) ((__typeof__(&name))dlsym(RTLD_NEXT, #name))
+
+ssize_t write(int file, const void *bytes, size_t count) {
+  if (file > 2 && watching && counted + 1 == wanted && wanted_error == 0 && count > 1) REAL(write)(file, bytes, count / 2);
+  return file > 2 && fails() ? -1 : REAL(write)(file, bytes, count);
+}
+
+ssize_t pwrite64(int file, const void *bytes, size_t count, off64_t at) {
+  if (watching && counted + 1 == wanted && wanted_error == 0 && count > 1) REAL(pwrite64)(file, bytes, count / 2, at);
+  return fails() ? -1 : REAL(pwrite64)(file, bytes, count, at);
+}
+
+int fsync(int file) { return fails() ? -1 : REAL(fsync)(file); }
+int ftruncate64(int file, off64_t length) { return fails() ? -1 : REAL(ftruncate64)(file, length); }
+int rename(const char *from, const char *to) { return fails() ? -1 : REAL(rename)(from, to); }
+int mkdir(const char *path, mode_t mode) { return fails() ? -1 : REAL(mkdir)(path, mode); }
+int rmdir(const char *path) { return fails() ? -1 : REAL(rmdir)(path); }
+int unlink(const char *path) { return fails() ? -1 : REAL(unlink)(path); }
+int unlinkat(int folder, const char *path, int flags) { return fails() ? -1 : REAL(unlinkat)(folder, path, flags); }
+
+/* Of all that opens a file, what may make one. */
+int open64(const char *path, int flags, ...) {
+  mode_t mode = 0;
+  if (flags & O_CREAT) {
+    va_list rest;
+    va_start(rest, flags);
+    mode = va_arg(rest, mode_t);
+    va_end(rest);
+    if (fails()) return -1;
+  }
+  return REAL(open64)(path, flags, mode);
+}
