@@ -4,25 +4,24 @@
 usage: claims.py [--repeat N]
 
 It starts crates/registry_claims/out/registry_claims, which `cd crates/registry_claims && rt run` builds. Each run makes
-a table of 16,384 places. Eight threads with two seats each try every place: 262,144 claims, of which 16,384 are the first
-of their place. Each output is compared with crates/registry_claims/stdout: each place claimed once, and all finished.
-Prints the least and the middle of all repeats: processor time, and the time that passed.
+a table of 16,384 places. Eight threads with two seats each try every place: 262,144 claims, of which 16,384 are the
+first of their place. Each output is compared with crates/registry_claims/stdout: each place claimed once, and all
+finished. Prints the least and the middle of all repeats: processor time, and the time that passed.
 """
 
 import argparse
-import os
 import resource
 import statistics
 import subprocess
 import sys
 import time
+from pathlib import Path
 
-TOP = os.path.dirname(os.path.dirname(os.path.abspath(__file__)))
-CRATE = os.path.join(TOP, "crates", "registry_claims")
-PROGRAM = os.path.join(CRATE, "out", "registry_claims")
+CRATE = Path(__file__).resolve().parent.parent / "crates" / "registry_claims"
+PROGRAM = CRATE / "out" / "registry_claims"
 
 
-def run(wanted):
+def run(wanted: bytes) -> tuple[float, float]:
     """The processor time of one run, and the time that passed, in milliseconds."""
     before = resource.getrusage(resource.RUSAGE_CHILDREN)
     began = time.monotonic()
@@ -35,12 +34,11 @@ def run(wanted):
     return 1000 * used, 1000 * passed
 
 
-def main():
+def main() -> None:
     parser = argparse.ArgumentParser(description=__doc__.splitlines()[0])
     parser.add_argument("--repeat", type=int, default=1000, metavar="N", help="how many runs (1000)")
     repeat = max(1, parser.parse_args().repeat)
-    with open(os.path.join(CRATE, "stdout"), "rb") as file:
-        wanted = file.read()
+    wanted = (CRATE / "stdout").read_bytes()
     runs = [run(wanted) for _ in range(repeat)]
     print(f"{repeat} runs, each place claimed once in all of them")
     for name, times in zip(("processor time", "time that passed"), zip(*runs)):

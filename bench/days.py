@@ -15,6 +15,10 @@ import argparse
 import datetime
 import math
 import sys
+from collections.abc import Iterator, Sequence
+
+# Two accounts: from and to.
+Transfer = tuple[int, int]
 
 SETTLEMENT_DAY = datetime.date(2025, 3, 31)
 FIRST_RECORD = 100_000_001
@@ -29,32 +33,32 @@ MOST_YEARS = 10  # from the first to the last
 MOST_PERIODS = 8
 
 
-def number(index):
+def number(index: int) -> int:
     """The number of the account at an index; numbers rise and have gaps."""
     return 1_000 + 7 * index
 
 
-def holding(index):
+def holding(index: int) -> int:
     """The general allowances that the account at an index begins with."""
     return 1_000_000 + index * 104_729 % 1_000_000_000
 
 
-def amount(place):
+def amount(place: int) -> int:
     """The amount of the transfer at a place, far below every holding."""
     return 1 + place * 613 % 1_000
 
 
-def period_of(year, periods):
+def period_of(year: int, periods: int) -> int:
     """The number of the period of a year, where there are so many."""
     return min(year - FIRST_YEAR + 1, periods)
 
 
-def heading(periods):
+def heading(periods: int) -> Iterator[str]:
     """The rows before the accounts. Every weekday of 2025 is a working day."""
     yield f"format,{1 if periods == 1 else 2}"
     yield f"day,{SETTLEMENT_DAY},{FIRST_RECORD}"
-    for first in range(FIRST_YEAR, FIRST_YEAR + periods):
-        yield f"period,{first},{first if period_of(first, periods) < periods else LAST_YEAR}"
+    for year in range(FIRST_YEAR, FIRST_YEAR + periods):
+        yield f"period,{year},{year if period_of(year, periods) < periods else LAST_YEAR}"
     if periods > 1:
         yield f"current,{period_of(SETTLEMENT_DAY.year, periods)}"
     yield "lags,0,2,2,60"
@@ -65,48 +69,48 @@ def heading(periods):
             yield f"work,{day}"
 
 
-def account(index):
+def account(index: int) -> str:
     """The row of one account. Aircraft operators hold aviation allowances too."""
     kind = KINDS[index % 3]
     aviation = holding(index) if kind == "aircraft" else 0
     return f"account,{number(index)},{kind},{index + 1},open,yes,no,0,{holding(index)},{aviation}"
 
 
-def users(index):
+def users(index: int) -> tuple[int, int]:
     """The users who propose and approve for the account at an index."""
     return 3 * index + 1_001, 3 * index + 1_002
 
 
-def representatives(index):
+def representatives(index: int) -> Iterator[str]:
     """The rows of these users."""
     proposer, approver = users(index)
     yield f"user,{proposer},propose"
     yield f"user,{approver},approve"
 
 
-def has_years(index):
+def has_years(index: int) -> bool:
     """Whether the account at an index has surrenders, emissions and figures."""
     return KINDS[index % 3] != "trading"
 
 
-def surrendered(place):
+def surrendered(place: int) -> int:
     """What each of these accounts surrendered in the year at a place: what it emitted."""
     return 10_000 + 37 * place
 
 
-def correction(period):
+def correction(period: int) -> int:
     """The correction factor of each of these accounts for a period."""
     return 0 if period == 1 else period
 
 
-def corrections(index, periods):
+def corrections(index: int, periods: int) -> Iterator[str]:
     """The rows of the correction factors of one account."""
     if has_years(index):
         for period in range(2, periods + 1):
             yield f"correction,{period},{correction(period)}"
 
 
-def lists(index, years, periods):
+def lists(index: int, years: int, periods: int) -> Iterator[str]:
     """The rows of the lists of one account. Each of its figures is the correction factor of its period."""
     if has_years(index):
         for place in range(years):
@@ -120,7 +124,7 @@ def lists(index, years, periods):
             yield f"figure,{year},{correction(period_of(year, periods))}"
 
 
-def pairs(accounts):
+def pairs(accounts: int) -> Iterator[Transfer]:
     """The indices of from and to, without end: all accounts once, in a mixed order, then again."""
     even = accounts - accounts % 2
     stride = next(step for step in range(even * 5 // 8 + 1, 2 * even + 2) if math.gcd(step, even) == 1)
@@ -130,7 +134,7 @@ def pairs(accounts):
         place += 2
 
 
-def transfer(place, source, target):
+def transfer(place: int, source: int, target: int) -> str:
     """The row of one transfer, proposed one to three weeks before the settlement day."""
     proposed = SETTLEMENT_DAY - datetime.timedelta(7 + place % 13)
     proposer, approver = users(source)
@@ -138,7 +142,7 @@ def transfer(place, source, target):
             f"transfer,{number(source)},{number(target)},general,{amount(place)}")
 
 
-def day_text(accounts, instructions, years=0, periods=1):
+def day_text(accounts: int, instructions: int, years: int = 0, periods: int = 1) -> Iterator[str]:
     """The rows of a whole day text."""
     yield from heading(periods)
     for index in range(accounts):
@@ -151,7 +155,7 @@ def day_text(accounts, instructions, years=0, periods=1):
     yield "end"
 
 
-def totals(accounts, years=0):
+def totals(accounts: int, years: int = 0) -> list[str]:
     """The rows of totals. Transfers leave them as they are."""
     general = sum(holding(index) for index in range(accounts))
     aviation = sum(holding(index) for index in range(accounts) if KINDS[index % 3] == "aircraft")
@@ -159,17 +163,17 @@ def totals(accounts, years=0):
     return [f"totals,general,{general},{gone},0", f"totals,aviation,{aviation},0,0"]
 
 
-def of_transfers(accounts, transfers):
+def of_transfers(accounts: int, transfers: Sequence[Transfer]) -> bytes:
     """The day text of these transfers between accounts 1 to `accounts`."""
     rows = ["format,1", f"day,{SETTLEMENT_DAY},1", "period,2021,2030", "lags,0,1,1,2", f"work,{SETTLEMENT_DAY}"]
     # Accounts of one holder trust each other.
-    users = "user,101,propose\nuser,102,approve"
-    rows += [f"account,{n},trading,1,open,no,no,0,100,0\n{users}" for n in range(1, accounts + 1)]
+    both = "user,101,propose\nuser,102,approve"
+    rows += [f"account,{n},trading,1,open,no,no,0,100,0\n{both}" for n in range(1, accounts + 1)]
     rows += [f"do,{SETTLEMENT_DAY},101,102,transfer,{a},{b},general,{1 + k % 60}" for k, (a, b) in enumerate(transfers)]
     return "\n".join(rows + ["end", ""]).encode()
 
 
-def main():
+def main() -> None:
     words = argparse.ArgumentParser(
         description=__doc__, formatter_class=argparse.RawDescriptionHelpFormatter)
     words.add_argument("--accounts", type=int, default=MOST_ACCOUNTS)

@@ -3,41 +3,43 @@
 
 usage: fuzz.py [--program PROGRAM] [--minutes N] [--seed N] [--jobs N] [--corpus FOLDER] [--self-test]
 
-It begins with all texts of cases/ and examples/, those of tables too. Again and again it takes one of its texts, changes a few
-rows, fields, bytes or line ends, puts two texts together, or repeats accounts until the text has several parts
-(`mutations.py`), and compares what the program says of it with the second answer (tools/rules.py, tools/faults.py): by `settle`
-with one worker and with a drawn number of them, and by two other commands, or where the text has a fault by one. What a text
-shows is a set of words:
+It begins with all texts of cases/ and examples/, those of tables too. Again and again it takes one of its texts,
+changes a few rows, fields, bytes or line ends, puts two texts together, or repeats accounts until the text has several
+parts (`mutations.py`), and compares what the program says of it with the second answer (tools/rules.py,
+tools/faults.py): by `settle` with one worker and with a drawn number of them, and by two other commands, or where the
+text has a fault by one. What a text shows is a set of words:
 
   fault     the tag of the first faulty row, its cause, and the tag of the row before it
   log       the act of an instruction, and the check that refused it, or `done`
   status    the act, the statuses of the accounts that it names, and the version
   command   a command, and its fault
-  seam      where the program cuts a text of more than 128 KiB into parts for threads: how many, the tags of the rows in front of
-            and behind a cut, and what is in the way of the part
+  seam      where the program cuts a text of more than 128 KiB into parts for threads: how many, the tags of the rows in
+            front of and behind a cut, and what is in the way of the part
   workers   the number of workers, and how many instructions there are, to the next power of two
 
-A text that shows a word which none showed before is kept, in FOLDER (left out: out/fuzz) too: a later run begins with those
-as well. Each text on which an answer differs stands in FOLDER/found, with the reason beside it. The same seed gives the same
-texts, if FOLDER is the same. PROGRAM is out/registry, unless another is named; N jobs (left out: one for each processor) run at
-once, for N minutes (left out: 10).
+A text that shows a word which none showed before is kept, in FOLDER (left out: out/fuzz) too: a later run begins with
+those as well. Each text on which an answer differs stands in FOLDER/found, with the reason beside it. The same seed
+gives the same texts, if FOLDER is the same. PROGRAM is out/registry, unless another is named; N jobs (left out: one for
+each processor) run at once, for N minutes (left out: 10).
 
 With --self-test it tries for some seconds a program that gives a wrong byte, line or status now and then, and fails if
 one of these answers is not found, or another one is.
 
-The last line is 'N passed, M failed', which counts texts; the exit status is 0 only if none failed and at least one passed.
+The last line is 'N passed, M failed', which counts texts; the exit status is 0 only if none failed and at least one
+passed.
 """
 import argparse
 import hashlib
 import os
-import random
 import sys
 import tempfile
 import time
 from collections import Counter
+from collections.abc import Callable, Iterator, Sequence
 from concurrent.futures import ProcessPoolExecutor
-from dataclasses import dataclass, field
+from dataclasses import dataclass, field, replace
 from pathlib import Path
+from random import Random
 
 import beside  # noqa: F401 (it finds the modules of cases/)
 from harness import TOP, Trials, program_of
@@ -45,7 +47,7 @@ from harness import TOP, Trials, program_of
 import faults
 import mutations
 import rules
-from compared import difference as difference_once
+from compared import Expected, difference as difference_once
 from stored import Case, trials_of_folder
 
 # So many texts are drawn before what they showed is looked at.
@@ -67,14 +69,26 @@ MOST_LETTERS = 400
 
 @dataclass(frozen=True)
 class Tried:
-    """What came of a text: the words that it shows, how many runs there were, and which differ from the second answer."""
+    """What came of a text: the words that it shows, how many runs there were, and which differ from the second
+    answer."""
 
-    shown: frozenset
+    shown: frozenset[str]
     runs: int
-    differ: list
+    differ: list[str]
 
 
-def first_texts():
+@dataclass(frozen=True)
+class Task:
+    """A text to try. Where another text is named, it is changed before, and may take something of that one."""
+
+    program: Path
+    text: bytes
+    other: bytes | None
+    seed: str
+    grows: bool
+
+
+def first_texts() -> list[bytes]:
     """All texts of cases/ and examples/."""
     trials = (trial for _, trial in trials_of_folder(TOP / "cases"))
     texts = [trial.text for trial in trials if isinstance(trial, Case)]
@@ -85,13 +99,13 @@ def first_texts():
 # What a text shows.
 
 
-def cut(text, near):
+def cut(text: bytes, near: int) -> int:
     """Where the program cuts a text, at or behind a place."""
     found = (text.find(start, near) for start in STARTS)
     return next((at + 1 for at in found if at >= 0), len(text))
 
 
-def parts(text, workers):
+def parts(text: bytes, workers: int) -> list[bytes]:
     """The parts in which so many threads read a text: the rows before the accounts, and what is behind them."""
     count = min(len(text) // PART, workers)
     if count < 2:
@@ -107,70 +121,73 @@ def parts(text, workers):
     return [*pieces, rest]
 
 
-def tag(row):
+def tag(row: Sequence[str]) -> str:
     """The tag of a row, if it is one that rows have."""
     return row[0] if row and row[0] in TAGS else "?"
 
 
-def tag_of_line(line):
+def tag_of_line(line: bytes) -> str:
     return tag(line.decode("latin-1").split(",", 1))
 
 
-def seams(text, workers):
+def seams(text: bytes, workers: int) -> Iterator[str]:
     """A word for each cut of the text."""
     pieces = parts(text, workers)
     for place, (before, behind) in enumerate(zip(pieces, pieces[1:])):
-        way = (
-            "quote"
-            if b'"' in behind
-            else "mark"
-            if behind[:1] == b"\xef"
-            else "line"
-            if behind[-1:] != b"\n"
-            else "plain"
-        )
         last, first = before.rstrip(b"\n").rsplit(b"\n", 1)[-1], behind.split(b"\n", 1)[0]
-        yield f"seam {len(pieces)} {min(place, 1)} {tag_of_line(last)} {tag_of_line(first)} {way}"
+        tags = f"{tag_of_line(last)} {tag_of_line(first)}"
+        yield f"seam {len(pieces)} {min(place, 1)} {tags} {in_the_way(behind)}"
 
 
-def fault_word(text, fault):
+def in_the_way(part: bytes) -> str:
+    """What makes a part of a text hard to read by itself."""
+    if b'"' in part:
+        return "quote"
+    if part.startswith(b"\xef"):
+        return "mark"
+    return "plain" if part.endswith(b"\n") else "line"
+
+
+def fault_word(text: bytes, fault: str) -> str:
     """The first fault of a text, with the tags of its row and of the row before."""
     number, cause = fault[4:].split(":")
-    rows = [("",)]
+    rows = [[""]]
     for place, row in enumerate(rules.rows_of(text), 1):
         if place in (int(number), int(number) - 1):
             rows.append(row)
         if place == int(number):
             break
     else:
-        rows.append(("",))
+        rows.append([""])
     return f"fault {tag(rows[-1])}{cause.rstrip()} behind {tag(rows[-2])}"
 
 
-def log_words(text, report):
+def log_words(text: bytes, report: str) -> Iterator[str]:
     """The words of the log rows of a day, and of the statuses of the accounts that their acts name."""
     day = rules.read_day(text)
     version = next(rules.rows_of(text))[1]
-    statuses = {number: it.status for number, it in day.accounts.items()}
-    for i, line in zip(day.instructions, report.splitlines()):
+    statuses = {number: account.status for number, account in day.accounts.items()}
+    for asked, line in zip(day.instructions, report.splitlines()):
         fields = line.split(",")
         is_done = fields[-3] != "refused"
-        yield f"log {i.act} {'done' if is_done else fields[-1]}"
-        yield f"status {i.act} {' '.join(statuses.get(number, 'none') for number in rules.named(i)[:3])} {version}"
-        if i.act == "status" and is_done:
-            statuses[i.first] = i.status
+        yield f"log {asked.act} {'done' if is_done else fields[-1]}"
+        named = [statuses.get(number, "none") for number in rules.named(asked)[:3]]
+        yield f"status {asked.act} {' '.join(named)} {version}"
+        if asked.act == "status" and is_done:
+            statuses[asked.first] = asked.status
     yield f"periods {len(day.periods)} {day.current}"
 
 
 # Trying a text.
 
 
-def words_of_settle(chance, workers):
+def words_of_settle(chance: Random, workers: int) -> str:
     return f"settle {chance.choice([f'--workers {workers}'] * 5 + [f'--workers={workers}', f'--workers +0{workers}'])}"
 
 
-def other_words(chance, accounts):
-    """The words of another command than `settle`; a statement is of one of these accounts, or of one that is not there."""
+def other_words(chance: Random, accounts: list[str]) -> str:
+    """The words of another command than `settle`; a statement is of one of these accounts, or of one that is not
+    there."""
     command = chance.choice(["plan", "figures", "totals", "statement", "statement"])
     if command != "statement":
         return command
@@ -178,7 +195,7 @@ def other_words(chance, accounts):
     return f"statement {chance.choice(accounts) if known else chance.randint(1, 999_999_999)}"
 
 
-def expected_of(text, chance):
+def expected_of(text: bytes, chance: Random) -> tuple[int, str, dict[str, Expected]]:
     """The workers that are drawn, and for each command to try what it has to answer."""
     workers = chance.randint(1, LARGEST_WORKERS)
     fault = faults.first_fault(text)
@@ -187,13 +204,14 @@ def expected_of(text, chance):
         return workers, fault, {words: ("", fault, 3) for words in tried}
     answers = rules.answers(text)
     accounts = [words.split()[1] for words in answers if words.startswith("statement")]
-    expected = {it: (answers["settle"], "", 0) for it in ("settle --workers 1", words_of_settle(chance, workers))}
+    settled = ("settle --workers 1", words_of_settle(chance, workers))
+    expected: dict[str, Expected] = {words: (answers["settle"], "", 0) for words in settled}
     for words in (other_words(chance, accounts), other_words(chance, accounts)):
         expected[words] = (answers[words], "", 0) if words in answers else NO_ACCOUNT
     return workers, "", expected
 
 
-def shown_by(text, workers, fault, expected):
+def shown_by(text: bytes, workers: int, fault: str, expected: dict[str, Expected]) -> Iterator[str]:
     """The words that a text shows, given what is expected of it."""
     yield from seams(text, workers)
     if fault:
@@ -206,29 +224,29 @@ def shown_by(text, workers, fault, expected):
         yield f"command {words.split()[0]} {line.split(':')[-1].strip()}"
 
 
-def difference(program, words, text, wanted):
-    """Where an answer is another one than it has to be. If there was none in time, it is asked for once more: the machine may
-    have stood still."""
+def difference(program: Path, words: str, text: bytes, wanted: Expected) -> str:
+    """Where an answer is another one than it has to be. If there was none in time, it is asked for once more: the
+    machine may have stood still."""
     said = difference_once(program, words, text, wanted)
     return difference_once(program, words, text, wanted) if "no answer" in said else said
 
 
-def try_text(program, text, seed):
+def try_text(program: Path, text: bytes, seed: str) -> Tried:
     """Runs the program on a text, and compares."""
-    chance = random.Random(seed)
+    chance = Random(seed)
     workers, fault, expected = expected_of(text, chance)
     shown = frozenset(shown_by(text, workers, fault, expected))
     said = [difference(program, words, text, wanted) for words, wanted in expected.items()]
-    return Tried(shown, len(expected), [it[:MOST_LETTERS] for it in said if it])
+    return Tried(shown, len(expected), [reason[:MOST_LETTERS] for reason in said if reason])
 
 
-def try_task(task):
+def try_task(task: Task) -> tuple[bytes, Tried]:
     """The text of a task, and what came of it. A second answer that fails counts as a difference."""
-    program, text, other, seed, grows = task
-    chance = random.Random(f"change {seed}")
-    made = mutations.mutated(chance, text, other, grows) if other is not None else text
+    made = task.text
+    if task.other is not None:
+        made = mutations.mutated(Random(f"change {task.seed}"), task.text, task.other, task.grows)
     try:
-        return made, try_text(program, made, f"try {seed}")
+        return made, try_text(task.program, made, f"try {task.seed}")
     except Exception as error:  # (it is told with the text)
         return made, Tried(frozenset(), 0, [f"the second answer ended with {error!r}"])
 
@@ -241,15 +259,15 @@ class Corpus:
     """The texts that showed something new, and what was shown."""
 
     folder: Path
-    days: list = field(default_factory=list)
-    faulty: list = field(default_factory=list)
-    large: list = field(default_factory=list)
-    shown: Counter = field(default_factory=Counter)
+    days: list[bytes] = field(default_factory=list)
+    faulty: list[bytes] = field(default_factory=list)
+    large: list[bytes] = field(default_factory=list)
+    shown: Counter[str] = field(default_factory=Counter)
     texts: int = 0
     runs: int = 0
     differ: int = 0
 
-    def take(self, text, tried):
+    def take(self, text: bytes, tried: Tried) -> None:
         """Counts a text; keeps it if it showed something new, and what differs."""
         self.texts += 1
         self.runs += tried.runs
@@ -265,39 +283,41 @@ class Corpus:
             print(f"DIFFERS: {path}: {tried.differ[0]}", flush=True)
 
     @staticmethod
-    def save(folder, text):
+    def save(folder: Path, text: bytes) -> Path:
         path = folder / f"{hashlib.sha1(text).hexdigest()[:16]}.csv"
         folder.mkdir(parents=True, exist_ok=True)
         path.write_bytes(text)
         return path
 
-    def drawn(self, chance):
-        """One of the texts: most often a day without a fault, since most changes make one; those that were kept last more often."""
+    def drawn(self, chance: Random) -> bytes:
+        """One of the texts: most often a day without a fault, since most changes make one. Those that were kept last
+        come more often."""
         many = chance.choices([self.days, self.faulty, self.large], [85, 14, 1])[0] or self.days
         return many[-chance.randint(1, min(len(many), 200))] if chance.random() < 0.3 else chance.choice(many)
 
-    def counts(self):
+    def counts(self) -> str:
         kinds = Counter(word.split()[0] for word in self.shown)
         words = ", ".join(f"{count} {kind}" for kind, count in sorted(kinds.items()))
         kept = f"{len(self.days)} days, {len(self.faulty)} with a fault, {len(self.large)} large"
         return f"{self.texts} texts, {self.runs} runs, {self.differ} differ; kept {kept}; shown: {words}"
 
 
-def tasks_of_round(program, corpus, number, seed):
+def tasks_of_round(program: Path, corpus: Corpus, number: int, seed: int) -> Iterator[Task]:
     """The tasks of a round: each is drawn from what is kept by then."""
-    chance = random.Random(f"{seed} {number}")
+    chance = Random(f"{seed} {number}")
     for place in range(ROUND):
         grows = chance.randrange(ONE_GROWS) == 0
-        yield program, corpus.drawn(chance), corpus.drawn(chance), f"{seed} {number} {place}", grows
+        yield Task(program, corpus.drawn(chance), corpus.drawn(chance), f"{seed} {number} {place}", grows)
 
 
-def fuzz(program, corpus, jobs, seed, goes_on):
+def fuzz(program: Path, corpus: Corpus, jobs: int, seed: int, goes_on: Callable[[], bool]) -> None:
     """Tries the first texts and those that are kept, and then drawn ones, round by round."""
     kept = [path.read_bytes() for path in sorted(corpus.folder.glob("*.csv"))]
     texts = [*dict.fromkeys(first_texts() + kept)]
     said = time.monotonic()
     with ProcessPoolExecutor(jobs) as pool:
-        tasks, number = [(program, text, None, f"{seed} first {it}", False) for it, text in enumerate(texts)], 0
+        tasks = [Task(program, text, None, f"{seed} first {place}", False) for place, text in enumerate(texts)]
+        number = 0
         while tasks:
             for text, tried in pool.map(try_task, tasks, chunksize=4):
                 corpus.take(text, tried)
@@ -305,7 +325,7 @@ def fuzz(program, corpus, jobs, seed, goes_on):
                     said = time.monotonic()
                     print(corpus.counts(), flush=True)
             number += 1
-            tasks = [*tasks_of_round(program, corpus, number, seed)] if goes_on(corpus) else []
+            tasks = [*tasks_of_round(program, corpus, number, seed)] if goes_on() else []
 
 
 # The self-test.
@@ -333,20 +353,19 @@ sys.exit(status)
 """
 
 
-def self_test(program, jobs, seed):
+def self_test(program: Path, jobs: int, seed: int) -> tuple[list[str], int]:
     """Tries the wrong program for a while. Answers what is wrong with what was found."""
     with tempfile.TemporaryDirectory() as name:
         folder = Path(name)
         wrong, told = folder / "wrong-program", folder / "told"
-        wrong.write_text(WRONG_PROGRAM.format(python=sys.executable, program=program, told=str(told)))
+        wrong.write_text(WRONG_PROGRAM.format(python=sys.executable, program=str(program), told=str(told)))
         wrong.chmod(0o755)
         told.mkdir()
-        tasks = [
-            (program, text, text, f"{seed} {place}", False) for place, text in enumerate(first_texts()[:TEST_TEXTS])
-        ]
+        texts = enumerate(first_texts()[:TEST_TEXTS])
+        tasks = [Task(program, text, text, f"{seed} {place}", False) for place, text in texts]
         with ProcessPoolExecutor(jobs) as pool:
             right = [*pool.map(try_task, tasks)]
-            planted = [*pool.map(try_task, [(str(wrong), *task[1:]) for task in tasks])]
+            planted = [*pool.map(try_task, [replace(task, program=wrong) for task in tasks])]
         spoilt = {path.read_bytes() for path in told.iterdir()}
     found = {text for text, tried in planted if tried.differ}
     lines = [f"the program differs: {tried.differ[0]}" for _, tried in right if tried.differ]
@@ -356,7 +375,7 @@ def self_test(program, jobs, seed):
     return lines, len(spoilt & found)
 
 
-def arguments():
+def arguments() -> argparse.Namespace:
     parser = argparse.ArgumentParser(description=__doc__, formatter_class=argparse.RawDescriptionHelpFormatter)
     parser.add_argument("--program", default=str(TOP / "out" / "registry"))
     parser.add_argument("--minutes", type=float, default=10)
@@ -365,11 +384,11 @@ def arguments():
     parser.add_argument("--corpus", type=Path, default=TOP / "out" / "fuzz")
     parser.add_argument("--self-test", action="store_true")
     words = parser.parse_args()
-    words.program = str(program_of(words.program))
+    words.program = program_of(words.program)
     return words
 
 
-def main():
+def main() -> int:
     words, trials = arguments(), Trials()
     if words.self_test:
         lines, found = self_test(words.program, words.jobs, words.seed)
@@ -377,8 +396,9 @@ def main():
         for line in lines:
             trials.add("", line)
         return trials.end()
-    corpus, until = Corpus(words.corpus), time.monotonic() + 60 * words.minutes
-    fuzz(words.program, corpus, words.jobs, words.seed, lambda _: time.monotonic() < until)
+    corpus = Corpus(words.corpus)
+    until: float = time.monotonic() + 60 * words.minutes
+    fuzz(words.program, corpus, words.jobs, words.seed, lambda: time.monotonic() < until)
     print(corpus.counts())
     # (each text that differs was shown when it was found)
     trials.passed, trials.failed = corpus.texts - corpus.differ, corpus.differ

@@ -4,55 +4,61 @@
 usage: long.py days|orders|seams|limits|gigabyte [--program PROGRAM] [--workers WORKERS] [--refusals REFUSALS]
                [--minutes N] [--count N] [--seed N] [--jobs N] [--folder FOLDER]
 
-PROGRAM is out/registry, unless another is named. WORKERS and REFUSALS are the programs registry_workers and registry_refusals,
-which `cd crates/NAME && rt run` builds.
+PROGRAM is out/registry, unless another is named. WORKERS and REFUSALS are the programs registry_workers and
+registry_refusals, which `cd crates/NAME && rt run` builds.
 
-days      draws days, of both versions and all acts, damaged ones among them, and some so large that they are read by several parts.
-          Each is settled by one to eight workers on one, two and four processors in turn. Of each second run the threads are held
-          up at random at their start and where they take memory (`delay.c`, which needs a C compiler, `cc`). Every answer must be
-          that of the second answer (tools/rules.py, tools/faults.py). With WORKERS each day is also settled by workers that are
-          held up at random at the gate.
-orders    draws days, and of each many more, whose instructions are some of its own in another order, one of them several times now
-          and then. PROGRAM settles each by one worker and by a drawn number of them, on one, two and four processors, and both must
-          write the same. If WORKERS is named, it settles all of them in one process in the place of PROGRAM, by one to eight
-          workers, of whom one is held up and the others are delayed at random: on copies of accounts, and then on the book's own.
-          Each must be the day that its instructions give one after another. The report of one of them must be the second answer. So
-          far more days are tried in the same time than by `days`.
-seams     draws such texts, and texts of cases/ that were changed (`mutations.py`). Behind drawn lines of each it puts so many
-          empty ones that the program reads it by several parts, each of which begins at the next account, or where none follows at
-          the next instruction. Every answer must be that of the second answer. REFUSALS, if it is named, reads each text by one to
-          eight parts, and by so many that each account and each instruction begins one: the day, or the first fault, must be that
-          of one thread.
-limits    settles days at every limit at once, by one to eight workers: 100,000 accounts with 64 representatives, 256 trusted
-          accounts and 7 correction factors each, 64 administrators, every day of all years, 16,384 instructions up to the last
-          record number; and 1,000 accounts with 4,096 surrenders each besides. What must come out is made here.
-gigabyte  settles such a day of 2^30 bytes, with emissions of each year, by one, four and eight workers, and refuses one byte more.
+days      draws days, of both versions and all acts, damaged ones among them, and some so large that they are read by
+          several parts. Each is settled by one to eight workers on one, two and four processors in turn. Of each second
+          run the threads are held up at random at their start and where they take memory (`delay.c`, which needs a C
+          compiler, `cc`). Every answer must be that of the second answer (tools/rules.py, tools/faults.py). With
+          WORKERS each day is also settled by workers that are held up at random at the gate.
+orders    draws days, and of each many more, whose instructions are some of its own in another order, one of them
+          several times now and then. PROGRAM settles each by one worker and by a drawn number of them, on one, two and
+          four processors, and both must write the same. If WORKERS is named, it settles all of them in one process in
+          the place of PROGRAM, by one to eight workers, of whom one is held up and the others are delayed at random: on
+          copies of accounts, and then on the book's own. Each must be the day that its instructions give one after
+          another. The report of one of them must be the second answer. So far more days are tried in the same time than
+          by `days`.
+seams     draws such texts, and texts of cases/ that were changed (`mutations.py`). Behind drawn lines of each it puts
+          so many empty ones that the program reads it by several parts, each of which begins at the next account, or
+          where none follows at the next instruction. Every answer must be that of the second answer. REFUSALS, if it is
+          named, reads each text by one to eight parts, and by so many that each account and each instruction begins
+          one: the day, or the first fault, must be that of one thread.
+limits    settles days at every limit at once, by one to eight workers: 100,000 accounts with 64 representatives, 256
+          trusted accounts and 7 correction factors each, 64 administrators, every day of all years, 16,384 instructions
+          up to the last record number; and 1,000 accounts with 4,096 surrenders each besides. What must come out is
+          made here.
+gigabyte  settles such a day of 2^30 bytes, with emissions of each year, by one, four and eight workers, and refuses one
+          byte more.
 
-`days`, `orders` and `seams` end after N minutes (left out: 10) or N texts; the same seed gives the same texts. FOLDER is where
-`limits` and `gigabyte` put their texts, of up to a gigabyte, and where texts on which an answer differs are kept (left out:
-out/long). N jobs run at once (left out: 1). The last line is 'N passed, M failed', which counts texts, or runs by `limits` and
-`gigabyte`.
+`days`, `orders` and `seams` end after N minutes (left out: 10) or N texts; the same seed gives the same texts. FOLDER
+is where `limits` and `gigabyte` put their texts, of up to a gigabyte, and where texts on which an answer differs are
+kept (left out: out/long). N jobs run at once (left out: 1). The last line is 'N passed, M failed', which counts texts,
+or runs by `limits` and `gigabyte`.
 """
 import argparse
 import datetime
 import itertools
 import os
-import random
 import re
 import subprocess
 import sys
 import tempfile
 import time
+from collections.abc import Iterable, Iterator, Sequence
 from concurrent.futures import ProcessPoolExecutor
+from dataclasses import dataclass
 from pathlib import Path
+from random import Random
 
 import beside  # noqa: F401 (it finds the modules of cases/)
-from harness import TOP, Trials
+from harness import TOP, Trials, program_of
 
 import faults
 import fuzz
 import mutations
 import rules
+from compared import Expected
 from drawing import PAIRS, damaged_rows, drawn_rows, text_of
 
 WORKERS = range(1, 9)
@@ -69,28 +75,51 @@ MOST_SECONDS, MOST_SECONDS_OF_MANY = 60, 300
 MOST_INPUT = 2**30
 ROUND = 64
 DATE, LAST_RECORD, MOST_INSTRUCTIONS = "2025-03-31", 10**15, 16_384
+# How many passed, and how many failed.
+Tally = tuple[int, int]
+
+
+@dataclass
+class Words:
+    """The words of the command line, and what they name."""
+
+    part: str
+    program: Path
+    workers: Path | None
+    refusals: Path | None
+    minutes: float
+    count: float
+    seed: int
+    jobs: int
+    folder: Path
+    # The library that holds threads up, which only `days` has.
+    delay: Path | None = None
+
+
+# The words, the number of a text, and the texts of cases/ that may be changed.
+Task = tuple[Words, int, list[bytes]]
 
 
 # Drawn texts.
 
 
-def drawn_text(seed, chance, is_damaged):
+def drawn_text(seed: int, chance: Random, is_damaged: bool) -> bytes:
     """A drawn day as bytes, seldom a large one."""
     rows = (damaged_rows if is_damaged else drawn_rows)(seed)
-    if chance.randrange(ONE_GROWS) == 0:
-        rows = [row.encode() for row in rows]
-        mutations.grow(chance, rows)
-        return b"\n".join([*rows, b""])
-    return text_of(rows, seed)
+    if chance.randrange(ONE_GROWS):
+        return text_of(rows, seed)
+    grown = [row.encode() for row in rows]
+    mutations.grow(chance, grown)
+    return b"\n".join([*grown, b""])
 
 
-def expected_of(text):
+def expected_of(text: bytes) -> Expected:
     """What `settle` has to answer: output, line and status."""
     fault = faults.first_fault(text)
     return ("", fault, 3) if fault else (rules.answers(text)["settle"], "", 0)
 
 
-def on_processors(count, chance):
+def on_processors(count: int, chance: Random) -> None:
     """Lets what is started from now on run on so many processors, or on all there are."""
     os.sched_setaffinity(0, chance.sample(ALL_PROCESSORS, min(count, len(ALL_PROCESSORS))))
 
@@ -98,34 +127,34 @@ def on_processors(count, chance):
 ALL_PROCESSORS = sorted(os.sched_getaffinity(0))
 
 
-def settled_wrongly(words, text, seed):
+def settled_wrongly(words: Words, text: bytes, seed: int) -> tuple[int, str]:
     """How many runs of the program there were, and what is wrong with one of them."""
-    chance, expected = random.Random(f"runs {seed}"), expected_of(text)
+    chance, expected = Random(f"runs {seed}"), expected_of(text)
     for workers in WORKERS:
         on_processors(PROCESSORS[(seed + workers) % len(PROCESSORS)], chance)
-        if words.library and (seed + workers) // len(PROCESSORS) % 2:
-            os.environ.update(LD_PRELOAD=words.library, DELAY_SEED=str(chance.randrange(2**32)))
+        if words.delay and (seed + workers) // len(PROCESSORS) % 2:
+            os.environ.update(LD_PRELOAD=str(words.delay), DELAY_SEED=str(chance.randrange(2**32)))
         said = fuzz.difference(words.program, f"settle --workers {workers}", text, expected)
         os.environ.pop("LD_PRELOAD", None)
         if said:
             return workers, said
     if words.workers and not expected[2]:
-        return len(WORKERS) + 1, gated_wrongly(words, text, seed, chance)
+        return len(WORKERS) + 1, gated_wrongly(words.workers, text, seed, chance)
     return len(WORKERS), ""
 
 
-def gated_wrongly(words, text, seed, chance):
+def gated_wrongly(workers_program: Path, text: bytes, seed: int, chance: Random) -> str:
     """What is wrong with a day that is settled by workers that are held up at the gate."""
     workers = 1 + seed % len(WORKERS)
     on_processors(PROCESSORS[seed % len(PROCESSORS)], chance)
     arguments = ["try", workers, chance.randrange(workers), chance.randrange(1, 2**31), 2]
-    lines, status = answer_of(words.workers, arguments, text)
+    lines, status = answer_of(workers_program, arguments, text)
     return "" if (lines, status) == (["same"] * 2, 0) else f"{arguments}: status {status}, {lines}"
 
 
-def in_other_orders(chance, rows):
-    """The texts of days: that of these rows, and many with some of its instructions in another order, seldom one of them several
-    times."""
+def in_other_orders(chance: Random, rows: list[str]) -> Iterator[bytes]:
+    """The texts of days: that of these rows, and many with some of its instructions in another order, seldom one of
+    them several times."""
     first = next((place for place, row in enumerate(rows) if row.startswith("do,")), len(rows) - 1)
     start, own = "\n".join([*rows[:first], ""]).encode(), [f"{row}\n".encode() for row in rows[first:-1]]
     yield b"".join([start, *own, b"end\n"])
@@ -135,42 +164,45 @@ def in_other_orders(chance, rows):
         yield b"".join([start, *drawn, b"end\n"])
 
 
-def ordered_wrongly(words, rows, number):
-    """What is wrong with the days that come of these rows, of which the first one is as it is: the texts of all of them, or of the
-    one that differs; how many runs there were; and what is said."""
-    chance = random.Random(f"orders {number}")
+def ordered_wrongly(words: Words, rows: list[str], number: int) -> tuple[bytes, int, str]:
+    """What is wrong with the days that come of these rows, of which the first one is as it is: the texts of all of
+    them, or of the one that differs; how many runs there were; and what is said."""
+    chance = Random(f"orders {number}")
     texts = [*in_other_orders(chance, rows)]
     on_processors(PROCESSORS[number % len(PROCESSORS)], chance)
-    said = (all_at_once if words.workers else one_by_one)(words, texts, chance)
+    said = all_at_once(words.workers, texts, chance) if words.workers else one_by_one(words.program, texts, chance)
     if said:
         return b"".join(texts), 0, said
     text, workers = texts[number % len(texts)], 1 + number % len(WORKERS)
-    return text, 2 * len(texts) + 1, fuzz.difference(words.program, f"settle --workers {workers}", text, expected_of(text))
+    said = fuzz.difference(words.program, f"settle --workers {workers}", text, expected_of(text))
+    return text, 2 * len(texts) + 1, said
 
 
-def all_at_once(words, texts, chance):
+def all_at_once(workers_program: Path, texts: list[bytes], chance: Random) -> str:
     """What is wrong with days that WORKERS settles in one process."""
     arguments = ["each", chance.randrange(1, 2**31), len(texts)]
-    lines, status = answer_of(words.workers, arguments, b"".join(texts), MOST_SECONDS_OF_MANY)
+    lines, status = answer_of(workers_program, arguments, b"".join(texts), MOST_SECONDS_OF_MANY)
     if (lines, status) == (["same"] * len(texts), 0):
         return ""
     others = [(place, line) for place, line in enumerate(lines, 1) if line != "same"]
     return f"{arguments}: status {status}, {len(lines)} lines, others than same: {others}"
 
 
-def one_by_one(words, texts, chance):
+def one_by_one(program: Path, texts: list[bytes], chance: Random) -> str:
     """What is wrong with a day that PROGRAM settles by one worker, and by several."""
     for place, text in enumerate(texts, 1):
         workers = chance.choice(WORKERS[1:])
-        one, several = (answer_of(words.program, ["settle", "--workers", count], text) for count in (1, workers))
+        one, several = (answer_of(program, ["settle", "--workers", count], text) for count in (1, workers))
         if one != several or one[1] != 0:
             differ = [pair for pair in itertools.zip_longest(one[0], several[0]) if len({*pair}) > 1]
             return f"day {place}, {workers} workers: status {one[1]} and {several[1]}, {differ[:1]}"
     return ""
 
 
-def answer_of(program, arguments, text, most_seconds=MOST_SECONDS):
-    """The lines that a program writes, and its status."""
+def answer_of(
+    program: Path, arguments: Sequence[object], text: bytes, most_seconds: int = MOST_SECONDS
+) -> tuple[list[str], int | None]:
+    """The lines that a program writes, and its status, if it answers in time."""
     try:
         run = subprocess.run([program, *map(str, arguments)], input=text, capture_output=True, timeout=most_seconds)
     except subprocess.TimeoutExpired:
@@ -178,18 +210,18 @@ def answer_of(program, arguments, text, most_seconds=MOST_SECONDS):
     return run.stdout.decode(errors="replace").splitlines(), run.returncode
 
 
-def padded(chance, text, parts):
-    """The text with empty lines behind some of its lines, so many that it is read by so many parts, if it has that many accounts
-    or instructions."""
+def padded(chance: Random, text: bytes, parts: int) -> bytes:
+    """The text with empty lines behind some of its lines, so many that it is read by so many parts, if it has that many
+    accounts or instructions."""
     places = [found.end() for found in re.finditer(b"\n", text)]
     cuts = sorted(chance.choices(places, k=2 * parts)) if places else []
     pieces = [text[first:last] for first, last in zip([0, *cuts], [*cuts, len(text)])]
     return (b"\n" * (fuzz.PART * parts // max(1, len(cuts)) + 1)).join(pieces)
 
 
-def seamed_wrongly(words, text, seed):
+def seamed_wrongly(words: Words, text: bytes, seed: int) -> tuple[int, str]:
     """What is wrong with a text that is read by parts, with other seams for each number of workers."""
-    chance = random.Random(f"seams {seed}")
+    chance = Random(f"seams {seed}")
     # Empty lines change nothing where there are no quotes.
     expected = None if b'"' in text else expected_of(text)
     for workers in chance.sample(WORKERS[1:], SEAMED):
@@ -198,23 +230,23 @@ def seamed_wrongly(words, text, seed):
         if said:
             return workers, said
     if words.refusals:
-        return SEAMED + len(WORKERS) + 1, read_wrongly(words, text)
+        return SEAMED + len(WORKERS) + 1, read_wrongly(words.refusals, text)
     return SEAMED, ""
 
 
-def read_wrongly(words, text):
+def read_wrongly(refusals: Path, text: bytes) -> str:
     """What is wrong with a text that registry_refusals reads by parts."""
     calls = [f"read_day_by_parts:{parts}" for parts in [*WORKERS, EACH_ROW]]
-    lines, status = answer_of(words.refusals, calls, text)
+    lines, status = answer_of(refusals, calls, text)
     wanted = [line for call in calls for line in (call, "begin", "end", "done", "right")]
     return "" if (lines, status) == (wanted, 0) else f"status {status}, {[*set(lines) - set(wanted)]}"
 
 
-def try_text(task):
-    """Draws a text and tries it, or many at once: the bytes of one that differs, how many texts and runs there were, and what is
-    wrong."""
+def try_text(task: Task) -> tuple[bytes, int, int, str]:
+    """Draws a text and tries it, or many at once: the bytes of one that differs, how many texts and runs there were,
+    and what is wrong."""
     words, seed, cases = task
-    chance = random.Random(f"long {words.seed} {seed}")
+    chance = Random(f"long {words.seed} {seed}")
     number = 10_000_000 * words.seed + seed
     if words.part == "orders":
         text, runs, said = ordered_wrongly(words, drawn_rows(number), number)
@@ -227,7 +259,7 @@ def try_text(task):
     return text, 1, runs, said
 
 
-def try_drawn(words):
+def try_drawn(words: Words) -> Tally:
     """Tries drawn texts until the time is over. Answers how many passed and failed."""
     until, passed, failed, runs = time.monotonic() + 60 * words.minutes, 0, 0, 0
     cases, seeds = (fuzz.first_texts() if words.part == "seams" else []), itertools.count()
@@ -245,14 +277,14 @@ def try_drawn(words):
 # Days at every limit.
 
 
-def heading(is_whole):
+def heading(is_whole: bool) -> Iterator[str]:
     """The rows before the accounts: as many as there may be of each kind."""
     yield f"format,2\nday,{DATE},{LAST_RECORD - MOST_INSTRUCTIONS + 1}\n"
     yield "".join(f"period,{year},{year}\n" for year in range(2021, 2029)) + "current,8\nlags,0,1000,1000,1000\n"
     yield "".join(f"surrender,{pair}\n" for pair in PAIRS)
     yield "".join(f"admin,{number}\n" for number in range(901, 965))
-    first, days = datetime.date(2021, 1, 1), 29_219 if is_whole else 2_000
-    yield "".join(f"work,{first + datetime.timedelta(place)}\n" for place in range(days))
+    first, count = datetime.date(2021, 1, 1), 29_219 if is_whole else 2_000
+    yield "".join(f"work,{first + datetime.timedelta(place)}\n" for place in range(count))
 
 
 FACTORS = "".join(f"correction,{period},{-LAST_RECORD + period}\n" for period in range(2, 9))
@@ -266,28 +298,28 @@ class TransferDay:
 
     accounts, receivers = 100_000, 256
 
-    def __init__(self, lists=""):
+    def __init__(self, lists: str = "") -> None:
         self.lists = FACTORS + USERS + TRUSTED + lists
 
-    def source(self, place):
+    def source(self, place: int) -> int:
         return self.receivers + 1 + 5 * place
 
-    def account(self, number, held):
+    def account(self, number: int, held: int) -> str:
         return f"account,{number},trading,{number},open,no,no,0,{held},0\n{self.lists}"
 
-    def instruction(self, place):
+    def instruction(self, place: int) -> str:
         return f"{DATE},101,164,transfer,{self.source(place)},{1 + place % self.receivers},general,{1 + place}"
 
-    def opening(self, number):
+    def opening(self, number: int) -> int:
         return 0 if number <= self.receivers else 10**15
 
-    def text(self):
+    def text(self) -> Iterator[str]:
         yield from heading(True)
         yield from (self.account(number, self.opening(number)) for number in range(1, self.accounts + 1))
         yield from (f"do,{self.instruction(place)}\n" for place in range(MOST_INSTRUCTIONS))
         yield "end\n"
 
-    def report(self):
+    def report(self) -> Iterator[str]:
         held = {number: self.opening(number) for number in range(1, self.accounts + 1)}
         for place in range(MOST_INSTRUCTIONS):
             source, to = self.source(place), 1 + place % self.receivers
@@ -305,16 +337,19 @@ class ReversalDay(TransferDay):
 
     accounts, rows = 1_000, 4_096
 
-    def account(self, number, _held, reversed_rows=0):
-        flags = (("yes" if record <= reversed_rows else "no") for record in range(1, self.rows + 1))
-        rows = "".join(f"retired,{record},surrender,general,7,{DATE},{flag},8\n" for record, flag in enumerate(flags, 1))
-        held = 7 * reversed_rows
+    def opening(self, number: int) -> int:
+        return 0
+
+    def account(self, number: int, held: int, reversed_rows: int = 0) -> str:
+        flags = enumerate(["yes"] * reversed_rows + ["no"] * (self.rows - reversed_rows), 1)
+        rows = "".join(f"retired,{record},surrender,general,7,{DATE},{flag},8\n" for record, flag in flags)
+        held += 7 * reversed_rows
         return f"account,{number},operator,{number},open,no,no,0,{held},0\n{FACTORS}{USERS}{TRUSTED}{rows}"
 
-    def instruction(self, place):
+    def instruction(self, place: int) -> str:
         return f"{DATE},901,964,reverse,{1 + place % self.accounts},{1 + place // self.accounts}"
 
-    def report(self):
+    def report(self) -> Iterator[str]:
         for place in range(MOST_INSTRUCTIONS):
             number, record = 1 + place % self.accounts, LAST_RECORD - MOST_INSTRUCTIONS + 1 + place
             held = 7 * (1 + place // self.accounts)
@@ -326,7 +361,7 @@ class ReversalDay(TransferDay):
         yield f"totals,general,{7 * MOST_INSTRUCTIONS},{left},0\ntotals,aviation,0,0,0\nend\n"
 
 
-def write_text(path, day, bytes_wanted=0):
+def write_text(path: Path, day: TransferDay, bytes_wanted: int = 0) -> int:
     """Writes a day to a file, and answers its size; behind its row `end` empty lines, up to so many bytes."""
     with open(path, "wb", buffering=1 << 20) as file:
         for piece in day.text():
@@ -339,11 +374,12 @@ def write_text(path, day, bytes_wanted=0):
     return path.stat().st_size
 
 
-def differs(program, arguments, path, wanted):
+def differs(program: Path, arguments: list[str], path: Path, wanted: Iterable[str]) -> str:
     """What is wrong with a run on the text of a file; `wanted` gives its output piece by piece."""
     with open(path, "rb") as text, subprocess.Popen(
         [program, *arguments], stdin=text, stdout=subprocess.PIPE, stderr=subprocess.DEVNULL, bufsize=1 << 20
     ) as run:
+        assert run.stdout is not None
         said = ""
         for number, piece in enumerate(wanted, 1):
             found = run.stdout.read(len(piece))
@@ -357,36 +393,38 @@ def differs(program, arguments, path, wanted):
     return said or (f"status {run.returncode}" if run.returncode else "")
 
 
-def totals_of(day):
+def totals_of(day: TransferDay) -> list[str]:
     """The last rows of a report: what the command `totals` writes."""
     return [piece for piece in day.report() if piece.startswith("totals,")]
 
 
-def try_day(words, name, day, counts, bytes_wanted=0):
+def try_day(
+    words: Words, name: str, day: TransferDay, counts: Iterable[int], bytes_wanted: int = 0
+) -> tuple[Path, Tally]:
     """Runs a day by these numbers of workers, and `totals`. Answers how many runs passed and failed."""
     path = words.folder / f"{name}.csv"
-    size, tally = write_text(path, day, bytes_wanted), [0, 0]
+    size, passed, failed = write_text(path, day, bytes_wanted), 0, 0
     for workers in [*counts, 0]:
         arguments = ["settle", "--workers", str(workers)] if workers else ["totals"]
         begun = time.monotonic()
         said = differs(words.program, arguments, path, day.report() if workers else totals_of(day))
-        tally[bool(said)] += 1
-        passed = f"{time.monotonic() - begun:.0f} s"
-        print(f"{name}, {size} bytes, {' '.join(arguments)}: {said or 'as it has to be'}, {passed}", flush=True)
-    return path, tally
+        passed, failed = passed + (not said), failed + bool(said)
+        took = f"{time.monotonic() - begun:.0f} s"
+        print(f"{name}, {size} bytes, {' '.join(arguments)}: {said or 'as it has to be'}, {took}", flush=True)
+    return path, (passed, failed)
 
 
-def try_limits(words):
-    tallies = []
+def try_limits(words: Words) -> Tally:
+    passed = failed = 0
     for name, day in (("transfers", TransferDay()), ("reversals", ReversalDay())):
         path, tally = try_day(words, name, day, WORKERS)
         path.unlink()
-        tallies.append(tally)
-    return [sum(both) for both in zip(*tallies)]
+        passed, failed = passed + tally[0], failed + tally[1]
+    return passed, failed
 
 
-def try_gigabyte(words):
-    path, tally = try_day(words, "gigabyte", TransferDay(EMISSIONS), (1, 4, 8), MOST_INPUT)
+def try_gigabyte(words: Words) -> Tally:
+    path, (passed, failed) = try_day(words, "gigabyte", TransferDay(EMISSIONS), (1, 4, 8), MOST_INPUT)
     with open(path, "ab") as file:
         file.write(b"\n")
     with open(path, "rb") as text:
@@ -394,36 +432,32 @@ def try_gigabyte(words):
     path.unlink()
     is_refused = (run.returncode, run.stdout, run.stderr) == (5, b"", b"read failed\n")
     print(f"one byte more: {'refused' if is_refused else run.stderr[:200]}")
-    return tally[0] + is_refused, tally[1] + (not is_refused)
+    return passed + is_refused, failed + (not is_refused)
 
 
-def arguments():
+def arguments() -> Words:
     parser = argparse.ArgumentParser(description=__doc__, formatter_class=argparse.RawDescriptionHelpFormatter)
     parser.add_argument("part", choices=["days", "orders", "seams", "limits", "gigabyte"])
-    parser.add_argument("--program", type=os.path.abspath, default=str(TOP / "out" / "registry"))
-    parser.add_argument("--workers", type=os.path.abspath)
-    parser.add_argument("--refusals", type=os.path.abspath)
+    parser.add_argument("--program", type=program_of, default=str(TOP / "out" / "registry"))
+    parser.add_argument("--workers", type=program_of)
+    parser.add_argument("--refusals", type=program_of)
     parser.add_argument("--minutes", type=float, default=10)
     parser.add_argument("--count", type=float, default=float("inf"))
     parser.add_argument("--seed", type=int, default=1)
     parser.add_argument("--jobs", type=int, default=1)
     parser.add_argument("--folder", type=Path, default=TOP / "out" / "long")
-    words = parser.parse_args()
-    for program in filter(None, (words.program, words.workers, words.refusals)):
-        if not os.access(program, os.X_OK):
-            parser.error(f"there is no program {program}")
+    words = Words(**vars(parser.parse_args()))
     words.folder.mkdir(parents=True, exist_ok=True)
     return words
 
 
-def main():
+def main() -> int:
     words, trials = arguments(), Trials()
-    words.library = ""
     with tempfile.TemporaryDirectory() as work:
         if words.part == "days":
-            words.library = os.path.join(work, "delay.so")
-            source = str(TOP / "bench" / "delay.c")
-            subprocess.run(["cc", "-shared", "-fPIC", "-O1", "-o", words.library, source, "-ldl"], check=True)
+            words.delay = Path(work, "delay.so")
+            source = TOP / "bench" / "delay.c"
+            subprocess.run(["cc", "-shared", "-fPIC", "-O1", "-o", words.delay, source, "-ldl"], check=True)
         parts = {"limits": try_limits, "gigabyte": try_gigabyte}
         trials.passed, trials.failed = parts.get(words.part, try_drawn)(words)
     return trials.end()

@@ -26,12 +26,13 @@ import os
 import subprocess
 import sys
 import tempfile
+from collections.abc import Mapping, Sequence
+from pathlib import Path
 from typing import NamedTuple
 
 import days
 
-TOP = os.path.dirname(os.path.dirname(os.path.abspath(__file__)))
-OWN_PROGRAM = os.path.join(TOP, "out", "registry")
+OWN_PROGRAM = str(Path(__file__).resolve().parent.parent / "out" / "registry")
 
 SECONDS_ALLOWED = 300  # of processor time, to one run
 
@@ -58,7 +59,7 @@ COMMANDS = [["settle"], ["plan"], ["statement", str(days.number(0))], ["figures"
 class Task(NamedTuple):
     """What is measured: a program with its arguments, on a day."""
 
-    words: tuple
+    words: tuple[str, ...]
     day: Day
 
 
@@ -83,19 +84,18 @@ print(os.waitstatus_to_exitcode(status), used.ru_utime + used.ru_stime, used.ru_
 """
 
 
-def run(words, text, output):
+def run(words: Sequence[str | Path], text: str | Path, output: str | Path) -> Cost:
     """The cost of one run; ends the script where the run fails."""
-    starter = [sys.executable, "-I", "-S", "-c", ONE_RUN, str(SECONDS_ALLOWED), text, output, *words]
+    starter: list[str | Path] = [sys.executable, "-I", "-S", "-c", ONE_RUN, str(SECONDS_ALLOWED), text, output, *words]
     told = subprocess.run(starter, stdout=subprocess.PIPE, check=True).stdout.split()
     if told[0] != b"0":
-        sys.exit(f"measure.py: {words[0]} ended with status {told[0].decode()} on {os.path.basename(text)}")
+        sys.exit(f"measure.py: {words[0]} ended with status {told[0].decode()} on {Path(text).name}")
     return Cost(float(told[1]), int(told[2]) / 1024)
 
 
-def look_through(output, task):
+def look_through(output: Path, task: Task) -> None:
     """Ends the script where the output is not what this day has to give."""
-    with open(output, encoding="ascii") as lines:
-        rows = lines.read().splitlines()
+    rows = output.read_text(encoding="ascii").splitlines()
     found = {"log": 0, "task": 0, "determined": 0}
     for row in rows:
         tag = row.split(",", 1)[0]
@@ -119,27 +119,30 @@ def look_through(output, task):
         sys.exit("measure.py: the totals are not the sums of the text")
 
 
-def measure(tasks, repeat):
+def measure(tasks: Sequence[Task], repeat: int) -> dict[Task, Cost]:
     """The least seconds and the greatest megabytes of each task."""
     with tempfile.TemporaryDirectory(prefix="registry-bench-") as folder:
-        texts, output = {}, os.path.join(folder, "output")
+        texts: dict[Day, Path] = {}
+        output = Path(folder, "output")
         for task in tasks:
             if task.day not in texts:
-                path = os.path.join(folder, f"day-{len(texts)}.csv")
-                with open(path, "w", encoding="ascii") as text:
+                path = Path(folder, f"day-{len(texts)}.csv")
+                with path.open("w", encoding="ascii") as text:
                     text.writelines(f"{row}\n" for row in days.day_text(*task.day))
                 texts[task.day] = path
             run(task.words, texts[task.day], output)
             look_through(output, task)
-        runs = {task: [] for task in tasks}
+        runs: dict[Task, list[Cost]] = {task: [] for task in tasks}
         for _ in range(repeat):
             for task in tasks:
                 runs[task].append(run(task.words, texts[task.day], os.devnull))
-    return {task: Cost(min(cost.seconds for cost in some), max(cost.megabytes for cost in some))
-            for task, some in runs.items()}
+    return {
+        task: Cost(min(cost.seconds for cost in costs), max(cost.megabytes for cost in costs))
+        for task, costs in runs.items()
+    }
 
 
-def growth(title, axis, sizes, found):
+def growth(title: str, axis: int, sizes: Sequence[Day], found: Mapping[Day, Cost]) -> None:
     """Prints one axis: the days by rising size, the first of which is what is taken off."""
     least, *steps = sizes
     base = found[least].seconds
@@ -157,7 +160,7 @@ def growth(title, axis, sizes, found):
     print(f"  exponent of the last step: {exponent:.2f}")
 
 
-def show_growth(words, repeat):
+def show_growth(words: tuple[str, ...], repeat: int) -> None:
     """Measures the full day and both axes."""
     sizes = dict.fromkeys([FULL_DAY, *BY_ACCOUNTS, *BY_INSTRUCTIONS])
     found = {task.day: cost for task, cost in measure([Task(words, size) for size in sizes], repeat).items()}
@@ -168,7 +171,7 @@ def show_growth(words, repeat):
     growth(f"transfers, {MANY_ACCOUNTS:,} accounts each", 1, BY_INSTRUCTIONS, found)
 
 
-def show_commands(repeat):
+def show_commands(repeat: int) -> None:
     """Measures each command, on a full day without lists, with lists, and with those of several periods."""
     for day in (FULL_DAY, FULL_DAY_WITH_LISTS, FULL_DAY_OF_PERIODS):
         found = measure([Task((OWN_PROGRAM, *command), day) for command in COMMANDS], repeat)
@@ -180,7 +183,7 @@ def show_commands(repeat):
             print(f"  {' '.join(task.words[1:]):14}  {cost.seconds:8.4f}  {cost.megabytes:6.1f}")
 
 
-def main():
+def main() -> None:
     words = argparse.ArgumentParser(
         description=__doc__, formatter_class=argparse.RawDescriptionHelpFormatter)
     words.add_argument("--repeat", type=int, default=9, help="runs of each text (default 9)")

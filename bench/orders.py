@@ -21,19 +21,20 @@ repeats, of reading the text, settling it, making its plan, running it in batch 
 
 import argparse
 import itertools
-import os
-import random
 import resource
 import subprocess
 import sys
+from collections.abc import Sequence
+from pathlib import Path
+from random import Random
 
 import days
+from days import Transfer
 
-TOP = os.path.dirname(os.path.dirname(os.path.abspath(__file__)))
-PROGRAM = os.path.join(TOP, "crates", "registry_workers", "out", "registry_workers")
+PROGRAM = Path(__file__).resolve().parent.parent / "crates" / "registry_workers" / "out" / "registry_workers"
 
 
-def program(data, *words):
+def program(data: bytes, *words: str) -> tuple[list[str], float]:
     """What the program writes, and its processor time."""
     before = resource.getrusage(resource.RUSAGE_CHILDREN)
     done = subprocess.run([PROGRAM, *words], input=data, stdout=subprocess.PIPE, check=True)
@@ -42,9 +43,9 @@ def program(data, *words):
     return done.stdout.decode().splitlines(), used
 
 
-def arrows(transfers):
+def arrows(transfers: Sequence[Transfer]) -> dict[int, list[tuple[int, int]]]:
     """For each place its inward arrows, as pairs of tail and account: by the accounts alone."""
-    inward = {}
+    inward: dict[int, list[tuple[int, int]]] = {}
     for place, touched in enumerate(transfers, 1):
         found = []
         for account in set(touched):
@@ -55,12 +56,12 @@ def arrows(transfers):
     return inward
 
 
-def answer(transfers, order):
+def answer(transfers: Sequence[Transfer], order: Sequence[int]) -> str:
     """What the program must write for an order."""
     inward = arrows(transfers)
     if len(order) != len(transfers):
         return "the order has another length than the batch"
-    came = set()
+    came: set[int] = set()
     for at, place in enumerate(order, 1):
         if not 1 <= place <= len(transfers):
             return f"the number at position {at} is no place"
@@ -73,7 +74,7 @@ def answer(transfers, order):
     return "same"
 
 
-def is_legal(transfers, order):
+def is_legal(transfers: Sequence[Transfer], order: Sequence[int]) -> bool:
     """Whether of two instructions that share an account the earlier one always comes first."""
     at = {place: k for k, place in enumerate(order)}
     return all(
@@ -83,16 +84,17 @@ def is_legal(transfers, order):
     )
 
 
-def draw_legal(transfers, chance):
+def draw_legal(transfers: Sequence[Transfer], chance: Random) -> list[int]:
     """A legal order: at random one of the instructions that may be next."""
-    inward, order = arrows(transfers), []
+    inward = arrows(transfers)
+    order: list[int] = []
     while len(order) < len(transfers):
         ready = [p for p in inward if p not in order and all(t in order for t, _ in inward[p])]
         order.append(chance.choice(ready))
     return order
 
 
-def draw_other(transfers, chance):
+def draw_other(transfers: Sequence[Transfer], chance: Random) -> list[int]:
     """A list that is hardly ever a legal order."""
     order = draw_legal(transfers, chance)
     kind = chance.randrange(5)
@@ -110,11 +112,12 @@ def draw_other(transfers, chance):
     return order
 
 
-def draw_pairs(accounts, count, chance):
-    return [tuple(chance.sample(range(1, accounts + 1), 2)) for _ in range(count)]
+def draw_pairs(accounts: int, count: int, chance: Random) -> list[Transfer]:
+    drawn = (chance.sample(range(1, accounts + 1), 2) for _ in range(count))
+    return [(source, target) for source, target in drawn]
 
 
-def try_lists(name, accounts, transfers, lists):
+def try_lists(name: str, accounts: int, transfers: Sequence[Transfer], lists: Sequence[Sequence[int]]) -> int:
     """Tries lists, and answers how many of them gave the settled day."""
     words = [",".join(map(str, order)) for order in lists]
     lines, _ = program(days.of_transfers(accounts, transfers), "orders", *words)
@@ -125,7 +128,7 @@ def try_lists(name, accounts, transfers, lists):
     return lines.count("same")
 
 
-def try_small(chance):
+def try_small(chance: Random) -> None:
     """Every permutation of small batches."""
     for count in range(1, 7):
         for _ in range(8):
@@ -138,12 +141,15 @@ def try_small(chance):
     print("small batches: every permutation answered as counted")
 
 
-def try_samples(samples, chance):
+def count_arrows(transfers: Sequence[Transfer]) -> int:
+    return sum(len(inward) for inward in arrows(transfers).values())
+
+
+def try_samples(samples: int, chance: Random) -> None:
     """Drawn lists of a batch of twenty instructions with thirty arrows or more."""
-    transfers = []
-    while sum(map(len, arrows(transfers).values())) < 30:
+    transfers: list[Transfer] = []
+    while (count := count_arrows(transfers)) < 30:
         transfers = draw_pairs(10, 20, chance)
-    count = sum(map(len, arrows(transfers).values()))
     legal = [draw_legal(transfers, chance) for _ in range(samples)]
     other = [draw_other(transfers, chance) for _ in range(samples)]
     same = try_lists("legal", 10, transfers, legal)
@@ -152,7 +158,7 @@ def try_samples(samples, chance):
           f"of {samples} other lists {samples - mixed} were refused with their first fault, and {mixed} were legal")
 
 
-def try_schedules(samples, chance):
+def try_schedules(samples: int, chance: Random) -> None:
     """Drawn schedules of drawn batches."""
     tried = 0
     while tried < samples:
@@ -167,7 +173,7 @@ def try_schedules(samples, chance):
     print(f"schedules of one to eight workers: all of {tried} gave the settled day")
 
 
-def measure(repeat, chance):
+def measure(repeat: int, chance: Random) -> None:
     """Seconds of processor time."""
     most = days.MOST_INSTRUCTIONS
     batches = {
@@ -175,26 +181,27 @@ def measure(repeat, chance):
         "wide": (2 * most, [(2 * k + 1, 2 * k + 2) for k in range(most)]),
         "mixed": (2_000, draw_pairs(2_000, most, chance)),
     }
-    print(f"{'':9}{'read':>9}{'plain':>9}{'plan':>9}{'order':>9}{'schedule':>9}   (seconds; the last four without reading)")
+    words = ("read", "plain", "plan", "order", "schedule")
+    print(f"{'':9}{''.join(f'{word:>9}' for word in words)}   (seconds; the last four without reading)")
     for name, (accounts, transfers) in batches.items():
         data = days.of_transfers(accounts, transfers)
-        words = ("read", "plain", "plan", "order", "schedule")
         least = {word: min(program(data, word)[1] for _ in range(repeat)) for word in words}
         rest = "".join(f"{least[word] - least['read']:9.3f}" for word in words[1:])
         print(f"{name:9}{least['read']:9.3f}{rest}")
 
 
-def main():
+def main() -> None:
     parser = argparse.ArgumentParser(description="Tries and measures orders of a batch.")
     parser.add_argument("--repeat", type=int, default=9)
     parser.add_argument("--samples", type=int, default=1_000)
     parser.add_argument("--seed", type=int, default=1)
     words = parser.parse_args()
-    chance = random.Random(words.seed)
+    chance = Random(words.seed)
     try_small(chance)
     try_samples(words.samples, chance)
     try_schedules(words.samples, chance)
     measure(words.repeat, chance)
 
 
-main()
+if __name__ == "__main__":
+    main()

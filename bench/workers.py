@@ -18,22 +18,24 @@ level and by workers that steal, the last two for each number of workers. All of
 """
 
 import argparse
+import itertools
 import os
-import random
 import resource
 import subprocess
 import time
+from pathlib import Path
+from random import Random
 
 import days
+from orders import draw_pairs
 
-TOP = os.path.dirname(os.path.dirname(os.path.abspath(__file__)))
-PROGRAM = os.path.join(TOP, "crates", "registry_workers", "out", "registry_workers")
+PROGRAM = Path(__file__).resolve().parent.parent / "crates" / "registry_workers" / "out" / "registry_workers"
 WORKERS = range(1, 9)
 # No worker has this number, so none is held up.
 NOBODY = 9
 
 
-def program(data, *words):
+def program(data: bytes, *words: object) -> tuple[list[str], float, float]:
     """What the program writes, its milliseconds of processor time, and those of the clock."""
     before = resource.getrusage(resource.RUSAGE_CHILDREN)
     begun = time.monotonic()
@@ -44,12 +46,12 @@ def program(data, *words):
     return done.stdout.decode().splitlines(), 1000 * used, 1000 * passed
 
 
-def try_samples(samples, chance):
+def try_samples(samples: int, chance: Random) -> None:
     """Drawn batches by workers that are delayed."""
     tried = 0
     for _ in range(samples):
         accounts = chance.randint(2, 12)
-        transfers = [chance.sample(range(1, accounts + 2), 2) for _ in range(chance.randint(1, 60))]
+        transfers = draw_pairs(accounts + 1, chance.randint(1, 60), chance)
         data = days.of_transfers(accounts, transfers)
         workers = chance.choice(WORKERS)
         held_up, seed = chance.randrange(workers), chance.randrange(1, 2**31)
@@ -58,28 +60,28 @@ def try_samples(samples, chance):
             if lines != ["same"] * 10:
                 raise SystemExit(f"workers.py: {workers} workers, delays {delays}, {transfers}: {lines}")
             tried += 10
-    print(f"{tried} runs of {samples} drawn batches, in both ways, gave the plain day, each place in one shift, in a legal order")
+    wanted = "the plain day, each place in one shift, in a legal order"
+    print(f"{tried} runs of {samples} drawn batches, in both ways, gave {wanted}")
 
 
-def shapes(chance):
+def shapes(chance: Random) -> dict[str, bytes]:
     """The three days, by name."""
     most = 16_384
     wide = days.of_transfers(2 * most, [(2 * k + 1, 2 * k + 2) for k in range(most)])
     chained = days.of_transfers(most + 1, [(k + 1, k + 2) for k in range(most)])
-    mixed = days.of_transfers(2_000, [chance.sample(range(1, 2_001), 2) for _ in range(most)])
+    mixed = days.of_transfers(2_000, draw_pairs(2_000, most, chance))
     return {"wide": wide, "chained": chained, "mixed": mixed}
 
 
-def ways():
+def ways() -> list[tuple[object, ...]]:
     """All ways of settling, as the program's words."""
-    alone = [("plain",), ("place",), ("order",)]
-    return alone + [(way, n) for way in ("levels", "stealing", "close") for n in WORKERS]
+    return [("plain",), ("place",), ("order",), *itertools.product(("levels", "stealing", "close"), WORKERS)]
 
 
-def measure(repeat, chance):
+def measure(repeat: int, chance: Random) -> None:
     """The least times of each way, without those of reading."""
     for name, data in shapes(chance).items():
-        least = {}
+        least: dict[tuple[object, ...], tuple[float, float]] = {}
         for _ in range(repeat):
             for words in [("read",), *ways()]:
                 _, used, passed = program(data, *words)
@@ -92,7 +94,7 @@ def measure(repeat, chance):
             print(f"| {' '.join(map(str, words))} | {used - read[0]:.1f} ms | {passed - read[1]:.1f} ms |")
 
 
-def main():
+def main() -> None:
     parser = argparse.ArgumentParser(description=__doc__, formatter_class=argparse.RawDescriptionHelpFormatter)
     parser.add_argument("--repeat", type=int, default=9)
     parser.add_argument("--samples", type=int, default=100)
@@ -101,10 +103,11 @@ def main():
     words = parser.parse_args()
     if words.processors:
         os.sched_setaffinity(0, sorted(os.sched_getaffinity(0))[: words.processors])
-    chance = random.Random(words.seed)
+    chance = Random(words.seed)
     try_samples(words.samples, chance)
     if words.repeat:
         measure(words.repeat, chance)
 
 
-main()
+if __name__ == "__main__":
+    main()
