@@ -13,6 +13,9 @@ ghost use Rattle.reg_account.specs.Account.{CorrectionFits};
 ghost use Rattle.reg_account.specs.Years.{FigureFits};
 ghost use Rattle.reg_text.specs.declared.cause.Cause.{Cause};
 ghost use Rattle.reg_text.specs.declared.cause.Cause.TheVariants as cause;
+ghost use Rattle.reg_text.specs.Causes.{cause_name};
+ghost use Rattle.reg_text.specs.CauseNames.{cause_of};
+ghost use Rattle.reg_text.specs.SingleRows.{OneRowOfAnInstruction};
 ghost use Rattle.reg_text.specs.Numbers.{number, plain_number_of};
 ghost use Rattle.reg_text.specs.Signed.{signed, signed_correction_of, signed_figure_of};
 ghost use Rattle.reg_text.specs.Dates.{date, date_of};
@@ -81,6 +84,17 @@ pub fn one_word_of_each_value()
     ensures tags { (f : List ℕ) (t : Tag) → (named cause.Tag tag_word all_tags f ≡ Ok t) ↔ (f ≡ tag_word t) }
     ensures acts { (f : List ℕ) (n : ActName) → (act_name_of f ≡ Ok n) ↔ (f ≡ act_word n) }
     ensures versions { (f : List ℕ) (v : Version) → (version_of f ≡ Ok v) ↔ (f ≡ version_word v) }
+{}
+
+/// A text names a cause exactly if it is the name of that cause.
+pub fn one_name_of_each_cause()
+    ensures { (f : List ℕ) (c : Cause) → (cause_of f ≡ Ok c) ↔ (f ≡ cause_name c) }
+{}
+
+/// Rows are read as an instruction exactly if they are the one row that spells it, and the instruction is within the
+/// limits of a day: each number in it is within its range, and a distribution has one share to eight.
+pub fn one_row_of_an_instruction()
+    ensures { OneRowOfAnInstruction }
 {}
 
 /// Rows are read as a day exactly if they are the spelling of that day and the day is within the limits.

@@ -1,4 +1,5 @@
-//! A first use of each library crate: one function a crate, which its callers can copy.
+//! A first use of each library crate: one function a crate, which its callers can copy. In `rows` stand uses of the
+//! calls for single rows.
 #![tactic(auto)]
 
 pub mod account;
@@ -14,6 +15,7 @@ pub mod graph;
 pub mod levels;
 pub mod plan;
 pub mod regions;
+pub mod rows;
 pub mod rules;
 pub mod schedules;
 pub mod tasks;

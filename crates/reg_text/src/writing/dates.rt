@@ -39,8 +39,8 @@ pub(crate) fn spell_civil(year: u16, month: u8, day: u8) -> [u8; 10]
     ]
 }
 
-/// The spelling of a day.
-pub(crate) fn spell_date(day: Day) -> [u8; 10]
+/// The one spelling of a day: its date, `YYYY-MM-DD`. `read_date` is the inverse, by the law `one_spelling_of_a_day`.
+pub fn spell_date(day: Day) -> [u8; 10]
     ensures { result ≡ date day }
 {
     let date = date_of(day);
