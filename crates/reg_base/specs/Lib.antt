@@ -13,3 +13,6 @@ pub mod Footprint
 pub mod Footprints
 pub mod Touches
 pub mod Batch
+pub mod Words
+pub mod Sentences
+pub mod Digits

@@ -33,6 +33,7 @@
 mod act;
 mod batch;
 mod calendar;
+mod digits;
 mod directory;
 mod footprint;
 mod instruction;
@@ -43,11 +44,14 @@ mod movement;
 mod numbers;
 mod refusals;
 mod rules;
+mod sentences;
 mod shares;
+mod words;
 
 pub use act::Act;
 pub use batch::{Batch, BatchFault};
 pub use calendar::{Calendar, CalendarFault};
+pub use digits::NumberFault;
 pub use directory::{Directory, NoMemory, likely_index};
 pub use footprint::Footprint;
 pub use instruction::Instruction;
@@ -63,3 +67,4 @@ pub use numbers::{AccountNo, Day, HolderNo, RecordNo, UserNo, Year};
 pub use refusals::{CHECKS, Refusal};
 pub use rules::{Rules, RulesFault, RulesParts};
 pub use shares::{Receivers, Share, Shares};
+pub use words::UnknownWord;

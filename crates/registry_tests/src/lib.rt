@@ -20,6 +20,8 @@ mod stealing;
 #[cfg(test)]
 mod vaults;
 #[cfg(test)]
+mod words;
+#[cfg(test)]
 mod worlds;
 #[cfg(test)]
 mod yards;
