@@ -19,7 +19,7 @@ use std::alloc::Global;
 use std::mem;
 
 // The parcels from which an arrow leads on, in their order. The accounts of the others are added to the closing ones.
-fn close<N: Naming>(
+fn keep_leading<N: Naming>(
     context: &Context<N>,
     place: u32,
     parcels: Vec<Parcel<N>>,
@@ -87,7 +87,7 @@ impl<N: Naming> Parts<N> {
             Ok(outcome) => {
                 let (ran, row, parcels) = outcome.into_parts();
                 let place = ran.place();
-                let kept = close(context, place, parcels, kept, &mut self.closing);
+                let kept = keep_leading(context, place, parcels, kept, &mut self.closing);
                 self.rows[place as usize - 1] = Some(row);
                 self.hands[worker] = Hand::Carries(None, kept);
                 Ok(())

@@ -170,7 +170,7 @@ impl<'c, 'a, N: Naming> Levels<'c, 'a, N> {
     ///
     /// # Errors
     /// `Memory` if memory ran out. If no day is named, `Foreign` if a value of another context was laid.
-    pub fn close(self, alloc: Global) -> Result<Settled, Lack>
+    pub fn into_settled(self, alloc: Global) -> Result<Settled, Lack>
         requires laid { self.laid ≡ length self.order.items }
         ensures settled { IfOk result (λ s. IfSome N.day (λ d. s ≡ settled_day d)) }
         ensures of_book { IfOk result (λ s. IsOfBook self.entry.slots.context.now.book s) }
@@ -180,6 +180,6 @@ impl<'c, 'a, N: Naming> Levels<'c, 'a, N> {
         tails_are_last_touchers();
         no_fault_is_a_legal_order();
         let Levels { slots, done, .. } = self;
-        slots.close(alloc, done)
+        slots.into_settled(alloc, done)
     }
 }

@@ -25,7 +25,7 @@
 //!         }
 //!         levels.lay(outcomes).ok()?;
 //!     }
-//!     levels.close(alloc).ok()
+//!     levels.into_settled(alloc).ok()
 //! }
 //! ```
 #![tactic(auto)]

@@ -101,7 +101,7 @@ fn run_legal<N: Naming>(alloc: Global, context: &Context<N>, order: &[u32]) -> R
     no_fault_is_a_legal_order();
     let mut slots = Slots::open(alloc, context)?;
     let done = run_places(alloc, &mut slots, order)?;
-    slots.close(alloc, done)
+    slots.into_settled(alloc, done)
 }
 
 /// Runs the batch in an order of its instructions, given by their places, counted from 1. If the order is legal, this

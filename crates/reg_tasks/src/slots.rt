@@ -195,7 +195,7 @@ impl<'c, 'a, N: Naming> Slots<'c, 'a, N> {
     /// # Errors
     /// `Memory` if memory ran out. `Foreign` if what stands for some account is not what its last instruction left. If
     /// no day is named, also if the log is that of another context.
-    pub fn close_log(self, alloc: Global, log: Vec<LogRow>) -> Result<Settled, Lack>
+    pub fn into_settled_with(self, alloc: Global, log: Vec<LogRow>) -> Result<Settled, Lack>
         requires log { AreFirstRows N.day (length self.context.now.batch.now.instructions) log.items }
         ensures settled { IfOk result (λ s. IfSome N.day (λ d. s ≡ settled_day d)) }
         ensures of_book { IfOk result (λ s. IsOfBook self.entry.context.now.book s) }
@@ -215,7 +215,7 @@ impl<'c, 'a, N: Naming> Slots<'c, 'a, N> {
     /// # Errors
     /// `Memory` if memory ran out. `Foreign` if there is not exactly one reply for each place, or if what stands for
     /// some account is not what its last instruction left. If no day is named, also if they are of another context.
-    pub fn close(self, alloc: Global, done: Vec<Done<N>>) -> Result<Settled, Lack>
+    pub fn into_settled(self, alloc: Global, done: Vec<Done<N>>) -> Result<Settled, Lack>
         ensures settled { IfOk result (λ s. IfSome N.day (λ d. s ≡ settled_day d)) }
         ensures of_book { IfOk result (λ s. IsOfBook self.entry.context.now.book s) }
         ensures lack { IfErr result

@@ -138,7 +138,7 @@ impl<N: Naming> Vault<N> {
     /// The accounts after the day, exactly if every account that an instruction touches is back. Takes no memory.
     ///
     /// The time is linear in the accounts, with one byte read of each.
-    pub fn close(self, context: &Context<N>) -> Option<Vec<Account>>
+    pub fn into_accounts(self, context: &Context<N>) -> Option<Vec<Account>>
         ensures all_back { is_some result ≡ (back_count self.lots.items == length context.now.plan.openings) }
         ensures closing { IfSome result (λ accounts. IfSome N.day (λ d. accounts.items ≡ closing_state d)) }
     {

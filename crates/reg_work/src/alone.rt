@@ -69,7 +69,7 @@ pub(crate) fn only_shift<N: Naming>(
 /// leaves, so it lies in a slot until the next instruction takes it: no dock, no deque and no claim.
 ///
 /// # Errors
-/// `Memory` if memory ran out. Otherwise what [`run_at`] or [`Slots::close_log`] lacks.
+/// `Memory` if memory ran out. Otherwise what [`run_at`] or [`Slots::into_settled_with`] lacks.
 pub(crate) fn settle_alone<N: Naming, G: Gate>(
     alloc: Global,
     context: &Context<N>,
@@ -82,6 +82,6 @@ pub(crate) fn settle_alone<N: Naming, G: Gate>(
     let mut slots = Slots::open(alloc, context)?;
     let (ran, log) = run_in_order(alloc, &mut slots, gate)?;
     let shifts = only_shift(alloc, ran)?;
-    let settled = slots.close_log(alloc, log)?;
+    let settled = slots.into_settled_with(alloc, log)?;
     Ok((settled, shifts))
 }

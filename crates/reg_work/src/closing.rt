@@ -60,7 +60,7 @@ fn close_vault<N: Naming>(context: &Context<N>, vault: Vault<N>) -> Result<Vec<A
     ensures closing { IfOk result (λ accounts. IfSome N.day (λ d. accounts.items ≡ closing_state d)) }
     ensures lack { IfErr result (λ lack. lack ≡ Foreign) }
 {
-    match vault.close(context) {
+    match vault.into_accounts(context) {
         Some(accounts) => Ok(accounts),
         None => Err(Lack::Foreign),
     }

@@ -98,7 +98,7 @@ fn settle_context<N: Naming + Send + Sync, R: Threads + Wait, G: Gate>(
 {
     let mut levels = Levels::open(alloc, context)?;
     run_all(rt, alloc, context, &mut levels, workers, gate)?;
-    Ok(levels.close(alloc)?)
+    Ok(levels.into_settled(alloc)?)
 }
 
 // Settles a batch by workers whose number is within its limits. If a day is named, it is this one.

@@ -59,7 +59,7 @@ fn close_under<N: Naming, R: Threads + Sync>(
     };
     let mut vault = Vault::of(alloc, accounts).ok()?;
     run_on(alloc, &context, &mut vault)?;
-    vault.close(&context)
+    vault.into_accounts(&context)
 }
 
 // The accounts of a book after this very day.

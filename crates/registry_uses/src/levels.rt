@@ -21,5 +21,5 @@ pub fn settle_by_levels<N: Naming>(alloc: Global, context: &Context<N>) -> Optio
         }
         levels.lay(outcomes).ok()?;
     }
-    levels.close(alloc).ok()
+    levels.into_settled(alloc).ok()
 }

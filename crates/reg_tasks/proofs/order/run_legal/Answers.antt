@@ -15,7 +15,7 @@ pub returns-clause-lack : goal.returns-clause-lack
 returns-clause-lack g c =
     let context = c.args.context.now in
     let standing = stands c.run_places.new.slots in
-    err_more c.close.result _ _ c.close.ensures.lack
+    err_more c.into_settled.result _ _ c.into_settled.ensures.lack
     (λ l lack. lack_from l lack (λ missing. no_name g.N.Naming.day (λ d e.
     ∥∥₁_elim (ends_so c.tails_are_last_touchers.ensures c.last_toucher_is_last.ensures
     (the_day context) context.plan context.planned c.no_fault_is_a_legal_order.ensures c.args.order.now

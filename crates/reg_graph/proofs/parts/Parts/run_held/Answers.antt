@@ -68,27 +68,27 @@ returns-in-Ok-run-clause-ok g c =
     let run : run_at day t (map (λ p. p.value) (parcels_of c.args.task.parcels.items))
     ≡ Some (vs, c.in-Ok-run.outcome.row) =
     ap (run_at day t) (values-are c.args.task.parcels.items) ∙ c.in-Ok-run.ensures.made in
-    let kept : filter (goes_on plan) (left_by t vs) ≡ parcels_of c.close-kept.result.items
+    let kept : filter (goes_on plan) (left_by t vs) ≡ parcels_of c.keep_leading-kept.result.items
     = those-on plan t vs ∙ ap (filter (λ p. leads_on plan t p.value.number)) (sym left)
     ∙ ap (λ q. filter (λ p. leads_on plan q p.value.number) (parcels_of came)) (sym place_is)
-    ∙ sym c.close-kept.ensures.kept in
+    ∙ sym c.keep_leading-kept.ensures.kept in
     let others : filter (λ p. not (goes_on plan p)) (left_by t vs)
     ≡ filter (λ p. not (leads_on plan place p.value.number)) (parcels_of came)
     = those-closing plan t vs ∙ ap (filter (λ p. not (leads_on plan t p.value.number))) (sym left)
     ∙ ap (λ q. filter (λ p. not (leads_on plan q p.value.number)) (parcels_of came)) (sym place_is) in
     let hands : slice_set w.hands k (Carries None (filter (goes_on plan) (left_by t vs)))
-    ≡ map hand_of (slice_set p.hands.items k (hand.Carries None c.close-kept.result))
+    ≡ map hand_of (slice_set p.hands.items k (hand.Carries None c.keep_leading-kept.result))
     = ap (λ ps. slice_set w.hands k (Carries None ps)) kept
-    ∙ sym (map-set hand_of p.hands.items k (hand.Carries None c.close-kept.result)) in
+    ∙ sym (map-set hand_of p.hands.items k (hand.Carries None c.keep_leading-kept.result)) in
     let rows : with_place w.rows t (Some c.in-Ok-run.outcome.row) ≡ slice_set p.rows.items (place - 1) (Some row)
     = ap (λ r. with_place w.rows t (Some r)) (sym c.into_parts-row.ensures.row.0)
     ∙ placed w.rows t (Some row) c.requires.from_one
     ∙ ap (λ q. slice_set p.rows.items (q - 1) (Some row)) (sym place_is) in
     let closing : w.closing ++ map (λ p. p.value) (filter (λ p. not (goes_on plan p)) (left_by t vs))
-    ≡ c.close-kept.new.closing.items
+    ≡ c.keep_leading-kept.new.closing.items
     = ap (λ ps. w.closing ++ map (λ p. p.value) ps) others
     ∙ ap (λ cs. cs ++ map (λ p. p.value) (filter (λ p. not (leads_on plan place p.value.number)) (parcels_of came)))
-    (sym c.reserve.ensures.items) ∙ sym c.close-kept.ensures.closing in
+    (sym c.reserve.ensures.items) ∙ sym c.keep_leading-kept.ensures.closing in
     ap (λ o. option_map_or (λ made. Ok (after_run plan k w t made)) o (Err NothingToRun)) run
     ∙ ap (λ hs. Ok (record w {
       hands = hs;
@@ -96,19 +96,19 @@ returns-in-Ok-run-clause-ok g c =
       closing = w.closing ++ map (λ p. p.value) (filter (λ p. not (goes_on plan p)) (left_by t vs));
     })) hands
     ∙ ap (λ rs. Ok (record w {
-      hands = map hand_of (slice_set p.hands.items k (hand.Carries None c.close-kept.result));
+      hands = map hand_of (slice_set p.hands.items k (hand.Carries None c.keep_leading-kept.result));
       rows = rs;
       closing = w.closing ++ map (λ p. p.value) (filter (λ p. not (goes_on plan p)) (left_by t vs));
     }))
     rows
     ∙ ap (λ cs. Ok (record w {
-      hands = map hand_of (slice_set p.hands.items k (hand.Carries None c.close-kept.result));
+      hands = map hand_of (slice_set p.hands.items k (hand.Carries None c.keep_leading-kept.result));
       rows = slice_set p.rows.items (place - 1) (Some row);
       closing = cs;
     })) closing
 
-pub close-kept-requires-clause-fits : goal.close-kept-requires-clause-fits
-close-kept-requires-clause-fits g c =
+pub keep_leading-kept-requires-clause-fits : goal.keep_leading-kept-requires-clause-fits
+keep_leading-kept-requires-clause-fits g c =
     let day = day_of c.args.context.now.book c.args.context.now.rules.now c.args.context.now.batch.now in
     let many = as-many day c.args.task.place c.args.task.parcels.items c.in-Ok-run.outcome.parcels.items
     c.in-Ok-run.outcome.row c.in-Ok-run.ensures.made in
@@ -120,8 +120,8 @@ close-kept-requires-clause-fits g c =
       c.in-Ok.ensures.exact,
     )
 
-pub close-kept-requires-clause-room : goal.close-kept-requires-clause-room
-close-kept-requires-clause-room g c =
+pub keep_leading-kept-requires-clause-room : goal.keep_leading-kept-requires-clause-room
+keep_leading-kept-requires-clause-room g c =
     let day = day_of c.args.context.now.book c.args.context.now.rules.now c.args.context.now.batch.now in
     let many = as-many day c.args.task.place c.args.task.parcels.items c.in-Ok-run.outcome.parcels.items
     c.in-Ok-run.outcome.row c.in-Ok-run.ensures.made in

@@ -5,7 +5,7 @@ use Rattle.reg_schedules.specs.Pool.{directory}
 use Rattle.reg_tasks.specs.Lots.{back_count}
 use Rattle.reg_tasks.proofs.Gathering.{if_named}
 use Rattle.reg_tasks.proofs.Returned.{all-closing}
-use Rattle.reg_tasks.proofs.vault.Vault.close.Goals as goal
+use Rattle.reg_tasks.proofs.vault.Vault.into_accounts.Goals as goal
 
 pub returns-clause-closing : goal.returns-clause-closing
 returns-clause-closing g c =

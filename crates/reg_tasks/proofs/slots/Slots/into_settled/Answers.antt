@@ -12,7 +12,7 @@ use Rattle.reg_tasks.specs.Slots.{opened_accounts, LacksFor, IsAtEnd}
 use Rattle.reg_tasks.specs.Standing.{stands}
 use Rattle.reg_tasks.proofs.AtEnd.{all_last_there, outcomes_at_end}
 use Rattle.reg_tasks.proofs.Placing.{lack_from, err_from, err_more}
-use Rattle.reg_tasks.proofs.slots.Slots.close.Goals as goal
+use Rattle.reg_tasks.proofs.slots.Slots.into_settled.Goals as goal
 
 pub returns-in_err-parcels-clause-lack : goal.returns-in_err-parcels-clause-lack
 returns-in_err-parcels-clause-lack g c =

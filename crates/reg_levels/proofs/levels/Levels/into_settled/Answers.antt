@@ -12,7 +12,7 @@ use Rattle.reg_tasks.proofs.Placing.{lack_from, err_more}
 use Rattle.reg_tasks.proofs.OrderSteps.{ends_so}
 use Rattle.reg_levels.specs.Levels.{StandsBetween}
 use Rattle.reg_levels.proofs.Between.{none_between, stands_after}
-use Rattle.reg_levels.proofs.levels.Levels.close.Goals as goal
+use Rattle.reg_levels.proofs.levels.Levels.into_settled.Goals as goal
 
 pub returns-clause-lack : goal.returns-clause-lack
 returns-clause-lack g c =
@@ -21,7 +21,7 @@ returns-clause-lack g c =
     let order = l.order.items in
     let standing = stands l.slots in
     let all : take l.laid order ≡ order = take_all l.laid order (omega (Rattle.std.proofs.Common.arith, c.requires)) in
-    err_more c.close.result _ _ c.close.ensures.lack
+    err_more c.into_settled.result _ _ c.into_settled.ensures.lack
     (λ lack why. lack_from lack why (λ missing. no_name g.N.Naming.day (λ d e.
     ∥∥₁_elim (ends_so c.tails_are_last_touchers.ensures c.last_toucher_is_last.ensures
     (the_day context) context.plan context.planned c.no_fault_is_a_legal_order.ensures order l.legal standing

@@ -11,7 +11,7 @@ use Rattle.reg_tasks.specs.Slots.{opened_accounts, LacksFor, IsAtEnd}
 use Rattle.reg_tasks.specs.Standing.{stands}
 use Rattle.reg_tasks.proofs.AtEnd.{accounts_of_end, all_last_there}
 use Rattle.reg_tasks.proofs.Placing.{lack_from, err_from, err_more}
-use Rattle.reg_tasks.proofs.slots.Slots.close_log.Goals as goal
+use Rattle.reg_tasks.proofs.slots.Slots.into_settled_with.Goals as goal
 
 pub returns-in_err-parcels-clause-lack : goal.returns-in_err-parcels-clause-lack
 returns-in_err-parcels-clause-lack g c =

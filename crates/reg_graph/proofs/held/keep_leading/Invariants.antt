@@ -2,7 +2,7 @@ use Rattle.std.proofs.Common.{◌≡◌, ◌≤◌, ◌+◌, ◌++◌, not, leng
 use Rattle.std.specs.Prelude.{filter}
 use Rattle.reg_schedules.specs.Pool.{leads_on}
 use Rattle.reg_tasks.specs.Parcels.{parcels_of}
-use Rattle.reg_graph.proofs.held.close.Given as goal
+use Rattle.reg_graph.proofs.held.keep_leading.Given as goal
 
 -- what was kept and closed, and what is still to come, are the whole
 abbrev pub invariant-loop-parcel : goal.invariant-loop-parcel
