@@ -108,7 +108,7 @@ DISTRIBUTING = "".join(f"account,{number},allocation,1,open,no,no,0,80,0\n" for 
 
 @dataclass(frozen=True)
 class Day:
-    """A day text, and what it is."""
+    """A day text, or a row of one, and what it is."""
 
     name: str
     text: bytes
@@ -173,6 +173,7 @@ FULL = day(
     ACCOUNTS + "".join(f"account,{10 + number},trading,12,open,no,no,0,0,0\n" for number in range(MANY_ACCOUNTS)),
 )
 LISTS = day("an account with long lists", [], LISTED, 6)
+ONE_ROW = Day("one instruction alone", b"do,2025-03-31,101,102,transfer,1,2,general,40\n")
 DISTRIBUTED = day("two distributions to eight accounts, and 18 instructions on these", distributed(), DISTRIBUTING)
 ALL_ACTS = Day("every row and every act", (TOP / "cases" / "books" / "every-row-and-act.csv").read_bytes())
 PERIODS = Day("two periods", (TOP / "cases" / "periods" / "a-day-in-the-second-of-two-periods.csv").read_bytes())
@@ -232,6 +233,7 @@ OTHERS = [
     ("read_day", LISTS),
     ("read_day", PERIODS),
     ("read_day", FACTORS),
+    ("read_instruction", ONE_ROW),
     ("read_day_by_parts:1", TRANSFER),
     ("read_day_by_parts:2", LISTS),
     ("read_day_by_parts:8", ALL_ACTS),
@@ -239,6 +241,7 @@ OTHERS = [
     ("write_report_pieces:1", TRANSFER),
     ("write_report_pieces:2", LOGGED),
     ("write_report_pieces:8", LOGGED),
+    ("write_log_row", TRANSFER),
     ("write_book", TRANSFER),
     ("write_book", FACTORS),
     ("figures", LISTS),

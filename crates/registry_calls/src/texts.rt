@@ -8,8 +8,8 @@ use reg_base::{AccountNo, NoMemory};
 use reg_book::settle_plain;
 use reg_rules::{Closing, Holdings, LogRow, Reply};
 use reg_text::{
-    DayFault, DayInput, figures, read_day, read_day_by_parts, statement, totals_text, write_book,
-    write_report, write_report_pieces,
+    DayFault, DayInput, figures, read_day, read_day_by_parts, read_instruction, statement,
+    totals_text, write_book, write_log_row, write_report, write_report_pieces,
 };
 use std::alloc::Global;
 use std::io::Write;
@@ -30,6 +30,30 @@ impl Call for Reading<'_> {
 /// Tries `read_day`.
 pub(crate) fn try_read<W: Write>(alloc: Global, text: &[u8], writer: &mut W) -> Result<(), Stop> {
     try_rehearsed(alloc, &text, &mut Reading { text }, writer)
+}
+
+// `read_instruction`.
+#[derive(Drop)]
+struct ReadingRow<'t> {
+    text: &'t [u8],
+}
+
+impl Call for ReadingRow<'_> {
+    fn make(&mut self, alloc: Global) -> Ended {
+        match read_instruction(alloc, self.text) {
+            Ok(instruction) => Ended::Done(digest_of(&instruction)),
+            Err(fault) => fault.into(),
+        }
+    }
+}
+
+/// Tries `read_instruction` on a text of one row.
+pub(crate) fn try_read_row<W: Write>(
+    alloc: Global,
+    text: &[u8],
+    writer: &mut W,
+) -> Result<(), Stop> {
+    try_rehearsed(alloc, &text, &mut ReadingRow { text }, writer)
 }
 
 // How reading ended: with a day, or with the first fault of the text, which is looked at too.
@@ -132,7 +156,7 @@ pub(crate) fn try_pieces<R: Threads + Sync, W: Write>(
     try_threads(day, call, wanted, writer)
 }
 
-/// A text that is written of a book.
+/// A text that is written of a book or of a log.
 #[derive(Clone, Copy)]
 pub(crate) enum Written {
     /// The report, with the log of the day.
@@ -145,6 +169,8 @@ pub(crate) enum Written {
     Totals,
     /// The statement of the account with the number 1.
     Statement,
+    /// The first row of the log.
+    LogRow,
 }
 
 // A call that writes a text of the book before the day.
@@ -163,6 +189,14 @@ impl Writing<'_> {
         };
         how_ended(statement(alloc, &self.day.book, self.rows, number))
     }
+
+    // Writes the first row of the log.
+    fn write_row(&self, alloc: Global) -> Ended {
+        let Some(row) = self.rows.first() else {
+            return Ended::Otherwise;
+        };
+        how_ended(write_log_row(alloc, row))
+    }
 }
 
 impl Call for Writing<'_> {
@@ -174,6 +208,7 @@ impl Call for Writing<'_> {
             Written::Figures => how_ended(figures(alloc, book)),
             Written::Totals => how_ended(totals_text(alloc, book)),
             Written::Statement => self.state(alloc),
+            Written::LogRow => self.write_row(alloc),
         }
     }
 }

@@ -9,7 +9,7 @@ use crate::settling::{try_closing, try_order, try_plain, try_waves, try_workers}
 use crate::steps::try_execute;
 use crate::stop::Stop;
 use crate::tasks::{try_context, try_gather, try_opening, try_run};
-use crate::texts::{Written, try_pieces, try_read, try_read_by_parts, try_text};
+use crate::texts::{Written, try_pieces, try_read, try_read_by_parts, try_read_row, try_text};
 use crate::worlds::{try_event, try_start};
 use crate::yards::{try_put, try_yard};
 use reg_text::{DayInput, read_day};
@@ -33,6 +33,9 @@ pub fn try_named<R: Threads + Wait + Sync, W: Write>(
 ) -> Result<(), Stop> {
     if name == "read_day" {
         return try_read(alloc, text, writer);
+    }
+    if name == "read_instruction" {
+        return try_read_row(alloc, text, writer);
     }
     if name == "read_day_by_parts" {
         return try_read_by_parts(rt, alloc, text, number, writer);
@@ -140,6 +143,7 @@ fn try_on_texts<W: Write>(
         "figures" => Written::Figures,
         "totals_text" => Written::Totals,
         "statement" => Written::Statement,
+        "write_log_row" => Written::LogRow,
         _ => return Err(Stop::Input),
     };
     try_text(alloc, day, written, writer)
