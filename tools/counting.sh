@@ -207,12 +207,13 @@ begin_workers() {
   begin_part cases/run-workers "$workers"
 }
 
-# The example of a whole program over the crates.
+# The examples of whole programs over the crates.
 embed=crates/registry_embed/out/registry_embed
+one_by_one=crates/registry_one_by_one/out/registry_one_by_one
 
-# Tries it on the example days, and on standard streams that fail.
+# Tries them on the example days, and on standard streams that fail.
 begin_embed() {
-  begin_part cases/run-embed "$embed"
+  begin_part cases/run-embed "$embed" "$one_by_one"
 }
 
 # Whether all cases have passed on this program since it was built, and as they are now.

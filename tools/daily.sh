@@ -135,13 +135,13 @@ try_workers_if_built() {
   fi
 }
 
-# Builds the example of a whole program over the crates, and tries it.
+# Builds the examples of whole programs over the crates, and tries them.
 try_embed_if_built() {
-  if try_rt registry_embed "building the program" run; then
+  if try_rt registry_embed "building the program" run && try_rt registry_one_by_one "building the program" run; then
     begin_embed
     finish_parts
   else
-    embed_left_out="the example of a program, since registry_embed was not built"
+    embed_left_out="the examples of programs, since one of them was not built"
   fi
 }
 
@@ -196,10 +196,10 @@ check_some() {
   else
     workers_left_out="workers that are delayed, since registry_workers is not one of these crates, or was not proved"
   fi
-  if [[ " ${proved[*]-} " == *" registry_embed "* ]]; then
+  if [[ " ${proved[*]-} " == *" registry_embed "* || " ${proved[*]-} " == *" registry_one_by_one "* ]]; then
     try_embed_if_built
   else
-    embed_left_out="the example of a program, since registry_embed is not one of these crates, or was not proved"
+    embed_left_out="the examples of programs, since none is one of these crates, or none was proved"
   fi
   say_what_was_left_out "${crates[@]}"
 }

@@ -41,6 +41,14 @@ impl Instruction {
             Footprint::none()
         }
     }
+
+    /// Each number in an instruction is within its range. This method does nothing when it runs. A function whose
+    /// proof needs this fact calls it.
+    pub fn is_within_limits(&self)
+        ensures { IsInstruction self.now }
+    {
+        know_instruction(self);
+    }
 }
 
 // Whether each account that has to be in the directory is there.

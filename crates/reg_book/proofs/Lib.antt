@@ -13,6 +13,7 @@ pub mod Overlays
 pub mod Standing
 pub mod Ranks
 pub mod Replacements
+pub mod Singles
 pub mod Turns
 pub mod Values
 pub mod Conserved

@@ -1,10 +1,10 @@
 -- An instruction on accounts in another order, and on the first of them alone.
 use Rattle.std.proofs.Common.{Result, Ok, Err, ◌≡◌, ◌≢◌, ℕ, zero, suc, ◌+◌, ◌<◌, ◌≤◌, Bool, true, false, cond, eqb}
 use Rattle.std.proofs.Common.{List, [], ◌∷◌, ◌++◌, map, length, get_or, set, take, drop, refl, sym, ap, subst, ◌∙◌, inl}
-use Rattle.std.proofs.Common.{inr, arith}
+use Rattle.std.proofs.Common.{inr, arith, None}
 use Rattle.std.specs.List.{IsDistinct, All, AllByRecursion, swap}
 use Rattle.std.proofs.lemmas.Bool.{cases_eq, eqb-true, eqb-false, ne_eqb}
-use Rattle.std.specs.Result.{IfOk}
+use Rattle.std.specs.Result.{IfOk, OnErr}
 use Rattle.std.proofs.lemmas.List.{map-append, map-set, take-append-drop, take-map, take-set-le, take_more}
 use Rattle.std.proofs.lemmas.List.{append_assoc, same_lists, length-map, get_or-map}
 use Rattle.std.proofs.lemmas.List.Edits.{length-swap, swapped_from_swap, map_over_more}
@@ -16,13 +16,14 @@ use Rattle.reg_base.specs.Footprint.{footprint, is_among}
 use Rattle.reg_account.specs.Account.{AccountValue}
 use Rattle.reg_rules.specs.declared.reply.Reply.{Reply}
 use Rattle.reg_rules.specs.State.{State, Setting, account, numbers}
+use Rattle.reg_rules.specs.Checks.{refusal}
 use Rattle.reg_rules.specs.Effect.{IsBehind}
 use Rattle.reg_rules.specs.Step.{step}
 use Rattle.reg_rules.specs.Laws.{StepLaws}
 use Rattle.reg_book.specs.Indexes.{StandAt, each_at}
 use Rattle.reg_book.specs.Turns.{AreIndexesLeft, IsLeft, renamed}
 use Rattle.reg_book.proofs.Directories.{account-permutation}
-use Rattle.reg_book.proofs.StepFacts.{reply-local, after-local, one-state}
+use Rattle.reg_book.proofs.StepFacts.{refusal-local, reply-local, after-local, one-state}
 use Rattle.reg_book.proofs.Lookups.{account-append_left, account-append_right, all_among, not_contained}
 
 pair-of : {A B : Type 0} (a b : A) (x y : B) → a ≡ b → x ≡ y → ◌≡◌ {A = A × B} (a, x) (b, y)
@@ -90,6 +91,23 @@ module _ (laws : StepLaws) where
       turn-at_front c s own n i reply count distinct (sym (take-map (λ (v : AccountValue). v.number) count s)
       ∙ touched) stepped
   front-turn c s own n i (Err e) count distinct touched stepped = tt
+
+  -- nothing came of it on the first accounts: nothing came of it on all of them
+  pub front-unchanged : {E : Type 0} (c : Setting) (s own : State) (i : Instruction) (r : Result Reply E) (count : ℕ)
+      → take count (numbers s) ≡ footprint c.directory i.act
+      → OnErr r ((own ≡ take count s) × (refusal c (take count s) i ≡ None))
+      → OnErr r ((own ++ drop count s ≡ s) × (refusal c s i ≡ None))
+  front-unchanged c s own i (Ok reply) count first kept = tt
+  front-unchanged c s own i (Err e) count first kept =
+      let whole : take count s ++ drop count s ≡ s = take-append-drop count s in
+      let touched : numbers (take count s) ≡ footprint c.directory i.act =
+      sym (take-map (λ (v : AccountValue). v.number) count s) ∙ first in
+      let agree = all_among (λ a. account (take count s) a ≡ account s a) (footprint c.directory i.act)
+      (λ a h. sym (account-append_left (take count s) (drop count s) a (ap (λ ns. is_among ns a) touched ∙ h))
+      ∙ ap (λ t. account t a) whole) in (
+        ap (λ l. l ++ drop count s) kept.0 ∙ whole,
+        sym (refusal-local laws c (take count s) s i agree) ∙ kept.1,
+      )
 
 -- a swap made twice is none
 swap-twice : {X : Type 0} (s t u : List X) (a b : ℕ) → a < length s → b < length s → t ≡ swap s a b → u ≡ swap t a b
@@ -169,6 +187,21 @@ module _ (laws : StepLaws) where
   swapped-turn c s t own after n i (Ok reply) a b a_in b_in distinct there stepped back =
       turn-swapped c s t own after n i reply a b a_in b_in distinct there stepped back
   swapped-turn c s t own after n i (Err e) a b a_in b_in distinct there stepped back = tt
+
+  pub swapped-unchanged : {E : Type 0} (c : Setting) (s t own after : State) (i : Instruction) (r : Result Reply E)
+      (a b : ℕ)
+      → a < length s → b < length s → IsDistinct eqb (numbers s) → t ≡ swap s a b
+      → OnErr r ((own ≡ t) × (refusal c t i ≡ None))
+      → after ≡ swap own a b
+      → OnErr r ((after ≡ s) × (refusal c s i ≡ None))
+  swapped-unchanged c s t own after i (Ok reply) a b a_in b_in distinct there kept back = tt
+  swapped-unchanged c s t own after i (Err e) a b a_in b_in distinct there kept back =
+      let found : (x : ℕ) → account s x ≡ account t x =
+      account-permutation s t distinct (IsPermutation-swap s t a b a_in b_in there) in
+      let agree = all_among (λ x. account s x ≡ account t x) (footprint c.directory i.act) (λ x _. found x) in (
+        swap-twice s t after a b a_in b_in there (back ∙ ap (λ l. swap l a b) kept.0),
+        refusal-local laws c s t i agree ∙ kept.1,
+      )
 
 -- a swap keeps the numbers apart
 pub behind-swap : (n : ℕ) (s t : State) (a b : ℕ) → a < length s → b < length s → All (IsBehind n) s → t ≡ swap s a b

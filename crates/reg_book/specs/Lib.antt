@@ -4,6 +4,7 @@ pub mod Fold
 pub mod Settled
 pub mod Day
 pub mod Settling
+pub mod Single
 pub mod Laws
 pub mod Indexes
 pub mod Marks

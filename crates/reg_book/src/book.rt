@@ -1,6 +1,8 @@
 //! The book of all accounts.
 
 ghost use Rattle.std.specs.Prelude.{◌≡◌, ◌≢◌, ◌+◌, ◌-◌, ◌<◌, ◌≤◌, [], ◌∷◌, All, length, slice_index, MatchResult, IfOk};
+ghost use Rattle.std.specs.Prelude.{IfErr, OnOk, OnErr};
+ghost use Rattle.reg_base.specs.declared.limits.TheConstants.{MOST_RECORD};
 ghost use Rattle.std.specs.Option.{option_copied};
 ghost use Rattle.reg_base.specs.Rising.{IsRising};
 ghost use Rattle.reg_base.specs.declared.kinds.Retirement.TheVariants.{Surrendered, Deleted};
@@ -9,12 +11,13 @@ ghost use Rattle.reg_rules.specs.State.{account, numbers};
 ghost use Rattle.reg_book.specs.Book.{overlay, AreHigher};
 ghost use Rattle.reg_book.specs.Totals.{totals_of};
 
+use crate::apply::{ApplyFault, carry_out};
 use crate::listed::ListedAccounts;
 use crate::settled::{Settled, Stale};
 use crate::totals::{BothTotals, Totals, add_up};
 use reg_account::Account;
-use reg_base::{AccountNo, AllowanceKind, Directory};
-use reg_rules::LogRow;
+use reg_base::{AccountNo, AllowanceKind, Day, Directory, Instruction, NoMemory, RecordNo, Rules};
+use reg_rules::{LogRow, Setting, log_row, step_laws};
 use std::alloc::Global;
 use std::marker::Model;
 use std::mem;
@@ -56,6 +59,8 @@ impl Model for Book {
 impl Book {
     ghost use Rattle.reg_book.specs.Book.{directory_of, IsBook, IsBookKept, total_held, total_retired};
     ghost use Rattle.reg_book.specs.Settled.{IsOfBook, committed, replaced};
+    ghost use Rattle.reg_book.specs.Day.{settled_day, log_of};
+    ghost use Rattle.reg_book.specs.Single.{applied, row_applied, day_of_one, IsApplyFault};
 
     /// The book of these accounts, with their directory and the next record number: what [`Book::into_parts`] took
     /// apart, or what a day made of it. The accounts stand by rising number. Takes no memory.
@@ -144,6 +149,58 @@ impl Book {
         ensures { result ≡ totals_of self.now.accounts }
     {
         add_up(&self.accounts)
+    }
+
+    /// Settles one instruction on this settlement day, by these rules: carries it out or refuses it, under the next
+    /// record number, and answers its log row. The book and the row are those that a batch of this one instruction
+    /// gives by `settle_plain` and [`Book::commit`]. Who settles a batch so, one instruction after another, gets the
+    /// book and the log of the batch.
+    ///
+    /// A refused instruction is no error: it takes a record number, changes no account and takes no memory. The book
+    /// is changed in place, and no account is copied: the time is that of the look-ups of the accounts that the
+    /// instruction touches.
+    ///
+    /// # Errors
+    /// `NumbersSpent` if the next record number is above 10^15. Otherwise `NoMemory` if memory ran out for an
+    /// instruction that no check refuses. The book stays as it was, and can be used again.
+    pub fn apply(
+        &mut self,
+        alloc: Global,
+        rules: &Rules,
+        day: Day,
+        instruction: &Instruction,
+    ) -> Result<LogRow, ApplyFault>
+        ensures book { OnOk result (self.new ≡ applied self.old rules.now day instruction.now) }
+        ensures row { IfOk result (λ row. (self.old.next ≤ MOST_RECORD)
+            × (row ≡ row_applied self.old rules.now day instruction.now)) }
+        ensures settled { OnOk result
+            (self.new ≡ committed self.old (settled_day (day_of_one self.old rules.now day instruction.now))) }
+        ensures log { IfOk result
+            (λ row. log_of (day_of_one self.old rules.now day instruction.now) ≡ row ∷ []) }
+        ensures directory { directory_of self.new.accounts ≡ directory_of self.old.accounts }
+        ensures fault { IfErr result (IsApplyFault self.old rules.now day instruction.now) }
+        ensures unchanged { OnErr result (self.new ≡ self.old) }
+    {
+        let next = self.next;
+        let Some(number) = RecordNo::new(next) else {
+            return Err(ApplyFault::NumbersSpent);
+        };
+        rules.are_within_limits();
+        instruction.is_within_limits();
+        step_laws();
+        let setting = Setting {
+            rules,
+            day,
+            directory: &self.directory,
+        };
+        match carry_out(alloc, &setting, number, instruction, &mut self.accounts) {
+            Ok(reply) => {
+                day.get();
+                self.next = next + 1;
+                Ok(log_row(number, day, *instruction, reply))
+            }
+            Err(NoMemory) => Err(ApplyFault::NoMemory),
+        }
     }
 
     /// Replaces the settled accounts in the book, raises the next record number by the number of log rows, and

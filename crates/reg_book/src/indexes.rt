@@ -43,8 +43,8 @@ pub(crate) fn all_indexes(
     Ok(indexes)
 }
 
-// The indexes of the accounts that the instruction touches, in its order. None if one that must be known is not there.
-fn indexes_of(accounts: &[Account], instruction: &Instruction) -> Indexes
+/// The indexes of the accounts that the instruction touches, in its order. None if one that must be known is not there.
+pub(crate) fn indexes_of(accounts: &[Account], instruction: &Instruction) -> Indexes
     requires rising { IsRising (numbers accounts.now) }
     requires few { length accounts.now ≤ MOST_ACCOUNTS }
     ensures { StandAt (numbers accounts.now) result.items (footprint (directory_of accounts.now) instruction.now.act) }

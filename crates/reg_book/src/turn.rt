@@ -1,9 +1,10 @@
 //! One instruction, executed on a list of accounts that has those that it touches.
 
-ghost use Rattle.std.specs.Prelude.{◌≡◌, ◌+◌, ◌<◌, ◌≤◌, ◌++◌, All, IfOk, length, map, take, nat_eq};
+ghost use Rattle.std.specs.Prelude.{◌≡◌, ◌+◌, ◌<◌, ◌≤◌, ◌++◌, All, IfOk, OnErr, None, length, map, take, nat_eq};
 ghost use Rattle.std.specs.List.{AllByRecursion, IsDistinct};
 ghost use Rattle.reg_base.specs.Footprint.{footprint};
 ghost use Rattle.reg_rules.specs.State.{numbers};
+ghost use Rattle.reg_rules.specs.Checks.{refusal};
 ghost use Rattle.reg_rules.specs.Effect.{IsBehind};
 ghost use Rattle.reg_rules.specs.Step.{step};
 ghost use Rattle.reg_book.specs.Indexes.{StandAt};
@@ -40,8 +41,9 @@ pub fn take_turn(
 }
 
 // Executes the instruction. Its first `count` accounts are at the front already, and the others are at these indexes.
-// Each of these is swapped to the front, and back after the instruction.
-fn turn_from(
+// Each of these is swapped to the front, and back after the instruction. If memory runs out, all accounts are as they
+// were, and no check fails.
+pub(crate) fn turn_from(
     alloc: Global,
     setting: &Setting,
     number: RecordNo,
@@ -54,7 +56,9 @@ fn turn_from(
     requires behind { All (IsBehind number) accounts.old }
     requires left { AreIndexesLeft count (numbers accounts.old) indexes.old
         (footprint setting.now.directory instruction.now.act) }
-    ensures { IfOk result (λ reply. (accounts.new, reply) ≡ step setting.now accounts.old number instruction.now) }
+    ensures ok { IfOk result (λ reply. (accounts.new, reply) ≡ step setting.now accounts.old number instruction.now) }
+    ensures err { OnErr result
+        ((accounts.new ≡ accounts.old) × (refusal setting.now accounts.old instruction.now ≡ None)) }
 {
     step_laws();
     match indexes.split_first_mut() {
@@ -109,6 +113,8 @@ fn turn_at_front(
     requires within { count ≤ length accounts.old }
     requires first { take count (numbers accounts.old) ≡ footprint setting.now.directory instruction.now.act }
     ensures ok { IfOk result (λ reply. (accounts.new, reply) ≡ step setting.now accounts.old number instruction.now) }
+    ensures err { OnErr result
+        ((accounts.new ≡ accounts.old) × (refusal setting.now accounts.old instruction.now ≡ None)) }
     ensures count { length accounts.new ≡ length accounts.old }
 {
     // A step depends only on the accounts that it touches.

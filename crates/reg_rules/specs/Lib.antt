@@ -6,6 +6,7 @@ pub mod Checks
 pub mod Cases
 pub mod Effect
 pub mod Step
+pub mod Replies
 pub mod Laws
 pub mod ActLaws
 pub mod Conservation

@@ -1,5 +1,5 @@
 //! A first use of each library crate: one function a crate, which its callers can copy. In `rows` stand uses of the
-//! calls for single rows.
+//! calls for single rows, in `single` one of the call for a single instruction.
 #![tactic(auto)]
 
 pub mod account;
@@ -18,6 +18,7 @@ pub mod regions;
 pub mod rows;
 pub mod rules;
 pub mod schedules;
+pub mod single;
 pub mod tasks;
 pub mod text;
 pub mod work;
