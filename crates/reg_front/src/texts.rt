@@ -236,9 +236,11 @@ fn close_by_workers<T: Threads + Wait + Sync>(
 {
     match close_with(rt, alloc, book, rules, batch, workers, &FreeGate) {
         Ok((closed, _)) => Ok(closed),
-        Err(WorkFault::Workers) => Err(FrontFault::Workers),
-        Err(WorkFault::WrongBase { .. }) => unreachable!(),
-        Err(WorkFault::NoThread) => Err(FrontFault::NoThread),
-        Err(WorkFault::NoMemory) => Err(FrontFault::NoMemory),
+        Err(not_closed) => match not_closed.fault {
+            WorkFault::Workers => Err(FrontFault::Workers),
+            WorkFault::WrongBase { .. } => unreachable!(),
+            WorkFault::NoThread => Err(FrontFault::NoThread),
+            WorkFault::NoMemory => Err(FrontFault::NoMemory),
+        },
     }
 }

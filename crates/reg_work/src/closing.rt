@@ -12,12 +12,12 @@ ghost use Rattle.reg_tasks.specs.Lent.{lent_book, AreOfBook};
 ghost use Rattle.reg_tasks.specs.Lots.{AreOfDay};
 ghost use Rattle.reg_tasks.specs.Names.{IsNamed};
 ghost use Rattle.reg_tasks.specs.declared.lack.Lack.TheVariants.{Foreign};
-ghost use Rattle.reg_work.specs.Faults.{are_workers, IsWorkFault};
+ghost use Rattle.reg_work.specs.Faults.{are_workers, given_back, IsWorkFault};
 ghost use Rattle.reg_work.specs.Shifts.{AreShifts};
 ghost use Rattle.reg_work.specs.Shortages.{IsShortage};
 
 use crate::alone::{only_shift, run_in_order};
-use crate::fault::{Shortage, WorkFault};
+use crate::fault::{NotClosed, Shortage, WorkFault};
 use crate::opener::Copying;
 use crate::shift::Shift;
 use crate::stealing::run_by_stealing;
@@ -25,7 +25,7 @@ use crate::tally::Work;
 use crate::waves::is_allowed;
 use reg_account::Account;
 use reg_base::{Batch, Directory, NoMemory, Rules};
-use reg_book::{Book, ClosedDay, closing_is_a_book, settled_is_closing};
+use reg_book::{Book, ClosedDay, SettleFault, closing_is_a_book, settled_is_closing};
 use reg_rules::{LogRow, Reply};
 use reg_tasks::{Context, Gate, Lack, LastParcel, Naming, Slots, Vault};
 use std::alloc::Global;
@@ -170,27 +170,31 @@ fn run_lent<N: Naming + Send + Sync, R: Threads + Wait + Sync, G: Gate>(
     batch: &Batch,
     workers: u32,
     gate: &G,
-) -> Result<Ended<N>, WorkFault>
+) -> Result<Ended<N>, Shortage>
     requires lent { AreOfBook (lent_book N.day) directory.now next }
     requires day { IsNamed N.day (lent_book N.day) rules.now batch.now }
+    requires follows { batch.now.base + 1 ≡ next }
     requires rising { IsRising (numbers accounts.items) }
     requires of_day { AreOfDay N.day accounts.items }
     requires workers { are_workers workers ≡ true }
-    ensures follows { MatchResult result (λ e. batch.now.base + 1 ≡ next)
-        (IsWorkFault workers (lent_book N.day) batch.now) }
     ensures closing { IfOk result (λ e. IfSome N.day (λ d. e.accounts.items ≡ closing_state d)) }
     ensures replies { IfOk result (λ e. IfSome N.day (λ d. e.replies.items ≡ replies_of d)) }
     ensures shifts { IfOk result (λ e. AreShifts workers (length batch.now.instructions) e.shifts.items) }
+    ensures lack { IfErr result (IsShortage workers) }
 {
-    let context = Context::<N>::of_lent(rt, alloc, directory, next, rules, batch, workers)?;
-    let Ok(vault) = Vault::of(alloc, accounts) else {
-        return Err(WorkFault::NoMemory);
+    let context = match Context::<N>::of_lent(rt, alloc, directory, next, rules, batch, workers) {
+        Ok(context) => context,
+        Err(SettleFault::NoMemory) => return Err(Shortage::Day(Lack::Memory)),
+        Err(SettleFault::WrongBase { .. }) => unreachable!(),
     };
-    Ok(run_context(rt, alloc, &context, vault, workers, gate)?)
+    let Ok(vault) = Vault::of(alloc, accounts) else {
+        return Err(Shortage::Day(Lack::Memory));
+    };
+    run_context(rt, alloc, &context, vault, workers, gate)
 }
 
-// Settles a batch on the accounts of the book, which names the day with rules and batch, by workers whose number is
-// within its limits.
+// Settles a batch, which begins with the book's next record number, on the accounts of the book, which names the day
+// with rules and batch, by workers whose number is within its limits.
 fn close_named<N: Naming + Send + Sync, R: Threads + Wait + Sync, G: Gate>(
     rt: &R,
     alloc: Global,
@@ -199,15 +203,15 @@ fn close_named<N: Naming + Send + Sync, R: Threads + Wait + Sync, G: Gate>(
     batch: &Batch,
     workers: u32,
     gate: &G,
-) -> Result<(ClosedDay, Vec<Shift<N>>), WorkFault>
+) -> Result<(ClosedDay, Vec<Shift<N>>), Shortage>
     requires day { N.day ≡ Some (day_of book rules.now batch.now) }
+    requires follows { batch.now.base + 1 ≡ book.next }
     requires workers { are_workers workers ≡ true }
-    ensures closed { MatchResult result
-        (λ c. (batch.now.base + 1 ≡ book.next)
-        × (c.0.book ≡ committed book (settled_day (day_of book rules.now batch.now)))
-        × (c.0.replies.items ≡ replies_of (day_of book rules.now batch.now)))
-        (IsWorkFault workers book batch.now) }
+    ensures closed { IfOk result
+        (λ c. (c.0.book ≡ committed book (settled_day (day_of book rules.now batch.now)))
+        × (c.0.replies.items ≡ replies_of (day_of book rules.now batch.now))) }
     ensures shifts { IfOk result (λ c. AreShifts workers (length batch.now.instructions) c.1.items) }
+    ensures lack { IfErr result (IsShortage workers) }
 {
     rules.are_within_limits();
     closing_is_a_book();
@@ -242,9 +246,10 @@ fn close_named<N: Naming + Send + Sync, R: Threads + Wait + Sync, G: Gate>(
 /// shift, once.
 ///
 /// # Errors
-/// The first of these that applies; the book is dropped then. `Workers` if the number of workers is not 1 to 8.
-/// `WrongBase` if the first record number of the batch is not the book's next record number. `NoThread` if a thread
-/// could not be started. `NoMemory` if memory ran out. All threads have ended then.
+/// The first of these that applies. `Workers` if the number of workers is not 1 to 8. `WrongBase` if the first record
+/// number of the batch is not the book's next record number. Both are told before any memory is taken or thread is
+/// started, and give the book back as it was. `NoThread` if a thread could not be started. `NoMemory` if memory ran
+/// out. After these the book is gone, and all threads have ended.
 ///
 /// [`settle_with`]: crate::settle_with
 pub fn close_with<R: Threads + Wait + Sync, G: Gate>(
@@ -255,16 +260,21 @@ pub fn close_with<R: Threads + Wait + Sync, G: Gate>(
     batch: &Batch,
     workers: u32,
     gate: &G,
-) -> Result<(ClosedDay, Vec<Shift<Brand>>), WorkFault>
+) -> Result<(ClosedDay, Vec<Shift<Brand>>), NotClosed>
     ensures closed { MatchResult result
         (λ c. (are_workers workers ≡ true) × (batch.now.base + 1 ≡ book.next)
         × (c.0.book ≡ committed book (settled_day (day_of book rules.now batch.now))))
-        (IsWorkFault workers book batch.now) }
+        (λ e. IsWorkFault workers book batch.now e.fault) }
     ensures replies { IfOk result (λ c. c.0.replies.items ≡ replies_of (day_of book rules.now batch.now)) }
     ensures shifts { IfOk result (λ c. AreShifts workers (length batch.now.instructions) c.1.items) }
+    ensures back { IfErr result (λ e. e.book ≡ given_back e.fault book) }
 {
     if !is_allowed(workers) {
-        return Err(WorkFault::Workers);
+        return Err(NotClosed::with_book(WorkFault::Workers, book));
     }
-    close_named::<Brand, R, G>(rt, alloc, book, rules, batch, workers, gate)
+    let next = book.next_record();
+    if batch.base() + 1 != next {
+        return Err(NotClosed::with_book(WorkFault::WrongBase { next }, book));
+    }
+    Ok(close_named::<Brand, R, G>(rt, alloc, book, rules, batch, workers, gate)?)
 }

@@ -54,7 +54,7 @@ mod work_loop;
 mod worker;
 
 pub use closing::close_with;
-pub use fault::WorkFault;
+pub use fault::{NotClosed, WorkFault};
 pub use reg_tasks::{FreeGate, Gate};
 pub use shift::Shift;
 pub use stealing::settle_with;

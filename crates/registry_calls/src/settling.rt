@@ -4,7 +4,8 @@ use crate::call::{Call, try_call, try_rehearsed, try_threads, try_using_up};
 use crate::digest::digest_of;
 use crate::endings::{Ended, how_ended};
 use crate::stop::Stop;
-use reg_book::{SettleFault, settle_in_place, settle_plain};
+use reg_base::{Batch, Rules};
+use reg_book::{Book, SettleFault, settle_in_place, settle_plain};
 use reg_tasks::{Context, Unnamed, run_order};
 use reg_text::{DayInput, read_day};
 use reg_work::{FreeGate, close_with, settle_waves, settle_with};
@@ -169,7 +170,24 @@ fn closed_in_place(alloc: Global, day: DayInput) -> Ended {
     how_ended(settle_in_place(alloc, book, &rules, &batch))
 }
 
-// `close_with`, of which the closed day alone is looked at.
+// The book, which `close_with` gives back for an empty batch that begins one record late. Nothing in here takes memory.
+fn given_back<R: Threads + Wait + Sync>(
+    rt: &R,
+    alloc: Global,
+    book: Book,
+    rules: &Rules,
+    batch: &Batch,
+) -> Option<Book> {
+    let Ok(late) = Batch::new(batch.day(), batch.base() + 1, Vec::new(alloc)) else {
+        return None;
+    };
+    match close_with(rt, alloc, book, rules, &late, 1, &FreeGate) {
+        Ok(_) => None,
+        Err(not_closed) => not_closed.book,
+    }
+}
+
+// `close_with`, of which the closed day alone is looked at, with a book that it has given back before.
 fn closed_by_workers<R: Threads + Wait + Sync>(
     rt: &R,
     alloc: Global,
@@ -177,13 +195,17 @@ fn closed_by_workers<R: Threads + Wait + Sync>(
     workers: u32,
 ) -> Ended {
     let DayInput { book, rules, batch } = day;
+    let Some(book) = given_back(rt, alloc, book, &rules, &batch) else {
+        return Ended::Otherwise;
+    };
     match close_with(rt, alloc, book, &rules, &batch, workers, &FreeGate) {
         Ok((closed, _)) => Ended::Done(digest_of(&closed)),
-        Err(fault) => fault.into(),
+        Err(not_closed) => not_closed.fault.into(),
     }
 }
 
-/// Tries `close_with`, which uses up the book.
+/// Tries `close_with`: first with a wrong base, for which it gives the book back, and then with the right one. If it
+/// was refused something, that book is gone, and it is tried with another one.
 pub(crate) fn try_closing<R: Threads + Wait + Sync, W: Write>(
     rt: &R,
     alloc: Global,

@@ -1,6 +1,6 @@
 //! Why a run ends early, and what is written.
 
-use reg_work::WorkFault;
+use reg_work::{NotClosed, WorkFault};
 use std::alloc::{AllocError, Global};
 use std::fmt::{Debug, Display};
 use std::io::Write;
@@ -27,6 +27,12 @@ impl From<WorkFault> for Stop {
             WorkFault::NoThread | WorkFault::NoMemory => Stop::Short,
             WorkFault::Workers | WorkFault::WrongBase { .. } => Stop::Input,
         }
+    }
+}
+
+impl From<NotClosed> for Stop {
+    fn from(not_closed: NotClosed) -> Stop {
+        not_closed.fault.into()
     }
 }
 

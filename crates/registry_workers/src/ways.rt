@@ -4,7 +4,7 @@ use crate::stop::Stop;
 use reg_base::NoMemory;
 use reg_book::{ClosedDay, Settled, settle_in_place};
 use reg_text::{DayInput, read_day};
-use reg_work::{Gate, Shift, WorkFault, close_with, settle_with};
+use reg_work::{Gate, NotClosed, Shift, WorkFault, close_with, settle_with};
 use std::alloc::Global;
 use std::marker::Brand;
 use std::sync::Wait;
@@ -31,7 +31,7 @@ pub(crate) fn by_stealing<R: Threads + Wait + Sync, G: Gate>(
     settle_with(rt, alloc, &day.book, &day.rules, &day.batch, workers, gate)
 }
 
-pub(crate) type Closed = Result<(ClosedDay, Vec<Shift<Brand>>), WorkFault>;
+pub(crate) type Closed = Result<(ClosedDay, Vec<Shift<Brand>>), NotClosed>;
 
 /// Settles by workers that steal, to whom the book's own accounts move.
 pub(crate) fn by_owners<R: Threads + Wait + Sync, G: Gate>(

@@ -12,7 +12,7 @@ from_sorted-after-requires g c =
       book = parts.kept;
       rules = c.are_within_limits.ensures;
       batch = c.len.ensures.room;
-      follows = ended.follows ∙ parts.next;
+      follows = c.requires.follows;
     } in
     let next = parts.next in
     let count = c.from-count.ensures in
@@ -32,12 +32,11 @@ returns-clause-closed g c =
       book = parts.kept;
       rules = c.are_within_limits.ensures;
       batch = c.len.ensures.room;
-      follows = ended.follows ∙ parts.next;
+      follows = c.requires.follows;
     } in
     let next = parts.next in
     let count = c.from-count.ensures in
     let len = c.len.ensures.value in (
-      ended.follows ∙ parts.next,
       commits day c.settled_is_closing.ensures.committed is_day _ _ _ c.from_sorted-after.ensures
           (of_named (λ d. c.in_ok-ended.ended.accounts.items ≡ closing_state d) g.N.Naming.day day c.requires.day
           ended.closing)
