@@ -5,8 +5,8 @@ usage: fuzz.py [--program PROGRAM] [--minutes N] [--seed N] [--jobs N] [--corpus
 
 It begins with all texts of cases/ and examples/, those of tables too. Again and again it takes one of its texts,
 changes a few rows, fields, bytes or line ends, puts two texts together, or repeats accounts until the text has several
-parts (`mutations.py`), and compares what the program says of it with the second answer (tools/rules.py,
-tools/faults.py): by `settle` with one worker and with a drawn number of them, and by two other commands, or where the
+parts (`mutations.py`), and compares what the program says of it with the second answer
+(`registry_tools`): by `settle` with one worker and with a drawn number of them, and by two other commands, or where the
 text has a fault by one. What a text shows is a set of words:
 
   fault     the tag of the first faulty row, its cause, and the tag of the row before it
@@ -44,9 +44,9 @@ from random import Random
 import beside  # noqa: F401 (it finds the modules of cases/)
 from harness import TOP, Trials, program_of
 
-import faults
+from registry_tools import faults
 import mutations
-import rules
+from registry_tools import rules
 from compared import Expected, difference as difference_once
 from stored import Case, trials_of_folder
 

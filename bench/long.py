@@ -10,7 +10,7 @@ registry_refusals, which `cd crates/NAME && rt run` builds.
 days      draws days, of both versions and all acts, damaged ones among them, and some so large that they are read by
           several parts. Each is settled by one to eight workers on one, two and four processors in turn. Of each second
           run the threads are held up at random at their start and where they take memory (`delay.c`, which needs a C
-          compiler, `cc`). Every answer must be that of the second answer (tools/rules.py, tools/faults.py). With
+          compiler, `cc`). Every answer must be that of the second answer (`registry_tools`). With
           WORKERS each day is also settled by workers that are held up at random at the gate.
 orders    draws days, and of each many more, whose instructions are some of its own in another order, one of them
           several times now and then. PROGRAM settles each by one worker and by a drawn number of them, on one, two and
@@ -54,10 +54,10 @@ from random import Random
 import beside  # noqa: F401 (it finds the modules of cases/)
 from harness import TOP, Trials, program_of
 
-import faults
+from registry_tools import faults
 import fuzz
 import mutations
-import rules
+from registry_tools import rules
 from compared import Expected
 from drawing import PAIRS, damaged_rows, drawn_rows, text_of
 

@@ -8,7 +8,7 @@ import datetime
 import random
 
 import harness  # noqa: F401 (it finds the modules of tools/)
-import rules
+from registry_tools import rules
 from collections.abc import Iterator
 
 MOST_RECORD = 10**15

@@ -3,8 +3,9 @@
 A trial is a name and what is wrong, if something is. A part that cannot be tried on this machine is left out, which a
 line says: it counts neither as passed nor as failed.
 
-Only this and bench/beside.py change where Python looks for modules: the scripts have no ending, so that they are started
-by their names, and are in no package. They, and those of bench/, find the modules of tools/ and of this folder.
+Only this, bench/beside.py and `./day` change where Python looks for modules: the scripts have no ending, so that they
+are started by their names, and are in no package. They, and those of bench/, find the package of tools/ and the modules
+of this folder.
 """
 from __future__ import annotations
 
@@ -113,7 +114,7 @@ def must_have_memory(answer: Answer) -> Answer:
 
 def day_command(words: Iterable[object]) -> int | str | None:
     """Runs a command of `./day` in this process, and answers its status."""
-    from day import main
+    from registry_tools.day import main
 
     try:
         status: int = main.main([*map(str, words)])

@@ -14,18 +14,18 @@ from typing import Any
 
 from harness import Trial
 
-import rules
-from day import checks, compliance
-from day.errors import WordsFault
-from day.main import main as day_main
-from day.outdated import Entries
-from day.pages import index
-from day.pages.rulebook import ACTS
-from day.pages.plan import MOST_BOXES
-from day.pages.summary import MOST_DONE, MOST_REFUSED
-from day.pairs import read_pair
+from registry_tools import rules
+from registry_tools.day import checks, compliance
+from registry_tools.day.errors import WordsFault
+from registry_tools.day.main import main as day_main
+from registry_tools.day.outdated import Entries
+from registry_tools.day.pages import index
+from registry_tools.day.pages.rulebook import ACTS
+from registry_tools.day.pages.plan import MOST_BOXES
+from registry_tools.day.pages.summary import MOST_DONE, MOST_REFUSED
+from registry_tools.day.pairs import read_pair
 from reread import Page
-from texts import grouped
+from registry_tools.texts import grouped
 from unique_days import Day
 
 from sample_days import due_behind
@@ -196,8 +196,9 @@ def plan_of(made: Made) -> None:
         chain = made.page().table("The chain in words")
         assert all(levels[record] == level for record, level in chain.columns("Record", "Level"))
         return
-    arrows = {(str(first + int(head) - 1), str(first + int(tail) - 1), account) for tag, tail, head, *more in
-              (row if row[0] == "arrow" else (*row, "") for row in rows) if tag == "arrow" for account in more}  # fmt: skip
+    arrows = set()
+    for _, tail, head, *more in (row for row in rows if row[0] == "arrow"):
+        arrows |= {(str(first + int(head) - 1), str(first + int(tail) - 1), account) for account in more}
     table = made.page().table("The plan in words")
     assert {record: level for record, level in table.columns("Record", "Level")} == levels
     told = set()
@@ -268,7 +269,8 @@ def all_of_log_are_told(made: Made) -> None:
 
 BAR = re.compile(
     "<title>surrendered ([0-9,]+), emissions ([0-9,]+)( without those of [^<]*)?</title>"
-    '<rect class="bar" x="1" y="4" width="([0-9]+)" height="6"/><path class="frame" d="M([0-9]+),1H1V13H([0-9]+)(V1)?"/>'
+    '<rect class="bar" x="1" y="4" width="([0-9]+)" height="6"/>'
+    '<path class="frame" d="M([0-9]+),1H1V13H([0-9]+)(V1)?"/>'
 )
 
 
@@ -565,8 +567,8 @@ def nothing_of_others(made: Made, drawn: Day) -> None:
 # What is tried of which day.
 
 OF_EACH = (
-    form_of, acts_of, totals_of, refusals_of, waiting_of, plan_of, done_of, index_of, all_of_log_are_told, compliance_of, bars_of,
-    accounts_of, statements_of, lists_of_accounts, refusals_of_accounts, facts_of_accounts,
+    form_of, acts_of, totals_of, refusals_of, waiting_of, plan_of, done_of, index_of, all_of_log_are_told,
+    compliance_of, bars_of, accounts_of, statements_of, lists_of_accounts, refusals_of_accounts, facts_of_accounts,
 )  # fmt: skip
 
 

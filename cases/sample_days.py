@@ -11,8 +11,7 @@ from pathlib import Path
 
 from harness import TOP, Said
 
-import faults
-import rules
+from registry_tools import faults, rules
 
 # Users 201 and 202 propose and approve for account 2. The transfer to account 4, which it trusts, is due on the day;
 # the one to account 3 on the next day but one.

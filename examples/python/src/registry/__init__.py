@@ -16,8 +16,8 @@ from registry.rows import Account, Act, Determined, Done, Holding, Instruction, 
 from registry.texts import Day, Log, Report, Statement, refusals
 
 __all__ = [
-    "Account", "Act", "Cause", "Day", "Determined", "Done", "Fault", "Holding", "Instruction", "Log", "LogRow", "NoAccount",
-    "Refused", "Report", "Retired", "Statement", "Task", "Totals", "refusals", "settle",
+    "Account", "Act", "Cause", "Day", "Determined", "Done", "Fault", "Holding", "Instruction", "Log", "LogRow",
+    "NoAccount", "Refused", "Report", "Retired", "Statement", "Task", "Totals", "refusals", "settle",
 ]  # fmt: skip
 
 

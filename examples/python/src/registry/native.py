@@ -38,7 +38,8 @@ class Cause(IntEnum):
 
 
 class Fault(ValueError):
-    """The bytes are no day text: the number of the first faulty row, counted from 1, and the first cause that applies to it."""
+    """The bytes are no day text: the number of the first faulty row, counted from 1, and the first cause that applies
+    to it."""
 
     def __init__(self, row: int, cause: Cause) -> None:
         super().__init__(row, cause)

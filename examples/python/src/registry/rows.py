@@ -143,8 +143,10 @@ class Account:
     @classmethod
     def of(cls, fields: Sequence[str]) -> Account:
         number, kind, holder, status, outside, waiver, correction, general, aviation = fields
+        is_outside, has_waiver = outside == "yes", waiver == "yes"
+        corrections = {1: int(correction)}
         return cls(
-            int(number), kind, int(holder), status, outside == "yes", waiver == "yes", int(general), int(aviation), {1: int(correction)}
+            int(number), kind, int(holder), status, is_outside, has_waiver, int(general), int(aviation), corrections
         )
 
     def add(self, tag: str, fields: Sequence[str]) -> None:

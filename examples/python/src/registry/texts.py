@@ -110,7 +110,7 @@ class Report:
 
 def _totals(text: bytes) -> dict[str, Totals]:
     rows = [row for row in _rows(text) if row[0] == "totals"]
-    return {kind: Totals(kind, int(held), int(surrendered), int(deleted)) for _, kind, held, surrendered, deleted in rows}
+    return {kind: Totals(kind, *map(int, numbers)) for _, kind, *numbers in rows}
 
 
 @dataclass(frozen=True)

@@ -1,0 +1,221 @@
+"""Changes an account or the rules of the day by hand, as a difference that comes into the next day's text of a folder.
+
+The difference is shown first, with what it was and what it will be. It counts with --yes, and is then handed in with
+who and why. What an act does, and what no hand may do, is refused with the field and the act.
+
+  ./day change 100377 --user -5201 --user +5204:approve --why "a letter of 22 September" --yes
+  ./day change --open-account 300126,trading,9017 --user +4201:both --why ".." --yes     opens an account with a user
+  ./day change --not-working 2026-12-28 --admin +903 --why ".."        shows a change of the rules
+
+A value that begins with - and a letter stands behind =, as --surrender=-aircraft:aviation.
+
+With --pairs DAY REPORT nothing is kept: the whole blocks of the accounts that are changed are written, for
+./day next --changes.
+"""
+import argparse
+import sys
+import tempfile
+from pathlib import Path
+from typing import Iterator
+
+from registry_tools import faults
+from registry_tools.day import next as next_day
+from registry_tools.day.day_text import DayText
+from registry_tools.day.errors import FOUND, WordsFault
+from registry_tools.day.notes import Notes
+from registry_tools.day.office import composing, edits, folder, handed, words
+from registry_tools.day.office.edits import ADD, DROP, OPEN, PUT, Edit
+from registry_tools.day.office.folder import Office
+from registry_tools.day.office.handed import HandedIn
+from registry_tools.day.options import add_to
+from registry_tools.day.output import write_answer
+from registry_tools.day.pairs import read_pair
+
+EXAMPLE = './day change 100210 --holder 5503 --why "sold" --office out/office'
+FIELDS = {"holder": "HOLDER", "outside": "OUTSIDE", "waiver": "WAIVER"}
+LAGS = ("trusted", "other", "list", "reversal")
+FIRST_PERIOD = "1"
+# How a fault names the text that would come of it.
+NEXT = "the next day"
+
+
+def add_words(parser: argparse.ArgumentParser) -> None:
+    parser.add_argument("account", metavar="ACCOUNT", type=int, nargs="?", help="the account that is changed")
+    own = parser.add_argument_group("of the account")
+    adds = "+USER:RIGHT adds or changes a representative, -USER leaves one out"
+    own.add_argument("--user", metavar="±USER:RIGHT", nargs=1, default=[], help=adds)
+    factor = "a correction factor; an empty VALUE leaves it out"
+    own.add_argument("--correction", metavar="PERIOD:VALUE", nargs=1, default=[], help=factor)
+    own.add_argument("--holder", metavar="N", help="another holder")
+    own.add_argument("--outside", choices=faults.YES_NO, help="transfers outside the trusted list")
+    own.add_argument("--waiver", choices=faults.YES_NO, help="waiver of approval")
+    wrong = "emissions or a figure of a wrong year or account"
+    own.add_argument("--leave-out", metavar="emissions:YEAR", nargs=1, default=[], help=wrong)
+    rules = parser.add_argument_group("of the rules, and new accounts")
+    rules.add_argument("--open-account", metavar="NUMBER,KIND,HOLDER", nargs=1, default=[], help="opens an account")
+    rules.add_argument("--admin", metavar="±USER", nargs=1, default=[], help="an administrator")
+    rules.add_argument("--period", metavar="FIRST-LAST", nargs=1, default=[], help="one more period")
+    rules.add_argument("--current", metavar="PERIOD", help="the current period")
+    rules.add_argument("--lag", metavar="NAME:DAYS", nargs=1, default=[], help=f"another lag: {', '.join(LAGS)}")
+    pair = "a kind of account and a kind of allowance"
+    rules.add_argument("--surrender", metavar="±KIND:KIND", nargs=1, default=[], help=pair)
+    rules.add_argument("--working", metavar="DATE", nargs=1, default=[], help="a working day")
+    rules.add_argument("--not-working", metavar="DATE", nargs=1, default=[], help="no working day")
+    parser.add_argument("--yes", action="store_true", help="make the change count")
+    words.add_office(parser)
+    paths = "a day with its report, in place of a folder"
+    parser.add_argument("--pairs", metavar=("DAY", "REPORT"), nargs=2, help=paths)
+    words.add_who(parser)
+    parser.add_argument("--why", metavar="WORDS", help="the reason, which is kept: a folder needs it")
+    add_to(parser)
+
+
+def signed(option: str, word: str) -> tuple[bool, str]:
+    """Whether a word adds something, and what."""
+    if word[:1] not in ("+", "-"):
+        raise WordsFault(f"{option} {word} has to begin with + or -")
+    return word[0] == "+", word[1:]
+
+
+def account_edits(said: argparse.Namespace, number: int) -> Iterator[Edit]:
+    for it in said.user:
+        is_added, word = signed("--user", it)
+        user, _, right = word.partition(":")
+        yield Edit(number, ADD, ("user", user, right)) if is_added else Edit(number, DROP, ("user", user))
+    for it in said.correction:
+        period, _, value = it.partition(":")
+        if period == FIRST_PERIOD:
+            yield Edit(number, PUT, ("CORRECTION", value or "0"))
+        else:
+            row = ("correction", period)
+            yield Edit(number, ADD, (*row, value)) if value else Edit(number, DROP, row)
+    for name, field in FIELDS.items():
+        if getattr(said, name) is not None:
+            yield Edit(number, PUT, (field, getattr(said, name)))
+    for it in said.leave_out:
+        tag, _, year = it.partition(":")
+        if tag not in ("emissions", "figure"):
+            raise WordsFault(f"--leave-out {it}: emissions:YEAR or figure:YEAR")
+        yield Edit(number, DROP, (tag, year))
+
+
+def account_of(said: argparse.Namespace) -> int:
+    """The account that is changed: the named one, or the only one that is opened; 0 if there is none."""
+    if said.account is None and len(said.open_account) == 1:
+        return opened(said.open_account[0]).number
+    return int(said.account or 0)
+
+
+def opened(word: str) -> Edit:
+    number, *rest = word.split(",")
+    if len(rest) != 2 or not number.isdigit():
+        raise WordsFault(f"--open-account {word}: NUMBER,KIND,HOLDER")
+    return Edit(int(number), OPEN, tuple(rest))
+
+
+def rule_edits(said: argparse.Namespace, lags: dict[str, int]) -> Iterator[Edit]:
+    for it in said.admin:
+        is_added, user = signed("--admin", it)
+        yield Edit(0, ADD if is_added else DROP, ("admin", user))
+    for it in said.period:
+        yield Edit(0, ADD, ("period", *it.split("-")))
+    if said.current is not None:
+        yield Edit(0, PUT, ("current", said.current))
+    if said.lag:
+        yield Edit(0, PUT, ("lags", *changed_lags(said.lag, lags)))
+    for it in said.surrender:
+        is_added, pair = signed("--surrender", it)
+        yield Edit(0, ADD if is_added else DROP, ("surrender", *pair.split(":")))
+    yield from (Edit(0, ADD, ("work", it)) for it in said.working)
+    yield from (Edit(0, DROP, ("work", it)) for it in said.not_working)
+
+
+def changed_lags(given: list[str], lags: dict[str, int]) -> list[str]:
+    now = {name: str(days) for name, days in lags.items()}
+    for it in given:
+        name, _, days = it.partition(":")
+        if name not in LAGS:
+            raise WordsFault(f"--lag {it}: one of {', '.join(LAGS)}, with :DAYS")
+        now[name] = days
+    return [now[it] for it in LAGS]
+
+
+def edits_of(said: argparse.Namespace, lags: dict[str, int]) -> list[Edit]:
+    """All differences that the words ask for. An account is opened before anything else of it."""
+    number = account_of(said)
+    of_account = [*account_edits(said, number)]
+    if of_account and not number:
+        raise WordsFault("name the ACCOUNT that is changed")
+    made = [*map(opened, said.open_account), *of_account, *rule_edits(said, lags)]
+    for it in made:
+        edits.must_be_readable(it)
+    if not made:
+        raise WordsFault("nothing to change: ./day change --help tells what can be")
+    return made
+
+
+def run(said: argparse.Namespace) -> int:
+    if said.pairs:
+        return on_paths(said)
+    if said.why is None:
+        raise WordsFault("--why is needed: it is kept with the change")
+    if said.to is not None:
+        raise WordsFault("--to is for --pairs: a folder keeps the change itself")
+    who, why = words.one_line("--who", said.who), words.one_line("--why", said.why)
+    with folder.locked(said.office, "change", who, folder.to_errors) as office:
+        handed_in = office.handed_in()
+        handed_in.remove_unnamed()
+        composing.last_pair(office)
+        date = composing.date_of(None, office, handed_in)
+        before = composing.compose(office, handed_in.until(date), date).day(office.next_folder / NEXT)
+        return show(office, handed_in, before, edits_of(said, before.head.lags), said.yes, who, why)
+
+
+def on_paths(said: argparse.Namespace) -> int:
+    """Shows the differences from a report, and writes the whole blocks of the accounts that are changed."""
+    day, report = read_pair(*said.pairs)
+    made = edits_of(said, day.head.lags)
+    if any(it.number == 0 for it in made):
+        where = "change a row of the rules in the text that ./day next writes"
+        raise WordsFault(f"with --pairs only accounts are changed: {where}")
+    blocks = edits.edited_blocks(made, report, {})
+    text = handed.text_of_rows([row for rows in blocks.values() for row in rows])
+    with tempfile.TemporaryDirectory() as work:
+        path = Path(work) / "changes.csv"
+        path.write_bytes(text)
+        next_day.book_with_changes(day, report, str(path), Notes())
+    for number, rows in blocks.items():
+        old = report.book.get(number)
+        for it in edits.differences(old.rows if old else [], rows):
+            print(f"{number}: {it}", file=sys.stderr)
+    write_answer(text.decode("utf-8", "surrogateescape"), said.to)
+    return 0
+
+
+def account_differences(before: DayText, after: DayText) -> Iterator[str]:
+    """The rows of accounts that went and came, each with its account."""
+    for number, block in after.book.items():
+        old = before.book.get(number)
+        yield from (f"{number}: {it}" for it in edits.differences(old.rows if old else [], block.rows))
+
+
+def show(
+    office: Office, handed_in: HandedIn, before: DayText, made: list[Edit], counts: bool, who: str, why: str
+) -> int:
+    """Shows the difference, looks whether the next day can have it, and keeps it if it counts."""
+    date = before.head.date
+    content = handed.text_of_rows([it.row() for it in made])
+    try:
+        part = handed.put(handed_in, handed.EDITS, content, len(made), why, who)
+        after = composing.compose(office, handed_in.until(date), date).day(office.next_folder / NEXT)
+        print("\n".join([*edits.differences(before.heading, after.heading), *account_differences(before, after)]))
+        if counts:
+            handed_in.keep()
+    finally:
+        # (what does not count is taken away at once)
+        office.handed_in().remove_unnamed()
+    if counts:
+        print(f"handed in for {date}: places {part.start} to {part.end - 1}")
+        return 0
+    print(f"this would be changed for {date}; nothing is, without --yes")
+    return FOUND

@@ -1,0 +1,270 @@
+"""Makes the text of the next day of a folder: of the last day with its report, and of what was handed in since."""
+import contextlib
+import datetime
+import gzip
+import itertools
+import re
+import tempfile
+import zlib
+from dataclasses import dataclass, field, replace
+from pathlib import Path
+from typing import Iterator
+
+from registry_tools import faults, rules
+from registry_tools.day import next as next_day
+from registry_tools.day import pending
+from registry_tools.day.accounts import Accounts, Reader
+from registry_tools.day.day_text import DayText, day_of
+from registry_tools.day.due import due_day_after, head_after
+from registry_tools.day.errors import FileFault, WordsFault, shown
+from registry_tools.day.office import edits, files, handed
+from registry_tools.day.office.folder import Office
+from registry_tools.day.office.journal import Event
+from registry_tools.day.office.edits import Edit
+from registry_tools.day.office.handed import CHANGES, DO, EDITS, FIRST, WORK, HandedIn, Item
+from registry_tools.day.notes import Notes
+from registry_tools.day.pairs import read_pair
+from registry_tools.day.repeated import tell_dates
+from registry_tools.day.report import Report
+from registry_tools.day.rows import Rows, rows_of_text
+
+
+# What is merged into one file of a filed day.
+MERGED = (DO, CHANGES, EDITS, WORK)
+
+
+@dataclass
+class NextDay:
+    """The next day as it stands: its text, what waits behind it, and what is to be told."""
+
+    date: datetime.date
+    # Its first record number.
+    first: int
+    text: bytes
+    waiting: list[pending.Waiting]
+    # The instructions that waited and are due now: they stand before those that were handed in.
+    entered: list[pending.Waiting]
+    # The instructions that were handed in, in order.
+    new: list[Item]
+    # The merged contents of what was handed in, by kind.
+    contents: dict[str, bytes]
+    notes: list[str] = field(default_factory=list)
+
+    def waiting_text(self) -> bytes:
+        return pending.text_of(self.waiting, pending.Made(self.date, self.first)).encode("utf-8", "surrogateescape")
+
+    def day(self, path: Path) -> DayText:
+        """The text, read again with all checks. A fault names the path."""
+        return day_of(rows_of_text(str(path), self.text.decode("utf-8", "surrogateescape")))
+
+
+def date_of(word: str | None, office: Office, handed_in: HandedIn) -> datetime.date:
+    """The settlement day: the named one, or the first working day behind the last day."""
+    first = handed_in.first_text()
+    if word is not None:
+        try:
+            return datetime.date.fromisoformat(word)
+        except ValueError:
+            raise WordsFault(f"--date {word} is no date, as 2026-12-14") from None
+    if first:
+        return first.head.date
+    last = office.last()
+    assert last is not None  # (without a filed day there is the first text)
+    undone = [part.day for part in handed_in.parts if part.day]
+    if undone:
+        return min(undone)
+    later = [date for date in working_days(office, last, handed_in) if date > last.date]
+    # (behind the end of the calendar, the next day serves to show what would come of it)
+    return later[0] if later else last.date + datetime.timedelta(1)
+
+
+def working_days(office: Office, last: Event, handed_in: HandedIn) -> list[datetime.date]:
+    """The calendar with the working days that were handed in."""
+    new = [datetime.date.fromisoformat(item.rows[0].split(",")[1]) for item in handed_in.items(WORK)]
+    return sorted({*calendar_of(office, last), *new})
+
+
+def last_pair(office: Office) -> tuple[DayText, Report]:
+    """The last day of a folder, and its report."""
+    last = office.last()
+    if last is None:
+        raise WordsFault(f"{office.path} has no settled day yet")
+    return read_pair(str(office.file(last, "day")), str(office.file(last, "report")))
+
+
+def calendar_of(office: Office, event: Event) -> list[datetime.date]:
+    """The working days of a filed day. Only its first rows are unpacked."""
+    path, days = office.file(event, "day"), []
+    try:
+        with gzip.open(path, "rt", encoding="utf-8", errors="surrogateescape") as stream:
+            for line in itertools.takewhile(lambda row: not row.startswith(("account,", "do,", "end")), stream):
+                if line.startswith("work,"):
+                    days.append(datetime.date.fromisoformat(line.split(",")[1].strip()))
+    except (OSError, EOFError, zlib.error, ValueError) as error:
+        raise FileFault(path, 0, "", f"it cannot be read: {error}", "") from None
+    return days
+
+
+def contents_of(handed_in: HandedIn) -> dict[str, bytes]:
+    """What was handed in, the files of each kind as one."""
+    return {kind: handed.text_of_rows([row for item in handed_in.items(kind) for row in item.rows]) for kind in MERGED}
+
+
+def compose(office: Office, handed_in: HandedIn, date: datetime.date) -> NextDay:
+    """The next day, as it stands."""
+    first = handed_in.first_text()
+    return first_day(first, handed_in, date) if first else later_day(office, handed_in, date)
+
+
+def first_day(first: DayText, handed_in: HandedIn, date: datetime.date) -> NextDay:
+    """The first day: its text as it is, and behind its instructions those that were handed in."""
+    if date != first.head.date:
+        raise WordsFault(f"--date {date}: the first text of this folder is that of {first.head.date}")
+    for kind in (CHANGES, EDITS, WORK):
+        item = next(handed_in.items(kind), None)
+        if item:
+            raise WordsFault(
+                f"place {item.place}: {kind} are for later days; correct the first text by ./day init in its place"
+            )
+    new = [*handed_in.items(DO)]
+    rows = [*first.source.rows[:-1], *(row for item in new for row in item.rows), "end"]
+    items = [*handed_in.items(FIRST), *new]
+    return NextDay(date, first.head.next_record, handed.text_of_rows(rows), [], [], items, contents_of(handed_in))
+
+
+def later_day(office: Office, handed_in: HandedIn, date: datetime.date) -> NextDay:
+    """A later day, as `./day next` writes it."""
+    last = office.last()
+    day, report = last_pair(office)
+    assert last is not None
+    if date <= last.date:
+        raise WordsFault(f"--date {date} is not later than {last.date}, the last day")
+    contents = contents_of(handed_in)
+    with tempfile.TemporaryDirectory() as work:
+        paths = {kind: written(Path(work) / f"{kind}.csv", content) for kind, content in contents.items()}
+        composed = later_text(day, report, date, paths, str(office.file(last, "waiting")))
+        merged = re.compile(rf"{re.escape(tempfile.gettempdir())}/[^/]+/(\w+)\.csv:")
+        composed.notes = [merged.sub(r"\1 that were handed in, row ", note) for note in composed.notes]
+    return replace(composed, new=[*handed_in.items(DO)], contents=contents)
+
+
+def written(path: Path, content: bytes) -> str | None:
+    """A file with a content; none, if there is nothing in it."""
+    if not content:
+        return None
+    files.write_synced(path, content)
+    return str(path)
+
+
+def later_text(day: DayText, report: Report, date: datetime.date, paths: dict[str, str | None], waits: str) -> NextDay:
+    notes = Notes()
+    calendar = next_day.calendar_of(day, paths[WORK], notes)
+    made = edits_in(paths[EDITS])
+    with edited_changes(made, report, paths[CHANGES]) as changes:
+        book = next_day.book_with_changes(day, report, changes, notes)
+    heading = edits.edited_heading(made, [*next_day.heading_of(day, date, report.next_record, calendar)])
+    notes.lines += [
+        f"by hand: the rules: {difference}"
+        for difference in edits.differences(day.heading, heading)
+        if not difference[2:].startswith(("day,", "work,"))
+    ]
+    head = replace(head_of(heading), accounts=Accounts(book))
+    next_day.tell_days(day, head, notes)
+    next_day.look_at_calendar(head, book, notes)
+    waiting = next_day.waiting_after(day, report, pending.read_pending(waits), date, notes)
+    entered = next_day.enter_due(head, waiting, notes)
+    new = next_day.new_instructions(paths[DO], report, len(entered))
+    tell_dates(new, head, notes)
+    next_day.check_count(report, len(entered) + len(new))
+    rows = heading
+    for block in book.values():
+        rows += block.rows
+    rows += [*(waits.do_row() for waits in entered), *new.rows, "end"]
+    return NextDay(date, report.next_record, handed.text_of_rows(rows), waiting, entered, [], {}, notes.lines)
+
+
+def head_of(heading: list[str]) -> rules.Day:
+    """The rules that these rows say, without accounts. Ends the command at the first row that cannot stand there."""
+    reader = Reader(Rows("the first rows of the next day", heading, range(1, len(heading) + 1)), faults.Reading())
+    for place in range(len(heading)):
+        reader.add(place)
+    return rules.day_of(row.split(",") for row in heading)
+
+
+def rows_in(path: str | None) -> list[str]:
+    return files.bytes_in(Path(path)).decode("utf-8", "surrogateescape").splitlines() if path else []
+
+
+def edits_in(path: str | None) -> list[Edit]:
+    """The differences of a file, which a command of the folder wrote: each other row is a fault of the file."""
+    made = []
+    for line, row in enumerate(rows_in(path), 1):
+        try:
+            made.append(edits.edit_of(row))
+        except WordsFault:
+            raise FileFault(str(path), line, "row", shown(row), "a change by hand, as ./day change writes it") from None
+    return made
+
+
+@contextlib.contextmanager
+def edited_changes(made: list[Edit], report: Report, path: str | None) -> Iterator[str | None]:
+    """A file of the accounts that are changed by hand: by whole blocks, and by differences. Without differences, the
+    file of blocks."""
+    if not any(edit.number for edit in made):
+        yield path
+        return
+    blocks: dict[int, list[str]] = {}
+    for row in rows_in(path):
+        if row.startswith("account,"):
+            blocks[int(row.split(",")[1])] = []
+        if row != "end":
+            blocks[next(reversed(blocks))].append(row)
+    changed = edits.edited_blocks(made, report, blocks)
+    with tempfile.TemporaryDirectory() as work:
+        yield written(
+            Path(work) / "changes.csv", handed.text_of_rows([row for rows in changed.values() for row in rows])
+        )
+
+
+def had_before(office: Office, sum_of_file: str) -> str:
+    """Where a file with this sum was handed in before, in words; nothing, if it never was."""
+    for event in office.journal.filed():
+        path = office.file(event, "handed")
+        filed = handed.from_text(path.parent, path, files.bytes_in(path))
+        for part in filed.parts:
+            if part.sum == sum_of_file:
+                return f"for {event.date}, by {part.who} at {part.at} as {part.name}"
+    return ""
+
+
+def instructions_had(office: Office, rows: set[str]) -> dict[str, str]:
+    """Which of these `do` rows a settled day has had, and which."""
+    found: dict[str, str] = {}
+    for event in office.journal.filed():
+        text = files.bytes_in(office.file(event, "do")).decode("utf-8", "surrogateescape")
+        for row in rows.intersection(text.splitlines()):
+            found[row] = str(event.date)
+    return found
+
+
+def waits_of(office: Office) -> list[pending.Waiting]:
+    """What waits behind the last day, with its due days: it comes into a text by itself. It is kept when that day is
+    filed."""
+    path = office.next_folder / handed.WAITS
+    return pending.read_waits(str(path)) if path.exists() else []
+
+
+def write_waits(folder: Path, day: DayText, report: Report, waits: str) -> None:
+    """Puts what waits behind a day into the next/ that is made, with the due days by the calendar and the accounts
+    after the day. `waits` is the pending file of the day."""
+    waiting = next_day.waiting_after(day, report, pending.read_pending(waits), datetime.date.max, Notes())
+    head = head_after(day, report)
+    for own in waiting:
+        own.due, own.entered = due_day_after(head, own.instruction), None
+    made = pending.Made(day.head.date, report.next_record)
+    files.write_synced(folder / handed.WAITS, pending.text_of(waiting, made).encode("utf-8", "surrogateescape"))
+
+
+def asked_rules(day: DayText) -> list[rules.Logged]:
+    """What comes of each instruction of a day, by the second answer. Only the accounts that it asks for are read."""
+    return [*rules.settle(day.day())]

@@ -1,0 +1,81 @@
+"""Writes a table for a spreadsheet, of a day and its report: csv on standard output, or with --xlsx FILE a workbook.
+
+  --instructions  the instructions of the day; ./day import makes the same rows of it
+  --accounts      the accounts after the day; ./day import --accounts makes the same rows of it
+  --log           what came of each instruction, as ./day log
+  --compliance    how operators stand, as ./day compliance --csv
+  --figures       the figures that were determined
+"""
+import argparse
+import contextlib
+import csv
+import io
+from typing import Iterator, Sequence
+
+from registry_tools.day import compliance, log
+from registry_tools.day.errors import WordsFault
+from registry_tools.day.day_text import DayText
+from registry_tools.day.office import sheets, tables
+from registry_tools.day.options import Words, add_to, is_same_file
+from registry_tools.day.output import write_answer
+from registry_tools.day.pairs import read_pair
+from registry_tools.day.report import Report
+
+EXAMPLE = "./day export examples/week/monday.csv examples/week/monday-report.csv --accounts --xlsx out/accounts.xlsx"
+FIGURE_COLUMNS = ["account", "year", "figure"]
+WHAT = ("instructions", "accounts", "log", "compliance", "figures")
+
+
+def add_words(parser: argparse.ArgumentParser) -> None:
+    parser.add_argument("day", metavar="DAY", help="a day text")
+    parser.add_argument("report", metavar="REPORT", help="its report")
+    what = parser.add_mutually_exclusive_group(required=True)
+    for name in WHAT:
+        what.add_argument(f"--{name}", dest="what", action="store_const", const=name, help=f"the table of {name}")
+    parser.add_argument("--xlsx", metavar="FILE", help="write a workbook")
+    add_to(parser)
+
+
+def table_of(said: argparse.Namespace, day: DayText, report: Report) -> tuple[Sequence[str], Iterator[Sequence[str]]]:
+    if said.what == "instructions":
+        return tables.INSTRUCTION_COLUMNS, (
+            tables.cells_of_instruction(instruction) for instruction in day.instructions
+        )
+    if said.what == "accounts":
+        return tables.ACCOUNT_COLUMNS, (tables.cells_of_account(block) for block in report.book.values())
+    if said.what == "figures":
+        return FIGURE_COLUMNS, figures_of(report)
+    return written_table(log if said.what == "log" else compliance, said)
+
+
+def figures_of(report: Report) -> Iterator[list[str]]:
+    for block in report.book.values():
+        for row in block.list_rows:
+            if row.startswith("figure,"):
+                yield [str(block.number), *row.split(",")[1:]]
+
+
+def written_table(module: object, said: argparse.Namespace) -> tuple[Sequence[str], Iterator[Sequence[str]]]:
+    """The table that another command writes."""
+    words = [said.report, "--day", said.day] if module is log else [said.day, said.report, "--csv"]
+    parser = Words()
+    module.add_words(parser)  # type: ignore[attr-defined]
+    output = io.StringIO()
+    with contextlib.redirect_stdout(output), contextlib.redirect_stderr(io.StringIO()):
+        module.run(parser.parse_args(words))  # type: ignore[attr-defined]
+    columns, *rows = csv.reader(io.StringIO(output.getvalue()))
+    return columns, iter(rows)
+
+
+def run(said: argparse.Namespace) -> int:
+    if said.xlsx and said.to:
+        raise WordsFault("--xlsx names the file already: --to is for csv")
+    if said.xlsx and any(is_same_file(path, said.xlsx) for path in (said.day, said.report)):
+        raise WordsFault(f"--xlsx {said.xlsx} is one of the files that the command reads")
+    day, report = read_pair(said.day, said.report)
+    columns, rows = table_of(said, day, report)
+    if said.xlsx:
+        sheets.write_workbook(said.xlsx, said.what, columns, rows)
+    else:
+        write_answer(sheets.as_csv(columns, rows), said.to)
+    return 0

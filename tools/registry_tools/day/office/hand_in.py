@@ -1,0 +1,112 @@
+"""Hands in instructions, working days, or accounts that are new or changed by hand, for the next day of a folder.
+
+What a file has is told by its first row: do, work or account rows, with or without a row end. Each row is looked at. A
+file that the folder has had before is refused, and so is an instruction that a settled day has had, that waits, or that
+was handed in: unless --again says that it is meant. Then the next day is tried as it stands: what would be refused is
+told, and stays handed in.
+
+Each instruction, account or working day gets a place, by which ./day take-back takes it back.
+
+exit status: 0 if nothing of it would be refused, 1 if something would.
+"""
+import argparse
+import os
+
+from registry_tools.day.errors import FileFault
+from registry_tools.day.office import composing, files, folder, handed, trial, words
+from registry_tools.day.office.folder import Office
+from registry_tools.day.office.handed import DO, HandedIn, Part
+from registry_tools.day.rows import bytes_of, rows_of
+
+EXAMPLE = "./day hand-in examples/week/tuesday-do.csv examples/week/tuesday-work.csv --office out/office"
+
+
+def add_words(parser: argparse.ArgumentParser) -> None:
+    parser.add_argument("files", metavar="FILE", nargs="+", help="do rows, work rows or account blocks")
+    parser.add_argument("--again", action="store_true", help="also what the folder has had before")
+    words.add_office(parser)
+    words.add_who(parser)
+
+
+def run(said: argparse.Namespace) -> int:
+    who = words.one_line("--who", said.who)
+    with folder.locked(said.office, "hand-in", who, folder.to_errors) as office:
+        handed_in = office.handed_in()
+        handed_in.remove_unnamed()
+        try:
+            parts = [add(office, handed_in, path, who, said.again) for path in said.files]
+            # (a fault of the next day as a whole is found before anything counts)
+            date = composing.date_of(None, office, handed_in)
+            next_day = composing.compose(office, handed_in.until(date), date)
+            looked = trial.look(next_day, next_day.day(office.next_folder / "the next day"))
+            handed_in.keep()
+        except Exception:
+            # (what does not count is taken away at once)
+            office.handed_in().remove_unnamed()
+            raise
+        for part in parts:
+            print(f"handed in: {part.name}: {words_of_count(part)}, places {part.start} to {part.end - 1}")
+        mine = {place for part in parts for place in range(part.start, part.end)}
+        return trial.tell(looked, next_day, lambda tried: tried.place in mine)
+
+
+def words_of_count(part: Part) -> str:
+    names = {
+        handed.DO: "instructions",
+        handed.CHANGES: "accounts",
+        handed.WORK: "working days",
+        handed.EDITS: "changes",
+    }
+    return f"{names[part.kind]} {part.count}"
+
+
+def add(office: Office, handed_in: HandedIn, path: str, who: str, is_again: bool) -> Part:
+    """Puts a file into next/, where it does not count yet."""
+    content = bytes_of(path)
+    kind = handed.kind_of(rows_of(path))
+    count = handed.checked_count(path, kind)
+    if not is_again:
+        refuse_file(office, handed_in, path, content)
+    if kind == DO and not is_again:
+        refuse_instructions(office, handed_in, path)
+    return handed.put(handed_in, kind, content, count, os.path.basename(path), who)
+
+
+def refuse_file(office: Office, handed_in: HandedIn, path: str, content: bytes) -> None:
+    checksum = files.sum_of(content)
+    here = next((part for part in handed_in.parts if part.sum == checksum and is_there(handed_in, part)), None)
+    when = f"by {here.who} at {here.at} as {here.name}" if here else composing.had_before(office, checksum)
+    if when:
+        raise FileFault(
+            path, 0, "file", f"the same as was handed in {when}", "another file; --again hands it in once more"
+        )
+
+
+def is_there(handed_in: HandedIn, part: Part) -> bool:
+    """Whether something of a file was not taken back."""
+    gone = {taking.place for taking in handed_in.taken}
+    return any(place not in gone for place in range(part.start, part.end))
+
+
+def refuse_instructions(office: Office, handed_in: HandedIn, path: str) -> None:
+    """Ends the command at an instruction that is there already."""
+    source = rows_of(path)
+    rows = {row for row in source.rows if row != "end"}
+    had = {row: f"that {date} has had" for row, date in composing.instructions_had(office, rows).items()}
+    waits = {waits.do_row() for waits in composing.waits_of(office)}
+    had |= {row: "that waits for its due day, and comes by itself" for row in waits & rows}
+    had |= {
+        item.rows[0]: f"that was handed in, place {item.place}"
+        for item in handed_in.items(handed.FIRST, DO)
+        if item.rows[0] in rows
+    }
+    seen: dict[str, int] = {}
+    for place, row in enumerate(source.rows):
+        if row == "end":
+            continue
+        if row in seen:
+            had[row] = f"as in line {seen[row]}"
+        if row in had:
+            expected = "an instruction that is new; --again hands it in once more"
+            raise FileFault(path, source.line(place), "do row", f"one {had[row]}: {row}", expected)
+        seen[row] = source.line(place)

@@ -1,0 +1,296 @@
+"""What was handed in for the next day: the files of next/, and its own journal, which says what counts.
+
+  base,LINE               the line of the folder's journal behind which this stands
+  handed,AT,WHO,KIND,PLACE,COUNT,DAY,FILE,SHA-256,NAME
+                          a file as it came, with COUNT items from PLACE on, whose name was NAME
+  taken,AT,WHO,PLACE,WHY  the item at this place was taken back
+
+KIND says what the items are: `first` instructions of the first day text, `do` instructions, `changes` accounts, `edits`
+differences (day/office/edits.py), whose NAME is the reason, `work` working days. Places count the items of all files
+from 1, also of those that were taken back, so a place stays what it is. DAY is that of an undone day of which the file
+was: it comes into no earlier one. A file that the journal does not name does not count, and is removed.
+"""
+import contextlib
+import csv
+import datetime
+from dataclasses import dataclass, field
+from pathlib import Path
+from typing import Iterable, Iterator
+
+from registry_tools import faults
+from registry_tools.day.day_text import DayText, day_of, read_blocks, read_rows_of
+from registry_tools.day.errors import FileFault, shown
+from registry_tools.day.office import journal
+from registry_tools.day.office.files import bytes_in, replace, sum_of, write_synced
+from registry_tools.day.office.journal import row_of
+from registry_tools.day.rows import Rows, rows_of, rows_of_text
+
+NAME = "journal.csv"
+HANDED_FORM, TAKEN_FORM = "handed,AT,WHO,KIND,PLACE,COUNT,DAY,FILE,SHA-256,NAME", "taken,AT,WHO,PLACE,WHY"
+FIRST, DO, CHANGES, EDITS, WORK = KINDS = ("first", "do", "changes", "edits", "work")
+# What is tried by a reader of its own has no record number or period yet: all are allowed here, and tried in the day.
+ANY_YEARS = [*range(faults.MOST_PERIODS)]
+
+
+@dataclass
+class Part:
+    """A file that was handed in."""
+
+    at: str
+    who: str
+    kind: str
+    # The place of its first item, and how many there are.
+    start: int
+    count: int
+    # The undone day of which it was, if there is one.
+    day: datetime.date | None
+    file: str
+    sum: str
+    name: str
+
+    @property
+    def end(self) -> int:
+        """The place behind its last item."""
+        return self.start + self.count
+
+    def is_of_later(self, date: datetime.date) -> bool:
+        return self.day is not None and self.day > date
+
+    def row(self) -> str:
+        fields = [
+            self.at,
+            self.who,
+            self.kind,
+            str(self.start),
+            str(self.count),
+            str(self.day or ""),
+            self.file,
+            self.sum,
+            self.name,
+        ]
+        return row_of(["handed", *fields])
+
+
+@dataclass
+class Taken:
+    """An item that was taken back."""
+
+    at: str
+    who: str
+    place: int
+    why: str
+
+    def row(self) -> str:
+        return row_of(["taken", self.at, self.who, str(self.place), self.why])
+
+
+@dataclass
+class Item:
+    """Something that was handed in: an instruction, an account, or a working day, as the rows that tell it."""
+
+    place: int
+    part: Part
+    rows: list[str]
+    line: int
+
+
+@dataclass
+class HandedIn:
+    """What is in next/."""
+
+    folder: Path
+    base: str
+    parts: list[Part] = field(default_factory=list)
+    taken: list[Taken] = field(default_factory=list)
+
+    @property
+    def end(self) -> int:
+        """The place that the next item gets."""
+        return max((part.end for part in self.parts), default=1)
+
+    def text(self) -> str:
+        return "\n".join(
+            [f"base,{self.base}", *(part.row() for part in self.parts), *(taking.row() for taking in self.taken), ""]
+        )
+
+    def part_at(self, place: int) -> Part | None:
+        return next((part for part in self.parts if part.start <= place < part.end), None)
+
+    def until(self, date: datetime.date) -> "HandedIn":
+        """What comes into the text of a day: all but what was of a later day, which was undone."""
+        parts = [part for part in self.parts if not part.is_of_later(date)]
+        taken = [taking for taking in self.taken if any(part.start <= taking.place < part.end for part in parts)]
+        return HandedIn(self.folder, self.base, parts, taken)
+
+    def items(self, *kinds: str) -> Iterator[Item]:
+        """What counts of these kinds, in order."""
+        gone = {taking.place for taking in self.taken}
+        for part in self.parts:
+            if part.kind in kinds:
+                yield from (item for item in items_of(self.folder, part) if item.place not in gone)
+
+    def first_text(self) -> DayText | None:
+        """The first day text, if it is here."""
+        part = next((part for part in self.parts if part.kind == FIRST), None)
+        return day_of(rows_of(self.folder / part.file)) if part else None
+
+    def keep(self) -> None:
+        """Makes what is said here count: in one step."""
+        replace(self.folder / NAME, self.text().encode("utf-8", "surrogateescape"))
+
+    def remove_unnamed(self) -> None:
+        """Removes files that do not count: they are of a command that did not come to its end."""
+        named = {NAME, LOOKED, WAITS, *(part.file for part in self.parts)}
+        with contextlib.suppress(OSError):
+            for path in self.folder.iterdir():
+                if path.name not in named:
+                    path.unlink(missing_ok=True)
+
+
+# The outcome of each instruction at the last look, so that the next one can say what is new; and what waits behind the
+# last day.
+LOOKED, WAITS = "looked.csv", "waits.csv"
+
+
+def items_of(folder: Path, part: Part) -> Iterator[Item]:
+    """The items of a file, with the line on which each begins."""
+    source = rows_of(folder / part.file)
+    if part.kind == FIRST:
+        first = next(place for place, row in enumerate(source.rows) if row == "end" or row.startswith("do,"))
+        starts = [*range(first, first + part.count)]
+    else:
+        starts = [place for place, row in enumerate(source.rows) if begins_item(part.kind, row)]
+    ends = [*starts[1:], None]
+    for place, (start, end) in enumerate(zip(starts, ends), part.start):
+        rows = source.rows[start:end] if part.kind == CHANGES else [source.rows[start]]
+        yield Item(place, part, [row for row in rows if row != "end"], source.line(start))
+
+
+def begins_item(kind: str, row: str) -> bool:
+    begins = {DO: ("do,",), CHANGES: ("account,",), EDITS: ("account,", "rules,"), WORK: ("work,",)}
+    return row.startswith(begins[kind])
+
+
+def kind_of(source: Rows) -> str:
+    """What a file has to hand in, by its first row."""
+    tag = source.rows[0].partition(",")[0] if source.rows else ""
+    for kind in (DO, CHANGES, WORK):
+        if begins_item(kind, f"{tag},"):
+            return kind
+    raise source.fault(0, "tag", shown(tag), "rows do, work or account in the first row: what is to be handed in")
+
+
+def checked_count(path: str, kind: str) -> int:
+    """How many items a file has, each of which has no fault. Ends the command at the first fault."""
+    if kind == DO:
+        return len(read_rows_of("do", path, faults.Reading(last="do")))
+    if kind == WORK:
+        return len(read_rows_of("work", path, faults.Reading(last="lags")))
+    reading = faults.Reading(last="work", version=2, next_record=faults.MOST_RECORD + 1, last_years=ANY_YEARS)
+    return len(read_blocks(path, reading))
+
+
+# The files of next/.
+
+
+def begin(folder: Path, base: str) -> HandedIn:
+    """An empty next/ behind a line of the journal."""
+    return HandedIn(folder, base)
+
+
+def put(handed: HandedIn, kind: str, content: bytes, count: int, name: str, who: str) -> Part:
+    """Puts a file into next/. It counts as soon as the journal is kept."""
+    number = 1 + max((int(part.file.partition("-")[0]) for part in handed.parts), default=0)
+    file = f"{number:04}-{kind}.csv"
+    part = Part(journal.now(), who, kind, handed.end, count, None, file, sum_of(content), name)
+    write_synced(handed.folder / part.file, content)
+    handed.parts.append(part)
+    return part
+
+
+def put_again(handed: HandedIn, old: Part, content: bytes, count: int, day: datetime.date | None) -> None:
+    """Puts what was handed in before into another next/, with who did it and when."""
+    part = put(handed, old.kind, content, count, old.name, old.who)
+    part.at, part.day = old.at, day
+
+
+def put_left(handed: HandedIn, old: HandedIn, parts: Iterable[Part]) -> None:
+    """Puts what was not taken back of these parts into another next/."""
+    for part in parts:
+        left = [item for item in old.items(part.kind) if item.part is part]
+        if left:
+            content = text_of_rows([row for item in left for row in item.rows])
+            put_again(handed, part, content, len(left), part.day)
+
+
+def read(folder: Path) -> HandedIn:
+    """What is in next/: each file is what it was when it was handed in."""
+    path = folder / NAME
+    handed = from_text(folder, path, bytes_in(path))
+    for part in handed.parts:
+        there = sum_of(bytes_in(folder / part.file))
+        if there != part.sum:
+            raise FileFault(
+                folder / part.file, 0, "SHA-256", there, f"{part.sum}: somebody changed it after it was handed in"
+            )
+    return handed
+
+
+def from_text(folder: Path, path: Path, content: bytes) -> HandedIn:
+    """What a journal of next/ says."""
+    handed: HandedIn | None = None
+    text = content.decode("utf-8", "surrogateescape")
+    for number, fields in enumerate(csv.reader(text.splitlines()), 1):
+        try:
+            if handed is None:
+                tag, base = fields
+                if tag != "base":
+                    raise ValueError(tag)
+                handed = HandedIn(folder, base)
+            elif fields[0] == "handed":
+                _, at, who, kind, start, count, day, file, checksum, name = fields
+                date = datetime.date.fromisoformat(day) if day else None
+                handed.parts.append(Part(at, who, kind, int(start), int(count), date, file, checksum, name))
+            elif fields[0] == "taken":
+                _, at, who, place, why = fields
+                handed.taken.append(Taken(at, who, int(place), why))
+            else:
+                raise ValueError(fields[0])
+        except (ValueError, IndexError):
+            expected = f"a row base,LINE, then {HANDED_FORM} or {TAKEN_FORM}"
+            raise FileFault(path, number, "row", shown(",".join(fields)), expected) from None
+    if handed is None:
+        raise FileFault(path, 0, "", "an empty file", "a row base,LINE")
+    return handed
+
+
+def again(folder: Path, base: str, filed: HandedIn, contents: dict[str, bytes], day: datetime.date) -> HandedIn:
+    """Puts into an empty next/ what an undone day was made of: what was not taken back, with who handed in each
+    file."""
+    handed = begin(folder, base)
+    gone = {taking.place for taking in filed.taken}
+    left = {
+        kind: items_of_text(filed.folder / f"{kind}.csv", kind, contents[kind]) for kind in (DO, CHANGES, EDITS, WORK)
+    }
+    for part in filed.parts:
+        if part.kind == FIRST:
+            put_again(handed, part, contents[FIRST], part.count, day)
+            continue
+        count = sum(place not in gone for place in range(part.start, part.end))
+        rows = [row for _ in range(count) for row in next(left[part.kind])]
+        if count:
+            put_again(handed, part, text_of_rows(rows), count, day)
+    return handed
+
+
+def items_of_text(path: Path, kind: str, content: bytes) -> Iterator[list[str]]:
+    """The items of a filed text, each as its rows."""
+    source = rows_of_text(str(path), content.decode("utf-8", "surrogateescape"))
+    starts = [place for place, row in enumerate(source.rows) if begins_item(kind, row)]
+    for start, end in zip(starts, [*starts[1:], None]):
+        yield [row for row in source.rows[start:end] if row != "end"]
+
+
+def text_of_rows(rows: list[str]) -> bytes:
+    """Rows as the content of a file; nothing, if there are none."""
+    return "".join(f"{row}\n" for row in rows).encode("utf-8", "surrogateescape")

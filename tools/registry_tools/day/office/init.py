@@ -1,0 +1,81 @@
+"""Makes a folder that remembers its days, with the first day text. That day is not settled by it: ./day close does
+that.
+
+FOLDER is made, or gets another first text, as long as no day of it was settled. The text is looked at as the program
+would: if it has a fault, nothing is made. office.ini in the folder says which program settles, and whether ./day close
+makes statements and pages; change it with an editor.
+"""
+import argparse
+import os
+from pathlib import Path
+
+from registry_tools.day.day_text import DayText, day_of
+from registry_tools.day.errors import FileFault, WordsFault
+from registry_tools.day.office import files, folder, handed, journal, lock, words
+from registry_tools.day.office.folder import Settings
+from registry_tools.day.output import NewFolder
+from registry_tools.day.rows import bytes_of, rows_of_text
+
+EXAMPLE = "./day init out/office examples/week/monday.csv"
+
+
+def add_words(parser: argparse.ArgumentParser) -> None:
+    parser.add_argument("folder", metavar="FOLDER", help="the folder that is made")
+    parser.add_argument("first", metavar="FIRST_DAY", help="the first day text")
+    parser.add_argument("--program", metavar="PATH", default="", help="the program that settles; without it, ./run")
+    parser.add_argument("--statements", action="store_true", help="close makes statements, too")
+    parser.add_argument("--pages", action="store_true", help="close makes pages, too")
+    words.add_who(parser)
+
+
+def run(said: argparse.Namespace) -> int:
+    who = words.one_line("--who", said.who)
+    content = bytes_of(said.first)
+    text = content.decode("utf-8-sig", "surrogateescape")
+    first = day_of(rows_of_text(said.first, text))
+    content = handed.text_of_rows(first.source.rows)
+    program = os.path.abspath(said.program) if said.program else ""
+    settings = Settings(program, said.statements, said.pages)
+    path = Path(said.folder)
+    if (path / folder.SETTINGS).is_file():
+        change_first(path, said, who, first, content)
+    else:
+        make(path, said, who, first, content, settings)
+    date, counts = first.head.date, f"accounts {len(first.book)}, instructions {len(first.instructions)}"
+    print(f"{path}: the first text is that of {date}: {counts}. ./day close --date {date} settles it")
+    return 0
+
+
+def make(path: Path, said: argparse.Namespace, who: str, first: DayText, content: bytes, settings: Settings) -> None:
+    with NewFolder(path) as made:
+        for name in (folder.DAYS, folder.NEXT):
+            made.make(name)
+        made.write(folder.SETTINGS, settings.text())
+        made.write(folder.JOURNAL, journal.empty_text())
+        made.write(lock.NAME, "")
+        there = handed.begin(made.beside / folder.NEXT, journal.BEGINNING)
+        handed.put(there, handed.FIRST, content, len(first.instructions), os.path.basename(said.first), who)
+        there.keep()
+        with folder.telling(path):
+            files.sync_tree(made.beside)
+    with folder.telling(path):
+        files.sync_folder(path.parent)
+
+
+def change_first(path: Path, said: argparse.Namespace, who: str, first: DayText, content: bytes) -> None:
+    """Puts another first text into a folder that has no settled day yet."""
+    with folder.locked(str(path), "init", who, folder.to_errors) as office:
+        if office.last():
+            raise FileFault(path, 0, "", "a folder with settled days", "a folder without settled days, or a new one")
+        if said.program or said.statements or said.pages:
+            raise WordsFault(f"{path} is there: change its {folder.SETTINGS} with an editor")
+        old = office.handed_in()
+        there = handed.begin(office.next_folder, old.base)
+        # (the file gets a name that the old text does not have: it counts only when the journal says so)
+        if any(True for _ in old.items(handed.DO, handed.CHANGES, handed.WORK)):
+            raise WordsFault("take back first what was handed in: ./day status shows it")
+        there.parts = [*old.parts]
+        part = handed.put(there, handed.FIRST, content, len(first.instructions), os.path.basename(said.first), who)
+        part.start, there.parts = 1, [part]
+        there.keep()
+        there.remove_unnamed()

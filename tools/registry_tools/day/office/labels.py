@@ -1,0 +1,44 @@
+"""Names of users and holders, which the administrator keeps in a file, for what is sent to people: rows
+user,NUMBER,NAME and holder,NUMBER,NAME.
+"""
+from dataclasses import dataclass, field
+from pathlib import Path
+
+from registry_tools.day.errors import shown
+from registry_tools.day.rows import rows_of
+
+USER, HOLDER = "user", "holder"
+FILE = "labels.csv"
+
+
+@dataclass
+class Labels:
+    """The names, by the numbers of users and of holders."""
+
+    users: dict[str, str] = field(default_factory=dict)
+    holders: dict[str, str] = field(default_factory=dict)
+
+    def user(self, number: str) -> str:
+        return with_name(number, self.users)
+
+    def holder(self, number: str) -> str:
+        return with_name(number, self.holders)
+
+
+def with_name(number: str, names: dict[str, str]) -> str:
+    return f"{names[number]} ({number})" if number in names else number
+
+
+def read(path: Path) -> Labels:
+    """The names of a file; none, if it is not there."""
+    labels = Labels()
+    if not path.exists():
+        return labels
+    source = rows_of(str(path))
+    for index in range(len(source)):
+        fields = source.fields(index)
+        if len(fields) != 3 or fields[0] not in (USER, HOLDER) or not fields[1].isdigit() or not fields[2].strip():
+            raise source.fault(index, "row", shown(",".join(fields)), "user,NUMBER,NAME or holder,NUMBER,NAME")
+        names = labels.users if fields[0] == USER else labels.holders
+        names[fields[1]] = fields[2]
+    return labels

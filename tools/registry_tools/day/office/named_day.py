@@ -1,0 +1,86 @@
+"""The words `--day DATE` of the commands that take a day and its report: they name a day of a folder in place of two
+paths."""
+import datetime
+
+from registry_tools.day.errors import WordsFault
+from registry_tools.day.office import folder
+from registry_tools.day.office.folder import Office
+from registry_tools.day.office.journal import Event
+
+# The commands that take them, and what each takes of a day.
+PAIR, REPORTS, TEXT = "pair", "reports", "text"
+TAKES = {
+    "verify": PAIR,
+    "statements": PAIR,
+    "compliance": PAIR,
+    "page": PAIR,
+    "export": PAIR,
+    "log": REPORTS,
+    "explain": TEXT,
+}
+
+
+def is_date(word: str) -> bool:
+    try:
+        return bool(datetime.date.fromisoformat(word))
+    except ValueError:
+        return False
+
+
+def with_paths(name: str, arguments: list[str]) -> list[str]:
+    """The words of a command, with the paths of the days that they name by date."""
+    place = arguments.index("--day") if name in TAKES and "--day" in arguments else None
+    dates = []
+    if place is not None:
+        for word in arguments[place + 1 :] if name == "log" else arguments[place + 1 : place + 2]:
+            if not is_date(word):
+                break
+            dates.append(word)
+    if place is None or not dates:
+        return arguments
+    rest = arguments[:place] + arguments[place + 1 + len(dates) :]
+    office = folder.opened(taken_office(rest), folder.to_errors)
+    days, reports = zip(*(paths_of(office, date) for date in dates))
+    if TAKES[name] == REPORTS:
+        return [*reports, *rest, "--day", *days]
+    if name == "page":
+        rest += known_of(office, dates[0], rest)
+    return [days[0], *rest] if TAKES[name] == TEXT else [days[0], reports[0], *rest]
+
+
+def known_of(office: Office, date: str, rest: list[str]) -> list[str]:
+    """What a folder knows of a day beside its pair, as words of `./day page`: what waits, the day before, and who
+    changed something."""
+    day, before = event_of(office, date), [event for event in office.journal.filed() if str(event.date) < date]
+    known = {"--pending": [str(office.file(day, "waiting"))], "--by-hand": [str(office.day_folder(day.date))]}
+    if before and "--history" not in rest:
+        known["--before"] = [str(office.file(before[-1], path)) for path in ("day", "report")]
+    return [word for name, paths in known.items() if name not in rest for word in (name, *paths)]
+
+
+def taken_office(rest: list[str]) -> str | None:
+    """Takes the folder's name out of the words, if it is there."""
+    if "--office" not in rest:
+        return None
+    place = rest.index("--office")
+    if place + 1 == len(rest):
+        raise WordsFault("--office needs a folder behind it")
+    word = rest[place + 1]
+    del rest[place : place + 2]
+    return word
+
+
+def event_of(office: Office, date: str) -> Event:
+    """The line of the journal that files a day."""
+    event = next((event for event in office.journal.filed() if str(event.date) == date), None)
+    if event is None:
+        there = [str(event.date) for event in office.journal.filed()]
+        known = f"days from {there[0]} to {there[-1]}, {len(there)} of them" if there else "no settled day"
+        raise WordsFault(f"--day {date}: {office.path} has {known}, and not this one")
+    return event
+
+
+def paths_of(office: Office, date: str) -> tuple[str, str]:
+    """The day text and the report of a day of the folder."""
+    event = event_of(office, date)
+    return str(office.file(event, "day")), str(office.file(event, "report"))

@@ -1,0 +1,53 @@
+"""Settles a day text: by a program, by the library, or by the second answer (tools/rules.py)."""
+import subprocess
+from pathlib import Path
+
+from registry_tools import rules
+from registry_tools.day.day_text import DayText
+from registry_tools.day.errors import FileFault
+from registry_tools.day.progress import progress
+from registry_tools.day.settling import NotSettled, find_library
+from registry_tools.day.verify import expected_rows
+
+RUN = Path(__file__).resolve().parents[4] / "run"
+
+
+def by_rules(day: DayText) -> bytes:
+    """The report of a day by the second answer."""
+    return "\n".join([*expected_rows(day), ""]).encode("utf-8", "surrogateescape")
+
+
+def by_engine(program: str, text: bytes) -> bytes:
+    """The report of a day text by a program; if none is named, by the library if it was built, and else by `./run`."""
+    library = None if program else find_library()
+    if library is None:
+        return by_program(program, text)
+    progress.tell("settling by the library")
+    try:
+        return library.settle(text)
+    except NotSettled as fault:
+        raise FileFault(library.name, 0, "", str(fault), "") from None
+
+
+def by_program(program: str, text: bytes) -> bytes:
+    """The report that a program writes of a day text."""
+    words = [program or str(RUN), "settle"]
+    progress.tell(f"settling by {words[0]}")
+    try:
+        run = subprocess.run(words, input=text, capture_output=True, check=False)
+    except OSError as error:
+        raise FileFault(words[0], 0, "", f"it cannot be run: {error.strerror}", "") from None
+    if run.returncode:
+        said = run.stderr.decode("utf-8", "replace").strip()
+        raise FileFault(words[0], 0, "", f"settle ends with status {run.returncode}: {said}", "")
+    return run.stdout
+
+
+def refusals(logged: list[rules.Logged]) -> dict[str, int]:
+    """How many instructions each check refused, by its name."""
+    counts: dict[str, int] = {}
+    for row in logged:
+        fields = row.line.split(",")
+        if "refused" in fields:
+            counts[fields[-1]] = counts.get(fields[-1], 0) + 1
+    return counts

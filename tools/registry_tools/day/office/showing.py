@@ -1,0 +1,81 @@
+"""Shows rows to people or programs: a text table on a terminal, csv, or JSON. docs/FORMATS.md states the columns of
+each command."""
+import argparse
+import csv
+import io
+import json
+from typing import Sequence
+
+from registry_tools import texts
+from registry_tools.day.errors import FileFault
+from registry_tools.day.options import add_to
+from registry_tools.day.output import write_answer
+
+Cell = str | int | None
+# The columns of a fault.
+FAULT = ("file", "line", "field", "found", "expected")
+
+
+def add_forms(parser: argparse.ArgumentParser) -> None:
+    """The options by which a command writes for programs."""
+    forms = parser.add_mutually_exclusive_group()
+    forms.add_argument("--csv", action="store_true", help="write csv with a header row")
+    forms.add_argument("--json", action="store_true", help="write JSON: a list of objects whose names are the columns")
+
+
+def add_words(parser: argparse.ArgumentParser) -> None:
+    add_forms(parser)
+    add_to(parser)
+
+
+def is_for_programs(said: argparse.Namespace) -> bool:
+    return bool(said.csv or said.json)
+
+
+def as_csv(columns: Sequence[str], rows: Sequence[Sequence[object]]) -> str:
+    stream = io.StringIO()
+    writer = csv.writer(stream, lineterminator="\n")
+    writer.writerow(columns)
+    writer.writerows(rows)
+    return stream.getvalue()
+
+
+def as_json(columns: Sequence[str], rows: Sequence[Sequence[Cell]]) -> str:
+    objects = [dict(zip(columns, row)) for row in rows]
+    return json.dumps(objects, indent=1, ensure_ascii=False) + "\n"
+
+
+def for_programs(said: argparse.Namespace, columns: Sequence[str], rows: Sequence[Sequence[Cell]]) -> str:
+    """Rows as the words ask for them: as JSON, or else as csv."""
+    return as_json(columns, rows) if said.json else as_csv(columns, rows)
+
+
+def show(said: argparse.Namespace, columns: Sequence[str], rows: Sequence[Sequence[Cell]], numbers: set[str]) -> None:
+    """Writes rows under their columns. The columns of `numbers` have numbers, or nothing."""
+    write_answer(
+        for_programs(said, columns, rows) if is_for_programs(said) else as_table(columns, rows, numbers), said.to
+    )
+
+
+def as_table(columns: Sequence[str], rows: Sequence[Sequence[Cell]], numbers: set[str]) -> str:
+    grouped = numbers - NAMES
+    shown = [
+        ["" if own is None else f"{own:,}" if name in grouped else str(own) for name, own in zip(columns, row)]
+        for row in rows
+    ]
+    return "\n".join([*texts.table([*columns], shown, numbers), ""])
+
+
+# Numbers that name something: they are not grouped.
+NAMES = {"record", "account", "year", "user", "code", "proposer", "approver", "from", "to", "place", "line"}
+
+
+def fault_row(fault: FileFault | None) -> list[Cell]:
+    """A fault as a row of FAULT; of none, nothing. If the whole file is meant, `found` says all."""
+    if fault is None:
+        return [None] * len(FAULT)
+    return [
+        str(fault.path),
+        fault.line or None,
+        *(str(own) or None for own in (fault.field, fault.found, fault.expected)),
+    ]

@@ -1,0 +1,74 @@
+"""Takes the last day of a folder back: what it was made of stands in FOLDER/next again, before what was handed in
+since, and the day and its report are gone. The journal keeps that it was filed, the sums of its files, who took it
+back, and why.
+
+A day that was released is not taken back: what others know of stays. Then another instruction corrects what was done.
+"""
+import argparse
+
+from registry_tools.day.day_text import day_of
+from registry_tools.day.errors import WordsFault
+from registry_tools.day.office import composing, files, folder, handed, journal, words
+from registry_tools.day.office.folder import Change, Office
+from registry_tools.day.office.handed import FIRST, HandedIn
+from registry_tools.day.office.journal import UNDONE, Event
+from registry_tools.day.pairs import read_pair
+from registry_tools.day.rows import rows_of
+
+EXAMPLE = './day undo --why "a surrender was entered for the wrong account" --office out/office'
+
+
+def add_words(parser: argparse.ArgumentParser) -> None:
+    words.add_office(parser)
+    words.add_who(parser)
+    words.add_why(parser)
+
+
+def run(said: argparse.Namespace) -> int:
+    who, why = words.one_line("--who", said.who), words.one_line("--why", said.why)
+    with folder.locked(said.office, "undo", who, folder.to_errors) as office:
+        last = office.last()
+        if last is None:
+            raise WordsFault(f"{office.path} has no settled day")
+        if office.journal.is_released():
+            raise WordsFault(
+                f"{last.date} was released, and is not undone: enter an instruction that corrects what was done"
+            )
+        event = Event(
+            UNDONE, journal.now(), who, last.date, last.first, last.next, last.sums, why, office.journal.last_line
+        )
+        since = office.handed_in()
+        with Change(office) as change:
+            there = handed.again(change.make(folder.NEW_NEXT), event.line, *filed_parts(office, last), last.date)
+            handed.put_left(there, since, since.parts)
+            write_waits_before(office, there)
+            there.keep()
+            change.keep(event)
+    print(f"{last.date} is undone: what it was made of is in {office.next_folder} again, places 1 to {there.end - 1}")
+    return 0
+
+
+def filed_parts(office: Office, last: Event) -> tuple[HandedIn, dict[str, bytes]]:
+    """What the day was made of: who handed in what, and the contents by kind."""
+    path = office.file(last, "handed")
+    filed = handed.from_text(path.parent, path, files.bytes_in(path))
+    contents = {kind: files.bytes_in(office.file(last, kind)) for kind in composing.MERGED}
+    first = next((part for part in filed.parts if part.kind == FIRST), None)
+    if first:
+        contents[FIRST] = first_text(office, last, first.count)
+    return filed, contents
+
+
+def first_text(office: Office, last: Event, count: int) -> bytes:
+    """The first day text as it was before others handed in more: with so many instructions."""
+    day = day_of(rows_of(str(office.file(last, "day"))))
+    return handed.text_of_rows([*day.source.rows[: day.first_do + count], "end"])
+
+
+def write_waits_before(office: Office, there: HandedIn) -> None:
+    """Puts into next/ what waits behind the day before the undone one."""
+    filed = office.journal.filed()
+    if len(filed) > 1:
+        before = filed[-2]
+        day, report = read_pair(str(office.file(before, "day")), str(office.file(before, "report")))
+        composing.write_waits(there.folder, day, report, str(office.file(before, "waiting")))

@@ -1,0 +1,88 @@
+"""The words of the commands: what is said once is said once, and a list takes all that is given to it."""
+import argparse
+import os
+import sys
+from typing import IO, Any, Iterator
+
+from registry_tools.day.errors import WordsFault
+from registry_tools.day.output import must_be_writable
+
+# In place of a file that is read.
+STANDARD_INPUT = "-"
+
+
+class Given(argparse.Action):
+    """An option with a value. Given twice, one that takes several values has all of them, and any other one is refused:
+    the first value would be lost without a word."""
+
+    def __call__(
+        self,
+        parser: argparse.ArgumentParser,
+        namespace: argparse.Namespace,
+        values: Any,
+        option_string: str | None = None,
+    ) -> None:
+        before = given_before(namespace).get(self.dest)
+        if option_string and self.nargs is not None and before is not None:
+            values = [*before, *values]
+        elif option_string and before is not None:
+            parser.error(f"{option_string} stands twice, with {before} and with {values}: which of them?")
+        given_before(namespace)[self.dest] = values
+        setattr(namespace, self.dest, values)
+
+
+def given_before(namespace: argparse.Namespace) -> dict[str, Any]:
+    """The values of the options that were given so far."""
+    given: dict[str, Any] = namespace.__dict__.setdefault("_given", {})
+    return given
+
+
+class Words(argparse.ArgumentParser):
+    """A parser of the words of a command."""
+
+    def __init__(self, **more: Any) -> None:
+        super().__init__(formatter_class=argparse.RawDescriptionHelpFormatter, allow_abbrev=False, **more)
+        for name in (None, "store"):
+            self.register("action", name, Given)
+
+    def _print_message(self, message: str, file: IO[str] | None = None) -> None:
+        """Writes the help, or why the words are not taken. (The one of argparse passes over a stream that takes
+        nothing.)"""
+        stream = file or sys.stderr
+        stream.write(message)
+        stream.flush()
+
+
+def add_to(parser: argparse.ArgumentParser) -> None:
+    """The option by which a command writes its answer to a file."""
+    parser.add_argument(
+        "--to", metavar="FILE", help="write to this file, whole or not at all, in place of standard output"
+    )
+
+
+def look_at_files(words: argparse.Namespace) -> None:
+    """Ends the command if standard input is named more than once, or if its answer would be written over one of its
+    inputs, or may not be written. This is looked at before any work is done."""
+    read, to = [*words_of_files(words)], getattr(words, "to", None)
+    if read.count(STANDARD_INPUT) > 1:
+        raise WordsFault(f"{STANDARD_INPUT} stands for standard input, and is named more than once")
+    if to is None:
+        return
+    if to == STANDARD_INPUT:
+        raise WordsFault("--to - names no file: without --to the answer goes to standard output")
+    if any(is_same_file(path, to) for path in read):
+        raise WordsFault(f"--to {to} is one of the files that the command reads")
+    must_be_writable(to)
+
+
+def words_of_files(words: argparse.Namespace) -> Iterator[str]:
+    """All words that may name a file that is read."""
+    for option, values in vars(words).items():
+        if option != "to" and not option.startswith("_"):
+            yield from (value for value in (values if isinstance(values, list) else [values]) if isinstance(value, str))
+
+
+def is_same_file(path: str, other: str) -> bool:
+    if os.path.realpath(path) == os.path.realpath(other):
+        return True
+    return os.path.exists(path) and os.path.exists(other) and os.path.samefile(path, other)

@@ -1,0 +1,155 @@
+"""Writes files whole: what is written appears under its name only when all of it is there."""
+import contextlib
+import os
+import shutil
+import stat
+import sys
+from pathlib import Path
+from types import TracebackType
+
+from registry_tools.day.errors import FileFault
+
+ANYBODY_WRITES = stat.S_IWUSR | stat.S_IWGRP | stat.S_IWOTH
+
+
+def cannot(path: Path, error: OSError) -> FileFault:
+    return FileFault(path, 0, "", f"it cannot be written: {error.strerror}", "")
+
+
+def write_all(file: int, content: bytes) -> None:
+    while content:
+        content = content[os.write(file, content) :]
+
+
+def must_be_writable(path: str | Path) -> None:
+    """Ends the command if a file may not be written, before any work is done for it."""
+    real = Path(os.path.realpath(path))
+    if real.exists() and not real.is_file():
+        raise FileFault(path, 0, "", f"it cannot be written: it is {'a folder' if real.is_dir() else 'no file'}", "")
+    # (to the superuser each file is open, also one that nobody may write)
+    if real.exists() and (not real.stat().st_mode & ANYBODY_WRITES or not os.access(real, os.W_OK)):
+        raise FileFault(path, 0, "", "it may not be written", "")
+    if not real.parent.is_dir():
+        why = "Not a directory" if real.parent.exists() or not_a_folder(real.parent) else "No such file or directory"
+        raise FileFault(path, 0, "", f"it cannot be written: {why}", "")
+    if not os.access(real.parent, os.W_OK | os.X_OK):
+        raise FileFault(path, 0, "", "it cannot be written: its folder may not be written", "")
+
+
+def not_a_folder(path: Path) -> bool:
+    """Whether a file stands where a folder has to be."""
+    return any(parent.exists() and not parent.is_dir() for parent in path.parents)
+
+
+class NewFolder:
+    """A folder that is not there yet, or empty. Its files are written aside, and get their names at the end of the
+    block: with the folder, or if it is there already, also as `.` or by a link, in it."""
+
+    def __init__(self, path: str | Path) -> None:
+        self.path = Path(path)
+        self.is_there = self.path.is_dir()
+        name = f".{self.path.name or 'new'}.{os.getpid()}"
+        self.beside = self.path / name if self.is_there else self.path.parent / name
+
+    def __enter__(self) -> "NewFolder":
+        if self.is_there and any(self.path.iterdir()):
+            raise FileFault(
+                self.path, 0, "", "a folder with files in it", "a folder that is not there yet, or is empty"
+            )
+        if not self.is_there and self.path.is_symlink():
+            raise FileFault(self.path, 0, "", "a link to nothing", "a folder that is not there yet, or is empty")
+        if self.path.exists() and not self.is_there:
+            raise FileFault(self.path, 0, "", "a file", "a folder that is not there yet, or is empty")
+        try:
+            self.beside.mkdir()
+        except OSError as error:
+            raise cannot(self.path, error) from None
+        return self
+
+    def make(self, name: str) -> None:
+        """Makes a folder inside."""
+        try:
+            (self.beside / name).mkdir()
+        except OSError as error:
+            raise cannot(self.path / name, error) from None
+
+    def write(self, name: str, text: str) -> None:
+        """Writes a file of the folder."""
+        try:
+            # (there may be 100,000 of them: no stream is made for each)
+            file = os.open(f"{self.beside}/{name}", os.O_WRONLY | os.O_CREAT | os.O_EXCL, 0o666)
+            try:
+                write_all(file, text.encode("utf-8", "surrogateescape"))
+            finally:
+                os.close(file)
+        except OSError as error:
+            raise cannot(self.path / name, error) from None
+
+    def __exit__(self, kind: type | None, _error: BaseException | None, _traceback: TracebackType | None) -> None:
+        try:
+            if kind is None:
+                self.keep()
+        except OSError as error:
+            raise cannot(self.path, error) from None
+        finally:
+            shutil.rmtree(self.beside, ignore_errors=True)
+
+    def keep(self) -> None:
+        if not self.is_there:
+            os.replace(self.beside, self.path)
+            return
+        kept = []
+        try:
+            for made in sorted(self.beside.iterdir()):
+                os.rename(made, self.path / made.name)
+                kept.append(made.name)
+        except BaseException:
+            for name in kept:
+                os.rename(self.path / name, self.beside / name)
+            raise
+
+
+class NewFile:
+    """A file that is written beside its name, and gets its name by `keep`. If that is never called, nothing has
+    changed. A file that was there before keeps its mode, and a link to it stays one."""
+
+    def __init__(self, path: str | Path, text: str | bytes) -> None:
+        must_be_writable(path)
+        self.path, self.real = Path(path), Path(os.path.realpath(path))
+        self.beside = self.real.parent / f".{self.real.name}.{os.getpid()}"
+        try:
+            self.beside.write_bytes(text if isinstance(text, bytes) else text.encode("utf-8", "surrogateescape"))
+            if self.real.exists():
+                os.chmod(self.beside, stat.S_IMODE(self.real.stat().st_mode))
+        except OSError as error:
+            self.forget()
+            raise cannot(self.path, error) from None
+
+    def keep(self) -> None:
+        try:
+            os.replace(self.beside, self.real)
+        except OSError as error:
+            self.forget()
+            raise cannot(self.path, error) from None
+
+    def forget(self) -> None:
+        with contextlib.suppress(OSError):
+            self.beside.unlink()
+
+
+def write_answer(text: str, to: str | None, *others: NewFile) -> None:
+    """Writes what a command answers: to standard output, or whole to a file. The other files get their names if that
+    could be written, and else stay as they were."""
+    try:
+        if to is None:
+            sys.stdout.write(text)
+            sys.stdout.flush()
+            files = []
+        else:
+            files = [NewFile(to, text)]
+    except BaseException:
+        for other in others:
+            other.forget()
+        raise
+    for open_file in [*others, *files]:
+        open_file.keep()

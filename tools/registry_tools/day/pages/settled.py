@@ -1,0 +1,143 @@
+"""A settled day as the pages show it: a day text with its report, and what is worked out from both."""
+import dataclasses
+import datetime
+import functools
+from typing import Any, Callable, Collection, Iterable, Iterator, Sequence, TypeVar
+
+from registry_tools import rules
+from registry_tools.day.day_text import DayText
+from registry_tools.day.due import NOT_DUE, due_day_after, head_after
+from registry_tools.day.outdated import Entries
+from registry_tools.day.pages.html import Cells, Frame, Markup, Table, joined, link, tag, visible
+from registry_tools.day.pages.rulebook import Rulebook
+from registry_tools.day.pending import Waiting
+from registry_tools.day.report import LogRow, Report
+from registry_tools.texts import grouped, words_of
+
+Row = TypeVar("Row")
+# In how many rows a table is cut into pages.
+ROWS_OF_PAGE = 1_000
+NO_DUE_DAY = "none in the calendar"
+
+
+def in_words(logged: LogRow) -> str:
+    """An instruction in words."""
+    act, *fields = logged.instruction.fields[3:]
+    return words_of(act, fields)
+
+
+def outcome_in_words(logged: LogRow) -> str:
+    if not logged.is_done:
+        return f"refused: {logged.name}"
+    return "done" if logged.figure is None else f"done, figure {grouped(logged.figure)}"
+
+
+@functools.lru_cache(maxsize=1_000)
+def long_date(day: datetime.date) -> str:
+    """A date as people write it."""
+    return f"{day:%A} {day.day} {day:%B} {day.year}"
+
+
+def count_of(number: int, one: str, many: str) -> str:
+    """A number with its word."""
+    return f"{grouped(number)} {one if number == 1 else many}"
+
+
+class Settled:
+    """A day with its report, the words of the rules, and the frame of the pages."""
+
+    def __init__(
+        self,
+        day: DayText,
+        report: Report,
+        rulebook: Rulebook,
+        frame: Frame,
+        shown: Collection[int],
+        earlier: list[Waiting] | None,
+    ) -> None:
+        self.day, self.report, self.rulebook, self.frame = day, report, rulebook, frame
+        # The accounts that have a page.
+        self.shown = shown
+        self.head, self.log = day.head, report.log
+        self.entries = Entries(day, report)
+        # Whether it is known what waits since earlier days.
+        self.has_pending = earlier is not None
+        self.waiting = self.find_waiting(earlier or [])
+
+    def find_waiting(self, earlier: Iterable[Waiting]) -> list[Waiting]:
+        """What waits behind the day: since earlier days, and refused as NotDue on it; those first that are due
+        first."""
+        head = head_after(self.day, self.report)
+        refused = (Waiting(logged.record, logged.instruction) for logged in self.log if logged.name == NOT_DUE)
+        waiting = [
+            dataclasses.replace(waits, due=due_day_after(head, waits.instruction)) for waits in (*earlier, *refused)
+        ]
+        return sorted(waiting, key=lambda waits: (waits.due or datetime.date.max, waits.record or 0))
+
+    def account_link(self, number: int, root: str = "") -> Markup | str:
+        """The number of an account, which leads to its page if it has one."""
+        return Markup(f'<a href="{root}accounts/{number}.html">{number}</a>') if number in self.shown else str(number)
+
+    def accounts_of(self, logged: LogRow) -> Markup:
+        """The accounts that an instruction names as its own: those that receive stand behind the first one."""
+        return Markup(", ".join(self.account_link(number) for number in rules.named(logged.instruction)))
+
+    def period_in_words(self, period: int) -> str:
+        first, last = self.head.periods[period - 1]
+        return f"{first} to {last}" if first != last else str(first)
+
+    def refused(self) -> dict[int, list[LogRow]]:
+        """The refused instructions by the code of the check, in the order of the checks."""
+        found: dict[int, list[LogRow]] = {}
+        for logged in self.log:
+            if not logged.is_done:
+                found.setdefault(logged.code, []).append(logged)
+        return dict(sorted(found.items()))
+
+
+def page_name(file: str, number: int) -> str:
+    """The file of a page of several, counted from 1."""
+    stem = file.removesuffix(".html")
+    return file if number == 1 else f"{stem}-{number}.html"
+
+
+def rows_of_parts(rows: Sequence[Row], size: int | None = None) -> Iterator[Sequence[Row]]:
+    """The rows of each of several pages, or of other parts of this size."""
+    size = size or ROWS_OF_PAGE
+    return (rows[place : place + size] for place in range(0, len(rows), size))
+
+
+def ways(file: str, number: int, words_of_pages: list[str]) -> Markup:
+    """Links between the pages of a table: each is named by the first row that it shows."""
+    own = (
+        tag("li", tag("strong", words) if place == number else link(page_name(file, place), words))
+        for place, words in enumerate(words_of_pages, 1)
+    )
+    words = f"Page {number} of {len(words_of_pages)}. Each page by its first row:"
+    return tag("nav", tag("p", words), tag("ol", *own), aria_label="Parts", class_="parts")
+
+
+@dataclasses.dataclass
+class LongTable:
+    """A table of many rows, which goes on in further pages. `lead` stands on the first of them, and what `before`
+    answers for its rows before each part."""
+
+    file: str
+    title: str
+    table: Table
+    caption: str
+    rows: Sequence[Cells]
+    lead: Sequence[Markup] = ()
+    before: Callable[[str, Sequence[Cells]], Markup] | None = None
+
+    def pages(self, frame: Frame, **more: Any) -> Iterator[tuple[str, str]]:
+        """The file and the text of each page; `more` goes to the frame."""
+        parts = [*rows_of_parts(self.rows)] or [[]]
+        first_words = [visible(part[0][0]) if part else "" for part in parts]
+        for number, part in enumerate(parts, 1):
+            caption = self.caption if len(parts) == 1 else f"{self.caption}, part {number} of {len(parts)}"
+            file = page_name(self.file, number)
+            links = [ways(self.file, number, first_words)] if len(parts) > 1 else []
+            before = [self.before(file, part)] if self.before else []
+            body = joined(*(self.lead if number == 1 else []), *links, *before, self.table.of(caption, part))
+            yield file, frame.page(self.title, body, current=self.file, **more)

@@ -1,0 +1,162 @@
+"""Settles a day text by the proved engine: by a program that was named, or else by the library, where `./run --prove`
+or `tools/library` has built it. Where nobody asks for the engine, and the library is there, `./day try` and all that
+shows determined figures ask it too, and say so if it answers otherwise. The second answer (rules.py, faults.py) calls
+neither.
+"""
+import importlib.util
+import os
+import subprocess
+from pathlib import Path
+from types import ModuleType
+from typing import Protocol
+
+from registry_tools.day.day_text import DayText
+from registry_tools.day.errors import FileFault, WordsFault
+from registry_tools.day.report import Report
+
+TOP = Path(__file__).resolve().parents[3]
+LIBRARY = TOP / "out/library/lib/libregistry.so.1"
+CALLS = TOP / "examples/python/src/registry/native.py"
+NO_LIBRARY = "there is no library that is as new as its sources: name a program, or run tools/library first"
+
+
+class NotSettled(Exception):
+    """The engine gives no text: why, in its own words."""
+
+
+class Settler(Protocol):
+    """What settles a day again."""
+
+    name: str
+
+    def settle(self, day: bytes) -> bytes:
+        """The report of a day text. Raises NotSettled."""
+
+
+class Program:
+    """A program that settles as `registry` does."""
+
+    def __init__(self, name: str, option: str) -> None:
+        self.name, self.option = name, option
+
+    def settle(self, day: bytes) -> bytes:
+        try:
+            run = subprocess.run([self.name, "settle"], input=day, capture_output=True, check=False)
+        except OSError as error:
+            raise WordsFault(f"{self.option} {self.name} cannot be run: {error.strerror}") from None
+        if run.returncode:
+            said = run.stderr.decode(errors="replace").strip()
+            raise NotSettled(f"{self.name} settle ends with status {run.returncode}: {said}")
+        return run.stdout
+
+
+class Library:
+    """The library, by its calls."""
+
+    name = "the library"
+
+    def __init__(self, calls: ModuleType) -> None:
+        self.calls = calls
+
+    def settle(self, day: bytes) -> bytes:
+        return self.asked("settle", day)
+
+    def log(self, day: bytes) -> list[str]:
+        """The log rows of a day. Raises NotSettled."""
+        return rows_of(self.asked("attempt", day))
+
+    def figures(self, day: bytes) -> list[str]:
+        """The figures that are determined after a day, as rows, and the row `end`. Raises NotSettled."""
+        return rows_of(self.asked("figures", day))
+
+    def asked(self, command: str, day: bytes) -> bytes:
+        try:
+            return bytes(getattr(self.calls, command)(day))
+        except (self.calls.Fault, MemoryError) as fault:
+            raise NotSettled(f"{self.name}: {fault}") from None
+
+
+def rows_of(text: bytes) -> list[str]:
+    return text.decode("ascii").split("\n")[:-1]
+
+
+def is_new(library: Path) -> bool:
+    """Whether the library is there, and no source is newer. Folders count too, so that a removed file is noticed."""
+    if not library.exists():
+        return False
+    made = library.stat().st_mtime
+    for folder in [*(TOP / "crates").glob("reg*/src"), *(TOP / "crates").glob("reg*/specs"), TOP / "include"]:
+        for path, _, files in os.walk(folder):
+            if any(os.stat(os.path.join(path, file)).st_mtime > made for file in ["", *files]):
+                return False
+    return True
+
+
+def find_library() -> Library | None:
+    """The library that REGISTRY_LIBRARY names, or the one of this repository, if it was built and is new."""
+    if not os.environ.get("REGISTRY_LIBRARY"):
+        if not is_new(LIBRARY):
+            return None
+        os.environ["REGISTRY_LIBRARY"] = str(LIBRARY)
+    spec = importlib.util.spec_from_file_location("registry_calls", CALLS)
+    assert spec and spec.loader
+    calls = importlib.util.module_from_spec(spec)
+    try:
+        spec.loader.exec_module(calls)
+    except (OSError, ImportError) as error:
+        raise WordsFault(f"the library cannot be used: {error}") from None
+    return Library(calls)
+
+
+def settler_of(program: str | None, option: str) -> Settler:
+    """The program that an option names, or the library if it names none."""
+    if program:
+        return Program(program, option)
+    library = find_library()
+    if library is None:
+        raise WordsFault(f"{option}: {NO_LIBRARY}")
+    return library
+
+
+def text_of(day: DayText) -> bytes:
+    """The text of a day that was read, row by row."""
+    return "\n".join([*day.source.rows, ""]).encode("utf-8", "surrogateescape")
+
+
+def confirm_figures(day: DayText, report: Report) -> None:
+    """Compares the determined figures of a report with those of the library, if it was built. Raises FileFault at the
+    first account whose figures differ."""
+    library = find_library()
+    if library is None:
+        return
+    try:
+        engine = library.figures(text_of(day))
+    except NotSettled as fault:
+        raise FileFault(day.source.path, 0, "", str(fault), "") from None
+    wanted = figures_by_account(engine)
+    for number, block in report.book.items():
+        rows = [row.split(",") for row in block.list_rows if row.startswith("figure,")]
+        found = {int(year): int(figure) for _, year, figure in rows}
+        expected = wanted.get(number, {})
+        if found != expected:
+            field = f"figures of account {number}"
+            raise FileFault(
+                report.source.path,
+                block.line,
+                field,
+                words_of(found),
+                f"{words_of(expected)}, as the library gives them",
+            )
+
+
+def figures_by_account(rows: list[str]) -> dict[int, dict[int, int]]:
+    """Of each account that has some its figures by year, of the rows of the command `figures`."""
+    figures: dict[int, dict[int, int]] = {}
+    for row in rows[:-1]:
+        _, account, year, figure = row.split(",")
+        figures.setdefault(int(account), {})[int(year)] = int(figure)
+    return figures
+
+
+def words_of(figures: dict[int, int]) -> str:
+    return ", ".join(f"{figure} for {year}" for year, figure in sorted(figures.items())) or "none"

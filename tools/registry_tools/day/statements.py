@@ -1,0 +1,96 @@
+"""Writes the statement of every account over a day, in one pass: each in a file ACCOUNT.csv of FOLDER.
+
+A statement is byte for byte what `registry statement ACCOUNT` writes of DAY. With --own it has only what belongs to the
+account, so that it can be sent to its holder:
+
+  statement,DATE,NO,KIND,HOLDER,STATUS   stands before its first row; STATUS is that after the day
+  log rows                               have the account's own holdings at their end, and no others; PROPOSER and
+                                         APPROVER only if they represent the account; of a distribution to several
+                                         accounts, an account that receives finds its own amount alone. An instruction
+                                         of the account that was refused as UnknownAccount stands here too
+  refused,RECORD,DATE                    an instruction of another account that names this one was refused. It stands
+                                         here only if its proposer represents one of the two accounts
+
+FOLDER must not be there yet, or be empty. What it gets appears only when all of it is written. REPORT must be what
+follows from DAY.
+"""
+import argparse
+
+from registry_tools.day.accounts import Block
+from registry_tools.day.day_text import DayText
+from registry_tools.day.errors import WordsFault
+from registry_tools.day.output import NewFolder
+from registry_tools.day.own import own_log, own_row, users_of
+from registry_tools.day.pairs import read_pair
+from registry_tools.day.progress import progress
+from registry_tools.day.report import LogRow, Report
+
+EXAMPLE = (
+    "./day statements examples/week/monday.csv examples/week/monday-report.csv out/statements --own "
+    "--account 100210 300118"
+)
+
+
+def add_words(parser: argparse.ArgumentParser) -> None:
+    parser.add_argument("day", metavar="DAY", help="a day text")
+    parser.add_argument("report", metavar="REPORT", help="its report")
+    parser.add_argument("folder", metavar="FOLDER", help="the folder that is made")
+    parser.add_argument("--own", action="store_true", help="leave out what belongs to others")
+    parser.add_argument("--account", type=int, nargs="+", metavar="N", help="only these accounts")
+
+
+def log_by_account(report: Report) -> dict[int, list[LogRow]]:
+    """The log rows of each account that an instruction touched."""
+    log: dict[int, list[LogRow]] = {}
+    for logged in report.log:
+        for number in logged.touched():
+            log.setdefault(number, []).append(logged)
+    return log
+
+
+def edge(tag: str, block: Block) -> str:
+    """The opening or closing row of an account."""
+    return f"{tag},{block.number},{','.join(block.held_fields)}"
+
+
+def rows_by_account(day: DayText, report: Report, is_own: bool) -> dict[int, list[str]]:
+    """The log rows of the statements, by account."""
+    if not is_own:
+        return {number: [logged.row for logged in rows] for number, rows in log_by_account(report).items()}
+    users = {number: users_of(block) for number, block in day.book.items()}
+    return {
+        number: [own_row(logged, number, users[number]) for logged in rows]
+        for number, rows in own_log(day, report).items()
+    }
+
+
+def statement_of(day: DayText, report: Report, number: int, rows: list[str], is_own: bool) -> str:
+    """The text of the statement of an account."""
+    before, after = day.book[number], report.book[number]
+    _, _, kind, holder, status, *_ = after.rows[0].split(",")
+    start = [f"statement,{day.head.date},{number},{kind},{holder},{status}"] if is_own else []
+    return "\n".join([*start, edge("opening", before), *rows, edge("closing", after), "end", ""])
+
+
+def statement_over(days: list[tuple[DayText, Report]], number: int, rows: list[str]) -> str:
+    """The own statement of an account over several days, as if they were one: its opening is that of the first day on
+    which it is there."""
+    first = next(day for day, _ in days if number in day.book)
+    day, report = days[-1]
+    _, _, kind, holder, status, *_ = report.book[number].rows[0].split(",")
+    start = f"statement,{day.head.date},{number},{kind},{holder},{status}"
+    opening, closing = edge("opening", first.book[number]), edge("closing", report.book[number])
+    return "\n".join([start, opening, *rows, closing, "end", ""])
+
+
+def run(words: argparse.Namespace) -> int:
+    day, report = read_pair(words.day, words.report)
+    numbers = [*dict.fromkeys(words.account or day.book)]
+    for number in numbers:
+        if number not in day.book:
+            raise WordsFault(f"there is no account {number} in {day.path}")
+    rows = rows_by_account(day, report, words.own)
+    with NewFolder(words.folder) as folder:
+        for number in progress.over(numbers, "writing the statements", len(numbers)):
+            folder.write(f"{number}.csv", statement_of(day, report, number, rows.get(number, []), words.own))
+    return 0
