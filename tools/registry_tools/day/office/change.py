@@ -78,12 +78,12 @@ def signed(option: str, word: str) -> tuple[bool, str]:
 
 
 def account_edits(said: argparse.Namespace, number: int) -> Iterator[Edit]:
-    for it in said.user:
-        is_added, word = signed("--user", it)
+    for asked in said.user:
+        is_added, word = signed("--user", asked)
         user, _, right = word.partition(":")
         yield Edit(number, ADD, ("user", user, right)) if is_added else Edit(number, DROP, ("user", user))
-    for it in said.correction:
-        period, _, value = it.partition(":")
+    for factor in said.correction:
+        period, _, value = factor.partition(":")
         if period == FIRST_PERIOD:
             yield Edit(number, PUT, ("CORRECTION", value or "0"))
         else:
@@ -92,10 +92,10 @@ def account_edits(said: argparse.Namespace, number: int) -> Iterator[Edit]:
     for name, field in FIELDS.items():
         if getattr(said, name) is not None:
             yield Edit(number, PUT, (field, getattr(said, name)))
-    for it in said.leave_out:
-        tag, _, year = it.partition(":")
+    for left_out in said.leave_out:
+        tag, _, year = left_out.partition(":")
         if tag not in ("emissions", "figure"):
-            raise WordsFault(f"--leave-out {it}: emissions:YEAR or figure:YEAR")
+            raise WordsFault(f"--leave-out {left_out}: emissions:YEAR or figure:YEAR")
         yield Edit(number, DROP, (tag, year))
 
 
@@ -114,30 +114,30 @@ def opened(word: str) -> Edit:
 
 
 def rule_edits(said: argparse.Namespace, lags: dict[str, int]) -> Iterator[Edit]:
-    for it in said.admin:
-        is_added, user = signed("--admin", it)
+    for admin in said.admin:
+        is_added, user = signed("--admin", admin)
         yield Edit(0, ADD if is_added else DROP, ("admin", user))
-    for it in said.period:
-        yield Edit(0, ADD, ("period", *it.split("-")))
+    for years in said.period:
+        yield Edit(0, ADD, ("period", *years.split("-")))
     if said.current is not None:
         yield Edit(0, PUT, ("current", said.current))
     if said.lag:
         yield Edit(0, PUT, ("lags", *changed_lags(said.lag, lags)))
-    for it in said.surrender:
-        is_added, pair = signed("--surrender", it)
+    for allowed in said.surrender:
+        is_added, pair = signed("--surrender", allowed)
         yield Edit(0, ADD if is_added else DROP, ("surrender", *pair.split(":")))
-    yield from (Edit(0, ADD, ("work", it)) for it in said.working)
-    yield from (Edit(0, DROP, ("work", it)) for it in said.not_working)
+    yield from (Edit(0, ADD, ("work", day)) for day in said.working)
+    yield from (Edit(0, DROP, ("work", day)) for day in said.not_working)
 
 
 def changed_lags(given: list[str], lags: dict[str, int]) -> list[str]:
     now = {name: str(days) for name, days in lags.items()}
-    for it in given:
-        name, _, days = it.partition(":")
+    for lag in given:
+        name, _, days = lag.partition(":")
         if name not in LAGS:
-            raise WordsFault(f"--lag {it}: one of {', '.join(LAGS)}, with :DAYS")
+            raise WordsFault(f"--lag {lag}: one of {', '.join(LAGS)}, with :DAYS")
         now[name] = days
-    return [now[it] for it in LAGS]
+    return [now[name] for name in LAGS]
 
 
 def edits_of(said: argparse.Namespace, lags: dict[str, int]) -> list[Edit]:
@@ -147,8 +147,8 @@ def edits_of(said: argparse.Namespace, lags: dict[str, int]) -> list[Edit]:
     if of_account and not number:
         raise WordsFault("name the ACCOUNT that is changed")
     made = [*map(opened, said.open_account), *of_account, *rule_edits(said, lags)]
-    for it in made:
-        edits.must_be_readable(it)
+    for edit in made:
+        edits.must_be_readable(edit)
     if not made:
         raise WordsFault("nothing to change: ./day change --help tells what can be")
     return made
@@ -175,7 +175,7 @@ def on_paths(said: argparse.Namespace) -> int:
     """Shows the differences from a report, and writes the whole blocks of the accounts that are changed."""
     day, report = read_pair(*said.pairs)
     made = edits_of(said, day.head.lags)
-    if any(it.number == 0 for it in made):
+    if any(edit.number == 0 for edit in made):
         where = "change a row of the rules in the text that ./day next writes"
         raise WordsFault(f"with --pairs only accounts are changed: {where}")
     blocks = edits.edited_blocks(made, report, {})
@@ -186,8 +186,8 @@ def on_paths(said: argparse.Namespace) -> int:
         next_day.book_with_changes(day, report, str(path), Notes())
     for number, rows in blocks.items():
         old = report.book.get(number)
-        for it in edits.differences(old.rows if old else [], rows):
-            print(f"{number}: {it}", file=sys.stderr)
+        for difference in edits.differences(old.rows if old else [], rows):
+            print(f"{number}: {difference}", file=sys.stderr)
     write_answer(text.decode("utf-8", "surrogateescape"), said.to)
     return 0
 
@@ -196,7 +196,7 @@ def account_differences(before: DayText, after: DayText) -> Iterator[str]:
     """The rows of accounts that went and came, each with its account."""
     for number, block in after.book.items():
         old = before.book.get(number)
-        yield from (f"{number}: {it}" for it in edits.differences(old.rows if old else [], block.rows))
+        yield from (f"{number}: {difference}" for difference in edits.differences(old.rows if old else [], block.rows))
 
 
 def show(
@@ -204,7 +204,7 @@ def show(
 ) -> int:
     """Shows the difference, looks whether the next day can have it, and keeps it if it counts."""
     date = before.head.date
-    content = handed.text_of_rows([it.row() for it in made])
+    content = handed.text_of_rows([edit.row() for edit in made])
     try:
         part = handed.put(handed_in, handed.EDITS, content, len(made), why, who)
         after = composing.compose(office, handed_in.until(date), date).day(office.next_folder / NEXT)

@@ -30,7 +30,7 @@ REFUSALS = Table(["Refused", "How often", "Why"], ("How often",))
 MISSED = Table(["Account", "Holder", "Surrendered of emissions", "Missing", "Until"], ("Missing",))
 BY_HAND = Table(["Day", "Account", "Change"])
 OF_RULES, WORK = "the rules", "work,"
-KIND_COLUMNS = [f"{it.capitalize()} allowances" for it in rules.KINDS]
+KIND_COLUMNS = [f"{kind.capitalize()} allowances" for kind in rules.KINDS]
 DAYS = Table(["Day", "Done", "Refused", *KIND_COLUMNS], ("Done", "Refused", *KIND_COLUMNS))
 NOTHING = "Nothing."
 
@@ -57,15 +57,15 @@ def compliance_parts(last: PastDay, deadline: datetime.date | None) -> Iterator[
     lacking = sorted(unsettled, key=lambda row: (-(row.missing or 0), row.account.number))
     if lacking:
         until = until_in_words(last.date, deadline)
-        own = [(it.account.number, it.account.holder, bar(it), missing_of(it), until) for it in lacking]
+        own = [(row.account.number, row.account.holder, bar(row), missing_of(row), until) for row in lacking]
         yield MISSED.of(f"Who is missing how much for {year}", own)
 
 
 def compliance_facts(rows: list[Standing], year: int) -> Markup:
     """The share of compliant operators, and the sums."""
-    count = Counter(it.verdict for it in rows)
+    count = Counter(row.verdict for row in rows)
     missing, debtors = sum(row.missing or 0 for row in rows), sum(bool(row.missing) for row in rows)
-    known = [it for it in rows if it.verdict != NO_EMISSIONS]
+    known = [row for row in rows if row.verdict != NO_EMISSIONS]
     return facts([
         ("Year", year),
         ("Operators", len(rows)),
@@ -73,15 +73,15 @@ def compliance_facts(rows: list[Standing], year: int) -> Markup:
         ("Missing allowances", f"{grouped(missing)}, of {count_of(debtors, 'operator', 'operators')}"),
         ("Without emissions of some year", count[NO_EMISSIONS]),
         ("Others", sum(count.values()) - count[COMPLIANT] - count[MISSING] - count[NO_EMISSIONS]),
-        ("Surrendered", f"{grouped(sum(it.surrendered for it in known))}, by those whose emissions are known"),
-        ("Emissions", f"{grouped(sum(it.emissions for it in known))}, of the same"),
+        ("Surrendered", f"{grouped(sum(row.surrendered for row in known))}, by those whose emissions are known"),
+        ("Emissions", f"{grouped(sum(row.emissions for row in known))}, of the same"),
     ])  # fmt: skip
 
 
-def missing_of(it: Standing) -> str:
-    if it.verdict == NO_EMISSIONS:
-        return f"not known: no emissions of {', '.join(map(str, it.years_without_emissions))}"
-    return grouped(it.missing or 0)
+def missing_of(standing: Standing) -> str:
+    if standing.verdict == NO_EMISSIONS:
+        return f"not known: no emissions of {', '.join(map(str, standing.years_without_emissions))}"
+    return grouped(standing.missing or 0)
 
 
 def until_in_words(last: datetime.date, deadline: datetime.date | None) -> str:
@@ -134,15 +134,15 @@ def refusal_parts(days: list[PastDay]) -> Iterator[Markup]:
 
 def hand_rows(days: list[PastDay]) -> Iterator[tuple[datetime.date, int | str, str]]:
     """What people changed before each of the days. Of a calendar, only how many days came or went."""
-    for it in days:
-        changes = [*it.hand_changes()]
+    for day in days:
+        changes = [*day.hand_changes()]
         for sign, what in ((hand_changes.GONE, "no working days any more"), (hand_changes.NEW, "new working days")):
             rows = [change.row for change in changes if change.sign == sign]
             dates = [row.removeprefix(WORK) for row in rows if row.startswith(WORK)]
             if dates:
-                yield it.date, OF_RULES, f"{sign} {what}: {len(dates)}, from {dates[0]} to {dates[-1]}"
+                yield day.date, OF_RULES, f"{sign} {what}: {len(dates)}, from {dates[0]} to {dates[-1]}"
         own = (change for change in changes if not change.row.startswith(WORK))
-        yield from ((it.date, change.account or OF_RULES, change.words) for change in own)
+        yield from ((day.date, change.account or OF_RULES, change.words) for change in own)
 
 
 def hand_parts(days: list[PastDay]) -> Iterator[Markup]:

@@ -129,12 +129,12 @@ class LetterStatement(Statement):
 
     def tell_done_later(self, before: list[LogRow], date: datetime.date, done: LogRow) -> None:
         """Takes what was refused and is done now out of the refusals."""
-        records = {it.record for it in before}
+        records = {row.record for row in before}
         self.refused[:] = [row for row in self.refused if row[1] not in records]
         what = Own(done, self.number, self.users).words_with_amount
-        for it in before:
-            why = NOT_DUE_YET if it.name == NOT_DUE else self.refusal(it)[0]
-            self.done_later.append((it.date, it.record, what, why, date, done.record))
+        for row in before:
+            why = NOT_DUE_YET if row.name == NOT_DUE else self.refusal(row)[0]
+            self.done_later.append((row.date, row.record, what, why, date, done.record))
 
     def refusal(self, logged: LogRow) -> tuple[str, str]:
         book = self.settled.rulebook
@@ -182,13 +182,13 @@ def days_of(
     if not paths:
         raise WordsFault("there is no settled day")
     read = [] if dates else [*past.read_all(paths)]
-    known = dates or [it.date for it in read]
+    known = dates or [day.date for day in read]
     last = past.date_of("--day", end, known[-1])
     first = past.date_of("--from", begin, last)
     places = [place for place, date in enumerate(known) if first <= date <= last]
     if last not in known or not places:
         raise WordsFault(f"--day {last}: there are days from {known[0]} to {known[-1]}, and not this one")
-    return [read[it] for it in places] if read else [*past.read_all([paths[it] for it in places])]
+    return [read[place] for place in places] if read else [*past.read_all([paths[place] for place in places])]
 
 
 def accounts_of(report: Report, wanted: list[int] | None) -> dict[int, list[int]]:
@@ -226,9 +226,9 @@ def source_of(said: argparse.Namespace) -> Source:
         raise WordsFault("--pending is for --pairs: a folder knows what waits")
     office = folder.opened(said.office, folder.to_errors)
     filed = office.journal.filed()
-    paths = [(str(office.file(it, "day")), str(office.file(it, "report"))) for it in filed]
-    days = days_of(paths, [it.date for it in filed], said.begin, said.day)
-    event = next(it for it in filed if it.date == days[-1].date)
+    paths = [(str(office.file(closed, "day")), str(office.file(closed, "report"))) for closed in filed]
+    days = days_of(paths, [closed.date for closed in filed], said.begin, said.day)
+    event = next(closed for closed in filed if closed.date == days[-1].date)
     names = labels.read(Path(said.labels) if said.labels else office.path / labels.FILE)
     return Source(days, waiting_of(str(office.file(event, "waiting")), days[-1]), names)
 
@@ -237,9 +237,9 @@ def run(said: argparse.Namespace) -> int:
     source = source_of(said)
     last = source.days[-1]
     settled = Settled(last.day, last.report, LetterWords(), Frame([]), (), source.waiting)
-    told = [DayOfAccounts(it.day, it.report) for it in source.days]
-    pairs = [(it.day, it.report) for it in source.days]
-    texts = [rows_by_account(*it, is_own=True) for it in pairs]
+    told = [DayOfAccounts(past_day.day, past_day.report) for past_day in source.days]
+    pairs = [(past_day.day, past_day.report) for past_day in source.days]
+    texts = [rows_by_account(*pair, is_own=True) for pair in pairs]
     holders = accounts_of(last.report, said.holder)
     with NewFolder(said.folder) as made:
         for holder, numbers in holders.items():
