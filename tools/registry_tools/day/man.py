@@ -44,8 +44,9 @@ def page_of_run() -> Iterator[str]:
     yield ".SH NAME\nrun \\- runs the settlement program on a day text"
     yield ".SH SYNOPSIS\n.B ./run\n.I COMMAND\n.RI [ words ]\n< DAY"
     lines = SCRIPT.read_text(encoding="utf-8").splitlines()
-    own = itertools.takewhile(lambda it: it.startswith("#"), lines[1:])
-    yield ".SH DESCRIPTION\n.nf\n" + escaped("\n".join(it.removeprefix("#").removeprefix(" ") for it in own)) + "\n.fi"
+    own = itertools.takewhile(lambda line: line.startswith("#"), lines[1:])
+    text = "\n".join(line.removeprefix("#").removeprefix(" ") for line in own)
+    yield f".SH DESCRIPTION\n.nf\n{escaped(text)}\n.fi"
     for name, text in parsers.helps_of_run().items():
         yield f".SH {escaped(name.upper() or 'WORDS')}\n.nf\n{escaped(text.rstrip())}\n.fi"
 

@@ -35,7 +35,8 @@ def options_of_day() -> dict[str, list[str]]:
 
 def options_of_run() -> dict[str, list[str]]:
     """The options of each command of the program, by the reader of its words."""
-    of = {name: [f"--{it}" for it in program_words.LONG_OPTIONS.get(name, ["help"])] for name in program_words.COMMANDS}
+    options = program_words.LONG_OPTIONS
+    of = {name: [f"--{option}" for option in options.get(name, ["help"])] for name in program_words.COMMANDS}
     return {**of, **OF_SCRIPT}
 
 
