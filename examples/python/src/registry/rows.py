@@ -38,7 +38,7 @@ class Instruction:
     @classmethod
     def of(cls, fields: Sequence[str]) -> Instruction:
         proposed, proposer, approver, act, *rest = fields
-        numbers = tuple(int(it) if it.isdigit() else it for it in rest)
+        numbers = tuple(int(value) if value.isdigit() else value for value in rest)
         return cls(date.fromisoformat(proposed), int(proposer), int(approver) if approver else None, Act(act), numbers)
 
 
@@ -84,7 +84,7 @@ class LogRow:
     def of(cls, row: str) -> LogRow:
         _, record, day, *rest = row.split(",")
         # (no field of an act is one of these words)
-        end = next(place for place, it in enumerate(rest) if it in ("done", "refused"))
+        end = next(place for place, value in enumerate(rest) if value in ("done", "refused"))
         outcome, behind = rest[end], rest[end + 1 :]
         instruction = Instruction.of(rest[:end])
         made = _done(behind) if outcome == "done" else Refused(int(behind[0]), behind[1])
@@ -93,7 +93,7 @@ class LogRow:
 
 def _done(fields: Sequence[str]) -> Done:
     figure, *closing = fields
-    numbers = [int(it) for it in closing]
+    numbers = [int(value) for value in closing]
     holdings = tuple(Holding(*numbers[start : start + 3]) for start in range(0, len(numbers), 3))
     return Done(holdings, int(figure) if figure else None)
 

@@ -103,8 +103,8 @@ class Report:
     def frame(self) -> pandas.DataFrame:
         """A pandas frame with a row for each account after the day. It needs pandas."""
         return _frame(
-            {name: getattr(it, name) for name in ("number", "kind", "holder", "status", "general", "aviation")}
-            for it in self.accounts()
+            {name: getattr(account, name) for name in ("number", "kind", "holder", "status", "general", "aviation")}
+            for account in self.accounts()
         )
 
 
