@@ -1,15 +1,13 @@
 -- Places that rise, and regions whose instructions have their accounts at hand.
-use Rattle.std.proofs.Common.{◌≡◌, ℕ, zero, suc, ◌+◌, ◌-◌, ◌<◌, ◌≤◌, List, [], ◌∷◌, ◌++◌, map, length, take, get_or}
-use Rattle.std.proofs.Common.{refl, sym, ap, subst, ◌∙◌, arith}
+use Rattle.std.proofs.Common.{◌≡◌, ℕ, zero, suc, ◌+◌, ◌<◌, ◌≤◌, List, [], ◌∷◌, length, take, get_or}
+use Rattle.std.proofs.Common.{sym, ap, subst, ◌∙◌, arith}
 use Rattle.std.specs.Prelude.{All}
 use Rattle.std.proofs.lemmas.List.{get_or-map, take_more}
 use Rattle.std.proofs.lemmas.List.Elements.{All-nil, All-cons, All-push, All-weaker, Contains-get_or}
 use Rattle.arrayvec.specs.ArrayVec.{ArrayVec}
-use Rattle.reg_base.specs.Batch.{BatchValue}
-use Rattle.reg_rules.specs.State.{State, Setting, numbers}
+use Rattle.reg_rules.specs.State.{State}
 use Rattle.reg_rules.specs.Laws.{IsReady}
 use Rattle.reg_book.specs.Indexes.{index_lists}
-use Rattle.reg_regions.specs.Homes.{IsHome, AreHome}
 use Rattle.reg_regions.specs.Regions.{RiseAbove}
 use Rattle.reg_regions.proofs.Membership.{above}
 use Rattle.reg_regions.proofs.Running.{rise-more, ready-later}

@@ -19,7 +19,7 @@ use Rattle.reg_book.specs.Fold.{rows_of, replies_in}
 use Rattle.reg_book.specs.Laws.{StaysReady, NumbersStay, ClosingIsABook, CommittedIsClosing}
 use Rattle.reg_regions.specs.declared.region.Placed.{Placed}
 use Rattle.reg_regions.specs.declared.swaps.Swap.{Swap}
-use Rattle.reg_regions.specs.Days.{RegionsAreADay, all_afterwards}
+use Rattle.reg_regions.specs.Days.{RegionsAreADay}
 use Rattle.reg_regions.specs.declared.dealing.Dealing.{Dealing}
 use Rattle.reg_regions.specs.Dealing.{AreDealt, IsTurned, put_all}
 use Rattle.reg_regions.specs.Homes.{IsPlaceUpTo, dealt_places}

@@ -1,7 +1,7 @@
 -- What comes of a list of accounts that is cut into regions, put together.
-use Rattle.std.proofs.Common.{◌≡◌, ℕ, List, [], ◌∷◌, ◌++◌, map, length, take, drop, refl, sym, ap, subst, ◌∙◌}
-use Rattle.std.proofs.Common.{append-nil, zero, suc, ◌≤◌, false, eqb, arith, Result, Ok, Err}
-use Rattle.std.specs.Prelude.{All, IsPermutation, IfOk}
+use Rattle.std.proofs.Common.{◌≡◌, ℕ, List, [], ◌∷◌, ◌++◌, length, take, drop, refl, sym, ap, subst, ◌∙◌}
+use Rattle.std.proofs.Common.{append-nil, zero, suc, ◌≤◌, false, eqb, Result, Ok, Err}
+use Rattle.std.specs.Prelude.{IsPermutation, IfOk}
 use Rattle.std.specs.List.{IsDistinct, AllByRecursion}
 use Rattle.std.proofs.lemmas.List.{map-append, take-append-drop, take-map}
 use Rattle.std.proofs.lemmas.Grind.{flat_map-append}
@@ -17,10 +17,10 @@ use Rattle.reg_book.specs.Indexes.{index_lists}
 use Rattle.reg_regions.specs.declared.dealing.Deal.{Deal}
 use Rattle.reg_regions.specs.declared.region.Placed.{Placed}
 use Rattle.reg_regions.specs.Days.{Run, all_opening, all_afterwards, all_replies, AreRuns}
-use Rattle.reg_regions.specs.Settling.{IsRun, IsInside, places_in}
+use Rattle.reg_regions.specs.Settling.{IsRun, IsInside}
 use Rattle.reg_regions.specs.Dealing.{AreDealt}
 use Rattle.reg_regions.specs.Homes.{AreHome, AreAllHome}
-use Rattle.reg_regions.proofs.Found.{size-numbers, distinct-permutation}
+use Rattle.reg_regions.proofs.Found.{distinct-permutation}
 
 module _ (c : Setting) (b : BatchValue) where
   runs-append : (os ps : List State) (rs ss : List Run) → AreRuns c b os rs → AreRuns c b ps ss
@@ -146,17 +146,6 @@ module _ (c : Setting) (b : BatchValue) (s first rest : State) (d : Deal) (deals
   home-later home =
       let all = subst (AreAllHome c b (numbers s)) whole home in
       subst (λ ns. AreAllHome c b ns later) (sym back-numbers) all.2
-
-  -- and so those of all
-  pub home-all : d.size ≤ length s → AreHome c b (numbers first) d.places.items (index_lists d.indexes.items)
-      → AreAllHome c b (numbers rest) later → AreAllHome c b (numbers s) deals
-  home-all fits here there =
-      let size = size-numbers s in
-      subst (AreAllHome c b (numbers s)) (sym whole) (
-        omega (arith, fits, size),
-        subst (λ ns. AreHome c b ns d.places.items (index_lists d.indexes.items)) front-numbers here,
-        subst (λ ns. AreAllHome c b ns later) back-numbers there,
-      )
 
   pub cut-whole : first ++ rest ≡ s
   cut-whole = ap (λ xs. xs ++ rest) front ∙ ap (λ xs. take d.size s ++ xs) back ∙ take-append-drop d.size s

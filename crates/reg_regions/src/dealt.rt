@@ -40,14 +40,20 @@ pub fn settle_dealt<R: Threads + Sync>(
         (λ closed. closed.book ≡ committed book (settled_day (day_of book rules.now batch.now))) }
     ensures replies { IfOk result (λ closed. closed.replies.items ≡ replies_of (day_of book rules.now batch.now)) }
 {
-    match admitted(alloc, &book, batch, workers) {
+    match admitted(rt, alloc, &book, batch, workers) {
         Some(dealing) => settle_by(rt, alloc, book, rules, batch, &dealing),
         None => settle_in_place(alloc, book, rules, batch),
     }
 }
 
 // How the day is dealt out, if there is more than one region, the swaps are within the book, and each place is dealt.
-fn admitted(alloc: Global, book: &Book, batch: &Batch, workers: u32) -> Option<Dealing>
+fn admitted<R: Threads + Sync>(
+    rt: &R,
+    alloc: Global,
+    book: &Book,
+    batch: &Batch,
+    workers: u32,
+) -> Option<Dealing>
     ensures swaps { IfSome result
         (λ dealing. All (IsSwapWithin (length book.now.accounts)) dealing.swaps.items) }
     ensures each { IfSome result (λ dealing. (place : ℕ) → 1 ≤ place → place ≤ length batch.now.instructions
@@ -55,7 +61,7 @@ fn admitted(alloc: Global, book: &Book, batch: &Batch, workers: u32) -> Option<D
     ensures within { IfSome result
         (λ dealing. All (IsPlaceUpTo (length batch.now.instructions)) (dealt_places dealing.deals.items)) }
 {
-    let dealing = deal_out(alloc, book, batch, workers)?;
+    let dealing = deal_out(rt, alloc, book, batch, workers)?;
     if !are_within(&dealing.swaps, book.accounts().len()) {
         return None;
     }

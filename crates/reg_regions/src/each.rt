@@ -22,6 +22,7 @@ use std::thread;
 use std::thread::Threads;
 
 /// Whether the accounts of each region's instructions stand where it says, in a list that is cut into these regions.
+/// Each region but the last is looked at by a thread of its own where one can be started.
 #[cycle(looking)]
 pub(crate) fn are_all_home<R: Threads + Sync>(
     rt: &R,
@@ -39,10 +40,17 @@ pub(crate) fn are_all_home<R: Threads + Sync>(
                 return false;
             }
             let (first, rest) = accounts.split_at(deal.size as usize);
-            if !are_home(setting, batch, first, &deal.places, &deal.indexes) {
-                return false;
+            if later.is_empty() {
+                return are_home(setting, batch, first, &deal.places, &deal.indexes);
             }
-            are_all_home(rt, setting, batch, rest, later)
+            let front = move || are_home(setting, batch, first, &deal.places, &deal.indexes);
+            let back = move || -> bool
+                requires { IsSync R.row }
+                ensures { IsTrue result → AreAllHome setting.entry.now batch.entry.now (numbers rest.entry.now)
+                    later.entry.now }
+            { are_all_home(rt, setting, batch, rest, later) };
+            let (here, there) = thread::join(rt, front, back);
+            here && there
         }
     }
 }

@@ -3,27 +3,38 @@
 use crate::cut::Cut;
 use crate::dealing::{Deal, Dealing};
 use crate::homes::Bundled;
-use crate::numbers::number_at;
+use crate::numbers::{number_at, put_number, raise};
 use crate::region::Indexes;
-use crate::touching::{are_touches, find_indexes, find_touches};
+use crate::touching::{are_touches, find_by_runs, find_touches};
 use crate::turning::Turned;
 use reg_base::{Batch, NoMemory};
 use reg_book::Book;
 use reg_bundles::Bundles;
 use std::alloc::Global;
+use std::thread::Threads;
+
+// So many instructions are worth a thread that looks up their accounts, which starts in 0.05 ms.
+const LEAST_LOOKED_UP: u32 = 1_024;
 
 /// How the day is dealt out to so many regions, or `None` if it is not worth it.
-pub(crate) fn deal_out(alloc: Global, book: &Book, batch: &Batch, workers: u32) -> Option<Dealing> {
+pub(crate) fn deal_out<R: Threads + Sync>(
+    rt: &R,
+    alloc: Global,
+    book: &Book,
+    batch: &Batch,
+    workers: u32,
+) -> Option<Dealing> {
     if workers < 2 {
         return None;
     }
-    match try_deal(alloc, book, batch, workers) {
+    match try_deal(rt, alloc, book, batch, workers) {
         Ok(dealing) => dealing,
         Err(NoMemory) => None,
     }
 }
 
-fn try_deal(
+fn try_deal<R: Threads + Sync>(
+    rt: &R,
     alloc: Global,
     book: &Book,
     batch: &Batch,
@@ -32,7 +43,8 @@ fn try_deal(
     let accounts = book.accounts();
     let count = accounts.len() as u32;
     let cut = Cut::of(count, workers.min(count), batch.len());
-    let indexes = find_indexes(alloc, accounts, batch.instructions())?;
+    let runs = (batch.len() / LEAST_LOOKED_UP).min(workers);
+    let indexes = find_by_runs(rt, alloc, accounts, batch.instructions(), runs)?;
     let touches = find_touches(alloc, &indexes)?;
     if !are_touches(&touches, batch.len(), cut.accounts) {
         return Ok(None);
@@ -42,16 +54,36 @@ fn try_deal(
     let Some(homes) = bundled.homes(alloc, &cut)? else {
         return Ok(None);
     };
+    let places = homes_of(alloc, &bundles.labels, &homes)?;
+    if !are_two_busy(alloc, &cut, &places)? {
+        return Ok(None);
+    }
     let wanted = homes_of(alloc, &bundled.owners, &homes)?;
     let Some(turned) = Turned::of(alloc, &cut, &wanted)? else {
         return Ok(None);
     };
-    let places = homes_of(alloc, &bundles.labels, &homes)?;
     let deals = deal_all(alloc, &cut, &places, &indexes, &turned.stands)?;
     Ok(Some(Dealing {
         swaps: turned.swaps,
         deals,
     }))
+}
+
+// Whether regions other than the busiest have an eighth of the instructions or more, if these are their homes: threads
+// save no time otherwise.
+fn are_two_busy(alloc: Global, cut: &Cut, homes: &[u32]) -> Result<bool, NoMemory> {
+    let mut loads = vec![in alloc; 0u32; (cut.regions as usize).saturating_add(1)]?;
+    for home in homes {
+        raise(&mut loads, *home, 1);
+    }
+    put_number(&mut loads, 0, 0);
+    let mut all: u32 = 0;
+    let mut most: u32 = 0;
+    for load in &loads {
+        all = all.saturating_add(*load);
+        most = most.max(*load);
+    }
+    Ok(all.saturating_sub(most) >= all / 8 && most < all)
 }
 
 // The home of each of these labels.

@@ -1,6 +1,7 @@
 //! Where the accounts of instructions stand in a book.
 
 ghost use Rattle.std.specs.Prelude.{◌≤◌, ◌<◌, All, IsTrue};
+ghost use Rattle.std.specs.Thread.{IsSync};
 ghost use Rattle.reg_base.specs.Rising.{IsRising};
 ghost use Rattle.reg_rules.specs.State.{numbers};
 
@@ -10,12 +11,44 @@ use reg_base::{Instruction, NoMemory};
 use reg_book::index_of;
 use reg_bundles::Touch;
 use std::alloc::Global;
+use std::thread;
+use std::thread::Threads;
 
-/// For each instruction the indexes of the accounts that it touches.
+/// For each instruction the indexes of the accounts that it touches. They are looked up in so many runs, each but the
+/// last by a thread of its own where one can be started.
 ///
 /// # Errors
 /// `NoMemory` if memory ran out.
-pub(crate) fn find_indexes(
+pub(crate) fn find_by_runs<R: Threads + Sync>(
+    rt: &R,
+    alloc: Global,
+    accounts: &[Account],
+    instructions: &[Instruction],
+    runs: u32,
+) -> Result<Vec<Indexes>, NoMemory>
+    requires { IsRising (numbers accounts.now) }
+{
+    if runs < 2 {
+        return find_indexes(alloc, accounts, instructions);
+    }
+    let size = instructions.len() / runs as usize;
+    let (run, rest) = instructions.split_at(size.min(instructions.len()));
+    let (front, back) = thread::join(
+        rt,
+        move || -> Result<Vec<Indexes>, NoMemory>
+            requires { IsRising (numbers accounts.now) }
+        { find_indexes(alloc, accounts, run) },
+        move || -> Result<Vec<Indexes>, NoMemory>
+            requires { IsSync R.row × IsRising (numbers accounts.now) × (2 ≤ runs) }
+        { find_by_runs(rt, alloc, accounts, rest, runs - 1) },
+    );
+    let (mut all, mut later) = (front?, back?);
+    all.append(&mut later)?;
+    Ok(all)
+}
+
+// The same by one thread.
+fn find_indexes(
     alloc: Global,
     accounts: &[Account],
     instructions: &[Instruction],

@@ -1,5 +1,4 @@
-use Rattle.std.proofs.Common.{◌+◌, ◌++◌, [], sym, ap, subst}
-use Rattle.std.proofs.Common.{append-nil}
+use Rattle.std.proofs.Common.{◌+◌, sym, subst}
 use Rattle.reg_rules.specs.Laws.{IsReady}
 use Rattle.reg_regions.specs.Dealing.{AreDealt}
 use Rattle.reg_regions.proofs.Pieces.{dealt-one, dealt-idle, dealt-more, dealt-last, ready-cut}

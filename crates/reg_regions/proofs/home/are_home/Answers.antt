@@ -1,10 +1,6 @@
-use Rattle.std.proofs.Common.{◌≡◌, ◌<◌, ◌≤◌, true, [], ℕ, length, take, get_or, below_more, sym, ap, subst, ◌∙◌, arith}
-use Rattle.std.specs.Prelude.{All}
-use Rattle.std.proofs.lemmas.List.{take_all}
+use Rattle.std.proofs.Common.{◌≡◌, ◌<◌, true, length, get_or, below_more, subst, arith}
 use Rattle.reg_rules.specs.State.{numbers}
-use Rattle.reg_book.specs.Indexes.{index_lists}
 use Rattle.reg_regions.specs.Homes.{IsHome}
-use Rattle.reg_regions.specs.Regions.{RiseAbove}
 use Rattle.reg_regions.proofs.AtHome.{rising-more, indexes-at}
 use Rattle.reg_regions.proofs.home.are_home.Goals as goal
 

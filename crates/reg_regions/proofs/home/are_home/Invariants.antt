@@ -1,4 +1,4 @@
-use Rattle.std.proofs.Common.{◌≡◌, ℕ, ◌<◌, ◌≤◌, [], length, take, get_or}
+use Rattle.std.proofs.Common.{ℕ, ◌<◌, ◌≤◌, [], length, take, get_or}
 use Rattle.std.specs.Prelude.{All}
 use Rattle.reg_rules.specs.State.{numbers}
 use Rattle.reg_book.specs.Indexes.{index_lists}

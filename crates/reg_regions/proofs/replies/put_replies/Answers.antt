@@ -1,4 +1,4 @@
-use Rattle.std.proofs.Common.{◌≡◌, ◌∷◌, [], length, rules, sym, ap, subst, ◌∙◌, List}
+use Rattle.std.proofs.Common.{◌∷◌, [], length, rules, sym, ap, subst, ◌∙◌, List}
 use Rattle.std.specs.Prelude.{All}
 use Rattle.std.proofs.lemmas.List.Elements.{All-head, All-tail}
 use Rattle.reg_rules.specs.declared.reply.Reply.{Reply}
