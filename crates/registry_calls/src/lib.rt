@@ -14,6 +14,7 @@ mod docks;
 mod endings;
 mod plans;
 mod settling;
+mod single;
 mod steps;
 mod stop;
 mod tasks;

@@ -153,8 +153,8 @@ pub(crate) fn try_workers<R: Threads + Wait + Sync, W: Write>(
     try_threads(day, call, settled_plainly(alloc, day), writer)
 }
 
-// The day of a text.
-fn day_of(alloc: Global, text: &[u8]) -> Result<DayInput, Stop> {
+/// The day of a text.
+pub(crate) fn day_of(alloc: Global, text: &[u8]) -> Result<DayInput, Stop> {
     match read_day(alloc, text) {
         Ok(day) => Ok(day),
         Err(_) => Err(Stop::Input),

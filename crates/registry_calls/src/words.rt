@@ -6,6 +6,7 @@ use crate::claims::try_table;
 use crate::docks::{try_dock, try_docks};
 use crate::plans::{try_check, try_plan, try_plan_text, try_plan_with};
 use crate::settling::{try_closing, try_order, try_plain, try_waves, try_workers};
+use crate::single::try_apply;
 use crate::steps::try_execute;
 use crate::stop::Stop;
 use crate::tasks::{try_context, try_gather, try_opening, try_run};
@@ -39,6 +40,9 @@ pub fn try_named<R: Threads + Wait + Sync, W: Write>(
     }
     if name == "read_day_by_parts" {
         return try_read_by_parts(rt, alloc, text, number, writer);
+    }
+    if name == "apply" {
+        return try_apply(alloc, text, writer);
     }
     if name == "close_with" {
         return try_closing(rt, alloc, text, number, writer);

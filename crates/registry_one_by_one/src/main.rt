@@ -1,6 +1,7 @@
 //! A program over the crates that settles one instruction at a time, for callers to copy: reads a day text from
 //! standard input, applies its instructions to the book one after another, and writes a line for each to standard
-//! output: its record number, and `done` or the check that refused it. The exit status is 1 if anything failed.
+//! output: its record number, and `done` or the check that refused it, with a sentence. The exit status is 1 if
+//! anything failed.
 #![tactic(auto)]
 
 ghost use Rattle.std.specs.Prelude.{◌≡◌, ◌+◌, IfOk};
@@ -45,14 +46,16 @@ fn apply_all(
     Ok(rows)
 }
 
-/// Writes the line of a log row.
+/// Writes the line of a log row: its record number, and `done` or the check that refused it, with a sentence.
 fn write_line<W: Write>(writer: &mut W, row: &LogRow) -> Result<(), Unanswered> {
     let number = row.number.get();
-    let word = match row.reply.refusal() {
-        None => "done",
-        Some(refusal) => refusal.as_str(),
-    };
-    writeln!(writer, "{number} {word}").or(Err(Unanswered))
+    match row.reply.refusal() {
+        None => writeln!(writer, "{number} done").or(Err(Unanswered)),
+        Some(refusal) => {
+            let sentence = refusal.sentence();
+            writeln!(writer, "{number} {refusal}: {sentence}").or(Err(Unanswered))
+        }
+    }
 }
 
 /// Reads the whole input, applies the instructions of its day, and writes their lines.
