@@ -174,7 +174,7 @@ def log_words(text: bytes, report: str) -> Iterator[str]:
         named = [statuses.get(number, "none") for number in rules.named(asked)[:3]]
         yield f"status {asked.act} {' '.join(named)} {version}"
         if asked.act == "status" and is_done:
-            statuses[asked.first] = asked.status
+            statuses[asked.first] = rules.known(asked.status)
     yield f"periods {len(day.periods)} {day.current}"
 
 

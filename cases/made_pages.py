@@ -8,9 +8,8 @@ from __future__ import annotations
 import contextlib
 import io
 import re
-from collections.abc import Iterator
+from collections.abc import Iterator, Sequence
 from pathlib import Path
-from typing import Any
 
 from harness import Trial
 
@@ -24,7 +23,8 @@ from registry_tools.day.pages.rulebook import ACTS
 from registry_tools.day.pages.plan import MOST_BOXES
 from registry_tools.day.pages.summary import MOST_DONE, MOST_REFUSED
 from registry_tools.day.pairs import read_pair
-from reread import Page
+from registry_tools.day.report import LogRow
+from reread import Page, Table
 from registry_tools.texts import grouped
 from unique_days import Day
 
@@ -354,12 +354,12 @@ def accounts_of(made: Made) -> None:
 # Accounts.
 
 
-def pages_of_accounts(made: Made) -> Any:
+def pages_of_accounts(made: Made) -> list[tuple[rules.Account, Page]]:
     """Each account with its page."""
     return [(account.account(), made.page(f"accounts/{number}.html")) for number, account in made.report.book.items()]
 
 
-def seen_by(made: Made, number: int) -> Iterator[Any]:
+def seen_by(made: Made, number: int) -> Iterator[tuple[LogRow, bool]]:
     """The log rows that the holder of an account may see something of, each with whether it is all that belongs to the
     account."""
     users = {account: block.account().users for account, block in made.day.book.items()}
@@ -386,7 +386,7 @@ def statements_of(made: Made) -> None:
 
 
 def entries_of(page: Page, kind: str, rows: list[list[str]]) -> list[str]:
-    """The records of the entries of a kind, whose balances go from the opening to the closing row."""
+    """The records of the entries of a kind, whose balances go from the first row to the last."""
     place = 2 + rules.KINDS.index(kind)
     opening, closing = rows[0][place], rows[-1][place]
     captions = [table.caption for table in page.tables if table.caption.startswith(f"{kind.capitalize()} allowances: ")]
@@ -430,7 +430,7 @@ def lists_of_accounts(made: Made) -> None:
         years_of(made, account, [table for caption, table in tables.items() if caption.startswith("Period ")])
 
 
-def periods_of(head: Any, account: Any, table: Any) -> None:
+def periods_of(head: rules.Day, account: rules.Account, table: Table | None) -> None:
     """If there are several periods, the years of that of each surrender stand in the table of surrenders and
     deletions."""
     if table and len(head.periods) > 1:
@@ -443,7 +443,7 @@ def periods_of(head: Any, account: Any, table: Any) -> None:
         ]
 
 
-def years_of(made: Made, account: Any, tables: Any) -> None:
+def years_of(made: Made, account: rules.Account, tables: Sequence[Table]) -> None:
     """The years are all of each period up to the last that is over or has an entry, and their figures are those of
     compliance."""
     if account.kind not in rules.OPERATORS:
@@ -454,18 +454,17 @@ def years_of(made: Made, account: Any, tables: Any) -> None:
         told = [year for year in {*account.emissions, *account.figures, head.date.year - 1} if first <= year <= last]
         told += [last] if last < head.date.year else []
         for year in range(first, max(told, default=first - 1) + 1):
-            it = compliance.standing_of(head, account, year, entries)
+            standing = compliance.standing_of(head, account, year, entries)
             numbers = (
                 account.emissions.get(year),
-                it.emissions,
-                it.surrendered,
-                it.correction,
-                it.determined,
-                it.figure,
+                standing.emissions,
+                standing.surrendered,
+                standing.correction,
+                standing.determined,
+                standing.figure,
             )
-            expected.append(
-                [str(year), *("" if number is None else grouped(number) for number in numbers), it.verdict_in_words]
-            )
+            told_numbers = ["" if number is None else grouped(number) for number in numbers]
+            expected.append([str(year), *told_numbers, standing.verdict_in_words])
     assert [row for table in tables for row in table.rows] == expected, f"{account.number}: {tables}"
 
 
@@ -532,8 +531,8 @@ def nothing_of_others(made: Made, drawn: Day) -> None:
                 if not i.shares or account.number == i.first
                 else [share for to, share in i.shares if to == account.number]
             )
-            allowed |= {*amounts, i.tonnes, logged.held.get(account.number, {}).get("general"), logged.figure or 0}
-            allowed |= {sum(amounts), *logged.held.get(account.number, {}).values()}
+            held = logged.held.get(account.number, {})
+            allowed |= {*amounts, sum(amounts), i.tonnes or 0, *held.values(), logged.figure or 0}
         others = {number for other in drawn.accounts.values() if other.number != account.number for number in other.own}
         others |= {
             *drawn.admins,

@@ -20,7 +20,14 @@ MOST_WORKERS = 8
 # spelled by as many.
 MANY_ACCOUNTS = 20_000
 # These do the work of a thread that cannot be started themselves, so they never answer that there was none.
-DO_WITHOUT_THREADS = ("plan_with", "read_day_by_parts", "write_report_pieces")
+DO_WITHOUT_THREADS = (
+    "command_settle",
+    "plan_with",
+    "read_day_by_parts",
+    "settle",
+    "write_report_of_parts",
+    "write_report_pieces",
+)
 # What an answer is called, and whether the call was then refused something.
 ANSWERS = {"done": False, "no memory": True, "no thread": True, "given back": True}
 
@@ -166,11 +173,19 @@ LONG = day(
     ["101,102,transfer,1,2,general,40"],
     ACCOUNTS + "".join(f"account,{10 + number},trading,12,open,no,no,0,0,0\n" for number in range(MANY_ACCOUNTS)),
 )
+# The same, given as a file.
+FILED = Day("a long day as a file", LONG.text)
 # As many instructions as eight threads look up and spell, each of 1,024.
 FULL = day(
     "a long day of 8,192 instructions",
     unknown(8192, 2 * MANY_ACCOUNTS),
     ACCOUNTS + "".join(f"account,{10 + number},trading,12,open,no,no,0,0,0\n" for number in range(MANY_ACCOUNTS)),
+)
+# A file of it is read in two pieces, of which the second begins with an account in the middle; empty lines say nothing.
+HALF = 72 * 1024
+PADDED = Day(
+    "a transfer amid empty lines, as a file",
+    TRANSFER.text.replace(b"account,1,", b"\n" * HALF + b"account,1,", 1) + b"\n" * HALF,
 )
 LISTS = day("an account with long lists", [], LISTED, 6)
 ONE_ROW = Day("one instruction alone", b"do,2025-03-31,101,102,transfer,1,2,general,40\n")
@@ -244,6 +259,8 @@ OTHERS = [
     ("write_report_pieces:1", TRANSFER),
     ("write_report_pieces:2", LOGGED),
     ("write_report_pieces:8", LOGGED),
+    ("write_report_of_parts:1", TRANSFER),
+    ("write_report_of_parts:8", LOGGED),
     ("write_log_row", TRANSFER),
     ("write_book", TRANSFER),
     ("write_book", FACTORS),
@@ -309,23 +326,20 @@ class Found:
 
 
 class Program:
-    """A program behind the library that refuses."""
+    """A program behind the library that refuses. It gets its text by a pipe, or as a file."""
 
-    def __init__(self, library: str, work: str, path: str, words: Sequence[str], text: bytes) -> None:
+    def __init__(
+        self, library: str, work: str, path: str, words: Sequence[str], text: bytes, is_file: bool = False
+    ) -> None:
         self.library, self.work, self.path, self.words, self.text = library, work, path, words, text
+        self.is_file = is_file
 
     def run(self, attempt: Attempt, more: Mapping[str, str] | None = None) -> Found:
         handle, told = tempfile.mkstemp(dir=self.work)
         os.close(handle)
         settings = {"LD_PRELOAD": self.library, "REFUSE_TELL": told, **attempt.settings(), **(more or {})}
         try:
-            run = subprocess.run(
-                [self.path, *self.words],
-                input=self.text,
-                env={**os.environ, **settings},
-                capture_output=True,
-                timeout=MOST_SECONDS,
-            )
+            run = self.answer({**os.environ, **settings})
         except subprocess.TimeoutExpired as late:
             raise Wrong(f"no answer in {MOST_SECONDS} seconds") from late
         with open(told, encoding="ascii") as lines:
@@ -335,6 +349,16 @@ class Program:
             raise Wrong(f"status {run.returncode}, and nothing found: {run.stderr[-300:]!r}")
         numbers = {name: int(told_of[name]) for name in Found.__annotations__ if name in told_of and name != "own"}
         return Found(**numbers, own=told_of["own"], status=run.returncode, stdout=run.stdout, stderr=run.stderr)
+
+    def answer(self, settings: Mapping[str, str]) -> subprocess.CompletedProcess[bytes]:
+        """Runs it with these variables of the environment."""
+        words = [self.path, *self.words]
+        if not self.is_file:
+            return subprocess.run(words, input=self.text, env=settings, capture_output=True, timeout=MOST_SECONDS)
+        with tempfile.TemporaryFile(dir=self.work) as file:
+            file.write(self.text)
+            file.seek(0)
+            return subprocess.run(words, stdin=file, env=settings, capture_output=True, timeout=MOST_SECONDS)
 
 
 def starts_in(own: str) -> set[int]:
@@ -437,7 +461,9 @@ class ProgramCase(Case):
         if found.status == 0 and found.stdout == self.report and not found.stderr:
             return False
         said = "out of memory" if self.refused_word(found) == "no memory" else "no thread"
-        if found.status != 4 or found.stdout or found.stderr.decode() != said + "\n":
+        # (the threads that read a file are done without, so that what is refused after them tells)
+        told = "out of memory\n" if self.program.is_file and found.stderr == b"out of memory\n" else said + "\n"
+        if found.status != 4 or found.stdout or found.stderr.decode() != told:
             raise Wrong(
                 f"status {found.status}, {len(found.stdout)} bytes written, {found.stderr[-200:]!r}; wanted {said}"
             )
@@ -446,10 +472,13 @@ class ProgramCase(Case):
         return True
 
 
-def settle_case(library: str, work: str, registry: str, workers: int, of: Day) -> ProgramCase:
+def settle_case(
+    library: str, work: str, registry: str, workers: int, of: Day, is_file: bool = False
+) -> ProgramCase:
     """The program settles a batch by so many workers."""
     words = ["settle", "--workers", str(workers)]
-    return ProgramCase(f"registry {' '.join(words)}, {of.name}", Program(library, work, registry, words, of.text))
+    program = Program(library, work, registry, words, of.text, is_file)
+    return ProgramCase(f"registry {' '.join(words)}, {of.name}", program)
 
 
 def cases_of(library: str, work: str, refusals: str, registry: str) -> Iterator[Case]:
@@ -471,6 +500,7 @@ def cases_of(library: str, work: str, refusals: str, registry: str) -> Iterator[
     yield program(4, PERIODS)
     yield program(2, MANY)
     yield program(2, DISTRIBUTED)
+    yield settle_case(library, work, registry, 2, PADDED, is_file=True)
     for word, of in OTHERS:
         yield call(word, of)
 
@@ -486,14 +516,20 @@ def processors() -> int:
 
 
 def thread_cases(library: str, work: str, registry: str) -> Iterator[tuple[ProgramCase, int]]:
-    """Cases of the program, and how many threads each must start: all that do a part of the work but the calling one.
+    """Cases of the program, and how many threads each must start.
 
-    The parts are to read, to settle and to spell the accounts, and with many instructions to look up their accounts and
-    to spell their log rows.
+    To read takes all workers but the calling thread, and so does it to spell the accounts, with many instructions to
+    look up their accounts, to try the regions and to spell the log rows, and with a file to get its bytes. To settle
+    takes a thread for each worker. A short day that is one bundle starts none.
     """
     for workers in range(1, MOST_WORKERS + 1):
-        yield settle_case(library, work, registry, workers, ALL_ACTS), workers - 1
-        yield settle_case(library, work, registry, workers, LONG), 3 * (workers - 1)
-        yield settle_case(library, work, registry, workers, FULL), 5 * (workers - 1)
+        others = workers - 1
+        yield settle_case(library, work, registry, workers, ALL_ACTS), 0
+        yield settle_case(library, work, registry, workers, LONG), 2 * others
+        # (the lists of accounts are spelled in shares of equally many, and those of eight workers make seven shares)
+        spellers = min(others, 6)
+        settlers = workers if others else 0
+        yield settle_case(library, work, registry, workers, FULL), 4 * others + settlers + spellers
+        yield settle_case(library, work, registry, workers, FILED, is_file=True), 3 * others
     plan = Program(library, work, registry, ["plan"], LONG.text)
     yield ProgramCase(f"registry plan, {LONG.name}", plan), min(processors(), MOST_WORKERS) - 1

@@ -11,7 +11,7 @@ Named = dict[str, str]
 Box = tuple[float, float, float, float]
 
 VOID = {"meta", "link", "br", "hr", "img", "input"}
-# What a page that opens from the disk by itself never has: scripts, and what would be fetched.
+# What a page that stands alone never has: scripts, and what would be fetched.
 FORBIDDEN = {"script", "iframe", "object", "embed", "link", "img", "form"}
 PATH_STEP = re.compile(r"([MHV])(-?[0-9.]+)(?:,(-?[0-9.]+))?")
 

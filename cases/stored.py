@@ -8,7 +8,6 @@ import subprocess
 from collections.abc import Iterator
 from dataclasses import dataclass, replace
 from pathlib import Path
-from typing import Any
 
 from harness import MOST_SECONDS
 
@@ -63,7 +62,7 @@ class Copies:
     one: Path
     other: Path
 
-    def differences(self, _program: Any) -> list[str]:
+    def differences(self, _program: Path) -> list[str]:
         try:
             return differing_lines(
                 f"{self.other}, compared with {self.one}", self.one.read_bytes(), self.other.read_bytes()

@@ -77,7 +77,7 @@ class Account:
 @dataclass
 class Instruction:
     """A `do` row. `first` is FROM or the one account; `shares` has the accounts that receive, and how many
-    allowances."""
+    allowances. What its act does not have is None."""
 
     fields: list[str]
     proposed: datetime.date
@@ -87,12 +87,12 @@ class Instruction:
     first: int
     shares: list[tuple[int, int]] = field(default_factory=list)
     other: int | None = None
-    kind: str = ""
+    kind: str | None = None
     amounts: list[int] = field(default_factory=list)
-    number: int = 0
-    status: str = ""
-    year: int = 0
-    tonnes: int = 0
+    number: int | None = None
+    status: str | None = None
+    year: int | None = None
+    tonnes: int | None = None
 
 
 @dataclass
@@ -296,7 +296,7 @@ class Asked:
 
     def row(self) -> Row:
         """What is to be reversed."""
-        return self.first.rows[self.i.number]
+        return self.first.rows[known(self.i.number)]
 
 
 def asked_for(i: Instruction) -> list[int]:
@@ -379,21 +379,22 @@ def window_closed(asked: Asked) -> bool:
 
 
 def not_enough(asked: Asked) -> bool:
-    return asked.act in LEAVES and asked.first.held[asked.i.kind] < sum(asked.i.amounts)
+    return asked.act in LEAVES and asked.first.held[known(asked.i.kind)] < sum(asked.i.amounts)
 
 
 def holding_too_large(asked: Asked) -> bool:
     if asked.act == "reverse":
         return asked.first.held[asked.row().kind] + asked.row().amount > MOST_HELD
     if asked.act == "create":
-        return asked.first.held[asked.i.kind] + asked.i.amounts[0] > MOST_HELD
-    return any(to.held[asked.i.kind] + amount > MOST_HELD for to, (_, amount) in zip(asked.receivers, asked.i.shares))
+        return asked.first.held[known(asked.i.kind)] + asked.i.amounts[0] > MOST_HELD
+    pairs = zip(asked.receivers, asked.i.shares)
+    return any(to.held[known(asked.i.kind)] + amount > MOST_HELD for to, (_, amount) in pairs)
 
 
 def retired_too_large(asked: Asked) -> bool:
     return (
         asked.act in RETIRES_AS
-        and asked.first.retired(RETIRES_AS[asked.act], asked.i.kind) + asked.i.amounts[0] > MOST_RETIRED
+        and asked.first.retired(RETIRES_AS[asked.act], known(asked.i.kind)) + asked.i.amounts[0] > MOST_RETIRED
     )
 
 
@@ -423,15 +424,15 @@ def list_full(asked: Asked) -> bool:
 
 
 def year_outside_period(asked: Asked) -> bool:
-    return asked.act in ("emissions", "assess") and asked.day.period_of(asked.i.year) is None
+    return asked.act in ("emissions", "assess") and asked.day.period_of(known(asked.i.year)) is None
 
 
 def amount_too_large(asked: Asked) -> bool:
-    return asked.act == "emissions" and asked.i.tonnes > MOST_TONNES
+    return asked.act == "emissions" and known(asked.i.tonnes) > MOST_TONNES
 
 
 def emissions_missing(asked: Asked) -> bool:
-    return asked.act == "assess" and asked.day.figure(asked.first, asked.i.year) is None
+    return asked.act == "assess" and asked.day.figure(asked.first, known(asked.i.year)) is None
 
 
 CHECKS: tuple[Callable[[Asked], bool], ...] = (
@@ -464,16 +465,16 @@ def carry_out(day: Day, i: Instruction, record: int) -> int | None:
     """Makes the changes of an act that no check refuses. Answers the figure that it determines, if it does."""
     first = day.accounts[i.first]
     if i.act in LEAVES:
-        first.held[i.kind] -= sum(i.amounts)
+        first.held[known(i.kind)] -= sum(i.amounts)
     for to, amount in i.shares:
-        day.accounts[to].held[i.kind] += amount
+        day.accounts[to].held[known(i.kind)] += amount
     if i.act in RETIRES_AS:
         period = day.current if i.act == "surrender" else None
-        first.rows[record] = Row(RETIRES_AS[i.act], i.kind, i.amounts[0], day.date, False, period)
+        first.rows[record] = Row(RETIRES_AS[i.act], known(i.kind), i.amounts[0], day.date, False, period)
     elif i.act == "create":
-        first.held[i.kind] += i.amounts[0]
+        first.held[known(i.kind)] += i.amounts[0]
     elif i.act == "reverse":
-        row = first.rows[i.number]
+        row = first.rows[known(i.number)]
         row.is_reversed = True
         first.held[row.kind] += row.amount
     elif i.act == "trust":
@@ -481,12 +482,13 @@ def carry_out(day: Day, i: Instruction, record: int) -> int | None:
     elif i.act == "untrust":
         del first.trusted[known(i.other)]
     elif i.act == "status":
-        first.status = i.status
+        first.status = known(i.status)
     elif i.act == "emissions":
-        first.emissions[i.year] = i.tonnes
+        first.emissions[known(i.year)] = known(i.tonnes)
     elif i.act == "assess":
-        first.figures[i.year] = known(day.figure(first, i.year))
-        return first.figures[i.year]
+        year = known(i.year)
+        first.figures[year] = known(day.figure(first, year))
+        return first.figures[year]
     return None
 
 

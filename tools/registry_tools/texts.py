@@ -108,7 +108,7 @@ def subject_of(i: rules.Instruction) -> str:
         return f"list: {i.other}"
     if i.act == "status":
         return f"to {i.status}"
-    return f"{i.year}: {grouped(i.tonnes)} tonnes" if i.act == "emissions" else f"year {i.year}"
+    return f"{i.year}: {grouped(rules.known(i.tonnes))} tonnes" if i.act == "emissions" else f"year {i.year}"
 
 
 def table(head: Sequence[str], rows: Sequence[Sequence[str]], right: Collection[str]) -> list[str]:

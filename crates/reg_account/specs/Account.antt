@@ -88,7 +88,7 @@ held_by a kind = amount_of a.held kind
 abbrev pub retired_by : AccountValue → Retirement → AllowanceKind → ℕ
 retired_by a way kind = retired_in way kind a.rows
 
--- the account trusts the other, which this holder holds, on this day: they have the same holder, or its list has the
+-- the account trusts the other, which this holder holds, on this date: they have the same holder, or its list has the
 -- other with an entry that is in effect
 abbrev pub trusts : AccountValue → ℕ → ℕ → ℕ → Bool
 trusts a other holder day = (a.holder == holder) || is_in_effect a.trusted other day

@@ -87,7 +87,7 @@ pub record RowFits (row : RetirementRow) : Type 0 where
   pub most : row.amount ≤ MOST_RETIRED
   pub period : FateFits row.fate
 
--- a row's record number and day are in their ranges, as each such number is
+-- a row's record number and date are in their ranges, as each such number is
 pub record RowIsInRange (row : RetirementRow) : Type 0 where
   pub number : IsRecordNo row.number
   pub day : IsDayNo row.day

@@ -12,11 +12,11 @@ use Rattle.reg_account.specs.declared.trusted.TrustedEntry.{TrustedEntry}
 abbrev pub trusted_numbers : List TrustedEntry → List ℕ
 trusted_numbers entries = map (λ t. t.account) entries
 
--- the day on which the account's entry takes effect, if the list has the account
+-- the date on which the account's entry takes effect, if the list has the account
 abbrev pub effective_in : List TrustedEntry → ℕ → Option ℕ
 effective_in entries account = option_map (λ t. t.effective) (find (λ t. t.account == account) entries)
 
--- the list has the account, and its entry takes effect on this day or took effect before
+-- the list has the account, and its entry takes effect on this date or took effect before
 abbrev pub is_in_effect : List TrustedEntry → ℕ → ℕ → Bool
 is_in_effect entries account day =
     option_map_or (λ effective. nat_le effective day) (effective_in entries account) false
@@ -30,7 +30,7 @@ with_entry new entries =
 abbrev pub without_entry : ℕ → List TrustedEntry → List TrustedEntry
 without_entry account entries = filter (λ t. not (t.account == account)) entries
 
--- an entry's account number and day are in their ranges, as each such number is
+-- an entry's account number and date are in their ranges, as each such number is
 pub record EntryIsInRange (t : TrustedEntry) : Type 0 where
   pub number : IsAccountNo t.account
   pub day : IsDayNo t.effective

@@ -213,7 +213,7 @@ impl Account {
         self.parts.lists.trusted()
     }
 
-    /// The day on which this account's entry on the trusted account list takes effect, or `None` if the list has no
+    /// The date on which this account's entry on the trusted account list takes effect, or `None` if the list has no
     /// such entry. Found by binary search.
     pub fn effective(&self, other: AccountNo) -> Option<Day>
         ensures { result ≡ effective_in self.now.trusted other }
@@ -221,15 +221,15 @@ impl Account {
         find_effective(self.parts.lists.trusted(), other)
     }
 
-    /// Whether the other account, which `holder` holds, is trusted on this day: both have the same holder, or it is on
-    /// the trusted account list with an entry that takes effect on this day or took effect before.
+    /// Whether the other account, which `holder` holds, is trusted on this date: both have the same holder, or it is on
+    /// the trusted account list with an entry that takes effect on this date or took effect before.
     pub fn trusted(&self, other: AccountNo, holder: HolderNo, day: Day) -> bool
         ensures { result ≡ trusts self.now other holder day }
     {
         self.parts.holder == holder || is_in_effect(self.parts.lists.trusted(), other, day)
     }
 
-    /// Puts the other account on the trusted account list, with an entry that takes effect on this day. An earlier
+    /// Puts the other account on the trusted account list, with an entry that takes effect on this date. An earlier
     /// entry of that account is replaced. The list must have fewer than 256 entries. Nothing else changes.
     ///
     /// # Errors

@@ -1,4 +1,4 @@
-//! What the types of a list's numbers say of them: each record number, day and year is within its range.
+//! What the types of a list's numbers say of them: each record number, date and year is within its range.
 
 ghost use Rattle.std.specs.Prelude.{All};
 ghost use Rattle.reg_account.specs.Rows.{RowIsInRange};

@@ -13,14 +13,14 @@ use smallvec::SmallVec;
 pub struct TrustedEntry {
     /// The account that is trusted.
     pub account: AccountNo,
-    /// The first day on which it is.
+    /// The first date on which it is.
     pub effective: Day,
 }
 
 impl Default for TrustedEntry {
     ghost is_default = { λ t. t ≡ record { account = 1; effective = 18628 } };
 
-    /// The lowest account number and the first day. It fills the unused rest of a short list.
+    /// The lowest account number and the first date. It fills the unused rest of a short list.
     fn default() -> Self {
         TrustedEntry {
             account: AccountNo::new(1).unwrap(),
@@ -32,7 +32,7 @@ impl Default for TrustedEntry {
 /// A trusted account list. Most have at most four entries, so four take no allocation of their own.
 pub(crate) type Entries = SmallVec<TrustedEntry, 4>;
 
-/// The day on which the entry of this account takes effect, if the list has the account.
+/// The date on which the entry of this account takes effect, if the list has the account.
 pub(crate) fn find_effective(entries: &[TrustedEntry], account: AccountNo) -> Option<Day>
     requires { IsRising (trusted_numbers entries.now) }
     ensures { result ≡ effective_in entries.now account }
@@ -43,7 +43,7 @@ pub(crate) fn find_effective(entries: &[TrustedEntry], account: AccountNo) -> Op
     }
 }
 
-/// Whether the list has this account, with an entry that is in effect on this day.
+/// Whether the list has this account, with an entry that is in effect on this date.
 pub(crate) fn is_in_effect(entries: &[TrustedEntry], account: AccountNo, day: Day) -> bool
     requires { IsRising (trusted_numbers entries.now) }
     ensures { result ≡ is_in_effect entries.now account day }

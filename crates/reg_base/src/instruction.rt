@@ -18,7 +18,7 @@ use crate::shares::Share;
 /// A due instruction: proposed by one representative, and approved by another if it needs that.
 #[derive(Clone, Copy, Debug, PartialEq, Eq)]
 pub struct Instruction {
-    /// The day on which it was proposed.
+    /// The date on which it was proposed.
     pub proposed: Day,
     /// The user who proposed it.
     pub proposer: UserNo,

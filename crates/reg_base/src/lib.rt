@@ -11,7 +11,7 @@
 //!
 //! use reg_base::{Calendar, CalendarFault, Day};
 //!
-//! /// The day on which an instruction falls due that was proposed on `proposed`: the working day with exactly `lag`
+//! /// The date on which an instruction falls due that was proposed on `proposed`: the working day with exactly `lag`
 //! /// working days from `proposed` up to it, if these working days have such a day.
 //! ///
 //! /// # Errors

@@ -33,9 +33,9 @@ pub const MOST_LAG: u16 = 1_000;
 pub const FIRST_YEAR: u16 = 2021;
 /// The latest year of a period, of emissions and of a figure.
 pub const LAST_YEAR: u16 = 2100;
-/// The earliest day, 2021-01-01, in days since 1970-01-01.
+/// The earliest date, 2021-01-01, in days since 1970-01-01.
 pub const FIRST_DAY: u32 = 18_628;
-/// The latest day, 2100-12-31, in days since 1970-01-01.
+/// The latest date, 2100-12-31, in days since 1970-01-01.
 pub const LAST_DAY: u32 = 47_846;
 /// The most accounts that receive allowances by one instruction.
 pub const MOST_SHARES: usize = 8;

@@ -1,9 +1,10 @@
 //! Accounts that receive allowances, and how many.
 
-ghost use Rattle.std.specs.Prelude.{◌≡◌, ◌↔◌, ◌+◌, ◌*◌, ◌^◌, ◌<◌, ◌≤◌, [], ◌∷◌, ◌++◌, length, IsSome, IfSome};
+ghost use Rattle.std.specs.Prelude.{◌≡◌, ◌↔◌, ◌+◌, ◌*◌, ◌^◌, ◌<◌, ◌≤◌, [], ◌∷◌, ◌++◌, length, take, IsSome, IfSome};
 ghost use Rattle.reg_base.specs.declared.limits.TheConstants.{MOST_SHARES};
 ghost use Rattle.reg_base.specs.Acts.{total_of};
 ghost use Rattle.reg_base.specs.Numbers.{IsWithin};
+ghost use Rattle.reg_base.specs.Padding.{IsPadded};
 
 use crate::limits::MOST_SHARES;
 use crate::numbers::AccountNo;
@@ -48,19 +49,21 @@ impl Model for Receivers {
     } };
 }
 
-impl Receivers {
-    // What fills the unused end of the array.
-    const UNUSED: Share = Share {
+impl Share {
+    /// What stands behind the last share where there are fewer than 8: nothing of account 1.
+    pub const UNUSED: Share = Share {
         to: AccountNo::LOWEST,
         amount: 0,
     };
+}
 
+impl Receivers {
     /// No account receives.
     pub fn none() -> Self
         ensures { result ≡ [] }
     {
         Receivers {
-            array: [Receivers::UNUSED; MOST_SHARES],
+            array: [Share::UNUSED; MOST_SHARES],
             count: 0,
         }
     }
@@ -69,7 +72,7 @@ impl Receivers {
     pub fn one(to: AccountNo, amount: u64) -> Self
         ensures { result ≡ record { to = to; amount = amount } ∷ [] }
     {
-        let mut array = [Receivers::UNUSED; MOST_SHARES];
+        let mut array = [Share::UNUSED; MOST_SHARES];
         array[0] = Share { to, amount };
         Receivers { array, count: 1 }
     }
@@ -141,6 +144,18 @@ impl Shares {
             })
         } else {
             None
+        }
+    }
+
+    /// The first `count` shares of this array, at least one, behind which [`Share::UNUSED`] stands. Copies none and
+    /// tests nothing: for callers that have counted them, as a reader does.
+    pub fn of_array(array: [Share; MOST_SHARES], count: usize) -> Self
+        requires some { 1 ≤ count }
+        requires padded { IsPadded MOST_SHARES (record { to = 1; amount = 0 }) array count }
+        ensures { result ≡ take count array }
+    {
+        Shares {
+            receivers: Receivers { array, count },
         }
     }
 

@@ -77,7 +77,7 @@ module _ (laws : StepLaws) where
       after-local laws c s t n i (agree_first c i is s t agree) a
       (agree a (or_true_right (is_among (footprint c.directory i.act) a) (is_touched c.directory is a) h))
 
-  -- then the records are the same
+  -- then the log rows are the same
   pub rows-local : (c : Setting) (s t : State) (n : ℕ) (is : List Instruction) → AgreeOnTouched c is s t
       → rows_of c s n is ≡ rows_of c t n is
   rows-local c s t n [] agree = refl

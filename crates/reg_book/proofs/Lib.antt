@@ -16,6 +16,8 @@ pub mod Replacements
 pub mod Singles
 pub mod Turns
 pub mod Values
+pub mod TotalFacts
+pub mod Joined
 pub mod Conserved
 pub mod ClosedStay
 pub mod Chains

@@ -303,7 +303,7 @@ lower_than xs w count v x a some within at is named differs below =
     let not_same : x ≢ a = eqb-false x a differs in
     omega (arith, here, not_same, named, below)
 
--- the number after the settled day's records is one that a book may go on with
+-- the number after those of the settled day's log is one that a book may go on with
 pub next_fits : (settled : SettledValue) (next count : ℕ) → IsNext next → settled.base + 1 ≡ next
     → count ≡ length settled.rows
     → (0 < length settled.rows → settled.base + length settled.rows ≤ MOST_RECORD) → IsNext (next + count)

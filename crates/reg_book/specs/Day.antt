@@ -50,7 +50,7 @@ replies_of day = replies_in (log_of day)
 abbrev pub rows_replied : BatchValue → List Reply → List LogRow
 rows_replied batch replies = rows_from batch.day (batch.base + 1) batch.instructions replies
 
--- the record of the instruction at place j, counted from 1
+-- the log row of the instruction at place j, counted from 1
 abbrev pub row_at : Day → ℕ → Option LogRow
 row_at day zero = None
 row_at day (suc k) = slice_get (log_of day) k

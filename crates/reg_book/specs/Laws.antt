@@ -11,7 +11,7 @@ use Rattle.reg_book.specs.Settled.{committed, IsSettled, IsOfBook}
 use Rattle.reg_book.specs.Day.{Day, IsDay, setting, state_at, value_at, log_of, replies_of, rows_replied, row_at}
 use Rattle.reg_book.specs.Day.{closing_state, settled_day}
 
--- each instruction is carried out on what the ones before it left, and its record is that of this step
+-- each instruction is carried out on what the ones before it left, and its log row is that of this step
 pub record IsStepOf (day : Day) (k : ℕ) (i : Instruction) : Type 0 where
   pub state : state_at day (suc k) ≡ (step (setting day) (state_at day k) (day.batch.base + suc k) i).0
   pub row : row_at day (suc k)

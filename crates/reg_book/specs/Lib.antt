@@ -11,3 +11,4 @@ pub mod Marks
 pub mod Turns
 pub mod Conservation
 pub mod Chains
+pub mod Parts

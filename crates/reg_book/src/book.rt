@@ -12,7 +12,6 @@ ghost use Rattle.reg_book.specs.Book.{overlay, AreHigher};
 ghost use Rattle.reg_book.specs.Totals.{totals_of};
 
 use crate::apply::{ApplyFault, carry_out};
-use crate::listed::ListedAccounts;
 use crate::settled::{Settled, Stale};
 use crate::totals::{BothTotals, Totals, add_up};
 use reg_account::Account;
@@ -71,19 +70,6 @@ impl Book {
         Book {
             accounts,
             directory,
-            next,
-        }
-    }
-
-    /// The book of these accounts, which stand by rising number, and the next record number. Takes no memory.
-    pub fn of_rising(alloc: Global, listed: ListedAccounts, next: u64) -> Self
-        requires { IsBook (record { accounts = listed; next = next }) }
-        ensures { result ≡ record { accounts = listed; next = next } }
-    {
-        let (accounts, entries) = listed.into_parts();
-        Book {
-            accounts,
-            directory: Directory::of_rising(alloc, entries),
             next,
         }
     }

@@ -19,14 +19,14 @@ use std::alloc::Global;
 
 /// Indexes of the accounts that one instruction touches, in its order, each counted from 0. They are kept for each
 /// instruction of a batch, so they are short: a book has at most 100,000 accounts.
-pub(crate) type Indexes = ArrayVec<u32, MOST_TOUCHED>;
+pub type Indexes = ArrayVec<u32, MOST_TOUCHED>;
 
 /// For each instruction the indexes of the accounts that it touches. An account is looked up once for each instruction
 /// that touches it.
 ///
 /// # Errors
 /// `NoMemory` if memory ran out.
-pub(crate) fn all_indexes(
+pub fn all_indexes(
     alloc: Global,
     accounts: &[Account],
     instructions: &[Instruction],

@@ -78,6 +78,7 @@ mod draft;
 mod indexes;
 mod laws;
 mod listed;
+mod parts;
 mod settle;
 mod settled;
 mod totals;
@@ -88,13 +89,14 @@ pub use apply::ApplyFault;
 pub use book::{Book, Replaced};
 pub use closing::{ClosedDay, settle_in_place};
 pub use draft::{BookDraft, BookFault, has_row_ahead};
-pub use indexes::index_of;
+pub use indexes::{Indexes, all_indexes, index_of};
 pub use laws::{
     closing_is_a_book, each_is_a_step, every_chain, fold_conserves, fold_keeps_closed,
     log_is_made_again, settled_is_closing, settled_is_of_book, stays_ready, untouched_stay,
     value_is_last_touchers,
 };
 pub use listed::ListedAccounts;
+pub use parts::{ClosedParts, Parts, add_up_lists};
 pub use settle::{SettleFault, settle_plain};
 pub use settled::{Settled, Stale};
 pub use totals::{BothTotals, Totals, add_up};

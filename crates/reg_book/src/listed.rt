@@ -1,43 +1,64 @@
 //! Accounts that come by rising number, on their way into a book.
 
 ghost use Rattle.std.specs.Prelude.{◌≡◌, ◌∷◌, ◌++◌, [], OnOk, OnErr};
+ghost use Rattle.reg_book.specs.Parts.{joined};
 
 use reg_account::Account;
 use reg_base::{AccountKind, AccountNo, HolderNo, NoMemory};
 use std::alloc::Global;
 use std::marker::Model;
+use std::mem;
 
 /// Accounts one behind the other, and what the directory of their book will say of each. A contract sees the list of
-/// the accounts.
+/// the accounts. They lie in one list or more, and are never moved from one to another.
 #[derive(Debug, Drop)]
 pub struct ListedAccounts {
-    accounts: Vec<Account>,
+    // The lists before the last one.
+    before: Vec<Vec<Account>>,
+    // The list into which accounts are put.
+    last: Vec<Account>,
     entries: Vec<(AccountNo, (AccountKind, HolderNo))>,
+    // A new list is begun behind one of so many accounts ..
+    size: usize,
+    // .. if there are fewer than so many lists before it.
+    most: usize,
 }
 
 impl Model for ListedAccounts {
-    ghost use Rattle.std.specs.Prelude.{◌≡◌, List, map};
+    ghost use Rattle.std.specs.Prelude.{◌≡◌, ◌++◌, List, map};
     ghost use Rattle.reg_account.specs.Account.{AccountValue};
     ghost use Rattle.reg_book.specs.Book.{entry_of};
+    ghost use Rattle.reg_book.specs.Parts.{joined};
 
     ghost Value = { List AccountValue };
 
-    ghost view = { λ l. l.accounts.items };
+    ghost view = { λ l. joined l.before.items ++ l.last.items };
 
-    ghost invariant = { λ l. l.entries.items ≡ map entry_of l.accounts.items };
+    ghost invariant = { λ l. l.entries.items ≡ map entry_of (joined l.before.items ++ l.last.items) };
 }
 
 impl ListedAccounts {
-    ghost use Rattle.std.specs.Prelude.{map};
+    ghost use Rattle.std.specs.Prelude.{map, IfOk};
     ghost use Rattle.reg_book.specs.Book.{entry_of};
 
-    /// No accounts. Takes no memory.
+    /// No accounts. Those that are put into it will lie in one list. Takes no memory.
     pub fn empty(alloc: Global) -> Self
         ensures { result ≡ [] }
     {
+        ListedAccounts::in_lists(alloc, 0, 0)
+    }
+
+    /// No accounts. Those that are put into it will lie in lists of `size` accounts, and if so many come, the others
+    /// behind `most` such lists. Takes no memory.
+    pub fn in_lists(alloc: Global, size: usize, most: usize) -> Self
+        ensures { result ≡ [] }
+    {
         ListedAccounts {
-            accounts: Vec::new(alloc),
+            before: Vec::new(alloc),
+            last: Vec::new(alloc),
             entries: Vec::new(alloc),
+            size,
+            most,
         }
     }
 
@@ -49,16 +70,19 @@ impl ListedAccounts {
         ensures ok { OnOk result (self.new ≡ self.old ++ account ∷ []) }
         ensures err { OnErr result (self.new ≡ self.old) }
     {
-        self.accounts.reserve(1)?;
+        if self.last.len() >= self.size && self.before.len() < self.most {
+            begin_list(&mut self.before, &mut self.last)?;
+        }
+        self.last.reserve(1)?;
         self.entries
             .push((account.number(), (account.kind(), account.holder())))?;
-        self.accounts.push(account).unwrap();
+        self.last.push(account).unwrap();
         Ok(())
     }
 
-    /// Moves the accounts of another list behind these, and looks at none of them. If there are none here, the other
-    /// list is taken as it is. Where room has to be made, it is made for `awaited` more, if these are more than come
-    /// now.
+    /// Puts the accounts of another list behind these: their lists are moved, and nothing in them is looked at. If
+    /// there are no accounts here, the other list is taken as it is. Where room has to be made for what the directory
+    /// will say, it is made for `awaited` accounts more, if these are more than come now.
     ///
     /// # Errors
     /// `NoMemory` if memory ran out. The list is unchanged, and the other one is given up.
@@ -66,28 +90,69 @@ impl ListedAccounts {
         ensures ok { OnOk result (self.new ≡ self.old ++ others) }
         ensures err { OnErr result (self.new ≡ self.old) }
     {
-        if self.accounts.is_empty() {
+        if self.entries.is_empty() {
             *self = others;
             return Ok(());
         }
         let ListedAccounts {
-            mut accounts,
+            before,
+            last,
             mut entries,
+            ..
         } = others;
-        let more = awaited.max(accounts.len());
-        self.accounts.reserve(more)?;
-        self.entries.reserve(more.max(entries.len()))?;
-        self.accounts.append(&mut accounts).unwrap();
+        self.entries.reserve(awaited.max(entries.len()))?;
+        put_behind(&mut self.before, &mut self.last, before, last)?;
         self.entries.append(&mut entries).unwrap();
         Ok(())
     }
 
-    /// The accounts, and what the directory will say of each. Takes no memory.
-    pub(crate) fn into_parts(self) -> (Vec<Account>, Vec<(AccountNo, (AccountKind, HolderNo))>)
-        ensures accounts { result.0.items ≡ self }
-        ensures entries { result.1.items ≡ map entry_of self }
+    /// The lists of the accounts, and what the directory will say of each account.
+    ///
+    /// # Errors
+    /// `NoMemory` if memory ran out.
+    pub(crate) fn into_lists(
+        self,
+    ) -> Result<(Vec<Vec<Account>>, Vec<(AccountNo, (AccountKind, HolderNo))>), NoMemory>
+        ensures accounts { IfOk result (λ parts. joined parts.0.items ≡ self) }
+        ensures entries { IfOk result (λ parts. parts.1.items ≡ map entry_of self) }
     {
-        let ListedAccounts { accounts, entries } = self;
-        (accounts, entries)
+        let ListedAccounts {
+            mut before,
+            mut last,
+            entries,
+            ..
+        } = self;
+        begin_list(&mut before, &mut last)?;
+        Ok((before, entries))
     }
+}
+
+// Puts the last list behind those before it, and begins an empty one. Whatever comes of it, the accounts stay.
+fn begin_list(before: &mut Vec<Vec<Account>>, last: &mut Vec<Account>) -> Result<(), NoMemory>
+    ensures same { joined before.new.items ++ last.new.items ≡ joined before.old.items ++ last.old.items }
+    ensures empty { OnOk result (last.new.items ≡ []) }
+{
+    before.reserve(1)?;
+    let alloc = *last.allocator();
+    before.push(mem::replace(last, Vec::new(alloc))).unwrap();
+    Ok(())
+}
+
+// Puts other lists behind these.
+fn put_behind(
+    before: &mut Vec<Vec<Account>>,
+    last: &mut Vec<Account>,
+    others: Vec<Vec<Account>>,
+    last_of_others: Vec<Account>,
+) -> Result<(), NoMemory>
+    ensures ok { OnOk result (joined before.new.items ++ last.new.items
+        ≡ (joined before.old.items ++ last.old.items) ++ (joined others.items ++ last_of_others.items)) }
+    ensures err { OnErr result
+        (joined before.new.items ++ last.new.items ≡ joined before.old.items ++ last.old.items) }
+{
+    begin_list(before, last)?;
+    let mut others = others;
+    before.append(&mut others)?;
+    *last = last_of_others;
+    Ok(())
 }

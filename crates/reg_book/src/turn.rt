@@ -22,7 +22,7 @@ use std::alloc::Global;
 /// The touched accounts are moved to the front and then back, so none is copied and no memory is needed for them.
 ///
 /// # Errors
-/// `NoMemory` if there was no memory for the closing holdings.
+/// `NoMemory` if there was no memory for what its accounts then hold.
 pub fn take_turn(
     alloc: Global,
     setting: &Setting,

@@ -1,4 +1,4 @@
--- One record after another: each takes bytes, so that the records of a text come to an end.
+-- One row after another: each takes bytes, so that the rows of a text come to an end.
 use Rattle.std.proofs.Common.{Bor, ◌≡◌, ◌⊎◌, ℕ, zero, suc, ◌+◌, ◌<◌, ◌≤◌, Bool, true, false, cond, List, [], ◌∷◌, ◌++◌}
 use Rattle.std.proofs.Common.{length, Option, Some, None, refl, ap, ◌∙◌, arith, add-one, inl, inr}
 use Rattle.std.specs.Prelude.{unwrap_or, IsSome, IsTrue}
@@ -16,7 +16,7 @@ use Rattle.csv.specs.declared.parser.State.TheVariants as st
 use Rattle.csv.specs.declared.reader.Reader.{Reader}
 use Rattle.csv.proofs.ReadFacts.{rows-end, rows-more}
 
--- a step that ends a record leaves the machine between two records
+-- a step that ends a row leaves the machine between two rows
 abbrev Closes : State × Action → Type 0
 Closes x = is_end x.1 ≡ true → ends_at_end x.0 ≡ false
 
@@ -29,7 +29,7 @@ chosen : {A : Type 0} (b : Bool) (x y z : A) → cond b x y ≡ z → ((b ≡ tr
 chosen true x y z e = inl (refl, e)
 chosen false x y z e = inr (refl, e)
 
--- after a record the machine stands between two records, and no more bytes are left than there were
+-- after a row the machine stands between two rows, and no more bytes are left than there were
 pub record Advances (s : State) (bytes : List ℕ) (p : Read) : Type 0 where
   pub between : ends_at_end p.1 ≡ false
   pub no_longer : length p.2 ≤ length bytes
@@ -80,7 +80,7 @@ enough (suc n) (suc m) s bytes b h k =
     let less = a.shorter b in
     enough n m p.1 p.2 a.between (omega arith) (omega arith))
 
--- the records of some bytes are the first one, and those of what is left behind it
+-- the rows of some bytes are the first one, and those of what is left behind it
 pub records_in-some : (s : State) (bytes : List ℕ) (p : Read) → ends_at_end s ≡ false
     → next_record default_config s [] [] bytes ≡ Some p → records_in s bytes ≡ p.0 ∷ records_in p.1 p.2
 unfolding records_from
@@ -95,7 +95,7 @@ pub records_in-none : (s : State) (bytes : List ℕ) → next_record default_con
 unfolding records_from
 records_in-none s bytes e = rw (add-one, e) refl
 
--- there are at most as many records as turns
+-- there are at most as many rows as turns
 length-next : (n : ℕ) (o : Option Read) → ((p : Read) → length (records_from default_config n p.1 p.2) ≤ n)
     → length (records_next (records_from default_config n) o) ≤ suc n
 length-next n None h = omega arith
@@ -122,7 +122,7 @@ there None h = absurd cc
 pub rest-is : (a : Source) (y : List ℕ) → known_rest a ≡ Some y → rest_of a ≡ y
 rest-is a y e = ap (λ (o : Option (List ℕ)). unwrap_or o []) e
 
--- a record that was read is the first of those that were left
+-- a row that was read is the first of those that were left
 pub one-row : (a b : Source) (f : Record) → IsBetweenRows a → ReadRecord known a b true f → b.first ≡ true
     → is_flexible b ≡ is_flexible a → IsBetweenRows b × (rows_left a ≡ f ∷ rows_left b)
 unfolding Reached
@@ -145,21 +145,21 @@ one-row a b f ready read first bends =
       (cc),
     )
 
--- a read that found no record has left none
+-- a read that found no row has left none
 pub no-row : (a b : Source) (f : Record) → IsBetweenRows a → ReadRecord known a b false f → rows_left a ≡ []
 no-row a b f ready read =
     let y = there (known_rest a) ready.known in
     let none = rows-end known a b f default_config y.0 ready.plain y.1 read in
     ap (records_in a.state) (rest-is a y.0 y.1) ∙ records_in-none a.state y.0 none
 
--- what a read left, whether it found a record or none
+-- what a read left, whether it found a row or none
 pub row-or-none : (a b : Source) (found : Bool) (f : Record) → IsBetweenRows a → ReadRecord known a b found f
     → b.first ≡ true → is_flexible b ≡ is_flexible a
     → (IsTrue found → IsBetweenRows b) × MatchBool found (rows_left a ≡ f ∷ rows_left b) (rows_left a ≡ [])
 row-or-none a b true f ready read first bends = let one = one-row a b f ready read first bends in (λ yes. one.0, one.1)
 row-or-none a b false f ready read first bends = (λ yes. absurd cc, no-row a b f ready read)
 
--- a read of records of any lengths fails for memory or for its source alone
+-- a read of rows of any lengths fails for memory or for its source alone
 pub why-failed : (a b : Source) (k : ErrorKind) → is_flexible a ≡ true → ExplainsRead known a b false k → IsOfMemory k
 why-failed a b kind.OutOfMemory bends why = tt
 why-failed a b (kind.Io error) bends why = tt
@@ -180,7 +180,7 @@ length-strip_bom (a ∷ b ∷ c ∷ rest) = shorter_or_same (is_bom a b c) rest 
     shorter_or_same true xs ys h = h
     shorter_or_same false xs ys h = omega arith
 
--- a text has at most one record more than it has bytes
+-- a text has at most one row more than it has bytes
 pub length-rows_of : (text : List ℕ) → length (rows_in_text text) ≤ length text + 1
 length-rows_of text = omega (
   arith,

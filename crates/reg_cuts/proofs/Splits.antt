@@ -1,4 +1,4 @@
--- Where a text is cut between two records, the records of its parts are those of the whole.
+-- Where a text is cut between two rows, the rows of its parts are those of the whole.
 use Rattle.std.proofs.Common.{◌≡◌, ◌≢◌, ◌⊎◌, inl, inr, ℕ, zero, suc, ◌+◌, ◌-◌, ◌<◌, ◌==◌, ◌||◌, Bool, true, false, cond}
 use Rattle.std.proofs.Common.{List, [], ◌∷◌, ◌++◌, length, get_or, Option, Some, None, refl, sym, ap, ◌∙◌, arith}
 use Rattle.std.specs.Prelude.{slice_get, ◌&&◌}
@@ -19,7 +19,7 @@ use Rattle.reg_cuts.proofs.RowsFacts.{record-advances, records_in-some, records_
 
 -- ---- the machine
 
--- the machine stands between two records, or in a comment
+-- the machine stands between two rows, or in a comment
 abbrev pub is_quiet : State → Bool
 is_quiet st.StartRecord = true
 is_quiet st.AfterCr = true
@@ -31,7 +31,7 @@ between-quiet st.StartRecord b = refl
 between-quiet st.AfterCr b = refl
 between-quiet s b = absurd cc
 
--- a byte that ends no record and leaves the machine so was skipped by a machine that stood so
+-- a byte that ends no row and leaves the machine so was skipped by a machine that stood so
 pub record IsSkipped (s : State) (c : ℕ) : Type 0 where
   pub quiet : is_quiet s ≡ true
   pub skipped : (step default_config s c).1 ≡ act.Skip
@@ -43,7 +43,7 @@ skips st.AfterCr c e b = record { quiet = refl; skipped = grind arith }
 skips st.InComment c e b = record { quiet = refl; skipped = grind arith }
 skips s c e b = absurd (grind arith)
 
--- between two records it does not matter in which of the two states the machine stands
+-- between two rows it does not matter in which of the two states the machine stands
 same-step : (c : ℕ) → step default_config st.AfterCr c ≡ step default_config st.StartRecord c
 same-step c = grind arith
 
@@ -55,7 +55,7 @@ same-next st.AfterCr fields field [] b = refl
 same-next st.AfterCr fields field (c ∷ rest) b = rw (same-step c) refl
 same-next s fields field bytes b = absurd cc
 
--- ---- the next record of a text that is cut between two records
+-- ---- the next row of a text that is cut between two rows
 
 -- it ends before the cut, or there is none before it, and the next one is that of the rest
 pub record EndsBefore (s : State) (fields : List (List ℕ)) (field a b : List ℕ) : Type 0 where
@@ -105,7 +105,7 @@ next-split s fields field (c ∷ rest) b h =
       ]
     ]
 
--- ---- the records
+-- ---- the rows
 
 in-rest : (s : State) (b : List ℕ) (o : Option Read) → ends_at_end s ≡ false → next_record default_config s [] [] b ≡ o
     → (t : State) (a : List ℕ) → ends_at_end t ≡ false → next_record default_config t [] [] a ≡ o
@@ -139,7 +139,7 @@ records-split s a b between cut = split-records (length a + 1) s a b (omega arit
 
 -- ---- whole texts
 
--- no byte of a byte order mark but its last leaves the machine between two records
+-- no byte of a byte order mark but its last leaves the machine between two rows
 within-mark : (s : State) (m : ℕ) → (m ≡ 0xEF) ⊎ (m ≡ 0xBB) → ends_at_end (step default_config s m).0 ≡ true
 within-mark st.InEscape m is = refl
 within-mark s m (inl e) = rw e refl

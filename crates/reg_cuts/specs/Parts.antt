@@ -13,7 +13,7 @@ unfoldable pub machine_after : State → List ℕ → State
 machine_after s [] = s
 machine_after s (c ∷ rest) = machine_after (step default_config s c).0 rest
 
--- after these bytes the machine stands between two records, so a text may be cut behind them
+-- after these bytes the machine stands between two rows, so a text may be cut behind them
 abbrev pub IsCut : List ℕ → Type 0
 IsCut a = ends_at_end (machine_after st.StartRecord (strip_bom a)) ≡ false
 
@@ -30,7 +30,7 @@ has_quote (c ∷ rest) = (c == 34) || has_quote rest
 abbrev pub text_of_parts : List (Bor (List ℕ)) → List ℕ
 text_of_parts parts = flat_map (λ part. part.now) parts
 
--- law: from a state between two records, whatever the bytes behind it
+-- law: from a state between two rows, whatever the bytes behind it
 abbrev pub EachSplitSplits : Type 0
 EachSplitSplits = (s : State) (a b : List ℕ) → ends_at_end s ≡ false → ends_at_end (machine_after s a) ≡ false
     → records_in s (a ++ b) ≡ records_in s a ++ records default_config b

@@ -1,4 +1,4 @@
--- The records of a text, and those that a reader over it still gives.
+-- The rows of a text, which csv calls records, and those that a reader over it still gives.
 use Rattle.std.specs.Prelude.{◌≡◌, ℕ, ◌+◌, ◌≤◌, true, false, ⊤, List, [], length, Option, Some, IsSome, unwrap_or}
 use Rattle.std.specs.Borrow.{Bor}
 use Rattle.csv.specs.Machine.{ends_at_end}
@@ -14,7 +14,7 @@ use Rattle.csv.specs.declared.reader.Trim.TheVariants as trim
 abbrev pub Record : Type 0
 Record = List (List ℕ)
 
--- the records of a text as csv splits it; a byte order mark at the very start is skipped
+-- the rows of a text as csv splits it; a byte order mark at the very start is skipped
 abbrev pub rows_in_text : List ℕ → List Record
 rows_in_text text = records default_config (strip_bom text)
 
@@ -25,15 +25,15 @@ known_rest reader = source_of (λ s. Some s.now) reader
 abbrev pub rest_of : Reader (Bor (List ℕ)) → List ℕ
 rest_of reader = unwrap_or (known_rest reader) []
 
--- the records in these bytes, if the reader is between two records
+-- the rows in these bytes, if the reader is between two rows
 abbrev pub records_in : State → List ℕ → List Record
 records_in state bytes = records_from default_config (length bytes + 1) state bytes
 
--- the records that a reader has left
+-- the rows that a reader has left
 abbrev pub rows_left : Reader (Bor (List ℕ)) → List Record
 rows_left reader = records_in (reader_state reader) (rest_of reader)
 
--- a reader of whole records of any lengths with the defaults of csv, between two records
+-- a reader of whole rows of any lengths with the defaults of csv, between two rows
 pub record IsBetweenRows (reader : Reader (Bor (List ℕ))) : Type 0 where
   pub flexible : is_flexible reader ≡ true
   pub trims_nothing : reader_trim reader ≡ trim.None
@@ -51,6 +51,6 @@ IsOfMemory (kind.UnequalLengths pos expected len) = ⊥
 IsOfMemory (kind.Serialize text) = ⊥
 IsOfMemory (kind.Deserialize pos error) = ⊥
 
--- law: a text has at most one record more than it has bytes
+-- law: a text has at most one row more than it has bytes
 abbrev pub EachTextHasFewRows : Type 0
 EachTextHasFewRows = (text : List ℕ) → length (rows_in_text text) ≤ length text + 1

@@ -1,14 +1,14 @@
-//! The laws of the records of a text, and of cut texts.
+//! The laws of the rows of a text, and of cut texts.
 
 ghost use Rattle.reg_cuts.specs.Rows.{EachTextHasFewRows};
 ghost use Rattle.reg_cuts.specs.Parts.{EachCutSplits, CutsGoOn, LinesWithoutQuotesAreCuts, EachSplitSplits};
 
-/// A text has at most one record more than it has bytes.
+/// A text has at most one row more than it has bytes.
 pub fn each_text_has_few_rows()
     ensures { EachTextHasFewRows }
 {}
 
-/// Where the machine of csv stands between two records, the records behind it are those of the rest read alone.
+/// Where the machine of csv stands between two rows, the rows behind it are those of the rest read alone.
 pub fn each_split_splits()
     ensures { EachSplitSplits }
 {}

@@ -1,4 +1,4 @@
-//! The records of a text, read one after another into the same record.
+//! The rows of a text, read one after another into the same record of csv.
 
 ghost use Rattle.std.specs.Prelude.{◌≡◌, ◌∷◌, [], IfOk, IsTrue};
 ghost use Rattle.std.specs.Bool.{MatchBool};
@@ -10,7 +10,7 @@ use csv::{ByteRecord, Error, ErrorKind, Reader, ReaderBuilder};
 use reg_base::NoMemory;
 use std::alloc::Global;
 
-/// A reader at the first record of a text.
+/// A reader at the first row of a text.
 pub fn start_rows(alloc: Global, text: &[u8]) -> Reader<&[u8]>
     ensures between { IsBetweenRows result }
     ensures rows { rows_left result ≡ rows_in_text text.now }
@@ -21,7 +21,7 @@ pub fn start_rows(alloc: Global, text: &[u8]) -> Reader<&[u8]>
         .from_reader(alloc, text)
 }
 
-/// Reads the next record into `row`, and answers whether there was one.
+/// Reads the next row into `row`, and answers whether there was one.
 ///
 /// # Errors
 /// `NoMemory` if memory ran out, or if the bytes could not be read. Bytes in memory can always be read. The reader is
@@ -39,7 +39,7 @@ pub fn next_row(reader: &mut Reader<&[u8]>, row: &mut ByteRecord) -> Result<bool
     }
 }
 
-// An error of the reader. The records may have any lengths and bytes, so that no other error can come.
+// An error of the reader. The rows may have any lengths and bytes, so that no other error can come.
 fn out_of_memory(error: &Error) -> NoMemory
     requires { IsOfMemory (error_kind error.now) }
 {

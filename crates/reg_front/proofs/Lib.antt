@@ -1,5 +1,6 @@
 mod Ends
 mod Inputs
 mod PieceFacts
-mod Rooms
 mod Reports
+mod Rooms
+mod Slices

@@ -5,7 +5,7 @@ use Rattle.reg_plan.specs.Plans.{PlanValue, IsPlan}
 use Rattle.reg_book.specs.Book.{BookValue, directory_of}
 use Rattle.reg_book.specs.Day.{Day, log_of}
 use Rattle.reg_book.specs.Chains.{book_after}
-use Rattle.reg_work.specs.Faults.{are_workers}
+use Rattle.reg_regions.specs.Outcomes.{may_work}
 use Rattle.reg_cuts.specs.Rows.{rows_in_text}
 use Rattle.reg_text.specs.Faults.{day_of_rows}
 use Rattle.reg_text.specs.Reading.{IsReading}
@@ -25,7 +25,7 @@ use Rattle.reg_front.specs.Devices.{AppendsFrontOf, FailsToRead, IsPartlyRead, I
 
 -- why the command is refused for a day with this book, if it is
 abbrev pub command_fault : Command → BookValue → Option FrontFault
-command_fault (Settle workers) book = if are_workers workers then None else Some Workers
+command_fault (Settle workers) book = if may_work workers then None else Some Workers
 command_fault Plan book = None
 command_fault (Statement account) book = if has_account book account then None else Some NoAccount
 command_fault Figures book = None
@@ -54,19 +54,14 @@ abbrev pub IsRefused : Command → List ℕ → FrontFault → Type 0
 IsRefused command input fault =
     (day : Day) × IsReading (rows_in_text input) day × (command_fault command day.book ≡ Some fault)
 
--- the command settles by several workers, for whom threads are started
-abbrev pub StartsThreads : Command → Type 0
-StartsThreads command = (workers : ℕ) × (command ≡ Settle workers) × (2 ≤ workers)
-
--- the command may answer this fault for this input; a lack of threads can occur with every day text that is to be
--- settled by several workers, a lack of memory with every input; when an input is not read, the reader tells (`Reads`)
+-- the command may answer this fault for this input; a lack of memory can occur with every input; a thread that can't be
+-- started is no fault; when an input is not read, the reader tells (`Reads`)
 abbrev pub IsFault : Command → List ℕ → FrontFault → Type 0
 IsFault command input (Row row cause) = day_of_rows (rows_in_text input) ≡ Err (row, cause)
 IsFault command input Workers = IsRefused command input Workers
 IsFault command input NoAccount = IsRefused command input NoAccount
 IsFault command input WriteFailed = (text : List ℕ) × IsText command input text
-IsFault command input NoThread =
-    StartsThreads command × ((day : Day) × IsReading (rows_in_text input) day × (command_fault command day.book ≡ None))
+IsFault command input NoThread = ⊥
 IsFault command input Read = ⊤
 IsFault command input NoMemory = ⊤
 
@@ -134,13 +129,12 @@ IsReadingFault input WriteFailed = ⊥
 IsReadingFault input Read = ⊤
 IsReadingFault input NoMemory = ⊤
 
--- why a command gave no text for a day that was read: it is refused for that day, or if it is not, threads or memory
--- were lacking
+-- why a command gave no text for a day that was read: it is refused for that day, or if it is not, memory was lacking
 abbrev pub IsCommandFault : Command → BookValue → FrontFault → Type 0
 IsCommandFault command book (Row row cause) = ⊥
 IsCommandFault command book Workers = command_fault command book ≡ Some Workers
 IsCommandFault command book NoAccount = command_fault command book ≡ Some NoAccount
-IsCommandFault command book NoThread = StartsThreads command × (command_fault command book ≡ None)
+IsCommandFault command book NoThread = ⊥
 IsCommandFault command book WriteFailed = ⊥
 IsCommandFault command book Read = ⊥
 IsCommandFault command book NoMemory = command_fault command book ≡ None

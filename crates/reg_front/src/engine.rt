@@ -1,24 +1,21 @@
 //! One command, from its input to its output.
 
-ghost use Rattle.std.specs.Prelude.{◌≡◌, ◌+◌, IfOk, IfErr, IfSome, OnOk};
+ghost use Rattle.std.specs.Prelude.{◌≡◌, true};
 ghost use Rattle.std.specs.Result.{result_err};
-ghost use Rattle.reg_cuts.specs.Rows.{rows_in_text};
-ghost use Rattle.reg_text.specs.Reading.{IsReading};
-ghost use Rattle.reg_text.specs.Inputs.{day_of_input};
+ghost use Rattle.reg_regions.specs.Outcomes.{may_work};
 ghost use Rattle.reg_front.specs.Streams.{CanFail};
-ghost use Rattle.reg_front.specs.Devices.{IsReadWhole};
 ghost use Rattle.reg_front.specs.declared.command.Command.TheVariants.{Figures, Plan, Settle, Statement, Totals};
-ghost use Rattle.reg_front.specs.Runs.{CarriesOut, IsReadingFault, Reads};
+ghost use Rattle.reg_front.specs.Runs.{CarriesOut};
 ghost use Rattle.reg_front.specs.Questions.{command_of};
 
 use crate::command::{Command, Question};
-use crate::device::{read_all, write_all};
+use crate::device::write_all;
 use crate::fault::FrontFault;
+use crate::input::read_input;
 use crate::pieces::write_pieces;
 use crate::stream::{Sink, Source};
 use crate::texts::{Used, make_answer, make_report, threads_for};
 use reg_base::AccountNo;
-use reg_text::{DayInput, read_day_with};
 use std::alloc::Global;
 use std::sync::Wait;
 use std::thread::Threads;
@@ -32,12 +29,12 @@ use std::{mem, thread};
 /// - `Row` if the input is not a day text, with the first faulty row and the first cause that applies to it.
 /// - `Workers` if the input is a day text and the number of workers is not 1 to 8.
 /// - `NoAccount` if the input is a day text and the account of a statement is not in its book.
-/// - `NoThread` if the input is a day text to be settled by several workers and a thread could not be started.
 /// - `NoMemory` if memory ran out.
 /// - `WriteFailed` if a call of the writer fails, the last one among them, which flushes it. A prefix of the text has
 ///   then been written.
 ///
-/// A failed call is not tried again. After all faults except `WriteFailed`, nothing has been written.
+/// A failed call is not tried again. After all faults except `WriteFailed`, nothing has been written. That a thread
+/// can't be started is no fault: the others do its work. So `NoThread` is never answered.
 pub fn run<T: Threads + Wait + Sync, R: Source, W: Sink>(
     rt: &T,
     alloc: Global,
@@ -59,7 +56,7 @@ pub fn run<T: Threads + Wait + Sync, R: Source, W: Sink>(
 /// writer do. [`run`] may wait for workers.
 ///
 /// # Errors
-/// As [`run`], but never `Workers`, `NoAccount` or `NoThread`.
+/// As [`run`], but never `Workers` or `NoAccount`.
 pub fn run_plan<T: Threads + Sync, R: Source, W: Sink>(
     rt: &T,
     alloc: Global,
@@ -78,7 +75,7 @@ pub fn run_plan<T: Threads + Sync, R: Source, W: Sink>(
 /// Does what [`run`] does for [`Command::Statement`]. It waits for nobody, as [`run_plan`].
 ///
 /// # Errors
-/// As [`run`], but never `Workers` or `NoThread`.
+/// As [`run`], but never `Workers`.
 pub fn run_statement<T: Threads + Sync, R: Source, W: Sink>(
     rt: &T,
     alloc: Global,
@@ -212,39 +209,24 @@ fn answer<T: Threads + Sync, R: Source, W: Sink>(
     ensures { CarriesOut (command_of question.now) (result_err result) (R.stream reader.old) (R.stream reader.new)
         (W.stream writer.old) (W.stream writer.new) }
 {
-    let (day, input) = read_input(rt, alloc, reader, count_readers(rt))?;
-    let used = make_answer(alloc, day, input, question)?;
+    let threads = count_threads(rt);
+    let (day, input) = read_input(rt, alloc, reader, threads_for(threads))?;
+    let used = make_answer(rt, alloc, day, input, question, threads)?;
     if write_all(writer, used.text.as_slice()).is_err() {
         return Err(FrontFault::WriteFailed);
     }
     Ok(used)
 }
 
-// The number of threads that read the input of a question: as many as there are processors, at most 8.
-fn count_readers<T: Threads>(rt: &T) -> usize {
-    match thread::available_parallelism(rt) {
-        Ok(count) => count.get().min(8),
-        Err(_) => 1,
-    }
-}
-
-// The day that the whole input describes, read by at most so many threads, and the bytes of the input, whose memory is
-// used again for the output.
-fn read_input<T: Threads + Sync, R: Source>(
-    rt: &T,
-    alloc: Global,
-    reader: &mut R,
-    threads: usize,
-) -> Result<(DayInput, Vec<u8>), FrontFault>
-    requires { CanFail (R.stream reader.old) }
-    ensures ok { IfOk result
-        (λ read. IfSome (R.stream reader.old).bytes (λ input. IsReading (rows_in_text input) (day_of_input read.0))) }
-    ensures whole { OnOk result (IsReadWhole (R.stream reader.old) (R.stream reader.new)) }
-    ensures follows { IfOk result (λ read. read.0.batch.base + 1 ≡ read.0.book.next) }
-    ensures err { IfErr result (IsReadingFault (R.stream reader.old).bytes) }
-    ensures read { IfErr result (λ fault. Reads fault (R.stream reader.old) (R.stream reader.new)) }
+// The number of threads that answer a question: as many as there are processors, at most 8.
+fn count_threads<T: Threads>(rt: &T) -> u32
+    ensures { may_work result ≡ true }
 {
-    let input = read_all(alloc, reader)?;
-    let day = read_day_with(rt, alloc, input.as_slice(), threads)?;
-    Ok((day, input))
+    let Ok(count) = thread::available_parallelism(rt) else {
+        return 1;
+    };
+    match u32::try_from(count.get()) {
+        Ok(count) => count.clamp(1, 8),
+        Err(_) => 8,
+    }
 }

@@ -17,8 +17,8 @@ use std::fmt;
 pub enum FrontFault {
     /// The input is not a day text.
     Row {
-        /// The number of the first faulty row among the records of the text, counted from 1. If the text ends too
-        /// early: the number of records plus 1.
+        /// The number of the first faulty row, counted from 1. If the text ends too
+        /// early: the number of rows plus 1.
         row: u64,
         /// The first cause that applies to it.
         cause: Cause,
@@ -29,7 +29,8 @@ pub enum FrontFault {
     Workers,
     /// The account of a statement is not in the book.
     NoAccount,
-    /// A thread could not be started.
+    /// A thread could not be started. No call of this crate answers it, since the others then do its work. A program
+    /// over `settle_with` may tell it so.
     NoThread,
     /// Memory ran out.
     NoMemory,

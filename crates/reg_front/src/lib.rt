@@ -40,8 +40,10 @@ mod device;
 mod engine;
 mod fault;
 mod faulty;
+mod input;
 mod line;
 mod pieces;
+mod ranges;
 mod stream;
 mod texts;
 
@@ -51,4 +53,5 @@ pub use engine::{run, run_figures, run_plan, run_statement, run_totals, run_with
 pub use fault::FrontFault;
 pub use faulty::Faulty;
 pub use line::tell_fault;
+pub use ranges::{ReadAt, read_in_pieces};
 pub use stream::{CallFailed, Sink, Source};

@@ -2,12 +2,12 @@
 
 ghost use Rattle.std.specs.Prelude.{◌≡◌, ◌≤◌, ◌+◌, ◌++◌, [], true, None, IfOk, MatchResult};
 ghost use Rattle.reg_book.specs.Chains.{book_after};
-ghost use Rattle.reg_book.specs.Day.{day_of, settled_day, log_of, replies_of};
-ghost use Rattle.reg_work.specs.Faults.{are_workers};
-ghost use Rattle.reg_text.specs.Inputs.{day_of_input};
+ghost use Rattle.reg_book.specs.Day.{day_of, settled_day, log_of, replies_of, rows_replied};
+ghost use Rattle.reg_regions.specs.Outcomes.{may_work};
+ghost use Rattle.reg_text.specs.Inputs.{day_of_input, day_of_parts};
 ghost use Rattle.reg_text.specs.NextDays.{report_of};
 ghost use Rattle.reg_text.specs.Pieces.{text_of_pieces};
-ghost use Rattle.reg_text.specs.Report.{text_of};
+ghost use Rattle.reg_text.specs.Report.{report_rows, text_of};
 ghost use Rattle.reg_text.specs.Determined.{figures_rows};
 ghost use Rattle.reg_text.specs.Totals.{totals_rows};
 ghost use Rattle.reg_text.specs.Statement.{statement_of, has_account};
@@ -20,17 +20,28 @@ use crate::command::Question;
 use crate::fault::FrontFault;
 use reg_base::{AccountNo, Batch, NoMemory, Rules};
 use reg_book::{
-    Book, ClosedDay, SettleFault, Settled, log_is_made_again, settle_in_place, settle_plain,
+    ClosedDay, ClosedParts, Parts, SettleFault, Settled, log_is_made_again, settle_in_place,
+    settle_plain,
 };
 use reg_plan::Plan;
+use reg_regions::{FreePlaces, RegionsFault, settle_regions};
 use reg_text::{
-    DayInput, StatementFault, figures_over, plan_text, statement, totals_text, write_report_over,
-    write_report_pieces,
+    DayInput, DayParts, StatementFault, figures_of_parts, plan_text, statement, totals_of_parts,
+    write_report_of_parts, write_report_over, write_report_pieces,
 };
-use reg_work::{FreeGate, WorkFault, close_with};
 use std::alloc::Global;
-use std::sync::Wait;
 use std::thread::Threads;
+
+// So many instructions or more are what one of several threads looks up: to start one for fewer would take longer.
+const FEW: u32 = 1_024;
+
+/// The day that a command closed, by one worker or by several.
+#[derive(Drop)]
+enum Closed {
+    None,
+    InPlace(ClosedDay),
+    ByRegions(ClosedParts),
+}
 
 /// The text of a command, and the closed day from which it was made, if the command closed the day. Whoever has it
 /// frees it, or leaves that to the end of the program.
@@ -39,7 +50,7 @@ pub(crate) struct Used {
     // What comes before `text`: none, unless several workers have spelled it.
     pub(crate) pieces: Vec<Vec<u8>>,
     pub(crate) text: Vec<u8>,
-    closed: Option<ClosedDay>,
+    closed: Closed,
 }
 
 /// The text that answers a question of a day. `bytes` are no longer needed: a text of figures takes their memory, and
@@ -47,31 +58,34 @@ pub(crate) struct Used {
 ///
 /// # Errors
 /// `NoAccount` if the account of a statement is not in the book. Otherwise `NoMemory` if memory ran out.
-pub(crate) fn make_answer(
+pub(crate) fn make_answer<T: Threads + Sync>(
+    rt: &T,
     alloc: Global,
-    day: DayInput,
+    day: DayParts,
     bytes: Vec<u8>,
     question: &Question,
+    threads: u32,
 ) -> Result<Used, FrontFault>
-    requires { day.batch.base + 1 ≡ day.book.next }
+    requires follows { day.batch.base + 1 ≡ day.parts.next }
+    requires threads { may_work threads ≡ true }
     ensures { MatchResult result
-        (λ used. (command_fault (command_of question.now) day.book ≡ None)
-        × IsTextFor (command_of question.now) (day_of_input day) used.text.items)
-        (IsCommandFault (command_of question.now) day.book) }
+        (λ used. (command_fault (command_of question.now) day.parts ≡ None)
+        × IsTextFor (command_of question.now) (day_of_parts day) used.text.items)
+        (IsCommandFault (command_of question.now) day.parts) }
 {
     match *question {
         Question::Plan => {
             drop(bytes);
-            make_plan(alloc, &day)
+            make_plan(rt, alloc, &day, threads)
         }
         Question::Statement { account } => {
             drop(bytes);
-            make_statement(alloc, &day, account)
+            make_statement(alloc, day, account)
         }
-        Question::Figures => make_figures(alloc, day, bytes),
+        Question::Figures => make_figures(rt, alloc, day, bytes, threads),
         Question::Totals => {
             drop(bytes);
-            make_totals(alloc, day)
+            make_totals(rt, alloc, day, threads)
         }
     }
 }
@@ -87,54 +101,103 @@ pub(crate) fn threads_for(workers: u32) -> usize
 /// bytes that are no longer needed. Several workers also spell the report, in pieces; the bytes are given back before.
 ///
 /// # Errors
-/// `Workers` if the number of workers is not 1 to 8. Otherwise `NoThread` if a thread could not be started, and
-/// `NoMemory` if memory ran out.
-pub(crate) fn make_report<T: Threads + Wait + Sync>(
+/// `Workers` if the number of workers is not 1 to 8. Otherwise `NoMemory` if memory ran out. That a thread can't be
+/// started is no error.
+pub(crate) fn make_report<T: Threads + Sync>(
     rt: &T,
     alloc: Global,
-    day: DayInput,
+    day: DayParts,
     bytes: Vec<u8>,
     workers: u32,
 ) -> Result<Used, FrontFault>
-    requires { day.batch.base + 1 ≡ day.book.next }
+    requires { day.batch.base + 1 ≡ day.parts.next }
     ensures { MatchResult result
-        (λ used. (are_workers workers ≡ true)
-        × (text_of_pieces used.pieces.items ++ used.text.items ≡ report_of (day_of_input day)))
-        (IsCommandFault (Settle workers) day.book) }
+        (λ used. (may_work workers ≡ true)
+        × (text_of_pieces used.pieces.items ++ used.text.items ≡ report_of (day_of_parts day)))
+        (IsCommandFault (Settle workers) day.parts) }
 {
     if workers == 1 {
         return make_report_in_place(alloc, day, bytes);
     }
     drop(bytes);
     log_is_made_again();
-    let DayInput { book, rules, batch } = day;
-    let closed = close_by_workers(rt, alloc, book, &rules, &batch, workers)?;
+    let DayParts {
+        rules,
+        parts,
+        batch,
+    } = day;
+    let closed = close_by_workers(rt, alloc, parts, &rules, &batch, workers)?;
+    let used = spell(rt, alloc, closed, &batch, threads_for(workers))?;
+    Ok(used)
+}
+
+// The report of a closed day, spelled by so many threads.
+fn spell<T: Threads + Sync>(
+    rt: &T,
+    alloc: Global,
+    closed: ClosedParts,
+    batch: &Batch,
+    threads: usize,
+) -> Result<Used, NoMemory>
+    requires { 1 ≤ threads }
+    ensures { IfOk result (λ used. text_of_pieces used.pieces.items ++ used.text.items
+        ≡ text_of (report_rows closed.parts (rows_replied batch.now closed.replies.items))) }
+{
+    if closed.parts.lists().len() < 2 {
+        return spell_book(rt, alloc, closed, batch, threads);
+    }
     let replies = closed.replies.as_slice();
-    let threads = threads_for(workers);
-    let pieces = write_report_pieces(rt, alloc, &closed.book, &batch, replies, threads)?;
+    let pieces = write_report_of_parts(rt, alloc, &closed.parts, batch, replies, threads)?;
     Ok(Used {
         pieces,
         text: Vec::new(alloc),
-        closed: Some(closed),
+        closed: Closed::ByRegions(closed),
+    })
+}
+
+// The same where all accounts lie in one list, of which each thread spells a run.
+fn spell_book<T: Threads + Sync>(
+    rt: &T,
+    alloc: Global,
+    closed: ClosedParts,
+    batch: &Batch,
+    threads: usize,
+) -> Result<Used, NoMemory>
+    requires { 1 ≤ threads }
+    ensures { IfOk result (λ used. text_of_pieces used.pieces.items ++ used.text.items
+        ≡ text_of (report_rows closed.parts (rows_replied batch.now closed.replies.items))) }
+{
+    let ClosedParts { parts, replies } = closed;
+    let book = parts.into_book(alloc)?;
+    let pieces = write_report_pieces(rt, alloc, &book, batch, replies.as_slice(), threads)?;
+    Ok(Used {
+        pieces,
+        text: Vec::new(alloc),
+        closed: Closed::InPlace(ClosedDay { book, replies }),
     })
 }
 
 // The report of the day, settled on its own book, in the place of bytes that are no longer needed.
-fn make_report_in_place(alloc: Global, day: DayInput, bytes: Vec<u8>) -> Result<Used, FrontFault>
-    requires { day.batch.base + 1 ≡ day.book.next }
+fn make_report_in_place(alloc: Global, day: DayParts, bytes: Vec<u8>) -> Result<Used, FrontFault>
+    requires { day.batch.base + 1 ≡ day.parts.next }
     ensures { MatchResult result
-        (λ used. text_of_pieces used.pieces.items ++ used.text.items ≡ report_of (day_of_input day))
+        (λ used. text_of_pieces used.pieces.items ++ used.text.items ≡ report_of (day_of_parts day))
         (λ fault. fault ≡ front.NoMemory) }
 {
     log_is_made_again();
-    let DayInput { book, rules, batch } = day;
+    let DayParts {
+        rules,
+        parts,
+        batch,
+    } = day;
+    let book = parts.into_book(alloc)?;
     let closed = settle_in_place(alloc, book, &rules, &batch)?;
     let text = write_report_over(bytes, &closed.book, &batch, closed.replies.as_slice())?;
-    Ok(used_for(alloc, text, Some(closed)))
+    Ok(used_for(alloc, text, Closed::InPlace(closed)))
 }
 
-// What a command has used whose text lies in one place.
-fn used_for(alloc: Global, text: Vec<u8>, closed: Option<ClosedDay>) -> Used
+// What a command has used whose text is one piece.
+fn used_for(alloc: Global, text: Vec<u8>, closed: Closed) -> Used
     ensures text { result.text ≡ text }
     ensures pieces { result.pieces.items ≡ [] }
 {
@@ -145,58 +208,89 @@ fn used_for(alloc: Global, text: Vec<u8>, closed: Option<ClosedDay>) -> Used
     }
 }
 
-// The plan of the day's instructions.
-fn make_plan(alloc: Global, day: &DayInput) -> Result<Used, FrontFault>
+// The plan of the day's instructions, whose accounts at most so many threads look up.
+fn make_plan<T: Threads + Sync>(
+    rt: &T,
+    alloc: Global,
+    day: &DayParts,
+    threads: u32,
+) -> Result<Used, FrontFault>
     ensures { MatchResult result
-        (λ used. IsPlanText (day_of_input day.now) used.text.items)
+        (λ used. IsPlanText (day_of_parts day.now) used.text.items)
         (λ fault. fault ≡ front.NoMemory) }
 {
-    let plan = Plan::of(alloc, &day.batch, day.book.directory())?;
+    let directory = day.parts.directory();
+    let plan = Plan::of_with(rt, alloc, &day.batch, directory, threads, FEW)?;
     let text = plan_text(alloc, &plan)?;
-    Ok(used_for(alloc, text, None))
+    Ok(used_for(alloc, text, Closed::None))
 }
 
 // The statement of an account.
-fn make_statement(alloc: Global, day: &DayInput, account: AccountNo) -> Result<Used, FrontFault>
-    requires { day.now.batch.base + 1 ≡ day.now.book.next }
+fn make_statement(alloc: Global, day: DayParts, account: AccountNo) -> Result<Used, FrontFault>
+    requires { day.batch.base + 1 ≡ day.parts.next }
     ensures { MatchResult result
-        (λ used. (has_account day.now.book account ≡ true)
-        × (used.text.items ≡ text_of (statement_of day.now.book (log_of (day_of_input day.now)) account)))
-        (IsCommandFault (Statement account) day.now.book) }
+        (λ used. (has_account day.parts account ≡ true)
+        × (used.text.items ≡ text_of (statement_of day.parts (log_of (day_of_parts day)) account)))
+        (IsCommandFault (Statement account) day.parts) }
 {
-    if day.book.get(account).is_none() {
+    if day.parts.get(account).is_none() {
         return Err(FrontFault::NoAccount);
     }
+    let input = day.into_input(alloc)?;
+    let text = state_account(alloc, &input, account)?;
+    Ok(used_for(alloc, text, Closed::None))
+}
+
+// The text of the statement of an account that is in the book.
+fn state_account(alloc: Global, day: &DayInput, account: AccountNo) -> Result<Vec<u8>, NoMemory>
+    requires follows { day.now.batch.base + 1 ≡ day.now.book.next }
+    requires there { has_account day.now.book account ≡ true }
+    ensures { IfOk result
+        (λ text. text.items ≡ text_of (statement_of day.now.book (log_of (day_of_input day.now)) account)) }
+{
     let settled = settle(alloc, day)?;
     match statement(alloc, &day.book, settled.rows(), account) {
-        Ok(text) => Ok(used_for(alloc, text, None)),
-        Err(StatementFault::NoMemory) => Err(FrontFault::NoMemory),
+        Ok(text) => Ok(text),
+        Err(StatementFault::NoMemory) => Err(NoMemory),
         Err(StatementFault::UnknownAccount) => unreachable!(),
     }
 }
 
 // The determined figures of all accounts after the day, in the place of bytes that are no longer needed.
-fn make_figures(alloc: Global, day: DayInput, bytes: Vec<u8>) -> Result<Used, FrontFault>
-    requires { day.batch.base + 1 ≡ day.book.next }
+fn make_figures<T: Threads + Sync>(
+    rt: &T,
+    alloc: Global,
+    day: DayParts,
+    bytes: Vec<u8>,
+    threads: u32,
+) -> Result<Used, FrontFault>
+    requires follows { day.batch.base + 1 ≡ day.parts.next }
+    requires threads { may_work threads ≡ true }
     ensures { MatchResult result
-        (λ used. used.text.items ≡ text_of (figures_rows (book_after (day_of_input day))))
+        (λ used. used.text.items ≡ text_of (figures_rows (book_after (day_of_parts day))))
         (λ fault. fault ≡ front.NoMemory) }
 {
-    let closed = close_day(alloc, day)?;
-    let text = figures_over(bytes, &closed.book)?;
-    Ok(used_for(alloc, text, Some(closed)))
+    let closed = close_day(rt, alloc, day, threads)?;
+    let text = figures_of_parts(bytes, &closed.parts)?;
+    Ok(used_for(alloc, text, Closed::ByRegions(closed)))
 }
 
 // The totals after the day.
-fn make_totals(alloc: Global, day: DayInput) -> Result<Used, FrontFault>
-    requires { day.batch.base + 1 ≡ day.book.next }
+fn make_totals<T: Threads + Sync>(
+    rt: &T,
+    alloc: Global,
+    day: DayParts,
+    threads: u32,
+) -> Result<Used, FrontFault>
+    requires follows { day.batch.base + 1 ≡ day.parts.next }
+    requires threads { may_work threads ≡ true }
     ensures { MatchResult result
-        (λ used. used.text.items ≡ text_of (totals_rows (book_after (day_of_input day))))
+        (λ used. used.text.items ≡ text_of (totals_rows (book_after (day_of_parts day))))
         (λ fault. fault ≡ front.NoMemory) }
 {
-    let closed = close_day(alloc, day)?;
-    let text = totals_text(alloc, &closed.book)?;
-    Ok(used_for(alloc, text, Some(closed)))
+    let closed = close_day(rt, alloc, day, threads)?;
+    let text = totals_of_parts(alloc, &closed.parts)?;
+    Ok(used_for(alloc, text, Closed::ByRegions(closed)))
 }
 
 // Settles the day. Its book stays as it is.
@@ -211,36 +305,52 @@ fn settle(alloc: Global, day: &DayInput) -> Result<Settled, NoMemory>
     }
 }
 
-// Settles the day on its own book.
-fn close_day(alloc: Global, day: DayInput) -> Result<ClosedDay, NoMemory>
-    requires { day.batch.base + 1 ≡ day.book.next }
-    ensures { IfOk result (λ closed. closed.book ≡ book_after (day_of_input day)) }
-{
-    settle_in_place(alloc, day.book, &day.rules, &day.batch)
-}
-
-// Settles a batch by workers, to whom the accounts of the book move.
-fn close_by_workers<T: Threads + Wait + Sync>(
+// Settles the day on its own book, by so many threads.
+fn close_day<T: Threads + Sync>(
     rt: &T,
     alloc: Global,
-    book: Book,
+    day: DayParts,
+    threads: u32,
+) -> Result<ClosedParts, NoMemory>
+    requires follows { day.batch.base + 1 ≡ day.parts.next }
+    requires threads { may_work threads ≡ true }
+    ensures { IfOk result (λ closed. closed.parts ≡ book_after (day_of_parts day)) }
+{
+    let DayParts {
+        rules,
+        parts,
+        batch,
+    } = day;
+    match settle_regions(rt, alloc, parts, &rules, &batch, threads, &FreePlaces) {
+        Ok((closed, _)) => Ok(closed),
+        Err(refused) => match refused.fault {
+            RegionsFault::NoMemory => Err(NoMemory),
+            RegionsFault::Workers | RegionsFault::WrongBase { .. } => unreachable!(),
+        },
+    }
+}
+
+// Settles a batch by workers, on the accounts of the book.
+fn close_by_workers<T: Threads + Sync>(
+    rt: &T,
+    alloc: Global,
+    parts: Parts,
     rules: &Rules,
     batch: &Batch,
     workers: u32,
-) -> Result<ClosedDay, FrontFault>
-    requires { batch.now.base + 1 ≡ book.next }
+) -> Result<ClosedParts, FrontFault>
+    requires { batch.now.base + 1 ≡ parts.next }
     ensures { MatchResult result
-        (λ closed. (are_workers workers ≡ true) × (closed.book ≡ book_after (day_of book rules.now batch.now))
-        × (closed.replies.items ≡ replies_of (day_of book rules.now batch.now)))
-        (IsCommandFault (Settle workers) book) }
+        (λ closed. (may_work workers ≡ true) × (closed.parts ≡ book_after (day_of parts rules.now batch.now))
+        × (closed.replies.items ≡ replies_of (day_of parts rules.now batch.now)))
+        (IsCommandFault (Settle workers) parts) }
 {
-    match close_with(rt, alloc, book, rules, batch, workers, &FreeGate) {
+    match settle_regions(rt, alloc, parts, rules, batch, workers, &FreePlaces) {
         Ok((closed, _)) => Ok(closed),
-        Err(not_closed) => match not_closed.fault {
-            WorkFault::Workers => Err(FrontFault::Workers),
-            WorkFault::WrongBase { .. } => unreachable!(),
-            WorkFault::NoThread => Err(FrontFault::NoThread),
-            WorkFault::NoMemory => Err(FrontFault::NoMemory),
+        Err(refused) => match refused.fault {
+            RegionsFault::Workers => Err(FrontFault::Workers),
+            RegionsFault::WrongBase { .. } => unreachable!(),
+            RegionsFault::NoMemory => Err(FrontFault::NoMemory),
         },
     }
 }

@@ -20,7 +20,7 @@ use Rattle.reg_tasks.specs.declared.parcel.Parcel.{Parcel}
 use Rattle.reg_tasks.specs.Parcels.{values_of}
 use Rattle.reg_graph.specs.WorldParts.{DocksHaveRoom}
 
--- what stands in a list with another item at one place, and in one with one more item
+-- what stands in a list with another item at one index, and in one with one more item
 at-set : {X : Type 0} (xs : List X) (k j : ℕ) (y z : X) → slice_get (slice_set xs k y) j ≡ Some z → ((y ≡ z) × (j ≡ k))
     ⊎ (slice_get xs j ≡ Some z)
 at-set [] k j y z e = inr e

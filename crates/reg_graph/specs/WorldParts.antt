@@ -70,7 +70,7 @@ first_head plan (p ∷ ps) = head_of plan p.after p.value.number
 abbrev pub FirstIsSent : Day → List ParcelValue → Type 0
 FirstIsSent day parcels = (p : ParcelValue) (ps : List ParcelValue) → parcels ≡ p ∷ ps → IsPlace day p.after
 
--- if it goes to an open dock, fewer parcels came there than the instruction of the dock touches accounts
+-- if it goes to a dock that waits, fewer parcels came there than the instruction of the dock touches accounts
 abbrev pub FirstHasRoom : Day → PlanValue → WorldValue → List ParcelValue → Type 0
 FirstHasRoom day plan world parcels = (place : ℕ) (came : List ParcelValue)
     → first_head plan parcels ≡ Some place → arrived world place ≡ Some came

@@ -31,7 +31,7 @@ fn first_head<N: Naming>(context: &Context<N>, parcels: &[Parcel<N>]) -> Option<
     }
 }
 
-// Takes out what came to the dock of a place, if it is open.
+// Takes out what came to the dock of a place, if it waits.
 fn take_dock<N: Naming>(
     docks: &mut Vec<Option<Vec<Parcel<N>>>>,
     place: u32,

@@ -10,7 +10,7 @@ use std::alloc::Global;
 use std::marker::Model;
 
 /// The accounts that each instruction of a batch touches, so that they are looked up in the directory once. They are
-/// kept one instruction after another, with the place behind those of each. A contract sees a list of accounts for each
+/// kept one instruction after another, with the index behind those of each. A contract sees a list of accounts for each
 /// instruction.
 #[derive(Debug, Drop)]
 pub(crate) struct Touched {
@@ -135,7 +135,7 @@ fn push_moved(ends: &mut Vec<usize>, later: usize, places: &[usize]) -> Result<(
     Ok(())
 }
 
-// The place at which a list begins, which is the one behind the list before it.
+// The index at which a list begins, which is the one behind the list before it.
 fn begin_at(ends: &[usize], index: usize) -> usize
     requires { index < length ends.now }
     ensures { result ≡ slice_index_or (0 ∷ ends.now) index 0 }
@@ -146,7 +146,7 @@ fn begin_at(ends: &[usize], index: usize) -> usize
     ends[index - 1]
 }
 
-// The part of a list from one place to another.
+// The part of a list from one index to another.
 fn part(flat: &[AccountNo], begin: usize, end: usize) -> &[AccountNo]
     requires rises { begin ≤ end }
     requires within { end ≤ length flat.now }

@@ -1,30 +1,49 @@
--- Marks of places.
-use Rattle.std.proofs.Common.{◌≡◌, ℕ, zero, suc, ◌-◌, ◌<◌, ◌≤◌, Bool, true, false, List, [], ◌∷◌, ◌++◌}
+-- Marks of places, each of which stands in a list once.
+use Rattle.std.proofs.Common.{◌≡◌, ℕ, zero, suc, ◌-◌, ◌<◌, ◌≤◌, Bool, true, false, List, [], ◌∷◌, ◌++◌, eqb, leb, ◌&&◌}
 use Rattle.std.proofs.Common.{length, set, get_or}
-use Rattle.std.proofs.Common.{refl, sym, ap, ◌∙◌, inl, inr, arith, ◌+◌, take, replicate, append-nil}
+use Rattle.std.proofs.Common.{refl, sym, ap, subst, ◌∙◌, inl, inr, arith, ◌+◌, take, replicate, append-nil}
 use Rattle.std.specs.Prelude.{All, Contains, IsTrue}
-use Rattle.std.proofs.lemmas.Bool.{cases_eq}
+use Rattle.std.proofs.lemmas.Bool.{cases_eq, cases_lt, eq-eqb, ne_eqb, le-leb, lt-leb}
 use Rattle.std.proofs.lemmas.Grind.{flat_map-append}
-use Rattle.std.proofs.lemmas.List.{get_or-set_other, take_more}
-use Rattle.std.proofs.lemmas.List.Elements.{Contains-append_left, Contains-append_right}
+use Rattle.std.proofs.lemmas.List.{get_or-set_other, get_or-set_same, take_more}
+use Rattle.std.proofs.lemmas.List.Elements.{Contains-get_or}
+use Rattle.reg_counting.specs.Counting.{times, once, one_if}
+use Rattle.reg_counting.proofs.Totals.{total-append}
 use Rattle.reg_regions.specs.declared.dealing.Deal.{Deal}
-use Rattle.reg_regions.specs.Homes.{AreMarked, dealt_places}
+use Rattle.reg_regions.specs.Homes.{AreMarked, set_mark, IsPlaceUpTo, dealt_places}
+use Rattle.reg_regions.proofs.Membership.{contains_first, contains_later}
 
--- one place more was marked, or looked at
-pub marked-one : (done : List ℕ) (marks : List Bool) (place : ℕ) → 1 ≤ place → AreMarked done marks
-    → AreMarked (done ++ place ∷ []) (set marks (place - 1) true)
-marked-one done marks place one marked k is =
-    elim (cases_eq k (place - 1)) [
-      | inl at ↦ Contains-append_right done (place ∷ []) (suc k) (0, omega arith, omega (arith, one, at))
-      | inr other ↦ Contains-append_left done (place ∷ []) (suc k)
-          (marked k (sym (get_or-set_other marks (place - 1) k true false other) ∙ is))
+-- how often a number stands in two lists, one behind the other
+pub times-append : (p : ℕ) (xs ys : List ℕ) → times p (xs ++ ys) ≡ times p xs + times p ys
+times-append p xs ys = total-append (λ x. one_if (eqb x p)) xs ys
+
+-- one place more was marked, whose mark was not set
+pub marked-one : (done : List ℕ) (marks : List Bool) (place index : ℕ) → 1 ≤ place → index ≡ place - 1
+    → index < length marks → get_or marks index false ≡ false → AreMarked done marks
+    → AreMarked (done ++ place ∷ []) (set marks index true)
+marked-one done marks place index one is lt unset marked zero =
+    let more = times-append 0 done (place ∷ []) in
+    let other : eqb place 0 ≡ false = ne_eqb place 0 (λ e. omega (arith, one, e)) in
+    let none : one_if (eqb place 0) ≡ 0 = ap one_if other in
+    omega (arith, more, marked 0, none)
+marked-one done marks place index one is lt unset marked (suc k) =
+    let more = times-append (suc k) done (place ∷ []) in
+    elim (cases_eq k index) [
+      | inl at ↦
+          let same : eqb place (suc k) ≡ true = eq-eqb place (suc k) (omega (arith, one, is, at)) in
+          let here : one_if (eqb place (suc k)) ≡ 1 = ap one_if same in
+          let before : set_mark marks (suc k) ≡ 0 = ap one_if (ap (λ j. get_or marks j false) at ∙ unset) in
+          let after : set_mark (set marks index true) (suc k) ≡ 1 =
+          ap one_if (ap (λ j. get_or (set marks index true) j false) at ∙ get_or-set_same marks index true false lt) in
+          omega (arith, more, marked (suc k), here, before, after)
+      | inr other ↦
+          let differ : eqb place (suc k) ≡ false =
+          ne_eqb place (suc k) (λ e. other (omega (arith, one, is, e))) in
+          let none : one_if (eqb place (suc k)) ≡ 0 = ap one_if differ in
+          let same : set_mark (set marks index true) (suc k) ≡ set_mark marks (suc k) =
+          ap one_if (get_or-set_other marks index k true false other) in
+          omega (arith, more, marked (suc k), none, same)
     ]
-
--- if each mark is set, each place is among those that were marked
-pub all-marked : (places : List ℕ) (marks : List Bool) → AreMarked places marks → All (λ mark. IsTrue mark) marks
-    → (place : ℕ) → 1 ≤ place → place ≤ length marks → Contains places place
-all-marked places marks marked set zero one le = absurd (omega arith)
-all-marked places marks marked set (suc k) one le = marked k (set k false (omega arith))
 
 -- no mark is set at first
 unset : (n k : ℕ) → get_or (replicate n false) k false ≡ false
@@ -33,8 +52,79 @@ unset (suc n) zero = refl
 unset (suc n) (suc k) = unset n k
 
 pub unmarked : (n : ℕ) (marks : List Bool) → marks ≡ replicate n false → AreMarked [] marks
-unmarked n marks is k set =
-    let e : get_or marks k false ≡ false = ap (λ ms. get_or ms k false) is ∙ unset n k in absurd cc
+unmarked n marks is zero = refl
+unmarked n marks is (suc k) = sym (ap one_if (ap (λ ms. get_or ms k false) is ∙ unset n k))
+
+-- beyond the marks none is set
+beyond : (marks : List Bool) (k : ℕ) → length marks ≤ k → get_or marks k false ≡ false
+beyond [] k le = refl
+beyond (m ∷ marks) zero le = absurd (omega (arith, le))
+beyond (m ∷ marks) (suc k) le = beyond marks k (omega (arith, le))
+
+pub within-once : (n p : ℕ) → 1 ≤ p → p ≤ n → once n p ≡ 1
+within-once n p one le = ap (λ b. one_if (b && leb p n)) (le-leb 1 p one) ∙ ap one_if (le-leb p n le)
+
+and_false : (b : Bool) → (b && false) ≡ false
+and_false true = refl
+and_false false = refl
+
+pub beyond-once : (n p : ℕ) → n < p → once n p ≡ 0
+beyond-once n p lt = ap (λ b. one_if (leb 1 p && b)) (lt-leb p n lt) ∙ ap one_if (and_false (leb 1 p))
+
+pub zero-once : (n : ℕ) → once n 0 ≡ 0
+zero-once n = ap (λ b. one_if (b && leb 0 n)) (lt-leb 1 0 (omega arith))
+
+-- if each mark is set, each place stands there once
+pub all-marked : (places : List ℕ) (marks : List Bool) → AreMarked places marks → All (λ mark. IsTrue mark) marks
+    → (place : ℕ) → times place places ≡ once (length marks) place
+all-marked places marks marked set zero = marked 0 ∙ sym (zero-once (length marks))
+all-marked places marks marked set (suc k) = elim (cases_lt k (length marks)) [
+  | inl lt ↦ marked (suc k) ∙ ap one_if (set k false lt)
+      ∙ sym (within-once (length marks) (suc k) (omega arith) (omega (arith, lt)))
+  | inr le ↦ marked (suc k) ∙ ap one_if (beyond marks k le)
+      ∙ sym (beyond-once (length marks) (suc k) (omega (arith, le)))
+]
+
+-- what stands in a list at all is contained in it
+pub contained : (p : ℕ) (ps : List ℕ) → 1 ≤ times p ps → Contains ps p
+contained p [] one = absurd (omega (arith, one))
+contained p (q ∷ ps) one = elim (cases_eq q p) [
+  | inl at ↦ subst (λ r. Contains (q ∷ ps) r) at (contains_first q ps)
+  | inr other ↦
+      let none : one_if (eqb q p) ≡ 0 = ap one_if (ne_eqb q p other) in
+      contains_later q p ps (contained p ps (omega (arith, one, none)))
+]
+
+-- each place of a batch is among those that are there once
+pub once-contained : (n : ℕ) (ps : List ℕ) → ((p : ℕ) → times p ps ≡ once n p) → (p : ℕ) → 1 ≤ p → p ≤ n
+    → Contains ps p
+once-contained n ps all p one le = contained p ps (let e = all p ∙ within-once n p one le in omega (arith, e))
+
+-- what is contained in a list stands in it
+counted : (p : ℕ) (ps : List ℕ) → Contains ps p → 1 ≤ times p ps
+counted p [] (k, lt, is) = absurd (omega (arith, lt))
+counted p (q ∷ ps) (zero, lt, is) =
+    let here : one_if (eqb q p) ≡ 1 = ap one_if (eq-eqb q p is) in omega (arith, here)
+counted p (q ∷ ps) (suc k, lt, is) = let later = counted p ps (k, omega (arith, lt), is) in omega (arith, later)
+
+-- each that is there once is a place of the batch
+pub once-within : (n : ℕ) (ps : List ℕ) → ((p : ℕ) → times p ps ≡ once n p) → All (IsPlaceUpTo n) ps
+once-within n ps all k d lt =
+    let p = get_or ps k d in
+    let one = counted p ps (Contains-get_or ps k d lt) in
+    let is = all p in
+    record {
+      from_one = elim (cases_lt p 1) [
+        | inl low ↦
+            let none : once n p ≡ 0 = ap (once n) (let e : p ≡ 0 = omega (arith, low) in e) ∙ zero-once n in
+            absurd (omega (arith, one, is, none))
+        | inr high ↦ high
+      ];
+      within = elim (cases_lt n p) [
+        | inl high ↦ let none = beyond-once n p high in absurd (omega (arith, one, is, none))
+        | inr low ↦ low
+      ];
+    }
 
 -- the places of one region more
 pub one-more : (deals : List Deal) (k : ℕ) (d : Deal) → k < length deals → d ≡ get_or deals k d

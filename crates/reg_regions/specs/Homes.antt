@@ -1,10 +1,11 @@
 -- Regions whose instructions have their accounts at hand, where their indexes say.
 use Rattle.std.specs.Prelude.{◌≡◌, ℕ, ◌-◌, ◌<◌, ◌≤◌, List, [], ◌∷◌, length, take, drop, slice_get, slice_index}
-use Rattle.std.specs.Prelude.{suc, Bool, true, false, slice_index_or, Contains}
+use Rattle.std.specs.Prelude.{zero, suc, Bool, false, slice_index_or}
 use Rattle.std.specs.List.{flat_map}
 use Rattle.std.specs.Option.{option_map_or}
 use Rattle.reg_base.specs.Batch.{BatchValue}
 use Rattle.reg_base.specs.Footprint.{footprint}
+use Rattle.reg_counting.specs.Counting.{times, one_if}
 use Rattle.reg_rules.specs.State.{Setting}
 use Rattle.reg_book.specs.Indexes.{StandAt, index_lists}
 use Rattle.reg_regions.specs.declared.dealing.Deal.{Deal}
@@ -37,9 +38,14 @@ AreAllHome c b ns (d ∷ deals) =
 abbrev pub dealt_places : List Deal → List ℕ
 dealt_places deals = flat_map (λ d. d.places.items) deals
 
--- a mark that is set stands for one of these places, counted from 1
+-- 1 for a number whose mark is set, and 0 for each other; the marks are those of the numbers from 1 on
+abbrev pub set_mark : List Bool → ℕ → ℕ
+set_mark marks zero = 0
+set_mark marks (suc k) = one_if (slice_index_or marks k false)
+
+-- each number stands among these places as often as its mark says
 abbrev pub AreMarked : List ℕ → List Bool → Type 0
-AreMarked places marks = (k : ℕ) → slice_index_or marks k false ≡ true → Contains places (suc k)
+AreMarked places marks = (place : ℕ) → times place places ≡ set_mark marks place
 
 -- a place from 1 to this one
 pub record IsPlaceUpTo (count place : ℕ) : Type 0 where

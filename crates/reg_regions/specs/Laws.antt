@@ -7,7 +7,7 @@ use Rattle.reg_rules.specs.Laws.{AgreeOn}
 use Rattle.reg_book.specs.Day.{Day, setting, state_at, closing_state, row_at}
 use Rattle.reg_regions.specs.Regions.{IsRegion, accounts_after_all, replies_for, up_to}
 
--- the reply in the record of the instruction at this place of the day
+-- the reply in the log row of the instruction at this place of the day
 abbrev pub reply_of : Day → ℕ → Option Reply
 reply_of day place = option_map (λ row. row.reply) (row_at day place)
 

@@ -4,4 +4,7 @@ pub mod Settling
 pub mod Days
 pub mod Swaps
 pub mod Homes
+pub mod Lists
 pub mod Dealing
+pub mod Stealing
+pub mod Outcomes

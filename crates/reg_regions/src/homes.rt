@@ -1,22 +1,24 @@
 //! Which region each bundle goes to.
 
-use crate::cut::Cut;
+use crate::cut::{Cut, MOST_REGIONS};
 use crate::numbers::{lower, number_at, put_number, raise};
 use reg_base::NoMemory;
 use reg_bundles::Touch;
 use std::alloc::Global;
 
-/// What is known of bundles, by their labels, and of accounts, by their indexes.
+/// What is known of bundles, by their labels.
 #[derive(Drop)]
 pub(crate) struct Bundled {
     // How many instructions each bundle has.
     weights: Vec<u32>,
     // How many accounts it has.
-    accounts: Vec<u32>,
-    // How many of them stand in each region, for one bundle behind the other.
-    standing: Vec<u32>,
-    /// The label of the bundle of each account, or 0 if no instruction touches it.
-    pub(crate) owners: Vec<u32>,
+    sizes: Vec<u32>,
+    // Where its accounts end among the members.
+    ends: Vec<u32>,
+    // All accounts that instructions touch, each once, those of a bundle one behind the other.
+    members: Vec<u32>,
+    // For each account the label of its bundle, or 0 if no instruction touches it.
+    owners: Vec<u32>,
 }
 
 impl Bundled {
@@ -26,113 +28,210 @@ impl Bundled {
     /// `NoMemory` if memory ran out.
     pub(crate) fn of(
         alloc: Global,
-        cut: &Cut,
+        accounts: u32,
         labels: &[u32],
         touches: &[Touch],
     ) -> Result<Bundled, NoMemory> {
-        let count = labels.len();
-        let mut weights = vec![in alloc; 0u32; count]?;
-        let mut accounts = vec![in alloc; 0u32; count]?;
-        let mut standing = vec![in alloc; 0u32; count.saturating_mul(cut.regions as usize)]?;
-        let mut owners = vec![in alloc; 0u32; cut.accounts as usize]?;
+        let mut weights = vec![in alloc; 0u32; labels.len()]?;
+        let mut sizes = vec![in alloc; 0u32; labels.len()]?;
+        let mut owners = vec![in alloc; 0u32; accounts as usize]?;
         weigh(&mut weights, labels);
-        for touch in touches {
-            let label = number_at(labels, touch.place);
-            if number_at(&owners, touch.account) == 0 {
-                put_number(&mut owners, touch.account, label);
-                raise(&mut accounts, label, 1);
-                raise(
-                    &mut standing,
-                    cell(cut, label, cut.region_of(touch.account)),
-                    1,
-                );
-            }
+        let touched = own_all(alloc, labels, touches, &mut sizes, &mut owners)?;
+        let mut ends = begins_of(alloc, &sizes)?;
+        let mut members = vec![in alloc; 0u32; touched.len()]?;
+        for account in &touched {
+            let label = number_at(&owners, *account);
+            put_number(&mut members, number_at(&ends, label), *account);
+            raise(&mut ends, label, 1);
         }
         Ok(Bundled {
             weights,
-            accounts,
-            standing,
+            sizes,
+            ends,
+            members,
             owners,
         })
     }
 
-    /// The region of each bundle, counted from 1, or `None` if there is no room for one. The heaviest bundles go
-    /// first, each to the region that has most of its accounts, as long as that does not get too much.
+    /// The region of each bundle, counted from 1. `None` if there is no room for one. The heaviest bundles go first,
+    /// each to the region that has most of its accounts, as long as that does not get too much.
     ///
     /// # Errors
     /// `NoMemory` if memory ran out.
-    pub(crate) fn homes(&self, alloc: Global, cut: &Cut) -> Result<Option<Vec<u32>>, NoMemory> {
-        let order = heaviest_first(alloc, &self.weights)?;
-        let mut homes = vec![in alloc; 0u32; self.weights.len()]?;
-        let mut loads = vec![in alloc; 0u32; cut.regions as usize]?;
-        let mut rooms = Vec::with_capacity(alloc, cut.regions as usize)?;
-        for region in 0..cut.regions {
-            rooms.push(cut.len(region))?;
-        }
-        for label in order.as_slice() {
-            let Some(region) = self.best_region(cut, *label, &loads, &rooms) else {
+    pub(crate) fn homes(
+        &self,
+        alloc: Global,
+        cut: &Cut,
+        share: u32,
+    ) -> Result<Option<Homes>, NoMemory> {
+        let heavy = heaviest_first(alloc, &self.weights)?;
+        let mut homes = Homes::new(alloc, cut, self.weights.len(), share)?;
+        for label in &heavy {
+            if !homes.place(cut, self, *label) {
                 return Ok(None);
-            };
-            put_number(&mut homes, *label, region.saturating_add(1));
-            raise(&mut loads, region, number_at(&self.weights, *label));
-            lower(&mut rooms, region, number_at(&self.accounts, *label));
+            }
+        }
+        let mut label: u32 = 0;
+        for weight in &self.weights {
+            if *weight == 1 && !homes.place(cut, self, label) {
+                return Ok(None);
+            }
+            label = label.saturating_add(1);
         }
         Ok(Some(homes))
     }
 
-    // The region for a bundle: the one with most of its accounts, of those that have room and do not get more than
-    // their share; else the one with the least to do, of those that have room.
-    fn best_region(&self, cut: &Cut, label: u32, loads: &[u32], rooms: &[u32]) -> Option<u32> {
-        let weight = number_at(&self.weights, label);
+    /// The accounts that instructions touch, each once, and for each account the label of its bundle, or 0 if no
+    /// instruction touches it.
+    pub(crate) fn into_members(self) -> (Vec<u32>, Vec<u32>) {
+        let Bundled {
+            members,
+            owners,
+            ..
+        } = self;
+        (members, owners)
+    }
+
+    // The accounts of a bundle.
+    fn members_of(&self, label: u32) -> &[u32] {
+        let end = number_at(&self.ends, label) as usize;
+        let start = end.saturating_sub(number_at(&self.sizes, label) as usize);
+        match self.members.get(start..end) {
+            Some(members) => members,
+            None => &[],
+        }
+    }
+}
+
+/// The regions of bundles.
+#[derive(Drop)]
+pub(crate) struct Homes {
+    /// The region of each bundle by its label, counted from 1, or 0 if it has none.
+    pub(crate) regions: Vec<u32>,
+    /// How many instructions each region has.
+    pub(crate) loads: Vec<u32>,
+    // For how many accounts more each region has room.
+    left: Vec<u32>,
+    // How many instructions a region gets at most, if it can be helped.
+    share: u32,
+}
+
+impl Homes {
+    fn new(alloc: Global, cut: &Cut, labels: usize, share: u32) -> Result<Homes, NoMemory> {
+        let mut left = Vec::with_capacity(alloc, cut.regions as usize)?;
+        for region in 0..cut.regions {
+            left.push(cut.len(region))?;
+        }
+        Ok(Homes {
+            regions: vec![in alloc; 0u32; labels]?,
+            loads: vec![in alloc; 0u32; cut.regions as usize]?,
+            left,
+            share,
+        })
+    }
+
+    // Finds a region for a bundle. Answers whether there is one.
+    fn place(&mut self, cut: &Cut, bundled: &Bundled, label: u32) -> bool {
+        let weight = number_at(&bundled.weights, label);
+        let size = number_at(&bundled.sizes, label);
+        let members = bundled.members_of(label);
+        let Some(region) = self.best(cut, members, weight, size) else {
+            return false;
+        };
+        put_number(&mut self.regions, label, region.saturating_add(1));
+        raise(&mut self.loads, region, weight);
+        lower(&mut self.left, region, size);
+        true
+    }
+
+    // The region for a bundle with these accounts.
+    fn best(&self, cut: &Cut, members: &[u32], weight: u32, size: u32) -> Option<u32> {
+        match self.nearest(cut, members, weight, size) {
+            Some(region) => Some(region),
+            None => self.idlest(cut, size),
+        }
+    }
+
+    // The region with most of these accounts, of those that have room and do not get more than their share.
+    fn nearest(&self, cut: &Cut, members: &[u32], weight: u32, size: u32) -> Option<u32> {
+        let mut standing = [0u32; MOST_REGIONS];
         let mut best = None;
         let mut most = 0;
+        for member in members {
+            let region = cut.region_of(*member);
+            raise(&mut standing, region, 1);
+            let here = number_at(&standing, region);
+            let load = number_at(&self.loads, region).saturating_add(weight);
+            if here > most && load <= self.share && number_at(&self.left, region) >= size {
+                best = Some(region);
+                most = here;
+            }
+        }
+        best
+    }
+
+    // The region with the least to do, of those that have room.
+    fn idlest(&self, cut: &Cut, size: u32) -> Option<u32> {
         let mut idlest = None;
         let mut least = u32::MAX;
         for region in 0..cut.regions {
-            if number_at(rooms, region) >= number_at(&self.accounts, label) {
-                let load = number_at(loads, region);
-                let here = number_at(&self.standing, cell(cut, label, region)).saturating_add(1);
-                if load.saturating_add(weight) <= cut.share && here > most {
-                    best = Some(region);
-                    most = here;
-                }
-                if load < least {
-                    idlest = Some(region);
-                    least = load;
-                }
+            let load = number_at(&self.loads, region);
+            if load < least && number_at(&self.left, region) >= size {
+                idlest = Some(region);
+                least = load;
             }
         }
-        best.or(idlest)
+        idlest
     }
 }
 
 fn weigh(weights: &mut [u32], labels: &[u32]) {
-    for (place, label) in labels.iter().enumerate() {
-        if place > 0 {
-            raise(weights, *label, 1);
-        }
+    for label in labels.iter().skip(1) {
+        raise(weights, *label, 1);
     }
 }
 
-fn cell(cut: &Cut, label: u32, region: u32) -> u32 {
-    label.saturating_mul(cut.regions).saturating_add(region)
+// Says of each touched account which bundle has it, counts those of each bundle, and lists all.
+fn own_all(
+    alloc: Global,
+    labels: &[u32],
+    touches: &[Touch],
+    sizes: &mut [u32],
+    owners: &mut [u32],
+) -> Result<Vec<u32>, NoMemory> {
+    let mut touched = Vec::with_capacity(alloc, touches.len())?;
+    for touch in touches {
+        if number_at(owners, touch.account) == 0 {
+            let label = number_at(labels, touch.place);
+            put_number(owners, touch.account, label);
+            raise(sizes, label, 1);
+            touched.push(touch.account)?;
+        }
+    }
+    Ok(touched)
 }
 
-// The labels of bundles: those of two instructions and more, the heaviest first, and then those of one.
+// Where each bundle begins, if each has so many.
+fn begins_of(alloc: Global, sizes: &[u32]) -> Result<Vec<u32>, NoMemory> {
+    let mut begins = Vec::with_capacity(alloc, sizes.len())?;
+    let mut all: u32 = 0;
+    for size in sizes {
+        begins.push(all)?;
+        all = all.saturating_add(*size);
+    }
+    Ok(begins)
+}
+
+// The labels of bundles of two instructions and more, the heaviest first.
 fn heaviest_first(alloc: Global, weights: &[u32]) -> Result<Vec<u32>, NoMemory> {
     let mut heavy = Vec::new(alloc);
-    let mut light = Vec::with_capacity(alloc, weights.len())?;
     let mut label: u32 = 0;
     for weight in weights {
         if *weight > 1 {
             heavy.push(label)?;
         }
-        if *weight == 1 {
-            light.push(label)?;
-        }
         label = label.saturating_add(1);
     }
     heavy.sort_unstable_by_key(|label| u32::MAX - number_at(weights, *label));
-    heavy.append(&mut light)?;
     Ok(heavy)
 }

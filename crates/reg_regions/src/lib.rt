@@ -16,30 +16,36 @@
 //! ```
 #![tactic(auto)]
 
+mod all_home;
+mod closing;
 mod cover;
 mod cut;
+mod cutting;
 mod dealing;
-mod dealt;
-mod each;
 mod fault;
+mod gate;
 mod home;
 mod homes;
 mod laws;
+mod not_settled;
 mod numbers;
 mod planning;
 mod region;
 mod replies;
 mod settle;
+mod stealing;
 mod swapping;
 mod swaps;
 mod touching;
 mod turned;
 mod turning;
+mod whole;
 
-pub use dealt::settle_dealt;
+pub use closing::settle_regions;
 pub use fault::RegionFault;
+pub use gate::{FreePlaces, PlaceGate};
 pub use laws::{region_is_as_the_day, regions_are_a_day};
+pub use not_settled::{NotSettled, RegionsFault};
 pub use region::{Indexes, Placed, Region, SettledRegion};
 pub use settle::settle_region;
-pub use swapping::{swap_all, swap_back};
-pub use swaps::Swap;
+pub use stealing::shift::WorkShift;

@@ -1,4 +1,4 @@
-//! Numbers in a list, where an index beyond its end is no fault.
+//! Numbers in a list, where an index beyond its end is no fault, and short ones.
 
 /// The number at an index, or 0 beyond the end.
 pub(crate) fn number_at(numbers: &[u32], index: u32) -> u32 {
@@ -25,4 +25,12 @@ pub(crate) fn raise(numbers: &mut [u32], index: u32, by: u32) {
 pub(crate) fn lower(numbers: &mut [u32], index: u32, by: u32) {
     let lowered = number_at(numbers, index).saturating_sub(by);
     put_number(numbers, index, lowered);
+}
+
+/// So many, or the largest number that there is.
+pub(crate) fn short(count: usize) -> u32 {
+    match u32::try_from(count) {
+        Ok(short) => short,
+        Err(_) => u32::MAX,
+    }
 }

@@ -9,6 +9,7 @@ ghost use Rattle.reg_regions.specs.Homes.{IsHome, AreHome};
 ghost use Rattle.reg_regions.specs.Settling.{IsCarriedOut, IsRun, places_in};
 
 use crate::fault::RegionFault;
+use crate::gate::{FreePlaces, PlaceGate};
 use crate::home::{are_home, widened};
 use crate::region::{Indexes, Placed, Region, SettledRegion};
 use reg_account::Account;
@@ -63,9 +64,42 @@ pub(crate) fn settle_home(
     ensures run { IfOk result (λ replies. IsRun setting.now batch.now accounts.old accounts.new replies.items) }
     ensures places { IfOk result (λ replies. places_in replies.items ≡ places.now) }
 {
+    settle_gated(
+        alloc,
+        setting,
+        batch,
+        places,
+        indexes,
+        accounts,
+        &FreePlaces,
+        0,
+    )
+}
+
+/// The same by a worker, which passes the gate before each instruction.
+///
+/// # Errors
+/// `NoMemory` if memory ran out.
+pub(crate) fn settle_gated<G: PlaceGate>(
+    alloc: Global,
+    setting: &Setting,
+    batch: &Batch,
+    places: &[u32],
+    indexes: &[Indexes],
+    accounts: &mut [Account],
+    gate: &G,
+    worker: u32,
+) -> Result<Vec<Placed>, NoMemory>
+    requires rules { AreRules setting.now.rules }
+    requires ready { IsReady (batch.now.base + 1) accounts.old }
+    requires home { AreHome setting.now batch.now (numbers accounts.old) places.now (index_lists indexes.now) }
+    ensures run { IfOk result (λ replies. IsRun setting.now batch.now accounts.old accounts.new replies.items) }
+    ensures places { IfOk result (λ replies. places_in replies.items ≡ places.now) }
+{
     step_laws();
     let mut replies = Vec::with_capacity(alloc, places.len())?;
     for (index, place) in places.iter().enumerate() {
+        gate.enter(worker, *place);
         let reply = carry_out(alloc, setting, batch, *place, &indexes[index], accounts)?;
         push_reply(&mut replies, *place, reply)?;
     }

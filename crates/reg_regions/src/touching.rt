@@ -1,13 +1,15 @@
-//! Where the accounts of instructions stand in a book.
+//! Where the accounts of instructions stand in lists.
 
 ghost use Rattle.std.specs.Prelude.{◌≤◌, ◌<◌, All, IsTrue};
 ghost use Rattle.std.specs.Thread.{IsSync};
 ghost use Rattle.reg_base.specs.Rising.{IsRising};
 ghost use Rattle.reg_rules.specs.State.{numbers};
+ghost use Rattle.reg_regions.specs.Lists.{joined_lists};
 
+use crate::cut::Cut;
 use crate::region::Indexes;
 use reg_account::Account;
-use reg_base::{Instruction, NoMemory};
+use reg_base::{AccountNo, Instruction, NoMemory};
 use reg_book::index_of;
 use reg_bundles::Touch;
 use std::alloc::Global;
@@ -22,25 +24,26 @@ use std::thread::Threads;
 pub(crate) fn find_by_runs<R: Threads + Sync>(
     rt: &R,
     alloc: Global,
-    accounts: &[Account],
+    lists: &[Vec<Account>],
+    cut: &Cut,
     instructions: &[Instruction],
     runs: u32,
 ) -> Result<Vec<Indexes>, NoMemory>
-    requires { IsRising (numbers accounts.now) }
+    requires { IsRising (numbers (joined_lists lists.now)) }
 {
     if runs < 2 {
-        return find_indexes(alloc, accounts, instructions);
+        return find_indexes(alloc, lists, cut, instructions);
     }
     let size = instructions.len() / runs as usize;
     let (run, rest) = instructions.split_at(size.min(instructions.len()));
     let (front, back) = thread::join(
         rt,
         move || -> Result<Vec<Indexes>, NoMemory>
-            requires { IsRising (numbers accounts.now) }
-        { find_indexes(alloc, accounts, run) },
+            requires { IsRising (numbers (joined_lists lists.now)) }
+        { find_indexes(alloc, lists, cut, run) },
         move || -> Result<Vec<Indexes>, NoMemory>
-            requires { IsSync R.row × IsRising (numbers accounts.now) × (2 ≤ runs) }
-        { find_by_runs(rt, alloc, accounts, rest, runs - 1) },
+            requires { IsSync R.row × IsRising (numbers (joined_lists lists.now)) × (2 ≤ runs) }
+        { find_by_runs(rt, alloc, lists, cut, rest, runs - 1) },
     );
     let (mut all, mut later) = (front?, back?);
     all.append(&mut later)?;
@@ -50,32 +53,33 @@ pub(crate) fn find_by_runs<R: Threads + Sync>(
 // The same by one thread.
 fn find_indexes(
     alloc: Global,
-    accounts: &[Account],
+    lists: &[Vec<Account>],
+    cut: &Cut,
     instructions: &[Instruction],
 ) -> Result<Vec<Indexes>, NoMemory>
-    requires { IsRising (numbers accounts.now) }
+    requires { IsRising (numbers (joined_lists lists.now)) }
 {
     let mut indexes = Vec::with_capacity(alloc, instructions.len())?;
     for instruction in instructions {
-        indexes.push(indexes_of(accounts, instruction))?;
+        indexes.push(indexes_of(lists, cut, instruction))?;
     }
     Ok(indexes)
 }
 
 // None if an account that must be known is not there.
-fn indexes_of(accounts: &[Account], instruction: &Instruction) -> Indexes
-    requires { IsRising (numbers accounts.now) }
+fn indexes_of(lists: &[Vec<Account>], cut: &Cut, instruction: &Instruction) -> Indexes
+    requires { IsRising (numbers (joined_lists lists.now)) }
 {
     let movement = instruction.act.movement();
     if let Some(number) = movement.also_known() {
-        if index_of(accounts, number).is_none() {
+        if find_account(lists, cut, number).is_none() {
             return Indexes::new();
         }
     }
     let mut indexes = Indexes::new();
     let parties = movement.parties();
     for number in parties.as_slice() {
-        match index_of(accounts, *number) {
+        match find_account(lists, cut, *number) {
             None => return Indexes::new(),
             Some(index) => push_index(&mut indexes, index),
         }
@@ -83,11 +87,24 @@ fn indexes_of(accounts: &[Account], instruction: &Instruction) -> Indexes
     indexes
 }
 
-fn push_index(indexes: &mut Indexes, index: usize) {
-    if let Ok(short) = u32::try_from(index) {
-        if !indexes.is_full() {
-            indexes.push(short);
-        }
+// The index of the account with this number.
+fn find_account(lists: &[Vec<Account>], cut: &Cut, number: AccountNo) -> Option<u32>
+    requires { IsRising (numbers (joined_lists lists.now)) }
+{
+    let region = cut.region_for(number);
+    if region as usize >= lists.len() {
+        return None;
+    }
+    let index = index_of(&lists[region as usize], number)?;
+    let Ok(short) = u32::try_from(index) else {
+        return None;
+    };
+    Some(cut.start(region).saturating_add(short))
+}
+
+fn push_index(indexes: &mut Indexes, index: u32) {
+    if !indexes.is_full() {
+        indexes.push(index);
     }
 }
 
@@ -96,7 +113,7 @@ fn push_index(indexes: &mut Indexes, index: usize) {
 /// # Errors
 /// `NoMemory` if memory ran out.
 pub(crate) fn find_touches(alloc: Global, indexes: &[Indexes]) -> Result<Vec<Touch>, NoMemory> {
-    let mut touches = Vec::with_capacity(alloc, indexes.len())?;
+    let mut touches = Vec::with_capacity(alloc, indexes.len().saturating_mul(2))?;
     let mut place: u32 = 0;
     for own in indexes {
         place = place.saturating_add(1);

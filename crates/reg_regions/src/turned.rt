@@ -1,63 +1,188 @@
-//! Regions of a list whose accounts are swapped before, and back afterwards.
+//! Regions whose accounts are swapped before, and back afterwards.
 
-ghost use Rattle.std.specs.Prelude.{◌≡◌, ◌+◌, All, IfOk, MatchOption, length};
+ghost use Rattle.std.specs.Prelude.{◌≡◌, ◌+◌, ◌≤◌, ℕ, All, IfOk, IfSome, false, IsTrue, MatchOption, length};
+ghost use Rattle.reg_base.specs.Rising.{IsRising};
 ghost use Rattle.reg_base.specs.Rules.{AreRules};
+ghost use Rattle.reg_counting.specs.Counting.{times, once};
 ghost use Rattle.reg_rules.specs.Laws.{IsReady};
-ghost use Rattle.reg_regions.specs.Dealing.{IsTurned};
-ghost use Rattle.reg_regions.specs.Swaps.{IsSwapWithin};
+ghost use Rattle.reg_rules.specs.State.{State, numbers};
+ghost use Rattle.reg_regions.specs.Dealing.{IsPrepared, AreTurned};
+ghost use Rattle.reg_regions.specs.Homes.{AreAllHome, dealt_places};
+ghost use Rattle.reg_regions.specs.Lists.{joined_lists, sizes_of, deal_sizes};
+ghost use Rattle.reg_regions.specs.Outcomes.{AreShiftsOf};
+ghost use Rattle.reg_regions.specs.Swaps.{IsSwapWithin, exchanged};
 
-use crate::dealing::Dealing;
-use crate::each::{are_all_home, settle_each};
-use crate::region::Placed;
+use crate::all_home::are_all_home;
+use crate::cover::have_all_places;
+use crate::dealing::{Deal, Dealing};
+use crate::gate::PlaceGate;
+use crate::planning::{deal_out, runs_of};
+use crate::stealing::{SettledLists, settle_lists};
 use crate::swapping::{swap_all, swap_back};
+use crate::swaps::Swap;
 use reg_account::Account;
 use reg_base::{Batch, NoMemory};
 use reg_rules::Setting;
 use std::alloc::Global;
 use std::thread::Threads;
 
-/// Swaps accounts, carries out the instructions of the regions into which the list is then cut, and swaps back. `None`
-/// if accounts do not stand where a region says: the list is then as it was.
+/// Deals the day out to these lists, each a region, and swaps accounts so that each stands in its own. `None` if the
+/// day can't be dealt out so: the accounts then stand where they stood.
+pub(crate) fn prepare<R: Threads + Sync>(
+    rt: &R,
+    alloc: Global,
+    setting: &Setting,
+    batch: &Batch,
+    lists: Vec<Vec<Account>>,
+    workers: u32,
+) -> (Option<Dealing>, Vec<Vec<Account>>)
+    requires { IsRising (numbers (joined_lists lists.items)) }
+    ensures lists { MatchOption result.0 (joined_lists result.1.items ≡ joined_lists lists.items)
+        (λ dealing. IsPrepared setting.now batch.now dealing (joined_lists lists.items) (joined_lists result.1.items)) }
+    ensures sizes { IfSome result.0 (λ dealing. sizes_of result.1.items ≡ deal_sizes dealing.deals.items) }
+{
+    let mut lists = lists;
+    let dealing = prepare_all(rt, alloc, setting, batch, workers, &mut lists);
+    (dealing, lists)
+}
+
+fn prepare_all<R: Threads + Sync>(
+    rt: &R,
+    alloc: Global,
+    setting: &Setting,
+    batch: &Batch,
+    workers: u32,
+    lists: &mut [Vec<Account>],
+) -> Option<Dealing>
+    requires { IsRising (numbers (joined_lists lists.old)) }
+    ensures lists { MatchOption result (joined_lists lists.new ≡ joined_lists lists.old)
+        (λ dealing. IsPrepared setting.now batch.now dealing (joined_lists lists.old) (joined_lists lists.new)) }
+    ensures sizes { IfSome result (λ dealing. sizes_of lists.new ≡ deal_sizes dealing.deals.items) }
+{
+    let dealing = admitted(rt, alloc, lists, batch, workers)?;
+    let runs = runs_of(batch.len(), workers);
+    if !swap_home(rt, setting, batch, &dealing, lists, runs) {
+        return None;
+    }
+    Some(dealing)
+}
+
+// How the day is dealt out to lists, if it can be: the swaps are within these, and each place is dealt once.
+fn admitted<R: Threads + Sync>(
+    rt: &R,
+    alloc: Global,
+    lists: &[Vec<Account>],
+    batch: &Batch,
+    workers: u32,
+) -> Option<Dealing>
+    requires { IsRising (numbers (joined_lists lists.now)) }
+    ensures swaps { IfSome result
+        (λ dealing. All (IsSwapWithin (length (joined_lists lists.now))) dealing.swaps.items) }
+    ensures places { IfSome result (λ dealing. (place : ℕ)
+        → times place (dealt_places dealing.deals.items) ≡ once (length batch.now.instructions) place) }
+{
+    let dealing = deal_out(rt, alloc, lists, batch, workers)?;
+    if !are_within(&dealing.swaps, count_all(lists)) {
+        return None;
+    }
+    if !are_places(alloc, batch.len(), &dealing.deals) {
+        return None;
+    }
+    Some(dealing)
+}
+
+fn are_places(alloc: Global, count: u32, deals: &[Deal]) -> bool
+    ensures { IsTrue result → (place : ℕ) → times place (dealt_places deals.now) ≡ once count place }
+{
+    match have_all_places(alloc, count, deals) {
+        Ok(all) => all,
+        Err(NoMemory) => false,
+    }
+}
+
+// How many accounts lists have at least.
+fn count_all(lists: &[Vec<Account>]) -> usize
+    ensures { result ≤ length (joined_lists lists.now) }
+{
+    match lists.split_first() {
+        None => 0,
+        Some((list, later)) => count_all(later).saturating_add(list.len()),
+    }
+}
+
+// Whether each swap is of two of the first so many.
+fn are_within(swaps: &[Swap], count: usize) -> bool
+    ensures { IsTrue result → All (IsSwapWithin count) swaps.now }
+{
+    for swap in swaps {
+        if !is_within(*swap, count) {
+            return false;
+        }
+    }
+    true
+}
+
+fn is_within(swap: Swap, count: usize) -> bool
+    ensures { IsTrue result → IsSwapWithin count swap }
+{
+    if swap.one as usize >= count {
+        return false;
+    }
+    (swap.other as usize) < count
+}
+
+// Swaps accounts, and answers whether each list is then the region that it is said to be. If one is not, all accounts
+// stand where they stood.
+fn swap_home<R: Threads + Sync>(
+    rt: &R,
+    setting: &Setting,
+    batch: &Batch,
+    dealing: &Dealing,
+    lists: &mut [Vec<Account>],
+    runs: u32,
+) -> bool
+    requires { All (IsSwapWithin (length (joined_lists lists.old))) dealing.now.swaps.items }
+    ensures swapped { IsTrue result
+        → joined_lists lists.new ≡ exchanged dealing.now.swaps.items (joined_lists lists.old) }
+    ensures home { IsTrue result
+        → AreAllHome setting.now batch.now (numbers (joined_lists lists.new)) dealing.now.deals.items }
+    ensures sizes { IsTrue result → sizes_of lists.new ≡ deal_sizes dealing.now.deals.items }
+    ensures stays { result ≡ false → joined_lists lists.new ≡ joined_lists lists.old }
+{
+    swap_all(lists, &dealing.swaps);
+    if are_all_home(rt, setting, batch, lists, &dealing.deals, runs) {
+        return true;
+    }
+    swap_back(lists, &dealing.swaps);
+    false
+}
+
+/// Carries out the instructions of lists whose accounts were swapped, each a region, and swaps back.
 ///
 /// # Errors
 /// `NoMemory` if memory ran out.
-pub(crate) fn settle_listed<R: Threads + Sync>(
+pub(crate) fn settle_swapped<R: Threads + Sync, G: PlaceGate>(
     rt: &R,
     alloc: Global,
     setting: &Setting,
     batch: &Batch,
     dealing: &Dealing,
-    accounts: &mut Vec<Account>,
-) -> Result<Option<Vec<Placed>>, NoMemory>
+    lists: Vec<Vec<Account>>,
+    workers: u32,
+    gate: &G,
+) -> Result<SettledLists, NoMemory>
+    requires workers { (1 ≤ workers) × (workers ≤ 8) }
     requires rules { AreRules setting.now.rules }
-    requires ready { IsReady (batch.now.base + 1) accounts.old.items }
-    requires swaps { All (IsSwapWithin (length accounts.old.items)) dealing.now.swaps.items }
-    ensures { IfOk result (λ found. MatchOption found (accounts.new.items ≡ accounts.old.items)
-        (λ placed. IsTurned setting.now batch.now dealing.now accounts.old.items accounts.new.items placed.items)) }
+    requires ready { IsReady (batch.now.base + 1) (joined_lists lists.items) }
+    requires prepared { (old : State) × IsPrepared setting.now batch.now dealing.now old (joined_lists lists.items) }
+    requires sizes { sizes_of lists.items ≡ deal_sizes dealing.now.deals.items }
+    ensures turned { IfOk result (λ s. (old : State)
+        → IsPrepared setting.now batch.now dealing.now old (joined_lists lists.items)
+        → AreTurned setting.now batch.now old (joined_lists s.lists.items) s.replies.items) }
+    ensures shifts { IfOk result (λ s. AreShiftsOf workers (length batch.now.instructions) s.shifts.items) }
 {
-    settle_turned(rt, alloc, setting, batch, dealing, accounts)
-}
-
-fn settle_turned<R: Threads + Sync>(
-    rt: &R,
-    alloc: Global,
-    setting: &Setting,
-    batch: &Batch,
-    dealing: &Dealing,
-    accounts: &mut [Account],
-) -> Result<Option<Vec<Placed>>, NoMemory>
-    requires rules { AreRules setting.now.rules }
-    requires ready { IsReady (batch.now.base + 1) accounts.old }
-    requires swaps { All (IsSwapWithin (length accounts.old)) dealing.now.swaps.items }
-    ensures { IfOk result (λ found. MatchOption found (accounts.new ≡ accounts.old)
-        (λ placed. IsTurned setting.now batch.now dealing.now accounts.old accounts.new placed.items)) }
-{
-    swap_all(accounts, &dealing.swaps);
-    if !are_all_home(rt, setting, batch, accounts, &dealing.deals) {
-        swap_back(accounts, &dealing.swaps);
-        return Ok(None);
-    }
-    let placed = settle_each(rt, alloc, setting, batch, &dealing.deals, accounts)?;
-    swap_back(accounts, &dealing.swaps);
-    Ok(Some(placed))
+    let deals = &dealing.deals;
+    let mut settled = settle_lists(rt, alloc, setting, batch, deals, lists, workers, gate)?;
+    swap_back(&mut settled.lists, &dealing.swaps);
+    Ok(settled)
 }

@@ -1,5 +1,5 @@
 -- An accepted act on the accounts of its footprint: how its parts make the whole.
-use Rattle.std.proofs.Common.{◌≡◌, ℕ, ◌+◌, ◌≤◌, Bool, true, false, cond, eqb, List, [], ◌∷◌, map, get_or, set, Option}
+use Rattle.std.proofs.Common.{◌≡◌, ℕ, ◌+◌, ◌≤◌, Bool, true, false, cond, eqb, List, [], ◌∷◌, map, Option}
 use Rattle.std.proofs.Common.{Some, None, refl, sym, ap, subst, ◌∙◌}
 use Rattle.std.specs.Prelude.{find, filter, not, nat_lt, MatchOption}
 use Rattle.std.specs.Option.{option_map_or, option_to_list}
@@ -8,6 +8,7 @@ use Rattle.std.proofs.lemmas.Bool.{eqb-true, eqb-false, eq-eqb, ne_eqb, not-fals
 use Rattle.reg_base.specs.declared.limits.TheConstants.{MOST_HELD}
 use Rattle.reg_base.specs.declared.kinds.AllowanceKind.{AllowanceKind}
 use Rattle.reg_base.specs.declared.shares.Share.{Share}
+use Rattle.reg_base.specs.declared.movement.Movement.{Movement}
 use Rattle.reg_base.specs.declared.act.Act.{Act}
 use Rattle.reg_base.specs.declared.instruction.Instruction.{Instruction}
 use Rattle.reg_base.specs.declared.refusals.Refusal.TheVariants.{UnknownAccount, SameAccount, HoldingTooLarge}
@@ -16,8 +17,8 @@ use Rattle.reg_base.specs.Footprint.{all_known, each_once, footprint}
 use Rattle.reg_account.specs.Account.{AccountValue, held_by, credited}
 use Rattle.reg_rules.specs.State.{State, Setting, Receiver, numbers, account, seen}
 use Rattle.reg_rules.specs.Checks.{has_repeat, overfills, overfills_first, overfills_some, refusal}
-use Rattle.reg_rules.specs.Effect.{first_after, share_of, given, with_changes, changed_by, CanFirst, CanReceive}
-use Rattle.reg_rules.specs.Effect.{CanChange, IsBehind}
+use Rattle.reg_rules.specs.Effect.{first_after, share_of, given, given_each, with_changes, made_by, changed_by}
+use Rattle.reg_rules.specs.Effect.{CanReceive, HasSpaceEach, CanChange, IsBehind}
 use Rattle.reg_rules.proofs.Numbers.{found-by_number}
 use Rattle.reg_rules.proofs.Passed.{passed}
 use Rattle.reg_rules.proofs.Repeats.{repeats-none}
@@ -99,13 +100,64 @@ can-change-each c s n i none distinct late = go s (found-by_number s distinct) l
   go [] found behind = tt
   go (y ∷ ys) found behind = (can-change c s n i y none found.0 behind.0, go ys found.1 behind.1)
 
--- the first account has no share
-no-share : (a : ℕ) (shared : List Share) → AllByRecursion (λ b. eqb a b ≡ false) (map (λ share. share.to) shared)
-    → share_of shared a ≡ None
-no-share a [] others = refl
-no-share a (x ∷ xs) others =
-    ap (λ b. cond b (Some x) (share_of xs a)) (ne_eqb x.to a (λ same. eqb-false a x.to others.0 (sym same)))
-    ∙ no-share a xs others.1
+-- accounts of other numbers than this share's have the share that they have of the others
+other-shares : (x : Share) (rest : List Share) (a : ℕ) (ys : State) → x.to ≡ a
+    → AllByRecursion (λ b. eqb a b ≡ false) (numbers ys)
+    → AllByRecursion (λ (y : AccountValue). share_of (x ∷ rest) y.number ≡ share_of rest y.number) ys
+other-shares x rest a [] at all = tt
+other-shares x rest a (y ∷ ys) at all = (
+  ap (λ b. cond b (Some x) (share_of rest y.number)) (ap (λ n. eqb n y.number) at ∙ all.0),
+  other-shares x rest a ys at all.1,
+)
+
+-- so it makes no difference to them
+others-given : (kind : AllowanceKind) (x : Share) (rest : List Share) (ys : State)
+    → AllByRecursion (λ (y : AccountValue). share_of (x ∷ rest) y.number ≡ share_of rest y.number) ys
+    → map (given kind (x ∷ rest)) ys ≡ map (given kind rest) ys
+others-given kind x rest [] same = refl
+others-given kind x rest (y ∷ ys) same =
+    ap (λ o. option_map_or (λ share. credited y kind share.amount) o y ∷ map (given kind (x ∷ rest)) ys) same.0
+    ∙ ap (λ zs. given kind rest y ∷ zs) (others-given kind x rest ys same.1)
+
+others-receive : (kind : AllowanceKind) (x : Share) (rest : List Share) (ys : State)
+    → AllByRecursion (λ (y : AccountValue). share_of (x ∷ rest) y.number ≡ share_of rest y.number) ys
+    → AllByRecursion (CanReceive kind (x ∷ rest)) ys → AllByRecursion (CanReceive kind rest) ys
+others-receive kind x rest [] same can = tt
+others-receive kind x rest (y ∷ ys) same can = (
+  subst (λ o. MatchOption o (Unit {0}) (λ share. held_by y kind + share.amount ≤ MOST_HELD)) same.0 can.0,
+  others-receive kind x rest ys same.1 can.1,
+)
+
+-- where the accounts stand in the order of their shares, each gets the share of its number
+given-by_number : (kind : AllowanceKind) (vs : State) (shared : List Share)
+    → numbers vs ≡ map (λ share. share.to) shared → IsDistinct eqb (numbers vs)
+    → given_each kind vs shared ≡ map (given kind shared) vs
+unfolding IsDistinct
+given-by_number kind [] shared same d = refl
+given-by_number kind (v ∷ vs) [] same d = absurd (cc)
+given-by_number kind (v ∷ vs) (x ∷ rest) same d =
+    let at : x.to ≡ v.number = cc in
+    let more : numbers vs ≡ map (λ share. share.to) rest = cc in
+    ap (λ b. option_map_or (λ share. credited v kind share.amount) (cond b (Some x) (share_of rest v.number)) v
+    ∷ given_each kind vs rest) (sym (eq-eqb x.to v.number at))
+    ∙ ap (λ ws. given kind (x ∷ rest) v ∷ ws) (given-by_number kind vs rest more d.1
+    ∙ sym (others-given kind x rest vs (other-shares x rest v.number vs at d.0)))
+
+space-by_number : (kind : AllowanceKind) (vs : State) (shared : List Share)
+    → numbers vs ≡ map (λ share. share.to) shared → IsDistinct eqb (numbers vs)
+    → AllByRecursion (CanReceive kind shared) vs → HasSpaceEach kind vs shared
+unfolding IsDistinct
+space-by_number kind [] shared same d can = tt
+space-by_number kind (v ∷ vs) [] same d can = tt
+space-by_number kind (v ∷ vs) (x ∷ rest) same d can =
+    let at : x.to ≡ v.number = cc in
+    let more : numbers vs ≡ map (λ share. share.to) rest = cc in (
+      subst (λ b. MatchOption (cond b (Some x) (share_of rest v.number)) (Unit {0})
+          (λ share. held_by v kind + share.amount ≤ MOST_HELD))
+          (eq-eqb x.to v.number at) can.0,
+      space-by_number kind vs rest more d.1
+          (others-receive kind x rest vs (other-shares x rest v.number vs at d.0) can.1),
+    )
 
 -- a share changes of an account what acts may change
 given-changes : (kind : AllowanceKind) (v : AccountValue) (o : Option Share)
@@ -123,10 +175,12 @@ module _ (c : Setting) (n : ℕ) (act : Act) (x : AccountValue) (xs : State) (ow
   unfolding IsDistinct
   others = distinct.0
 
-  none-for-first : share_of (shares act) x.number ≡ None
-  none-for-first =
-      let same : numbers xs ≡ map (λ share. share.to) (shares act) = cc own in
-      no-share x.number (shares act) (subst (AllByRecursion (λ b. eqb x.number b ≡ false)) same others)
+  apart : IsDistinct eqb (numbers xs)
+  unfolding IsDistinct
+  apart = distinct.1
+
+  in-order : numbers xs ≡ map (λ (share : Share). share.to) (shares act)
+  in-order = cc own
 
   rest-given : (ys : State) → AllByRecursion (λ b. eqb x.number b ≡ false) (numbers ys)
       → map (given (movement_of act).kind (shares act)) ys ≡ map (changed_by c n act) ys
@@ -138,48 +192,46 @@ module _ (c : Setting) (n : ℕ) (act : Act) (x : AccountValue) (xs : State) (ow
       (ne_eqb y.number (first act) (λ same. eqb-false x.number y.number all.0 (is-first ∙ sym same)))))
       ∙ ap (λ vs. changed_by c n act y ∷ vs) (rest-given ys all.1)
 
-  -- the first changed, and then each given its share
-  pub whole : (w : AccountValue) → w ≡ with_changes x (first_after c n act x)
-      → map (given (movement_of act).kind (shares act)) (w ∷ xs) ≡ map (changed_by c n act) (x ∷ xs)
+  -- the first changed, and then each other one given its share
+  whole : (w : AccountValue) → w ≡ with_changes x (first_after c n act x)
+      → w ∷ given_each (movement_of act).kind xs (shares act) ≡ map (changed_by c n act) (x ∷ xs)
   whole w is =
-      ap (λ v. map (given (movement_of act).kind (shares act)) (v ∷ xs)) is
-      ∙ ap (λ o. option_map_or (λ share.
-      credited (with_changes x (first_after c n act x)) (movement_of act).kind share.amount) o
-      (with_changes x (first_after c n act x)) ∷ map (given (movement_of act).kind (shares act)) xs) none-for-first
-      ∙ sym (ap (λ b. with_changes x (cond b (first_after c n act x) (given (movement_of act).kind (shares act) x))
-      ∷ map (given (movement_of act).kind (shares act)) xs) (eq-eqb x.number (first act) is-first))
-      ∙ ap (λ vs. changed_by c n act x ∷ vs) (rest-given xs others)
+      ap (λ v. v ∷ given_each (movement_of act).kind xs (shares act))
+      (is ∙ sym (ap (λ b. with_changes x
+      (cond b (first_after c n act x) (given (movement_of act).kind (shares act) x)))
+      (eq-eqb x.number (first act) is-first)))
+      ∙ ap (λ vs. changed_by c n act x ∷ vs)
+      (given-by_number (movement_of act).kind xs (shares act) in-order apart ∙ rest-given xs others)
 
-  -- once the first is changed, each has space for its share
-  pub all-receive : (w : AccountValue) → w ≡ with_changes x (first_after c n act x)
-      → AllByRecursion (CanChange c n act) (x ∷ xs)
-      → AllByRecursion (CanReceive (movement_of act).kind (shares act)) (w ∷ xs)
-  all-receive w is can = (
-    subst (λ o. MatchOption o (Unit {0}) (λ share. held_by w (movement_of act).kind + share.amount ≤ MOST_HELD))
-        (sym (ap (λ (v : AccountValue). share_of (shares act) v.number) is ∙ none-for-first)) tt,
-    go xs can.1,
-  ) where
+  -- each other one has space for its share
+  have-space : AllByRecursion (CanChange c n act) xs → HasSpaceEach (movement_of act).kind xs (shares act)
+  have-space can = space-by_number (movement_of act).kind xs (shares act) in-order apart (go xs can) where
     go : (ys : State) → AllByRecursion (CanChange c n act) ys
         → AllByRecursion (CanReceive (movement_of act).kind (shares act)) ys
     go [] all = tt
     go (y ∷ ys) all = (all.0.space, go ys all.1)
 
--- the same, of accounts that are not taken apart
-pub first-can : (c : Setting) (n : ℕ) (act : Act) (xs : State) (d : AccountValue) → numbers xs ≡ parties act
-    → AllByRecursion (CanChange c n act) xs → CanFirst c n act (get_or xs 0 d)
-first-can c n act [] d own can = absurd (cc)
-first-can c n act (x ∷ xs) d own can = let e : x.number ≡ first act = cc in can.0.as_first e
+-- the same, of all accounts as one list, and of what the act does
+pub rest-can : (c : Setting) (n : ℕ) (act : Act) (m : Movement) (s : State) (x : AccountValue) (xs : State)
+    (shared : List Share) → s ≡ x ∷ xs → m ≡ movement_of act → shared ≡ m.shares
+    → numbers s ≡ parties act → IsDistinct eqb (numbers s) → AllByRecursion (CanChange c n act) s
+    → HasSpaceEach m.kind xs shared
+rest-can c n act m s x xs shared split moved listed own distinct can =
+    let all = subst (AllByRecursion (CanChange c n act)) split can in
+    let room = have-space c n act x xs (ap numbers (sym split) ∙ own)
+    (subst (λ (t : State). IsDistinct eqb (numbers t)) split distinct) all.1 in
+    subst (HasSpaceEach m.kind xs) (sym listed)
+    (subst (λ (k : Movement). HasSpaceEach k.kind xs k.shares) (sym moved) room)
 
-pub rest-can : (c : Setting) (n : ℕ) (act : Act) (xs : State) (d w : AccountValue) → numbers xs ≡ parties act
-    → IsDistinct eqb (numbers xs)
-    → w ≡ with_changes (get_or xs 0 d) (first_after c n act (get_or xs 0 d)) → AllByRecursion (CanChange c n act) xs
-    → AllByRecursion (CanReceive (movement_of act).kind (shares act)) (set xs 0 w)
-rest-can c n act [] d w own distinct is can = tt
-rest-can c n act (x ∷ xs) d w own distinct is can = all-receive c n act x xs own distinct w is can
-
-pub each-whole : (c : Setting) (n : ℕ) (act : Act) (xs zs : State) (d w : AccountValue) → numbers xs ≡ parties act
-    → IsDistinct eqb (numbers xs)
-    → w ≡ with_changes (get_or xs 0 d) (first_after c n act (get_or xs 0 d))
-    → zs ≡ map (given (movement_of act).kind (shares act)) (set xs 0 w) → zs ≡ map (changed_by c n act) xs
-each-whole c n act [] zs d w own distinct is made = absurd (cc)
-each-whole c n act (x ∷ xs) zs d w own distinct is made = made ∙ whole c n act x xs own distinct w is
+pub each-whole : (c : Setting) (n : ℕ) (act : Act) (m : Movement) (s : State) (x : AccountValue) (xs : State)
+    (shared : List Share) (w : AccountValue) (zs : State) → s ≡ x ∷ xs → m ≡ movement_of act → shared ≡ m.shares
+    → numbers s ≡ parties act → IsDistinct eqb (numbers s)
+    → w ≡ with_changes x (made_by c n m.change x) → zs ≡ given_each m.kind xs shared
+    → w ∷ zs ≡ map (changed_by c n act) s
+each-whole c n act m s x xs shared w zs split moved listed own distinct is given-now =
+    ap (λ ys. w ∷ ys) (given-now ∙ ap (given_each m.kind xs) listed
+    ∙ ap (λ (k : Movement). given_each k.kind xs k.shares) moved)
+    ∙ whole c n act x xs (ap numbers (sym split) ∙ own)
+    (subst (λ (t : State). IsDistinct eqb (numbers t)) split distinct) w
+    (is ∙ ap (λ (k : Movement). with_changes x (made_by c n k.change x)) moved)
+    ∙ ap (map (changed_by c n act)) (sym split)

@@ -5,7 +5,6 @@ pub mod Effects
 pub mod Steps
 pub mod Locality
 pub mod Constants
-pub mod Loops
 pub mod Mapped
 pub mod Repeats
 pub mod Firsts

@@ -1,6 +1,6 @@
 -- What is found of an instruction, and the case that it is where all of its accounts are known and none is named twice.
 use Rattle.std.proofs.Common.{◌≡◌, ℕ, Bool, true, false, cond, eqb, List, [], ◌∷◌, ◌++◌, map, drop, length, refl, ap}
-use Rattle.std.proofs.Common.{Option, Some, sym, subst, arith, ◌∙◌}
+use Rattle.std.proofs.Common.{Option, Some, ℤ, Result, sym, subst, arith, ◌∙◌}
 use Rattle.std.specs.Prelude.{find, not}
 use Rattle.std.specs.Option.{option_to_list}
 use Rattle.std.specs.List.{IsDistinct, AllByRecursion, list_all}
@@ -14,6 +14,7 @@ use Rattle.reg_base.specs.Calendar.{due}
 use Rattle.reg_base.specs.Footprint.{must_be_known, all_known, each_once, footprint}
 use Rattle.reg_base.specs.Refusals.{checks}
 use Rattle.reg_account.specs.declared.rows.RetirementRow.{RetirementRow}
+use Rattle.reg_account.specs.declared.figure.FigureFault.{FigureFault}
 use Rattle.reg_account.specs.Account.{AccountValue, trusts}
 use Rattle.reg_rules.specs.declared.found.Found.{Found}
 use Rattle.reg_rules.specs.declared.rule.ActRule.{ActRule}
@@ -21,7 +22,7 @@ use Rattle.reg_rules.specs.ActRules.{rule_of}
 use Rattle.reg_rules.specs.State.{State, Setting, Receiver, numbers, account, seen}
 use Rattle.reg_rules.specs.Trust.{lag_by}
 use Rattle.reg_rules.specs.Checks.{has_repeat, row_to_reverse, fails, refusal}
-use Rattle.reg_rules.specs.Cases.{receiving, seeing, found_of}
+use Rattle.reg_rules.specs.Cases.{receiving, seeing, effect_day, figure_asked, found_of}
 use Rattle.reg_rules.proofs.Numbers.{found-by_number}
 use Rattle.reg_rules.proofs.Repeats.{repeats-none}
 use Rattle.reg_rules.proofs.Applied.{once-distinct}
@@ -30,21 +31,40 @@ use Rattle.reg_rules.proofs.Mapped.{trust-answer, row-seen}
 -- all that is found
 pub found-answer : (c : Setting) (i : Instruction) (m : Movement) (v : AccountValue) (vs : State)
     (rule : ActRule) (trusted : Bool) (falls : Option ℕ) (row : Option RetirementRow)
+    (effective : Option ℕ) (figure : Result ℤ FigureFault)
     → m ≡ movement_of i.act → numbers vs ≡ map (λ share. share.to) (shares i.act)
     → rule ≡ rule_of i.act
     → trusted ≡ list_all (λ w. trusts v w.number w.holder c.day) vs
     → falls ≡ due c.rules.calendar i.proposed (lag_by c.rules rule.lag trusted)
     → row ≡ row_to_reverse m.change (seeing v [] [])
-    → ◌≡◌ {A = Found} (record { rule = rule; trusted = trusted; due = falls; row = row })
+    → effective ≡ effect_day c m.change → figure ≡ figure_asked c.rules m.change (Some v)
+    → ◌≡◌ {A = Found} (record {
+      rule = rule;
+      trusted = trusted;
+      due = falls;
+      row = row;
+      effective = effective;
+      figure = figure;
+    })
     (found_of c i (seeing v vs (shares i.act)))
-found-answer c i m v vs rule trusted falls row moved in_order as_rule as_trusted as_due as_row =
+found-answer c i m v vs rule trusted falls row effective figure moved in_order as_rule as_trusted as_due as_row
+    as_effective as_figure =
     let is-trusted = trust-answer c.day v vs (shares i.act) trusted in_order as_trusted in
     let is-due = as_due
     ∙ ap (λ (r : ActRule). due c.rules.calendar i.proposed (lag_by c.rules r.lag trusted)) as_rule
     ∙ ap (λ b. due c.rules.calendar i.proposed (lag_by c.rules (rule_of i.act).lag b)) is-trusted in
     let is-row = as_row ∙ row-seen m.change v [] (receiving vs (shares i.act))
     ∙ ap (λ (n : Movement). row_to_reverse n.change (seeing v vs (shares i.act))) moved in
-    λ j. record { rule = as_rule j; trusted = is-trusted j; due = is-due j; row = is-row j }
+    let is-effective = as_effective ∙ ap (λ (n : Movement). effect_day c n.change) moved in
+    let is-figure = as_figure ∙ ap (λ (n : Movement). figure_asked c.rules n.change (Some v)) moved in
+    λ j. record {
+      rule = as_rule j;
+      trusted = is-trusted j;
+      due = is-due j;
+      row = is-row j;
+      effective = is-effective j;
+      figure = is-figure j;
+    }
 
 -- where there are accounts, all that must be known are
 all-there : (known : Bool) (x : ℕ) (xs ns : List ℕ) → x ∷ xs ≡ cond known (each_once ns) [] → known ≡ true

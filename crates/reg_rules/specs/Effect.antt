@@ -1,6 +1,6 @@
 -- What an accepted act makes of the accounts.
-use Rattle.std.specs.Prelude.{◌≡◌, ℕ, ◌+◌, ◌≤◌, ℤ, false, ◌==◌, List, map, find, Option, Some, None, MatchOption}
-use Rattle.std.specs.Prelude.{Result, Ok, Err, if◌then◌else◌}
+use Rattle.std.specs.Prelude.{◌≡◌, ℕ, ◌+◌, ◌≤◌, ℤ, false, ◌==◌, List, [], ◌∷◌, map, find, Option, Some, None}
+use Rattle.std.specs.Prelude.{MatchOption, Result, Ok, Err, if◌then◌else◌}
 use Rattle.std.specs.Option.{option_map_or}
 use Rattle.reg_base.specs.declared.limits.TheConstants.{MOST_HELD, MOST_EMISSIONS}
 use Rattle.reg_base.specs.declared.kinds.AllowanceKind.{AllowanceKind}
@@ -70,6 +70,12 @@ share_of shares a = find (λ share. share.to == a) shares
 abbrev pub given : AllowanceKind → List Share → AccountValue → AccountValue
 given kind shares v = option_map_or (λ share. credited v kind share.amount) (share_of shares v.number) v
 
+-- these accounts, each with its share: the first account with the first share, and so on
+abbrev pub given_each : AllowanceKind → State → List Share → State
+given_each kind [] shares = []
+given_each kind (v ∷ vs) [] = v ∷ vs
+given_each kind (v ∷ vs) (share ∷ rest) = credited v kind share.amount ∷ given_each kind vs rest
+
 -- an account after the act: the first after its own change, and each other one with its share
 abbrev pub after_act : Setting → ℕ → Act → AccountValue → AccountValue
 after_act c number act v =
@@ -114,6 +120,12 @@ CanFirst c number act v = CanMake c number (change_of act) v
 abbrev pub CanReceive : AllowanceKind → List Share → AccountValue → Type 0
 CanReceive kind shares v =
     MatchOption (share_of shares v.number) (Unit {0}) (λ share. held_by v kind + share.amount ≤ MOST_HELD)
+
+-- each of these accounts has space for its share
+abbrev pub HasSpaceEach : AllowanceKind → State → List Share → Type 0
+HasSpaceEach kind [] shares = Unit {0}
+HasSpaceEach kind (v ∷ vs) [] = Unit {0}
+HasSpaceEach kind (v ∷ vs) (share ∷ rest) = (held_by v kind + share.amount ≤ MOST_HELD) × HasSpaceEach kind vs rest
 
 -- what the act needs of an account
 pub record CanChange (c : Setting) (number : ℕ) (act : Act) (v : AccountValue) : Type 0 where

@@ -1,12 +1,14 @@
 //! The checks of an instruction, in the order of the table of checks.
 
-ghost use Rattle.std.specs.Prelude.{◌≡◌, ◌∷◌, false, nat_lt, find};
+ghost use Rattle.std.specs.Prelude.{◌≡◌, ◌∷◌, false, nat_lt, find, IfOk};
 ghost use Rattle.std.specs.Option.{option_map_or};
+ghost use Rattle.std.specs.Result.{result_err};
 ghost use Rattle.reg_base.specs.Acts.{movement_of};
 ghost use Rattle.reg_base.specs.Footprint.{footprint};
 ghost use Rattle.reg_base.specs.Refusals.{checks};
+ghost use Rattle.reg_account.specs.Years.{FigureFits};
 ghost use Rattle.reg_rules.specs.State.{numbers, seen};
-ghost use Rattle.reg_rules.specs.Cases.{seen_in};
+ghost use Rattle.reg_rules.specs.Cases.{seen_in, found_of};
 ghost use Rattle.reg_rules.specs.Checks.{fails, refusal};
 
 use crate::amounts::{
@@ -51,45 +53,59 @@ pub fn decide(
         directory,
     };
     let movement = instruction.act.movement();
-    first_failing(&setting, instruction, &movement, accounts)
+    match judge(&setting, instruction, &movement, accounts) {
+        Ok(_) => None,
+        Err(refusal) => Some(refusal),
+    }
 }
 
-/// The first check that fails for these accounts, given what the act does.
-pub(crate) fn first_failing(
+/// What was found for these accounts, given what the act does, if no check fails.
+///
+/// # Errors
+/// The first check that fails.
+pub(crate) fn judge(
     setting: &Setting,
     instruction: &Instruction,
     movement: &Movement,
     accounts: &[Account],
-) -> Option<Refusal>
+) -> Result<Found, Refusal>
     requires own { numbers accounts.now ≡ footprint setting.now.directory instruction.now.act }
     requires movement { movement.now ≡ movement_of instruction.now.act }
-    ensures { result ≡ find (fails setting.now (seen accounts.now instruction.now.act) instruction.now) checks }
+    ensures fails { result_err result
+        ≡ find (fails setting.now (seen accounts.now instruction.now.act) instruction.now) checks }
+    ensures found { IfOk result
+        (λ found. found ≡ found_of setting.now instruction.now (seen accounts.now instruction.now.act)) }
+    ensures fits { IfOk result (λ found. IfOk found.figure FigureFits) }
 {
     match accounts.split_first() {
         // The footprint is empty exactly if an account that must be known is not.
-        None => Some(Refusal::UnknownAccount),
+        None => Err(Refusal::UnknownAccount),
         Some((first, receivers)) => {
-            first_among(setting, instruction, movement, first, receivers)
+            judge_among(setting, instruction, movement, first, receivers)
         }
     }
 }
 
-// The first check that fails if these are the first account of the instruction and those behind it.
-fn first_among<'a>(
+// The same if these are the first account of the instruction and those behind it.
+fn judge_among<'a>(
     setting: &'a Setting,
     instruction: &'a Instruction,
     movement: &'a Movement,
     first: &'a Account,
     receivers: &'a [Account],
-) -> Option<Refusal>
+) -> Result<Found, Refusal>
     requires own { numbers (first.now ∷ receivers.now)
         ≡ footprint setting.now.directory instruction.now.act }
     requires movement { movement.now ≡ movement_of instruction.now.act }
-    ensures { result ≡ find (fails setting.now (seen (first.now ∷ receivers.now) instruction.now.act)
-        instruction.now) checks }
+    ensures fails { result_err result
+        ≡ find (fails setting.now (seen (first.now ∷ receivers.now) instruction.now.act) instruction.now) checks }
+    ensures found { IfOk result
+        (λ found. found ≡ found_of setting.now instruction.now
+        (seen (first.now ∷ receivers.now) instruction.now.act)) }
+    ensures fits { IfOk result (λ found. IfOk found.figure FigureFits) }
 {
     if names_one_twice(movement) {
-        return Some(Refusal::SameAccount);
+        return Err(Refusal::SameAccount);
     }
     each_footprint_is_sound();
     let found = Found::of(setting, instruction, movement, first, receivers);
@@ -101,7 +117,21 @@ fn first_among<'a>(
         receivers,
         found,
     };
-    first_in(&case)
+    judge_in(&case)
+}
+
+// What was found of this case, or the first check that fails in it.
+fn judge_in(case: &Case) -> Result<Found, Refusal>
+    ensures fails { result_err result
+        ≡ find (fails case.now.setting (seen_in case.now) case.now.instruction) checks }
+    ensures found { IfOk result
+        (λ found. found ≡ found_of case.now.setting case.now.instruction (seen_in case.now)) }
+    ensures fits { IfOk result (λ found. IfOk found.figure FigureFits) }
+{
+    match first_in(case) {
+        Some(refusal) => Err(refusal),
+        None => Ok(case.found),
+    }
 }
 
 // The first check that fails in this case.

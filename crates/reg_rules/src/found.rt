@@ -1,15 +1,17 @@
 //! What several checks of an instruction ask. Each is found once.
 
-ghost use Rattle.std.specs.Prelude.{◌≡◌, map};
+ghost use Rattle.std.specs.Prelude.{◌≡◌, map, IfOk};
 ghost use Rattle.reg_base.specs.Acts.{movement_of, shares};
+ghost use Rattle.reg_account.specs.Years.{FigureFits};
 ghost use Rattle.reg_rules.specs.State.{numbers};
 ghost use Rattle.reg_rules.specs.Cases.{seeing, found_of};
 
+use crate::compliance::figure_asked;
 use crate::reversal::row_to_reverse;
 use crate::rule::{ActRule, rule_of};
 use crate::setting::Setting;
-use crate::trust::{due_day, trusts_each};
-use reg_account::{Account, RetirementRow};
+use crate::trust::{due_day, effect_day, trusts_each};
+use reg_account::{Account, FigureFault, RetirementRow};
 use reg_base::{Day, Instruction, Movement};
 
 /// What several checks of an instruction ask.
@@ -23,6 +25,10 @@ pub struct Found {
     pub due: Option<Day>,
     /// The surrender or deletion that is to be reversed, if there is one.
     pub row: Option<RetirementRow>,
+    /// The day of effect of what is put on a trusted account list, if something is, and the calendar has the day.
+    pub effective: Option<Day>,
+    /// The figure that is to be determined, or why there is none. Where none is to be, as for a year outside.
+    pub figure: Result<i64, FigureFault>,
 }
 
 impl Found {
@@ -36,8 +42,9 @@ impl Found {
     ) -> Self
         requires movement { movement.now ≡ movement_of instruction.now.act }
         requires in_order { numbers receivers.now ≡ map (λ share. share.to) (shares instruction.now.act) }
-        ensures { result ≡ found_of setting.now instruction.now
+        ensures value { result ≡ found_of setting.now instruction.now
             (seeing first.now receivers.now (shares instruction.now.act)) }
+        ensures fits { IfOk result.figure FigureFits }
     {
         let rule = rule_of(&instruction.act);
         let trusted = trusts_each(setting.day, first, receivers);
@@ -46,6 +53,8 @@ impl Found {
             trusted,
             due: due_day(setting, instruction, rule.lag, trusted),
             row: row_to_reverse(&movement.change, first),
+            effective: effect_day(setting, &movement.change),
+            figure: figure_asked(setting.rules, &movement.change, first),
         }
     }
 }

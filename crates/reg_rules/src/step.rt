@@ -1,26 +1,26 @@
 //! One step: carrying out an instruction, or refusing it.
 
-ghost use Rattle.std.specs.Prelude.{◌≡◌, ◌≤◌, [], None, IfOk, OnOk, OnErr, length, map, nat_eq, All};
+ghost use Rattle.std.specs.Prelude.{◌≡◌, ◌≤◌, [], Some, None, IfOk, OnOk, OnErr, length, map, nat_eq, All};
 ghost use Rattle.std.specs.List.{AllByRecursion, IsDistinct};
 ghost use Rattle.std.specs.Option.{option_copied};
 ghost use Rattle.reg_base.specs.Acts.{movement_of, parties};
 ghost use Rattle.reg_base.specs.Footprint.{footprint};
-ghost use Rattle.reg_account.specs.Figure.{figure_of};
+ghost use Rattle.reg_account.specs.Years.{FigureFits};
 ghost use Rattle.reg_rules.specs.State.{numbers, account};
 ghost use Rattle.reg_account.specs.Account.{held_by, debited, CanTrust};
 ghost use Rattle.reg_account.specs.Rows.{FateFits};
-ghost use Rattle.reg_rules.specs.Trust.{effective_day};
+ghost use Rattle.reg_rules.specs.Cases.{effect_day, figure_asked};
 ghost use Rattle.reg_rules.specs.Checks.{refusal};
-ghost use Rattle.reg_rules.specs.Effect.{share_of, given, made_by, with_changes, changed_by, fate_of};
-ghost use Rattle.reg_rules.specs.Effect.{new_row as row_of_today, assessed, listed_from, CanMake, CanReceive};
+ghost use Rattle.reg_rules.specs.Effect.{made_by, with_changes, changed_by, fate_of, given_each};
+ghost use Rattle.reg_rules.specs.Effect.{new_row as row_of_today, assessed, listed_from, CanMake, HasSpaceEach};
 ghost use Rattle.reg_rules.specs.Effect.{CanChange, IsBehind};
 ghost use Rattle.reg_rules.specs.Step.{step, holdings_of, figure_made};
 
-use crate::checks::first_failing;
+use crate::checks::judge;
+use crate::found::Found;
 use crate::reply::{Closing, HeldNow, Holdings, LogRow, Reply};
 use crate::setting::Setting;
-use crate::trust::effective_day;
-use reg_account::{Account, Fate, RetirementRow};
+use reg_account::{Account, Fate, FigureFault, RetirementRow};
 use reg_base::laws::each_footprint_is_sound;
 use reg_base::{
     AccountNo, Act, AllowanceKind, Change, Day, Directory, Instruction, Movement, NoMemory,
@@ -34,8 +34,8 @@ use std::alloc::Global;
 /// number must be above those of their surrenders and deletions.
 ///
 /// # Errors
-/// `NoMemory` if there was no memory for the closing holdings, or for what the act adds to its first account. No check
-/// fails in this case, and the accounts are unchanged.
+/// `NoMemory` if there was no memory for what its accounts then hold, or for what the act adds to its first account. No
+/// check fails in this case, and the accounts are unchanged.
 pub fn execute(
     alloc: Global,
     rules: &Rules,
@@ -61,14 +61,18 @@ pub fn execute(
         day,
         directory,
     };
-    let movement = instruction.act.movement();
-    if let Some(refusal) = first_failing(&setting, instruction, &movement, accounts) {
-        return Ok(Reply::Refused(refusal));
-    }
+    let act = &instruction.act;
+    let movement = act.movement();
+    let found = match judge(&setting, instruction, &movement, accounts) {
+        Ok(found) => found,
+        Err(refusal) => {
+            return Ok(Reply::Refused(refusal));
+        }
+    };
     each_footprint_is_sound();
     // The room comes first, so that the accounts are as they were if memory runs out.
     let room = Holdings::with_capacity(alloc, accounts.len())?;
-    apply(&setting, number, &instruction.act, &movement, accounts)?;
+    apply(&setting, number, act, &movement, &found, accounts)?;
     Ok(Reply::Done {
         closing: closing_of(room, accounts),
         figure: figure_made(&movement, accounts),
@@ -94,9 +98,14 @@ fn apply(
     number: RecordNo,
     act: &Act,
     movement: &Movement,
+    found: &Found,
     accounts: &mut [Account],
 ) -> Result<(), NoMemory>
     requires movement { movement.now ≡ movement_of act.now }
+    requires effective { found.now.effective ≡ effect_day setting.now movement.now.change }
+    requires figure { found.now.figure
+        ≡ figure_asked setting.now.rules movement.now.change (account accounts.old movement.now.first) }
+    requires fits { IfOk found.now.figure FigureFits }
     requires own { numbers accounts.old ≡ parties act.now }
     requires distinct { IsDistinct nat_eq (numbers accounts.old) }
     requires can { AllByRecursion (CanChange setting.now number act.now) accounts.old }
@@ -104,19 +113,28 @@ fn apply(
     ensures err { OnErr result (accounts.new ≡ accounts.old) }
 {
     let _act = act;
-    change_first(setting, number, &movement.change, &mut accounts[0])?;
-    give_shares(movement.kind, movement.shares.as_slice(), accounts);
-    Ok(())
+    match accounts.split_first_mut() {
+        None => Ok(()),
+        Some((first, receivers)) => {
+            change_first(setting, number, &movement.change, found, first)?;
+            give_shares(movement.kind, movement.shares.as_slice(), receivers);
+            Ok(())
+        }
+    }
 }
 
-// Makes this change of the first account.
+// Makes this change of the first account, with what was found for it.
 fn change_first(
     setting: &Setting,
     number: RecordNo,
     change: &Change,
+    found: &Found,
     account: &mut Account,
 ) -> Result<(), NoMemory>
-    requires { CanMake setting.now number change.now account.old }
+    requires can { CanMake setting.now number change.now account.old }
+    requires effective { found.now.effective ≡ effect_day setting.now change.now }
+    requires figure { found.now.figure ≡ figure_asked setting.now.rules change.now (Some account.old) }
+    requires fits { IfOk found.now.figure FigureFits }
     ensures ok { OnOk result
         (account.new ≡ with_changes account.old (made_by setting.now number change.now account.old)) }
     ensures err { OnErr result (account.new ≡ account.old) }
@@ -139,7 +157,7 @@ fn change_first(
             account.unretire(reversed);
             Ok(())
         }
-        Change::Trust { other } => trust(setting, account, other),
+        Change::Trust { other } => trust(account, other, found.effective),
         Change::Untrust { other } => {
             account.untrust(other);
             Ok(())
@@ -149,7 +167,7 @@ fn change_first(
             Ok(())
         }
         Change::SetEmissions { year, tonnes } => account.set_emissions(year, tonnes),
-        Change::Determine { year } => assess(setting.rules, account, year),
+        Change::Determine { year } => assess(account, year, found.figure),
     }
 }
 
@@ -196,54 +214,49 @@ fn fate_of(rules: &Rules, retirement: Retirement) -> Fate
     }
 }
 
-// Puts the other account on the list, from the day of effect of what is added today, if there is such a day.
-fn trust(setting: &Setting, account: &mut Account, other: AccountNo) -> Result<(), NoMemory>
+// Puts the other account on the list, from this day of effect, if there is one.
+fn trust(account: &mut Account, other: AccountNo, effective: Option<Day>) -> Result<(), NoMemory>
     requires { CanTrust account.old }
-    ensures ok { OnOk result (account.new ≡ listed_from account.old other (effective_day setting.now)) }
+    ensures ok { OnOk result (account.new ≡ listed_from account.old other effective) }
     ensures err { OnErr result (account.new ≡ account.old) }
 {
-    match effective_day(setting) {
+    match effective {
         Some(day) => account.trust(other, day),
         None => Ok(()),
     }
 }
 
 // Determines the figure of the year, if there is one.
-fn assess(rules: &Rules, account: &mut Account, year: Year) -> Result<(), NoMemory>
-    ensures ok { OnOk result (account.new ≡ assessed account.old year (figure_of rules.now account.old year)) }
+fn assess(
+    account: &mut Account,
+    year: Year,
+    figure: Result<i64, FigureFault>,
+) -> Result<(), NoMemory>
+    requires { IfOk figure FigureFits }
+    ensures ok { OnOk result (account.new ≡ assessed account.old year figure) }
     ensures err { OnErr result (account.new ≡ account.old) }
 {
-    match account.figure(rules, year) {
+    match figure {
         Ok(figure) => account.determine(year, figure),
         Err(_) => Ok(()),
     }
 }
 
-// Gives each account its share.
+// Gives each of these accounts its share: the first account the first share, and so on.
 fn give_shares(kind: AllowanceKind, shares: &[Share], accounts: &mut [Account])
-    requires { AllByRecursion (CanReceive kind shares.now) accounts.old }
-    ensures { accounts.new ≡ map (given kind shares.now) accounts.old }
+    requires { HasSpaceEach kind accounts.old shares.now }
+    ensures { accounts.new ≡ given_each kind accounts.old shares.now }
 {
-    for account in accounts.iter_mut() {
-        give_share(kind, shares, account);
+    match accounts.split_first_mut() {
+        None => (),
+        Some((account, others)) => match shares.split_first() {
+            None => (),
+            Some((share, rest)) => {
+                account.credit(kind, share.amount);
+                give_shares(kind, rest, others);
+            }
+        },
     }
-}
-
-// Gives the account its share, if it has one.
-fn give_share(kind: AllowanceKind, shares: &[Share], account: &mut Account)
-    requires { CanReceive kind shares.now account.old }
-    ensures { account.new ≡ given kind shares.now account.old }
-{
-    match find_share(shares, account.number()) {
-        Some(share) => account.credit(kind, share.amount),
-        None => {}
-    }
-}
-
-fn find_share(shares: &[Share], number: AccountNo) -> Option<Share>
-    ensures { result ≡ share_of shares.now number }
-{
-    shares.iter().copied().find(|share| share.to == number)
 }
 
 // The figure that was determined, as it stands in its account now.

@@ -9,7 +9,7 @@ ghost use Rattle.reg_account.specs.Account.{trusts};
 ghost use Rattle.reg_rules.specs.ActRules.{rule_of};
 ghost use Rattle.reg_rules.specs.Trust.{lag_by, is_waived, lacks_approval, is_not_trusted, effective_day};
 ghost use Rattle.reg_rules.specs.Trust.{has_no_effective_day, is_already_trusted, is_not_on_list, is_list_full};
-ghost use Rattle.reg_rules.specs.Cases.{seen_in};
+ghost use Rattle.reg_rules.specs.Cases.{seen_in, effect_day};
 
 use crate::case::Case;
 use crate::rule::LagRule;
@@ -84,8 +84,18 @@ pub(crate) fn is_not_trusted(case: &Case) -> bool
     }
 }
 
-/// The day of effect of what is added to a trusted list today, if the calendar has it.
-pub(crate) fn effective_day(setting: &Setting) -> Option<Day>
+/// The day of effect of what this change adds to a trusted list, if it adds something, and the calendar has the day.
+pub(crate) fn effect_day(setting: &Setting, change: &Change) -> Option<Day>
+    ensures { result ≡ effect_day setting.now change.now }
+{
+    match *change {
+        Change::Trust { .. } => effective_day(setting),
+        _ => None,
+    }
+}
+
+// The day of effect of what is added to a trusted list today, if the calendar has it.
+fn effective_day(setting: &Setting) -> Option<Day>
     ensures { result ≡ effective_day setting.now }
 {
     let rules = setting.rules;
@@ -97,7 +107,7 @@ pub(crate) fn has_no_effective_day(case: &Case) -> bool
     ensures { result ≡ has_no_effective_day case.now.setting (change_of case.now.instruction.act) }
 {
     match case.movement.change {
-        Change::Trust { .. } => effective_day(case.setting).is_none(),
+        Change::Trust { .. } => case.found.effective.is_none(),
         _ => false,
     }
 }

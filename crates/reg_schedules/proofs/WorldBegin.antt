@@ -58,7 +58,7 @@ none-come (suc n) (suc zero) low = refl
 none-come (suc n) (suc (suc k)) low = none-come n (suc k) (omega arith)
 
 module _ (day : Day) (plan : PlanValue) where
-  -- a dock is open if what lies there is not all
+  -- a dock waits if what lies there is not all
   abbrev pub opened_dock : ℕ → Option (List ParcelValue)
   opened_dock place = if is_some (complete day plan place (opened_at day plan place)) then None else Some
       (opened_at day plan place)

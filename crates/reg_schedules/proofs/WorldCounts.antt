@@ -119,7 +119,7 @@ run-stands day plan places workers w x worker task made s r = subst (Stands plac
   once = λ q low high. run-once places workers w worker task _ made.1 s r.hand q low high (is_task q task) refl;
 })
 
--- a dock that is open
+-- a dock that waits
 pub dock-of : (w : WorldValue) (place : ℕ) (came : List ParcelValue) → arrived w place ≡ Some came
     → at_place w.docks place ≡ Some (Some came)
 dock-of w place came e = by (at_place w.docks place) refl e
@@ -129,7 +129,7 @@ dock-of w place came e = by (at_place w.docks place) refl e
     by (Some d) r f = r ∙ ap Some f
     by None r f = absurd cc
 
--- a dock that stays open, or that its task leaves
+-- a dock that still waits, or that its task leaves
 dock-then : (docks : List (Option (List ParcelValue))) (place : ℕ) (before after : Option (List ParcelValue)) (q : ℕ)
     → at_place docks place ≡ Some before → (b : Bool) → eqb place q ≡ b
     → one_if (option_map_or is_some (at_place (with_place docks place after) q) false)

@@ -175,7 +175,7 @@ module _ (laws : StepLaws) (sound : EachFootprintIsSound) (tails : TailsAreLastT
   nothing-listed [] q all = refl
   nothing-listed (l ∷ ls) q all = omega (arith, ap (total (in_list q)) all.0, nothing-listed ls q all.1)
 
-  -- an open dock
+  -- a dock that waits
   pub dock-open : (w : WorldValue) (place : ℕ) → is_in_dock w place ≡ true → (came : List ParcelValue)
       × (at_place w.docks place ≡ Some (Some came))
   dock-open w place e = by (at_place w.docks place) refl e

@@ -79,13 +79,13 @@ module _ (day : Day) (plan : PlanValue) where
         apart (is_some (complete day plan place (opened_at day plan place))) place q (λ e. omega (arith, lt, e)),
       )
 
-  -- a dock is open, or its task is ready
+  -- a dock waits, or its task is ready
   either : (o : Option TaskValue) (parcels : List ParcelValue) (m n : ℕ) → m ≡ n
       → one_if (is_some (if is_some o then None else Some parcels)) + one_if (is_some o && eqb m n) ≡ 1
   either None parcels m n e = refl
   either (Some t) parcels m n e = omega (arith, ap one_if (eq-eqb m n e))
 
-  -- each of these places has an open dock or a task
+  -- each of these places has a dock that waits or a task
   pub dock-or-task : (k place more q : ℕ) → k < more → place + k ≡ q
       → one_if (option_map_or is_some (slice_get (docks_from day plan place more) k) false) + total (in_list q)
       (ready_from day plan place more) ≡ 1

@@ -46,8 +46,8 @@ pub(crate) fn number_of<N: Naming>(context: &Context<N>, place: u32) -> RecordNo
     RecordNo::new(context.batch().base() + u64::from(place)).unwrap()
 }
 
-// Carries out the instruction at a place on the values of the accounts that it touches, which have no record of this
-// place or a later one, and answers its row.
+// Carries out the instruction at a place on the values of the accounts that it touches, which have no surrender or
+// deletion of this place or a later one, and answers its row.
 pub(crate) fn carry_out<N: Naming>(
     alloc: Global,
     context: &Context<N>,

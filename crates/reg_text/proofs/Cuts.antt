@@ -1,4 +1,4 @@
--- Behind written rows csv stands between two records.
+-- Behind written rows csv stands between two rows.
 use Rattle.std.proofs.Common.{◌≡◌, ◌⊎◌, inl, inr, ℕ, Bool, true, false, cond, List, [], ◌∷◌, ◌++◌, length, Option, Some}
 use Rattle.std.proofs.Common.{refl, ap, ◌∙◌, arith, length-append}
 use Rattle.csv.specs.Machine.{Read, next_record, step, is_end, fields_after, field_after}
@@ -23,7 +23,7 @@ read-chosen : (b : Bool) (x : Read) (more : Option Read) (p : Read) → cond b (
 read-chosen true x more p e = inl (refl, cc)
 read-chosen false x more p e = inr (refl, e)
 
--- if a record ends exactly before a byte, the machine has made its steps up to there
+-- if a row ends exactly before a byte, the machine has made its steps up to there
 record-leaves : (s : State) (fields : List (List ℕ)) (field a : List ℕ) (c : ℕ) (p : Read)
     → next_record default_config s fields field (a ++ c ∷ []) ≡ Some p → p.2 ≡ c ∷ [] → machine_after s a ≡ p.1
 unfolding next_record machine_after
@@ -48,7 +48,7 @@ record-leaves s fields field (d ∷ a) c p e left =
 row-state : (r : Record) → machine_after st.StartRecord (row_text default_writer r) ≡ st.StartRecord
 row-state r = record-leaves st.StartRecord [] [] (row_text default_writer r) 0 _ (read-write r (0 ∷ [])) refl
 
--- behind written rows csv stands between two records
+-- behind written rows csv stands between two rows
 pub rows-state : (rows : List Record) → machine_after st.StartRecord (text_of rows) ≡ st.StartRecord
 unfolding machine_after
 rows-state [] = refl

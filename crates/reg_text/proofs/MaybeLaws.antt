@@ -16,7 +16,7 @@ use Rattle.reg_text.proofs.CauseLaws.{done}
 use Rattle.reg_text.proofs.CodecLaws.{field-drop}
 use Rattle.reg_text.proofs.PairLaws.{either}
 
--- the record ends here, or it has one more field where that is allowed
+-- the row ends here, or it has one more field where that is allowed
 ends : (allowed : Bool) (column : ℕ) (r : Record) → (eqb (length r) column || (allowed && eqb (length r) (suc column)))
     ≡ true → (length r ≡ column) ⊎ ((allowed ≡ true) × (length r ≡ suc column))
 ends allowed column r e = elim (either (eqb (length r) column) (allowed && eqb (length r) (suc column)) e) [

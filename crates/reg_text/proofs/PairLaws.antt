@@ -1,4 +1,4 @@
--- The laws of pairs of fields, one pair after another to the end of a record.
+-- The laws of pairs of fields, one pair after another to the end of a row.
 use Rattle.std.proofs.Common.{Bool, true, false, ◌≡◌, ◌⊎◌, inl, inr, ⊎_elim, ℕ, zero, suc, ◌+◌, ◌*◌, ◌<◌, ◌≤◌, ◌==◌}
 use Rattle.std.proofs.Common.{◌||◌, List, [], ◌∷◌, ◌++◌, length, drop, Ok, refl, ap, subst, arith, length-append}
 use Rattle.std.specs.List.{AllByRecursion, list_any}
@@ -18,7 +18,7 @@ pub either : (a b : Bool) → (a || b) ≡ true → (a ≡ true) ⊎ (b ≡ true
 either true b e = inl refl
 either false b e = inr e
 
--- the record ends after so many pairs behind the column
+-- the row ends after so many pairs behind the column
 abbrev EndsAfter : ℕ → Record → ℕ → Type 0
 EndsAfter column r n = length r ≡ column + 2 * n
 

@@ -47,7 +47,7 @@ later version last t u low high may = let p = stage-of version last t may in
       le-leb (stage last) (stages version u).to (omega (arith, p.high)),
     ) refl
 
--- nothing may stand after the closing row
+-- nothing may stand after the row `end`
 pub goes_on : (version : Version) (last : Option Tag) (t : Tag) → MayFollow version last t → is_text_over last ≡ false
 goes_on One (Some tag.End) tag.Format h = absurd cc
 goes_on One (Some tag.End) t h = absurd cc

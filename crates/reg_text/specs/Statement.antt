@@ -26,12 +26,12 @@ concerns directory a row = is_among (footprint directory row.instruction.act) a
 abbrev pub rows_about : DirectoryValue → ℕ → List LogRow → List LogRow
 rows_about directory a rows = filter (concerns directory a) rows
 
--- the closing list of a reply; a refusal has none
+-- what a reply says that accounts then hold; a refusal says nothing of it
 abbrev pub closing_list : Reply → List HeldNow
 closing_list (Done closing figure) = closing
 closing_list (Refused refusal) = []
 
--- what the account holds after a row, if the row's closing list has the account
+-- what the account holds after a row, if the row's reply says it
 abbrev pub told_by : ℕ → LogRow → Option HeldNow
 told_by a row = find (λ held. held.account == a) (closing_list row.reply)
 

@@ -1,3 +1,4 @@
+pub mod Inputs
 pub mod Serving
 pub mod Statuses
 pub mod Words

@@ -19,11 +19,10 @@ pub record Streams : Type 0 where
 abbrev pub streams : Stream → Stream → Stream → Streams
 streams r w f = record { reader = r; writer = w; faults = f }
 
--- the same of a reader and two writers whose calls are counted, and whose bytes these functions tell
-abbrev pub streams_of : {R W F : Type 0} → (R → Option (List ℕ)) → (W → Option (List ℕ)) → (F → Option (List ℕ))
-    → Counted R → Counted W → Counted F → Streams
-streams_of remaining contents told r w f =
-    streams (counted_stream remaining r) (counted_stream contents w) (counted_stream told f)
+-- the same of a reader, and of two writers whose calls are counted, and whose bytes these functions tell
+abbrev pub streams_of : {W F : Type 0} → (W → Option (List ℕ)) → (F → Option (List ℕ)) → Stream → Counted W
+    → Counted F → Streams
+streams_of contents told r w f = streams r (counted_stream contents w) (counted_stream told f)
 
 -- 0 after a command without a fault, or the status of its fault
 abbrev pub status_after : Option FrontFault → ℕ

@@ -12,13 +12,13 @@ ghost use Rattle.registry.specs.Statuses.{exit_status_of};
 mod input;
 mod words;
 
-use crate::input::{Input, file_length};
+use crate::input::Input;
 use crate::words::read_words;
 use clap::error::ErrorKind;
 use reg_front::{Command, Counted, FrontFault, Sink, Source, run_without_freeing, tell_fault};
 use std::alloc::{AllocError, Global};
 use std::convert::AsStr;
-use std::io::{Read, Write};
+use std::io::Write;
 use std::process::ExitCode;
 use std::rt::Env;
 use std::sync::Wait;
@@ -34,19 +34,19 @@ use std::{env, io};
 /// written.
 ///
 /// The memory that the command has used is not freed: the program ends with it.
-pub fn serve<T: Threads + Wait + Sync, S: AsStr, R: Read, W: Write, F: Write>(
+pub fn serve<T: Threads + Wait + Sync, S: AsStr, R: Source, W: Write, F: Write>(
     rt: &T,
     alloc: Global,
     words: &[S],
-    reader: &mut Counted<R>,
+    reader: &mut R,
     writer: &mut Counted<W>,
     faults: &mut Counted<F>,
 ) -> u8
-    requires reader { CanFail (counted_stream R.remaining reader.old) }
+    requires reader { CanFail (R.stream reader.old) }
     requires writer { CanFail (counted_stream W.contents writer.old) }
     requires faults { CanFail (counted_stream F.contents faults.old) }
-    ensures { Serves result (streams_of R.remaining W.contents F.contents reader.old writer.old faults.old)
-        (streams_of R.remaining W.contents F.contents reader.new writer.new faults.new) }
+    ensures { Serves result (streams_of W.contents F.contents (R.stream reader.old) writer.old faults.old)
+        (streams_of W.contents F.contents (R.stream reader.new) writer.new faults.new) }
 {
     match read_words(alloc, words) {
         Ok(command) => carry_out(rt, alloc, command, reader, writer, faults),
@@ -137,7 +137,7 @@ fn read_arguments<R: Env + AllocGlobal>(rt: &R) -> Result<Option<Vec<String>>, A
 }
 
 fn main(rt: HostRuntime) -> ExitCode {
-    let mut reader = Counted::new(Input::new(rt.stdin(), rt.stderr())).expecting(file_length(&rt));
+    let mut reader = Input::new(&rt);
     let mut faults = Counted::new(rt.stderr());
     let status = match read_arguments(&rt) {
         Ok(Some(words)) => serve(

@@ -12,8 +12,8 @@ use reg_text::{Cause, DayFault};
 pub enum Fault {
     /// The text is not a day text.
     Row {
-        /// The number of the first faulty row among the records of the text, counted from 1. If the text ends too
-        /// early: the number of records plus 1.
+        /// The number of the first faulty row, counted from 1. If the text ends too
+        /// early: the number of rows plus 1.
         row: u64,
         /// The first cause that applies to it.
         cause: Cause,

@@ -8,8 +8,9 @@ use reg_base::{AccountNo, NoMemory};
 use reg_book::settle_plain;
 use reg_rules::{Closing, Holdings, LogRow, Reply};
 use reg_text::{
-    DayFault, DayInput, figures, read_day, read_day_by_parts, read_instruction, statement,
-    totals_text, write_book, write_log_row, write_report, write_report_pieces,
+    DayFault, DayInput, DayParts, figures, read_day, read_day_by_parts, read_day_in_lists,
+    read_instruction, statement, totals_text, write_book, write_log_row, write_report,
+    write_report_of_parts, write_report_pieces,
 };
 use std::alloc::Global;
 use std::io::Write;
@@ -109,6 +110,21 @@ fn spell_pieces<R: Threads + Sync>(
     write_report_pieces(rt, alloc, book, batch, replies, threads as usize)
 }
 
+// The same of a day whose accounts lie in lists.
+fn spell_parts<R: Threads + Sync>(
+    rt: &R,
+    alloc: Global,
+    day: &DayParts,
+    replies: &[Reply],
+    threads: u32,
+) -> Result<Vec<Vec<u8>>, NoMemory> {
+    let (parts, batch) = (&day.parts, &day.batch);
+    if threads == 0 {
+        return write_report_of_parts(rt, alloc, parts, batch, replies, 1);
+    }
+    write_report_of_parts(rt, alloc, parts, batch, replies, threads as usize)
+}
+
 // A copy of a reply.
 fn copy_reply(alloc: Global, reply: &Reply) -> Result<Reply, Stop> {
     match reply {
@@ -154,6 +170,34 @@ pub(crate) fn try_pieces<R: Threads + Sync, W: Write>(
     let replies = copy_replies(alloc, rows)?;
     let call = || how_spelled(spell_pieces(rt, alloc, day, &replies, threads));
     try_threads(day, call, wanted, writer)
+}
+
+/// Tries `write_report_of_parts` by so many threads, on accounts in lists as so many threads read them: its pieces are
+/// to be the report that `write_report` writes.
+pub(crate) fn try_report_of_parts<R: Threads + Sync, W: Write>(
+    rt: &R,
+    alloc: Global,
+    text: &[u8],
+    threads: u32,
+    writer: &mut W,
+) -> Result<(), Stop> {
+    let Ok(day) = read_day_in_lists(rt, alloc, text, threads as usize, 1) else {
+        return Err(Stop::Input);
+    };
+    let Ok(input) = read_day(alloc, text) else {
+        return Err(Stop::Input);
+    };
+    let Ok(settled) = settle_plain(alloc, &input.book, &input.rules, &input.batch) else {
+        return Err(Stop::Short);
+    };
+    let rows = settled.rows();
+    let Ok(whole) = write_report(alloc, &input.book, rows) else {
+        return Err(Stop::Short);
+    };
+    let wanted = Ended::Done(digest_of_pieces(&[whole]));
+    let replies = copy_replies(alloc, rows)?;
+    let call = || how_spelled(spell_parts(rt, alloc, &day, &replies, threads));
+    try_threads(&text, call, wanted, writer)
 }
 
 /// A text that is written of a book or of a log.

@@ -10,7 +10,9 @@ use crate::single::try_apply;
 use crate::steps::try_execute;
 use crate::stop::Stop;
 use crate::tasks::{try_context, try_gather, try_opening, try_run};
-use crate::texts::{Written, try_pieces, try_read, try_read_by_parts, try_read_row, try_text};
+use crate::texts::{
+    Written, try_pieces, try_read, try_read_by_parts, try_read_row, try_report_of_parts, try_text,
+};
 use crate::worlds::{try_event, try_start};
 use crate::yards::{try_put, try_yard};
 use reg_text::{DayInput, read_day};
@@ -40,6 +42,9 @@ pub fn try_named<R: Threads + Wait + Sync, W: Write>(
     }
     if name == "read_day_by_parts" {
         return try_read_by_parts(rt, alloc, text, number, writer);
+    }
+    if name == "write_report_of_parts" {
+        return try_report_of_parts(rt, alloc, text, number, writer);
     }
     if name == "apply" {
         return try_apply(alloc, text, writer);

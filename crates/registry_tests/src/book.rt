@@ -1,4 +1,4 @@
-//! Books, settled days and their commit: that the calls succeed where memory is left, and worked days.
+//! Books, settled days and their commit: that the calls succeed where memory is left, and days worked out by hand.
 
 use crate::fixtures::{account_no, holder, read, surrendered};
 use reg_account::{Account, AccountParts, Holdings, Lists};
@@ -37,7 +37,7 @@ fn insert(rt: &impl Abort, draft: &mut BookDraft, account: Account) {
     draft.insert(account).expect(rt, "room in the draft");
 }
 
-// A draft of the accounts 1 to `count`, each with so many general allowances, whose first record has the number 7.
+// A draft of the accounts 1 to `count`, each with so many general allowances, whose next record number is 7.
 fn draft(rt: &impl Abort, alloc: Global, count: u32, general: u64) -> BookDraft {
     let mut draft = BookDraft::new(alloc, 7);
     for number in 0..count {

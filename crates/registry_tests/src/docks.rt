@@ -1,4 +1,4 @@
-//! Docks: worked deliveries, and the docks of a day from its start to its end.
+//! Docks: deliveries worked out by hand, and the docks of a day from its start to its end.
 
 use crate::fixtures::worked;
 use crate::orders::{TWICE, opening};

@@ -8,7 +8,7 @@ use reg_text::{DayInput, read_day};
 use std::alloc::Global;
 use std::process::Abort;
 
-// The worked accounts, up to the instructions of a day.
+// The accounts of a day that was worked out by hand, up to its instructions.
 const WORKED: &str = "\
 format,1
 day,2025-03-31,1
@@ -68,7 +68,7 @@ pub(crate) fn surrendered(rt: &impl Abort, number: u64, amount: u64) -> Retireme
     }
 }
 
-/// The worked day with these instructions.
+/// That day with these instructions.
 pub(crate) fn worked(rt: &impl Abort, alloc: Global, instructions: &str) -> DayInput {
     let text = format!(in alloc; "{}{}end\n", WORKED, instructions).expect(rt, "memory");
     read(rt, alloc, text.as_str())

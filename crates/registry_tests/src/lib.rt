@@ -16,6 +16,8 @@ mod orders;
 #[cfg(test)]
 mod periods;
 #[cfg(test)]
+mod regions;
+#[cfg(test)]
 mod stealing;
 #[cfg(test)]
 mod vaults;

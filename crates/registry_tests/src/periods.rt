@@ -1,4 +1,4 @@
-//! Several periods: a worked day by all ways of settling. The case `a-day-in-the-second-of-two-periods` has its report.
+//! Several periods: a day by all ways of settling. The case `a-day-in-the-second-of-two-periods` has its report.
 
 use crate::distributions::are_same;
 use crate::fixtures::read;

@@ -7,7 +7,7 @@ ghost use Rattle.reg_base.specs.declared.calendar.CalendarFault.TheVariants.{Not
 
 use reg_base::{Calendar, CalendarFault, Day};
 
-/// The day on which an instruction falls due that was proposed on `proposed`: the working day with exactly `lag`
+/// The date on which an instruction falls due that was proposed on `proposed`: the working day with exactly `lag`
 /// working days from `proposed` up to it, if these working days have such a day.
 ///
 /// # Errors

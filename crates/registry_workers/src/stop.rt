@@ -52,7 +52,7 @@ pub(crate) fn told<T: Debug>(alloc: Global, day: &T) -> Result<String, Stop> {
     }
 }
 
-/// The number that stands at this place of the words.
+/// The number that stands at this index of the words.
 pub(crate) fn number_at(words: &[String], place: usize) -> Result<u32, Stop> {
     let Some(word) = words.get(place) else {
         return Err(Stop::Input);

@@ -76,9 +76,9 @@ class Movements:
             if not logged.is_done:
                 continue
             if i.act == "create":
-                self.created[i.kind] += i.amounts[0]
+                self.created[rules.known(i.kind)] += i.amounts[0]
             elif i.act == "delete":
-                self.deleted[i.kind] += i.amounts[0]
+                self.deleted[rules.known(i.kind)] += i.amounts[0]
             elif i.act == "reverse":
                 self.add_reversal(i)
 
@@ -86,7 +86,7 @@ class Movements:
         """Adds a reversal, if it is that of a deletion."""
         if i.first not in self.deletions:
             self.deletions[i.first] = deletions_of(self.report.book.get(i.first))
-        kind, amount = self.deletions[i.first].get(i.number, (rules.KINDS[0], 0))
+        kind, amount = self.deletions[i.first].get(rules.known(i.number), (rules.KINDS[0], 0))
         self.undeleted[kind] += amount
 
 

@@ -1,5 +1,5 @@
-"""Whether the calendars of days agree, and none of them opens a window for a reversal that was closed, or delays a due
-day."""
+"""Whether the calendars of days agree, and none of them brings back a window for a reversal that was over, or delays a
+due day."""
 import bisect
 import datetime
 import itertools
@@ -44,7 +44,7 @@ class Calendars:
             found.add(fault)
 
     def look_at_begin(self, day: DayText, found: Findings) -> None:
-        """Whether a calendar that begins later than those before it opens a window, or delays a due day."""
+        """Whether a calendar that begins later than those before it brings a window back, or delays a due day."""
         head = day.head
         first = head.working_days[0] if head.working_days else datetime.date.max
         if first <= self.days[0]:
@@ -57,7 +57,7 @@ class Calendars:
         for block in day.book.values():
             for row in retired_of(block):
                 if row.is_reversed == "no" and row.day < str(first) and opens(longer, head, row):
-                    why = f"{day.path}:{block.line_of(row.place)} can be reversed again, and its window was closed"
+                    why = f"{day.path}:{block.line_of(row.place)} can be reversed again, and its window was over"
                     found.add(begins_late(day, row.day, why))
 
 
@@ -82,7 +82,7 @@ def delays(longer: rules.Day, head: rules.Day, proposed: datetime.date) -> bool:
 
 
 def opens(longer: rules.Day, head: rules.Day, row: Retired) -> bool:
-    """Whether the window of a row is closed by the longer calendar, and open by that of the day."""
+    """Whether the window of a row is over by the longer calendar, and not by that of the day."""
     date, window = datetime.date.fromisoformat(row.day), head.lags["reversal"]
     end, longer_end = head.due(date, window), longer.due(date, window)
     return longer_end is not None and longer_end < head.date and (end is None or end >= head.date)

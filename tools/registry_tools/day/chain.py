@@ -6,8 +6,8 @@
                  and so is each difference of the first rows. One of an account that stands so in a file of --changes,
                  as it was given to ./day next, does not count
   what waits     what was refused as NotDue comes on its due day, with the same fields
-  the rules      periods are kept, and only added to; calendars agree where they overlap, and none of them opens a
-                 window for a reversal that was closed
+  the rules      periods are kept, and only added to; calendars agree where they overlap, and none of them brings
+                 back a window for a reversal that was over
   allowances     of each kind, what there is at the end is what there was at the beginning, and what was created,
                  deleted, reversed and changed by hand
 
@@ -17,6 +17,7 @@ the report must have the same bytes. Of many equal differences the first three a
 exit status: 0 if nothing was found, else 1.
 """
 import argparse
+import itertools
 from dataclasses import dataclass
 
 from registry_tools import faults, rules
@@ -73,15 +74,17 @@ def settle_again(settler: Settler, day: DayText, report: Report, found: Findings
         found.add(FileFault(day.path, 0, "", str(fault), ""))
         return
     if settled != bytes_of(report.path):
-        written, there = settled.split(b"\n"), bytes_of(report.path).split(b"\n")
-        pairs = enumerate(zip(written + [b""] * len(there), there + [b""] * len(written)), 1)
+        pairs = enumerate(itertools.zip_longest(settled.split(b"\n"), bytes_of(report.path).split(b"\n")), 1)
         line, (row, other) = next((line, pair) for line, pair in pairs if pair[0] != pair[1])
-        expected = f"{shown(text_of(row))}, as {settler.name} settles it"
-        found.add(FileFault(report.path, line, "row", shown(text_of(other)), expected))
+        expected = f"{row_in_words(row)}, as {settler.name} settles it"
+        found.add(FileFault(report.path, line, "row", row_in_words(other), expected))
 
 
-def text_of(row: bytes) -> str:
-    return row.decode("utf-8", "surrogateescape")
+def row_in_words(row: bytes | None) -> str:
+    """A row of a text that was cut at its line ends: the last one is empty if the text ends with a line end."""
+    if row is None:
+        return "no line end"
+    return shown(row.decode("utf-8", "surrogateescape")) if row else "a line end and nothing behind it"
 
 
 # The next day.

@@ -6,12 +6,16 @@
   correction      its correction factor of the period
   determined      the figure as it was last determined; empty if it was not
   figure          the figure as it would be determined now; empty if emissions are missing
-  verdict         compliant: the determined figure is 0 or more, and so is the one of now missing N: N allowances are
-                  missing now emissions missing: of these years there is no entry, so there is no figure not assessed:
-                  no figure of the year was determined surrendered since: the determined figure is below 0, and as much
-                  was surrendered since, also for later years: assess the year again outdated: emissions up to the year,
-                  or the correction factor, changed after the figure was determined: assess the year again excluded: no
-                  figure is determined for an excluded account
+  verdict         one of these:
+    compliant          the determined figure is 0 or more, and so is the one of now
+    missing N          N allowances are missing now
+    emissions missing  of the years that are named there is no entry, so there is no figure
+    not assessed       no figure of the year was determined
+    surrendered since  the determined figure is below 0, and as much was surrendered since, also for later years: assess
+                       the year again
+    outdated           emissions up to the year, or the correction factor, changed after the figure was determined:
+                       assess the year again
+    excluded           no figure is determined for an excluded account
 
 Without --year it is the last year of the current period that is over on the day. REPORT must be that of DAY.
 

@@ -74,9 +74,9 @@ class ActColumns(NamedTuple):
 def act_columns(i: rules.Instruction) -> list[ActColumns]:
     """The columns of an instruction: once, or for each account that receives."""
     if i.act == "create":
-        return [ActColumns("", i.first, i.kind, i.amounts[0])]
+        return [ActColumns("", i.first, rules.known(i.kind), i.amounts[0])]
     if i.shares:
-        return [ActColumns(i.first, to, i.kind, amount) for to, amount in i.shares]
+        return [ActColumns(i.first, to, rules.known(i.kind), amount) for to, amount in i.shares]
     more: dict[str, dict[str, Any]] = {
         "surrender": {"kind": i.kind, "amount": sum(i.amounts)},
         "delete": {"kind": i.kind, "amount": sum(i.amounts)},

@@ -102,8 +102,8 @@ def look_at_calendar(head: rules.Day, book: dict[int, Block], notes: Notes) -> N
 
 
 def begins_late(head: rules.Day, book: dict[int, Block], notes: Notes) -> None:
-    """Warns of surrenders and deletions from before the calendar, whose window seems open only because it begins so
-    late."""
+    """Warns of surrenders and deletions from before the calendar, whose window seems not to be over only because it
+    begins so late."""
     early = [*open_by_late_begin(head, book)]
     if early:
         block, place = early[0]

@@ -33,12 +33,12 @@ class Entries:
             i = logged.instruction
             if not logged.is_done or i.act not in ("emissions", "assess"):
                 continue
-            change = 0
+            change, year = 0, rules.known(i.year)
             if i.act == "emissions":
-                before = tonnes.get((i.first, i.year))
-                change = i.tonnes - (emissions_before(day, i) if before is None else before)
-                tonnes[i.first, i.year] = i.tonnes
-            self.of[i.first].append(Entry(i.act, i.year, change))
+                before, now = tonnes.get((i.first, year)), rules.known(i.tonnes)
+                change = now - (emissions_before(day, i) if before is None else before)
+                tonnes[i.first, year] = now
+            self.of[i.first].append(Entry(i.act, year, change))
 
     def have_changed(self, number: int, first_year: int, year: int) -> bool | None:
         """Whether emissions up to a year changed behind its last assessment; None if the day does not tell."""

@@ -49,7 +49,7 @@ def own_fields(i: rules.Instruction, number: int) -> list[str]:
     if i.act != "distribute" or i.first == number:
         return i.fields[3:]
     own = [str(part) for to, amount in i.shares if to == number for part in (to, amount)]
-    return [i.act, str(i.first), i.kind, *own]
+    return [i.act, str(i.first), rules.known(i.kind), *own]
 
 
 def own_instruction(i: rules.Instruction, number: int, users: set[str]) -> list[str]:

@@ -1,5 +1,5 @@
-"""Makes HTML pages of a settled day, which open from the disk: the day, compliance, accounts, a page for each account,
-and the rules.
+"""Makes HTML pages of a settled day, for a browser without a server: the day, compliance, accounts, a page for each
+account, and the rules.
 
 FOLDER is made, and must not be there before, except if it is empty. Begin with FOLDER/index.html.
 

@@ -49,7 +49,7 @@ def log_by_account(report: Report) -> dict[int, list[LogRow]]:
 
 
 def edge(tag: str, block: Block) -> str:
-    """The opening or closing row of an account."""
+    """The row `opening` or `closing` of an account."""
     return f"{tag},{block.number},{','.join(block.held_fields)}"
 
 

@@ -1,7 +1,7 @@
 //! Parts of a day text, each read on its own behind the heading. Whatever is in the way, the answer is `None`, and the
 //! whole text is read row by row, which names the first fault.
 
-ghost use Rattle.std.specs.Prelude.{◌≡◌, Ok, IfSome, OnSome};
+ghost use Rattle.std.specs.Prelude.{◌≡◌, ◌<◌, [], Ok, IfSome, OnSome};
 ghost use Rattle.reg_cuts.specs.Rows.{IsBetweenRows, rows_left};
 ghost use Rattle.reg_text.specs.Drafts.{draft_of, read_behind};
 ghost use Rattle.reg_text.specs.DraftLimits.{IsDraft};
@@ -14,6 +14,7 @@ use crate::reading::tag::Tag;
 use crate::reading::take::{take_row, take_row_behind};
 use csv::{ByteRecord, Reader};
 use reg_base::AccountNo;
+use reg_book::ListedAccounts;
 use reg_cuts::{has_no_mark, is_cut, next_row, start_rows};
 use std::alloc::Global;
 
@@ -24,6 +25,40 @@ pub(crate) struct Part {
     pub first: Option<AccountNo>,
     /// What its rows say, behind the heading.
     pub body: Body,
+}
+
+// The accounts of a part are put into so many lists, so that each can have an owner of its own.
+const LISTS_OF_PART: usize = 4;
+
+// From so many bytes of a part it is told how many accounts the part has, about.
+const SAMPLE: usize = 8 * 1024;
+
+// How many rows of a text begin an account.
+fn count_accounts(text: &[u8]) -> usize {
+    let mut count: usize = 0;
+    for row in text.split(|byte| *byte == b'\n') {
+        if row.starts_with(b"account,") {
+            count = count.saturating_add(1);
+        }
+    }
+    count
+}
+
+// How many accounts a list of this part has, about, if there are so many lists. Nothing is promised of the number.
+fn list_size(text: &[u8], lists: usize) -> usize
+    requires { 0 < lists }
+{
+    let sample = &text[..text.len().min(SAMPLE)];
+    let accounts = count_accounts(sample).saturating_mul(text.len()) / sample.len().max(1);
+    (accounts / lists).saturating_add(1)
+}
+
+// No accounts yet. Those of a part are put into several lists, if for each of them there are `least` bytes or more.
+fn no_accounts(alloc: Global, text: &[u8], least: usize) -> ListedAccounts
+    ensures { result ≡ [] }
+{
+    let lists = (text.len() / least.max(1)).clamp(1, LISTS_OF_PART);
+    ListedAccounts::in_lists(alloc, list_size(text, lists), lists - 1)
 }
 
 // Takes all rows of a heading.
@@ -81,8 +116,9 @@ pub(crate) fn read_heading(alloc: Global, text: &[u8]) -> Option<Draft>
     }
 }
 
-/// What the rows of a part say, read on their own behind the heading, which is only lent.
-pub(crate) fn read_part(alloc: Global, start: &Draft, text: &[u8]) -> Option<Part>
+/// What the rows of a part say, read on their own behind the heading, which is only lent. Each list of its accounts has
+/// `least` bytes of the text or more, about.
+pub(crate) fn read_part(alloc: Global, start: &Draft, text: &[u8], least: usize) -> Option<Part>
     requires heading { IsHeading (draft_of start.now) }
     requires fits { IsDraft (draft_of start.now) }
     ensures { IsReadPart (draft_of start.now) text.now result }
@@ -95,7 +131,7 @@ pub(crate) fn read_part(alloc: Global, start: &Draft, text: &[u8]) -> Option<Par
     }
     let mut reader = start_rows(alloc, text);
     let mut row = ByteRecord::new(alloc);
-    let mut body = Body::empty(alloc, start.body.last);
+    let mut body = Body::empty(alloc, start.body.last, no_accounts(alloc, text, least));
     let Ok(true) = next_row(&mut reader, &mut row) else {
         return None;
     };

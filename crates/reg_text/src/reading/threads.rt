@@ -1,6 +1,7 @@
 //! Reading a day text by several threads.
 
-ghost use Rattle.std.specs.Prelude.{◌≡◌, ◌≤◌, MatchResult, Some, IfOk, IfSome, vec_len, length};
+ghost use Rattle.std.specs.Prelude.{◌≡◌, ◌≤◌, ◌++◌, MatchResult, Some, IfOk, IfSome, vec_len, length};
+ghost use Rattle.reg_cuts.specs.Parts.{text_of_parts};
 ghost use Rattle.reg_cuts.specs.Rows.{rows_in_text};
 ghost use Rattle.reg_text.specs.declared.reading.tag.Tag.TheVariants as tag;
 ghost use Rattle.reg_text.specs.Drafts.{draft_of};
@@ -21,9 +22,9 @@ use std::alloc::{AllocError, Global};
 use std::thread;
 use std::thread::Threads;
 
-// What a cut has in front and behind it: the end of a line, and the row of an account, or of an instruction where no
-// account follows.
-const STARTS: [&[u8]; 2] = [b"\naccount,", b"\ndo,"];
+/// What a cut has in front and behind it: the end of a line, and the row of an account, or of an instruction where no
+/// account follows.
+pub(crate) const STARTS: [&[u8]; 2] = [b"\naccount,", b"\ndo,"];
 
 // The number of parts of a text of so many bytes, at most the wanted one: each part has `least` bytes or more, about.
 fn count_parts(bytes: usize, wanted: usize, least: usize) -> usize
@@ -32,12 +33,14 @@ fn count_parts(bytes: usize, wanted: usize, least: usize) -> usize
     (bytes / least.max(1)).min(wanted).max(1)
 }
 
-// Reads each part on its own, each in a thread of its own where one can be started.
+// Reads each part on its own, each in a thread of its own where one can be started. A list of accounts has `least`
+// bytes of the text or more, about.
 fn read_parts<R: Threads + Sync>(
     rt: &R,
     alloc: Global,
     start: &Draft,
     parts: &[&[u8]],
+    least: usize,
 ) -> Result<Vec<Option<Part>>, AllocError>
     requires heading { IsHeading (draft_of start.now) }
     requires fits { IsDraft (draft_of start.now) }
@@ -48,8 +51,32 @@ fn read_parts<R: Threads + Sync>(
         rt,
         alloc,
         parts.len(),
-        &|i| { read_part(alloc, start, parts[i]) },
+        &|i| { read_part(alloc, start, parts[i], least) },
     )
+}
+
+/// What the rows of a heading say, and those of the parts behind it, each of which is read in a thread of its own where
+/// one can be started. A list of accounts has `least` bytes of the text or more, about.
+pub(crate) fn read_all_parts<R: Threads + Sync>(
+    rt: &R,
+    alloc: Global,
+    head: &[u8],
+    parts: &[&[u8]],
+    least: usize,
+) -> Option<Draft>
+    ensures { IfSome result (λ draft. FitsSoFar (draft_of draft) × (draft.body.last ≡ Some tag.End)
+        × (day_of_rows (rows_in_text (head.now ++ text_of_parts parts.now)) ≡ at_end 0 (day_said (draft_of draft)))) }
+{
+    let start = read_heading(alloc, head)?;
+    let Ok(read) = read_parts(rt, alloc, &start, parts, least) else {
+        return None;
+    };
+    let draft = join_all(start, head, parts, read)?;
+    if draft.body.last == Some(Tag::End) {
+        Some(draft)
+    } else {
+        None
+    }
 }
 
 // What the rows of a text say, read by at most so many parts behind the heading.
@@ -58,25 +85,17 @@ fn read_by_parts<R: Threads + Sync>(
     alloc: Global,
     text: &[u8],
     count: usize,
+    least: usize,
 ) -> Option<Draft>
     requires { 1 ≤ count }
     ensures { IfSome result (λ draft. FitsSoFar (draft_of draft) × (draft.body.last ≡ Some tag.End)
         × (day_of_rows (rows_in_text text.now) ≡ at_end 0 (day_said (draft_of draft)))) }
 {
     let (head, body) = cut_near(text, &STARTS, 0);
-    let start = read_heading(alloc, head)?;
     let Ok(parts) = cut_parts(alloc, body, &STARTS, count) else {
         return None;
     };
-    let Ok(read) = read_parts(rt, alloc, &start, &parts) else {
-        return None;
-    };
-    let draft = join_all(start, head, &parts, read)?;
-    if draft.body.last == Some(Tag::End) {
-        Some(draft)
-    } else {
-        None
-    }
+    read_all_parts(rt, alloc, head, &parts, least)
 }
 
 /// What the rows of a text say, up to its row `end`, read by at most so many parts, each of which has so many bytes or
@@ -95,7 +114,7 @@ pub(crate) fn read_rows_with<R: Threads + Sync>(
 {
     let count = count_parts(text.len(), wanted, least);
     if count > 1 {
-        if let Some(draft) = read_by_parts(rt, alloc, text, count) {
+        if let Some(draft) = read_by_parts(rt, alloc, text, count, least) {
             return Ok(draft);
         }
     }

@@ -3,6 +3,7 @@
 ghost use Rattle.std.specs.Prelude.{◌≡◌, ◌++◌, map, IfOk, OnOk};
 ghost use Rattle.std.specs.List.{flat_map};
 ghost use Rattle.csv.specs.Writing.{default_writer, row_text};
+ghost use Rattle.reg_book.specs.Parts.{joined};
 ghost use Rattle.reg_text.specs.Report.{text_of};
 ghost use Rattle.reg_text.specs.Determined.{determined_row, determined_rows, figures_rows};
 
@@ -12,7 +13,7 @@ use crate::writing::rows::Tagged;
 use crate::writing::text::Text;
 use reg_account::{Account, Figure};
 use reg_base::{AccountNo, NoMemory};
-use reg_book::Book;
+use reg_book::{Book, Parts};
 use std::alloc::Global;
 
 // Adds the row of a determined figure of an account.
@@ -58,6 +59,17 @@ fn put_accounts(text: &mut Text, row: &mut RowText, accounts: &[Account]) -> Res
     Ok(())
 }
 
+// Adds the rows of the determined figures of the accounts of lists, one list after another.
+#[tactic(auto, using(crate::proofs::TextFacts::row_loop))]
+fn put_lists(text: &mut Text, row: &mut RowText, lists: &[Vec<Account>]) -> Result<(), NoMemory>
+    ensures { OnOk result (text.new ≡ text.old ++ text_of (flat_map determined_rows (joined lists.now))) }
+{
+    for list in lists {
+        put_accounts(text, row, list.as_slice())?;
+    }
+    Ok(())
+}
+
 /// The compliance figures of a book: for each account, by rising number, a row for each year with a determined figure,
 /// by rising year, and the row `end`. An account without a determined figure has no row.
 ///
@@ -82,6 +94,20 @@ pub fn figures_over(bytes: Vec<u8>, book: &Book) -> Result<Vec<u8>, NoMemory>
     let mut text = Text::over(bytes);
     let mut row = RowText::new();
     put_accounts(&mut text, &mut row, book.accounts())?;
+    put_end(&mut text)?;
+    Ok(text.into_bytes())
+}
+
+/// The same text of a book whose accounts lie in lists.
+///
+/// # Errors
+/// `NoMemory` if memory ran out.
+pub fn figures_of_parts(bytes: Vec<u8>, parts: &Parts) -> Result<Vec<u8>, NoMemory>
+    ensures { IfOk result (λ text. text.items ≡ text_of (figures_rows parts.now)) }
+{
+    let mut text = Text::over(bytes);
+    let mut row = RowText::new();
+    put_lists(&mut text, &mut row, parts.lists())?;
     put_end(&mut text)?;
     Ok(text.into_bytes())
 }

@@ -25,14 +25,16 @@ use std::alloc::{AllocError, Global};
 use std::thread;
 use std::thread::Threads;
 
-// So many log rows and accounts are spelled by one thread: to start others would take longer.
-const FEW: usize = 1_024;
+/// So many log rows and accounts are spelled by one thread: to start others would take longer.
+pub(crate) const FEW: usize = 1_024;
 
-// What was spelled of accounts: their blocks, and their totals.
+/// What was spelled of accounts.
 #[derive(Drop)]
-struct Blocks {
-    text: Vec<u8>,
-    totals: BothTotals,
+pub(crate) struct Blocks {
+    /// Their blocks.
+    pub text: Vec<u8>,
+    /// Their totals.
+    pub totals: BothTotals,
 }
 
 // The text of the log rows of instructions with these replies. The first of them has this index, counted from 0.
@@ -112,8 +114,8 @@ fn run_size(count: usize, workers: usize) -> usize
     (count / workers).saturating_add(1)
 }
 
-// Adds the log of a batch with these replies, in at most so many pieces.
-fn add_log<R: Threads + Sync>(
+/// Adds the log of a batch with these replies, in at most so many pieces.
+pub(crate) fn add_log<R: Threads + Sync>(
     rt: &R,
     alloc: Global,
     pieces: &mut Vec<Vec<u8>>,
@@ -156,18 +158,18 @@ fn add_accounts<R: Threads + Sync>(
     Ok(totals)
 }
 
-// The first row of the book.
-fn spell_head(alloc: Global, book: &Book) -> Result<Vec<u8>, NoMemory>
-    ensures { IfOk result (λ text. text.items ≡ row_text default_writer (codes "book" ∷ number book.now.next ∷ [])) }
+/// The first row of a book with this next record number.
+pub(crate) fn spell_head(alloc: Global, next: u64) -> Result<Vec<u8>, NoMemory>
+    ensures { IfOk result (λ text. text.items ≡ row_text default_writer (codes "book" ∷ number next ∷ [])) }
 {
     let mut text = Text::new(alloc);
     let mut row = RowText::new();
-    put_next(&mut text, &mut row, book)?;
+    put_next(&mut text, &mut row, next)?;
     Ok(text.into_bytes())
 }
 
-// The totals, and the row `end`.
-fn spell_tail(alloc: Global, totals: &BothTotals) -> Result<Vec<u8>, NoMemory>
+/// The totals, and the row `end`.
+pub(crate) fn spell_tail(alloc: Global, totals: &BothTotals) -> Result<Vec<u8>, NoMemory>
     ensures { IfOk result (λ text. text.items ≡ text_of (rows_of_totals totals.now)) }
 {
     let mut text = Text::new(alloc);
@@ -199,7 +201,7 @@ pub fn write_report_pieces<R: Threads + Sync>(
     }
     let mut pieces = Vec::new(alloc);
     add_log(rt, alloc, &mut pieces, batch, replies, workers)?;
-    pieces.push(spell_head(alloc, book)?)?;
+    pieces.push(spell_head(alloc, book.next_record())?)?;
     let totals = add_accounts(rt, alloc, &mut pieces, book, workers)?;
     pieces.push(spell_tail(alloc, &totals)?)?;
     Ok(pieces)

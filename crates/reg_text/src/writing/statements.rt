@@ -55,14 +55,14 @@ fn concerns(directory: &Directory, number: AccountNo, row: &LogRow) -> bool
     touched.as_slice().iter().any(|known| *known == number)
 }
 
-// What the closing list says of the account.
+// What a list of holdings says of the account.
 fn find_held(closing: &[HeldNow], number: AccountNo) -> Option<HeldNow>
     ensures { result ≡ find (λ held. held.account == number) closing.now }
 {
     closing.iter().copied().find(|held| held.account == number)
 }
 
-// What the account holds after a row, if the row's closing list has the account.
+// What the account holds after a row, if the row's reply says it.
 fn told_by(number: AccountNo, row: &LogRow) -> Option<HeldNow>
     ensures { result ≡ told_by number row.now }
 {
@@ -144,7 +144,7 @@ fn make_statement(
 /// The statement of an account over a day: what it held before, the log rows in whose footprint it is, what it holds
 /// after, and the row `end`. `book` is the book before the day, and `rows` are the day's log.
 ///
-/// What it holds after is what the last of these rows says that lists the account among its closing holdings; if
+/// What it holds after is what the last of these rows says that says what the account then holds; if
 /// there is none, it is what the account held before.
 ///
 /// # Errors

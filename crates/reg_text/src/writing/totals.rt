@@ -4,11 +4,9 @@ ghost use Rattle.std.specs.Prelude.{◌≡◌, IfOk};
 ghost use Rattle.reg_text.specs.Report.{text_of};
 ghost use Rattle.reg_text.specs.Totals.{totals_rows};
 
-use crate::writing::report::put_totals;
-use crate::writing::row::RowText;
-use crate::writing::text::Text;
+use crate::writing::pieces::spell_tail;
 use reg_base::NoMemory;
-use reg_book::Book;
+use reg_book::{Book, Parts};
 use std::alloc::Global;
 
 /// The totals of a book: how many allowances of each kind all accounts together hold, have surrendered and have
@@ -19,8 +17,15 @@ use std::alloc::Global;
 pub fn totals_text(alloc: Global, book: &Book) -> Result<Vec<u8>, NoMemory>
     ensures { IfOk result (λ text. text.items ≡ text_of (totals_rows book.now)) }
 {
-    let mut text = Text::new(alloc);
-    let mut row = RowText::new();
-    put_totals(&mut text, &mut row, &book.both_totals())?;
-    Ok(text.into_bytes())
+    spell_tail(alloc, &book.both_totals())
+}
+
+/// The same text of a book whose accounts lie in lists.
+///
+/// # Errors
+/// `NoMemory` if memory ran out.
+pub fn totals_of_parts(alloc: Global, parts: &Parts) -> Result<Vec<u8>, NoMemory>
+    ensures { IfOk result (λ text. text.items ≡ text_of (totals_rows parts.now)) }
+{
+    spell_tail(alloc, &parts.both_totals())
 }

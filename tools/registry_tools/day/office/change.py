@@ -4,7 +4,7 @@ The difference is shown first, with what it was and what it will be. It counts w
 who and why. What an act does, and what no hand may do, is refused with the field and the act.
 
   ./day change 100377 --user -5201 --user +5204:approve --why "a letter of 22 September" --yes
-  ./day change --open-account 300126,trading,9017 --user +4201:both --why ".." --yes     opens an account with a user
+  ./day change --open-account 300126,trading,9017 --user +4201:both --why ".." --yes     makes an account with a user
   ./day change --not-working 2026-12-28 --admin +903 --why ".."        shows a change of the rules
 
 A value that begins with - and a letter stands behind =, as --surrender=-aircraft:aviation.

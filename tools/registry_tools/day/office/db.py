@@ -126,8 +126,7 @@ def instruction_of(logged: LogRow) -> Row:
     amount = stored(sum(i.amounts)) if i.amounts else None
     return (
         logged.record, str(logged.date), str(i.proposed), i.proposer, i.approver, i.act, i.first, i.other,
-        i.kind or None, amount,
-        i.number or None, i.status or None, i.year or None, stored(i.tonnes) if i.act == "emissions" else None,
+        i.kind, amount, i.number, i.status, i.year, None if i.tonnes is None else stored(i.tonnes),
     )  # fmt: skip
 
 

@@ -86,4 +86,4 @@ def cells_of(logged: LogRow) -> Iterator[list[Cell]]:
         yield [*start, None, i.first, i.kind, i.amounts[0], None, outcome]
     else:
         amount = i.tonnes if i.act == "emissions" else i.amounts[0] if i.amounts else None
-        yield [*start, i.first, i.other, i.kind or i.status or None, amount, i.year or None, outcome]
+        yield [*start, i.first, i.other, i.kind or i.status, amount, i.year, outcome]

@@ -133,7 +133,7 @@ def unused(table: Table, number: int, said: dict[str, str], used: set[str]) -> I
 
 
 def expected_of(expected: str, word: str) -> str:
-    """What is expected, with a hint if a date is of another form."""
+    """What is expected, and how another form of a date is told."""
     if "date" in expected and re.fullmatch(r"[0-9]{1,4}[./-][0-9]{1,2}[./-][0-9]{1,4}", word):
         return f"{expected}; --dates tells another form"
     return expected

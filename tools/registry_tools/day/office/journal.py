@@ -14,6 +14,7 @@ that of the heading. LINE is the SHA-256 of all that stands before it in its lin
 import csv
 import datetime
 import io
+import itertools
 from dataclasses import dataclass, field
 from pathlib import Path
 from typing import Iterator, NamedTuple
@@ -115,17 +116,16 @@ class Journal:
         return days
 
     def is_released(self) -> bool:
-        """Whether the last day may not be undone any more."""
+        """Whether the last day may not be undone any more. Later days may have been filed and undone since it was
+        released."""
         filed = self.filed()
         return bool(filed) and any(
-            event.event == RELEASED and event.date == filed[-1].date for event in self.since_last_filed()
+            event.event == RELEASED and event.date == filed[-1].date for event in self.behind(filed[-1])
         )
 
-    def since_last_filed(self) -> Iterator[Event]:
-        for event in reversed(self.events):
-            if event.event == FILED:
-                return
-            yield event
+    def behind(self, filed: Event) -> Iterator[Event]:
+        """The events behind the one that filed a day, from the last one back."""
+        return itertools.takewhile(lambda event: event is not filed, reversed(self.events))
 
     def with_event(self, event: Event) -> str:
         """The text of the journal with one more line."""

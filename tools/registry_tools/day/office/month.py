@@ -2,7 +2,7 @@
 deadline, the totals as lines over the days, what was refused and why, and what was changed by hand.
 
 FILE is an HTML page that leads nowhere and prints. No rule of a day text tells a deadline, so --deadline names it. Of
-an account without emissions of some year nobody knows how much is missing: its bar has an open frame.
+an account without emissions of some year nobody knows how much is missing: its bar has a frame without an end.
 """
 import argparse
 import datetime

@@ -174,7 +174,7 @@ class Workbook:
 
 
 def text_in(element: ElementTree.Element) -> str:
-    """The text of a cell, whose parts may have different looks. Hints on how to read it aloud are left out."""
+    """The text of a cell, whose parts may have different looks. How to read it aloud is left out."""
     return "".join(own.text or "" for part in element if not part.tag.endswith("rPh") for own in part.iter(f"{MAIN}t"))
 
 

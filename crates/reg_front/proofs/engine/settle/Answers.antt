@@ -10,7 +10,7 @@ use Rattle.reg_front.proofs.engine.settle.Goals as goal
 pub returns-then-is_err : goal.returns-then-is_err
 returns-then-is_err g c =
     let took = of_failed _ (sym c.is_err.ensures.value ∙ c.if-is_err.true) c.write_pieces.ensures.err in
-    let fine : command_fault (Settle c.args.workers) c.in_ok-day.day.book ≡ None = rw c.in_ok-used.ensures.0 refl in
+    let fine : command_fault (Settle c.args.workers) c.in_ok-day.day.parts ≡ None = rw c.in_ok-used.ensures.0 refl in
     let written = ap (λ (pieces : List (Vec ℕ Global)). text_of_pieces pieces ++ c.as_slice-2.result.now)
     c.as_slice.ensures.value ∙ ap (λ (end : List ℕ). text_of_pieces c.in_ok-used.used.pieces.items ++ end)
     c.as_slice-2.ensures.value in

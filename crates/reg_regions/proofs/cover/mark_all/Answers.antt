@@ -1,9 +1,7 @@
 use Rattle.std.proofs.Common.{◌≡◌, ◌<◌, ◌++◌, ◌∷◌, [], true, length, take, get_or, sym, ap, subst, ◌∙◌, arith}
 use Rattle.std.proofs.Common.{append_assoc}
-use Rattle.std.specs.Prelude.{All}
 use Rattle.std.proofs.lemmas.List.{take_more, take_all}
-use Rattle.std.proofs.lemmas.List.Elements.{All-more}
-use Rattle.reg_regions.specs.Homes.{AreMarked, IsPlaceUpTo}
+use Rattle.reg_regions.specs.Homes.{AreMarked}
 use Rattle.reg_regions.proofs.cover.mark_all.Goals as goal
 
 pub loop-place-preserved : goal.loop-place-preserved
@@ -19,16 +17,9 @@ loop-place-preserved c =
       marked = λ done marked. subst (λ ps. AreMarked ps c.mark.new.marks)
           (append_assoc done (take k places) (place ∷ []) ∙ ap (λ ps. done ++ ps) (sym (take_more places k 0 within)))
           (c.mark.ensures.marked truth (done ++ take k places) (before.marked done marked));
-      within = All-more (IsPlaceUpTo (length c.args.marks.now)) places k 0 within before.within
-          (subst (λ n. IsPlaceUpTo n place) before.size (c.mark.ensures.within truth));
     }
 
 pub returns-clause-marked : goal.returns-clause-marked
 returns-clause-marked c truth done marked =
     subst (λ ps. AreMarked (done ++ ps) c.loop-place.marks)
     (take_all c.loop-place.place-index c.args.places.now (omega arith)) (c.loop-place.invariant.marked done marked)
-
-pub returns-clause-within : goal.returns-clause-within
-returns-clause-within c truth =
-    subst (All (IsPlaceUpTo (length c.args.marks.now)))
-    (take_all c.loop-place.place-index c.args.places.now (omega arith)) c.loop-place.invariant.within

@@ -1,9 +1,8 @@
 use Rattle.std.proofs.Common.{◌≡◌, ◌+◌, ◌++◌, ℕ, List, length, take, true, sym, ap, subst, ◌∙◌, arith}
-use Rattle.std.specs.Prelude.{All, Contains}
 use Rattle.std.proofs.lemmas.List.{take_all}
-use Rattle.std.proofs.lemmas.List.Elements.{All-append}
+use Rattle.reg_counting.specs.Counting.{times, once}
 use Rattle.reg_regions.specs.declared.dealing.Deal.{Deal}
-use Rattle.reg_regions.specs.Homes.{AreMarked, IsPlaceUpTo, dealt_places}
+use Rattle.reg_regions.specs.Homes.{AreMarked, dealt_places}
 use Rattle.reg_regions.proofs.Marking.{all-marked, one-more}
 use Rattle.reg_regions.proofs.cover.mark_deals.Goals as goal
 
@@ -21,20 +20,12 @@ loop-deal-preserved c =
       size = c.mark_all.ensures.size ∙ before.size;
       marked = subst (λ ps. AreMarked ps c.mark_all.new.marks) whole
           (c.mark_all.ensures.marked truth done before.marked);
-      within = subst (All (IsPlaceUpTo (length c.args.marks.now))) whole
-          (All-append (IsPlaceUpTo (length c.args.marks.now)) done c.deref.result.now before.within
-          (subst (λ n. All (IsPlaceUpTo n) c.deref.result.now) before.size (c.mark_all.ensures.within truth)));
     }
 
-pub returns-clause-each : goal.returns-clause-each
-returns-clause-each c truth place low high =
+pub returns : goal.returns
+returns c truth place =
     let whole = take_all c.loop-deal.deal-index c.args.deals.now (omega arith) in
-    let size = c.loop-deal.invariant.size in
-    subst (λ (ds : List Deal). Contains (dealt_places ds) place) whole
+    subst (λ (ds : List Deal). times place (dealt_places ds) ≡ once (length c.args.marks.now) place) whole
     (all-marked (dealt_places (take c.loop-deal.deal-index c.args.deals.now)) c.loop-deal.marks
-    c.loop-deal.invariant.marked (c.are_set.ensures truth) place low (omega (arith, high, size)))
-
-pub returns-clause-within : goal.returns-clause-within
-returns-clause-within c truth =
-    subst (λ (ds : List Deal). All (IsPlaceUpTo (length c.args.marks.now)) (dealt_places ds))
-    (take_all c.loop-deal.deal-index c.args.deals.now (omega arith)) c.loop-deal.invariant.within
+    c.loop-deal.invariant.marked (c.are_set.ensures truth) place
+    ∙ ap (λ n. once n place) c.loop-deal.invariant.size)

@@ -1,11 +1,9 @@
 use Rattle.std.proofs.Common.{◌≡◌, length, take}
-use Rattle.std.specs.Prelude.{All}
-use Rattle.reg_regions.specs.Homes.{AreMarked, IsPlaceUpTo, dealt_places}
+use Rattle.reg_regions.specs.Homes.{AreMarked, dealt_places}
 use Rattle.reg_regions.proofs.cover.mark_deals.Given as goal
 
 abbrev pub invariant-loop-deal : goal.invariant-loop-deal
 invariant-loop-deal l = record {
   size : length l.marks ≡ length l.initial.marks;
   marked : AreMarked (dealt_places (take l.deal-index l.deals)) l.marks;
-  within : All (IsPlaceUpTo (length l.initial.marks)) (dealt_places (take l.deal-index l.deals));
 }

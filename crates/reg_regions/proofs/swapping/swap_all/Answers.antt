@@ -1,21 +1,36 @@
-use Rattle.std.proofs.Common.{◌≡◌, take, sym, ap, subst, ◌∙◌, arith}
-use Rattle.std.specs.Prelude.{IsPermutation}
-use Rattle.std.proofs.lemmas.List.{take_more, take_all}
-use Rattle.reg_regions.specs.Swaps.{exchanged}
-use Rattle.reg_regions.proofs.Exchanged.{exchanged-same, exchanged_more}
+use Rattle.std.proofs.Common.{◌≡◌, length, take, sym, ap, ◌∙◌, arith}
+use Rattle.std.proofs.lemmas.List.{take_more}
+use Rattle.reg_regions.specs.Lists.{joined_lists}
+use Rattle.reg_regions.specs.declared.swaps.Swap.{Swap}
+use Rattle.reg_regions.proofs.Exchanged.{exchanged_more, length-exchanged}
 use Rattle.reg_regions.proofs.swapping.swap_all.Goals as goal
+
+pub swap_two-requires-clause-one : goal.swap_two-requires-clause-one
+swap_two-requires-clause-one g c =
+    let k = c.loop-swap.swap-index in
+    let none : Swap = record { one = 0; other = 0 } in
+    let size : length (joined_lists c.loop-swap.lists) ≡ length (joined_lists c.args.lists.now) =
+    ap length c.loop-swap.invariant.so_far
+    ∙ length-exchanged (take k c.args.swaps.now) (joined_lists c.args.lists.now) in
+    let lt = (c.requires k none c.loop-swap-test.true).one in
+    omega (arith, lt, size)
+
+pub swap_two-requires-clause-other : goal.swap_two-requires-clause-other
+swap_two-requires-clause-other g c =
+    let k = c.loop-swap.swap-index in
+    let none : Swap = record { one = 0; other = 0 } in
+    let size : length (joined_lists c.loop-swap.lists) ≡ length (joined_lists c.args.lists.now) =
+    ap length c.loop-swap.invariant.so_far
+    ∙ length-exchanged (take k c.args.swaps.now) (joined_lists c.args.lists.now) in
+    let lt = (c.requires k none c.loop-swap-test.true).other in
+    omega (arith, lt, size)
 
 pub loop-swap-preserved : goal.loop-swap-preserved
 loop-swap-preserved g c =
-    let e = take_more c.args.swaps.now c.loop-swap.swap-index (record { one = 0; other = 0 }) c.loop-swap-test.true in
-    let h = c.loop-swap.invariant in
-    let s = c.swap.ensures.after in
-    rw e (rw exchanged_more (rw (sym h) s))
-
-pub returns-clause-same : goal.returns-clause-same
-returns-clause-same g c =
-    let whole : take c.loop-swap.swap-index c.args.swaps.now ≡ c.args.swaps.now =
-    take_all c.loop-swap.swap-index c.args.swaps.now (omega arith) in
-    subst (IsPermutation c.args.all.now)
-    (sym (c.loop-swap.invariant ∙ ap (λ ss. exchanged ss c.args.all.now) whole))
-    (exchanged-same c.args.swaps.now c.args.all.now c.requires)
+    let k = c.loop-swap.swap-index in
+    let none : Swap = record { one = 0; other = 0 } in
+    let more = take_more c.args.swaps.now k none c.loop-swap-test.true in
+    record {
+      so_far = rw more (rw exchanged_more (rw (sym c.loop-swap.invariant.so_far) c.swap_two.ensures.joined));
+      sizes = c.swap_two.ensures.sizes ∙ c.loop-swap.invariant.sizes;
+    }

@@ -1,22 +1,29 @@
-use Rattle.std.proofs.Common.{◌≡◌, drop, length, sym, ap, subst, ◌∙◌, arith}
-use Rattle.std.specs.Prelude.{All, IsPermutation}
-use Rattle.reg_regions.specs.Swaps.{IsSwapWithin, exchanged_back}
-use Rattle.reg_regions.proofs.Exchanged.{back-same, exchanged-undone, length-exchanged}
+use Rattle.std.proofs.Common.{◌≡◌, ◌<◌, ◌-◌, drop, length, ap, ◌∙◌, arith}
+use Rattle.reg_regions.specs.Lists.{joined_lists}
+use Rattle.reg_regions.specs.declared.swaps.Swap.{Swap}
+use Rattle.reg_regions.proofs.Exchanged.{length-back}
 use Rattle.reg_regions.proofs.swapping.swap_back.Goals as goal
 
-pub returns-clause-same : goal.returns-clause-same
-returns-clause-same g c =
-    let none : c.loop-left.left ≡ 0 = omega arith in
-    subst (IsPermutation c.args.all.now)
-    (sym (c.loop-left.invariant.so_far ∙ ap (λ k. exchanged_back (drop k c.args.swaps.now) c.args.all.now) none))
-    (back-same c.args.swaps.now c.args.all.now c.requires)
+pub swap_two-requires-clause-one : goal.swap_two-requires-clause-one
+swap_two-requires-clause-one g c =
+    let k = c.loop-left.left - 1 in
+    let none : Swap = record { one = 0; other = 0 } in
+    let inside : k < length c.args.swaps.now =
+    let le = c.loop-left.invariant.within in let more = c.loop-left-test.true in omega (arith, le, more) in
+    let size : length (joined_lists c.loop-left.lists) ≡ length (joined_lists c.args.lists.now) =
+    ap length c.loop-left.invariant.so_far
+    ∙ length-back (drop c.loop-left.left c.args.swaps.now) (joined_lists c.args.lists.now) in
+    let lt = (c.requires k none inside).one in
+    omega (arith, lt, size)
 
-pub returns-clause-undone : goal.returns-clause-undone
-returns-clause-undone g c before exchanged_is =
-    let none : c.loop-left.left ≡ 0 = omega arith in
-    let size : length c.args.all.now ≡ length before =
-    ap length exchanged_is ∙ length-exchanged c.args.swaps.now before in
-    c.loop-left.invariant.so_far ∙ ap (λ k. exchanged_back (drop k c.args.swaps.now) c.args.all.now) none
-    ∙ ap (exchanged_back c.args.swaps.now) exchanged_is
-    ∙ exchanged-undone c.args.swaps.now before
-    (subst (λ n. All (IsSwapWithin n) c.args.swaps.now) size c.requires)
+pub swap_two-requires-clause-other : goal.swap_two-requires-clause-other
+swap_two-requires-clause-other g c =
+    let k = c.loop-left.left - 1 in
+    let none : Swap = record { one = 0; other = 0 } in
+    let inside : k < length c.args.swaps.now =
+    let le = c.loop-left.invariant.within in let more = c.loop-left-test.true in omega (arith, le, more) in
+    let size : length (joined_lists c.loop-left.lists) ≡ length (joined_lists c.args.lists.now) =
+    ap length c.loop-left.invariant.so_far
+    ∙ length-back (drop c.loop-left.left c.args.swaps.now) (joined_lists c.args.lists.now) in
+    let lt = (c.requires k none inside).other in
+    omega (arith, lt, size)

@@ -13,19 +13,13 @@ pub apply-requires-clause-own : goal.apply-requires-clause-own
 apply-requires-clause-own c =
     let a = c.args in
     let setting : Setting = record { rules = a.rules.now; day = a.day; directory = a.directory.now } in
-    c.requires.own ∙ footprint-passed setting a.accounts.now a.instruction.now (sym c.first_failing.ensures
-    ∙ c.in_default.is)
-
-pub apply-requires-clause-distinct : goal.apply-requires-clause-distinct
-apply-requires-clause-distinct c =
-    subst (IsDistinct eqb) (sym c.requires.own)
-    (c.each_footprint_is_sound.ensures c.args.directory.now c.args.instruction.now.act).once
+    c.requires.own ∙ footprint-passed setting a.accounts.now a.instruction.now (sym c.in-Ok.ensures.fails)
 
 pub apply-requires-clause-can : goal.apply-requires-clause-can
 apply-requires-clause-can c =
     let a = c.args in
     let setting : Setting = record { rules = a.rules.now; day = a.day; directory = a.directory.now } in
-    can-change-each setting a.accounts.now a.number a.instruction.now (sym c.first_failing.ensures ∙ c.in_default.is)
+    can-change-each setting a.accounts.now a.number a.instruction.now (sym c.in-Ok.ensures.fails)
     (subst (IsDistinct eqb) (sym c.requires.own)
     (c.each_footprint_is_sound.ensures a.directory.now a.instruction.now.act).once)
     (recursion_from_All (IsBehind a.number) a.accounts.now c.requires.behind)
@@ -37,7 +31,7 @@ returns-clause-ok c =
     accepted-step setting a.accounts.now a.number a.instruction.now c.apply.new.accounts c.closing_of.result
     c.figure_made.result
     (c.each_footprint_is_sound.ensures a.directory.now a.instruction.now.act).once c.requires.own
-    (sym c.first_failing.ensures ∙ c.in_default.is)
+    (sym c.in-Ok.ensures.fails)
     c.in_ok-apply.ensures.ok c.closing_of.ensures
     (c.figure_made.ensures ∙ ap (λ (m : Movement). figure_made c.apply.new.accounts m.first m.change)
     c.movement-movement.ensures)

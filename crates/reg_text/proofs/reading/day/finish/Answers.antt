@@ -9,4 +9,4 @@ make_day-requires-clause-draft c = rw c.in_ok-end_block.ensures.over (over-fits 
 
 pub returns : goal.returns
 returns c = sym (over-says _ c.requires.draft (ap is_text_over c.requires.over))
-    ∙ ap day_said (sym c.in_ok-end_block.ensures.over) ∙ c.make_day.ensures
+    ∙ ap day_said (sym c.in_ok-end_block.ensures.over) ∙ c.in_ok-day.ensures

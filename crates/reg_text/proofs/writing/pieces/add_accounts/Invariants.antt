@@ -1,7 +1,8 @@
 use Rattle.std.proofs.Common.{◌++◌}
+use Rattle.reg_book.proofs.TotalFacts.{AddUpWith}
 use Rattle.reg_text.specs.declared.writing.pieces.Blocks.{Blocks}
 use Rattle.reg_text.specs.Pieces.{AreBlocksOf, text_of_pieces}
-use Rattle.reg_text.proofs.BlockFacts.{AddUpWith, blocks_text}
+use Rattle.reg_text.proofs.BlockFacts.{blocks_text}
 use Rattle.reg_text.proofs.RunFacts.{IsSpelled}
 use Rattle.reg_text.proofs.writing.pieces.add_accounts.Given as goal
 

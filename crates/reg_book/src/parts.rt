@@ -1,0 +1,253 @@
+//! A book whose accounts lie in several lists, so that threads can own them by value.
+
+ghost use Rattle.std.specs.Prelude.{◌≡◌, ◌≤◌, ◌++◌, true, None, All, length, IfOk, OnOk};
+ghost use Rattle.std.specs.Option.{option_copied};
+ghost use Rattle.reg_base.specs.Rising.{IsRising};
+ghost use Rattle.reg_base.specs.declared.limits.TheConstants.{MOST_ACCOUNTS};
+ghost use Rattle.reg_account.specs.Account.{IsAccount};
+ghost use Rattle.reg_rules.specs.State.{account, numbers};
+ghost use Rattle.reg_book.specs.Parts.{joined};
+ghost use Rattle.reg_book.specs.Totals.{totals_of};
+
+use crate::book::{Book, get_account};
+use crate::listed::ListedAccounts;
+use crate::totals::{BothTotals, add_up};
+use reg_account::Account;
+use reg_base::{AccountNo, Directory, NoMemory};
+use reg_rules::Reply;
+use std::alloc::Global;
+use std::marker::Model;
+
+/// The accounts of a registry, by rising number, in lists one behind the other, and the next record number. A contract
+/// sees it as plain data, and does not see where a list ends: it is the book of all the accounts.
+#[derive(Debug, Drop)]
+pub struct Parts {
+    lists: Vec<Vec<Account>>,
+    directory: Directory,
+    next: u64,
+}
+
+/// A day that is over: the book after it in lists, and what was answered. The rest of its log is in the batch.
+#[derive(Debug, Drop)]
+pub struct ClosedParts {
+    /// The book after the day.
+    pub parts: Parts,
+    /// The replies to the instructions, in order.
+    pub replies: Vec<Reply>,
+}
+
+impl Model for Parts {
+    ghost use Rattle.reg_book.specs.Book.{BookValue, IsBookKept};
+    ghost use Rattle.reg_book.specs.Parts.{joined};
+
+    ghost Value = { BookValue };
+
+    ghost view = { λ p. record { accounts = joined p.lists.items; next = p.next } };
+
+    ghost invariant = { λ p. IsBookKept (joined p.lists.items) p.directory p.next };
+}
+
+impl Parts {
+    ghost use Rattle.reg_book.specs.Book.{directory_of, IsBook, IsBookKept};
+
+    /// The book of these lists, with the directory of their accounts and the next record number: what
+    /// [`Parts::into_lists`] took apart, or what a day made of it. The accounts stand by rising number, one list after
+    /// another. Takes no memory.
+    pub fn of_lists(lists: Vec<Vec<Account>>, directory: Directory, next: u64) -> Self
+        requires { IsBookKept (joined lists.items) directory next }
+        ensures { result ≡ record { accounts = joined lists.items; next = next } }
+    {
+        Parts {
+            lists,
+            directory,
+            next,
+        }
+    }
+
+    /// The book of these accounts, which stand by rising number, in their lists, and the next record number.
+    ///
+    /// # Errors
+    /// `NoMemory` if memory ran out.
+    pub fn of_rising(alloc: Global, listed: ListedAccounts, next: u64) -> Result<Self, NoMemory>
+        requires { IsBook (record { accounts = listed; next = next }) }
+        ensures { IfOk result (λ parts. parts ≡ record { accounts = listed; next = next }) }
+    {
+        let (lists, entries) = listed.into_lists()?;
+        Ok(Parts {
+            lists,
+            directory: Directory::of_rising(alloc, entries),
+            next,
+        })
+    }
+
+    /// A book as one list.
+    ///
+    /// # Errors
+    /// `NoMemory` if memory ran out.
+    pub fn of_book(alloc: Global, book: Book) -> Result<Self, NoMemory>
+        ensures { IfOk result (λ parts. parts ≡ book) }
+    {
+        let (accounts, directory, next) = book.into_parts();
+        let mut lists = Vec::new(alloc);
+        lists.push(accounts)?;
+        Ok(Parts {
+            lists,
+            directory,
+            next,
+        })
+    }
+
+    /// The book with all its accounts in one list. If they lie in one list already, none is moved, and no memory is
+    /// taken.
+    ///
+    /// # Errors
+    /// `NoMemory` if memory ran out.
+    pub fn into_book(self, alloc: Global) -> Result<Book, NoMemory>
+        ensures { IfOk result (λ book. book ≡ self) }
+    {
+        let Parts {
+            lists,
+            directory,
+            next,
+        } = self;
+        let accounts = join(alloc, lists)?;
+        Ok(Book::from_sorted(accounts, directory, next))
+    }
+
+    /// The lists of its accounts, their directory and the next record number. Takes no memory.
+    pub fn into_lists(self) -> (Vec<Vec<Account>>, Directory, u64)
+        ensures accounts { joined result.0.items ≡ self.accounts }
+        ensures directory { result.1 ≡ directory_of self.accounts }
+        ensures next { result.2 ≡ self.next }
+        ensures kept { IsBook self }
+    {
+        let Parts {
+            lists,
+            directory,
+            next,
+        } = self;
+        (lists, directory, next)
+    }
+
+    /// The lists of its accounts.
+    pub fn lists(&self) -> &[Vec<Account>]
+        ensures value { joined result.now ≡ self.now.accounts }
+        ensures kept { IsBook self.now }
+    {
+        self.lists.as_slice()
+    }
+
+    /// The kinds and holders of the accounts.
+    pub fn directory(&self) -> &Directory
+        ensures { result.now ≡ directory_of self.now.accounts }
+    {
+        &self.directory
+    }
+
+    /// The number of the next record, 1 to 10^15 + 1.
+    pub fn next_record(&self) -> u64
+        ensures value { result ≡ self.now.next }
+        ensures kept { IsBook self.now }
+    {
+        self.next
+    }
+
+    /// The account with this number, or `None` if there is none.
+    pub fn get(&self, number: AccountNo) -> Option<&Account>
+        ensures { option_copied result ≡ account self.now.accounts number }
+    {
+        get_in_lists(&self.lists, number)
+    }
+
+    /// The sums over all accounts for both kinds, in one walk. Takes no memory.
+    pub fn both_totals(&self) -> BothTotals
+        ensures { result ≡ totals_of self.now.accounts }
+    {
+        add_up_lists(&self.lists)
+    }
+}
+
+// How many accounts lists have together. Nothing is promised of the number: room is made for so many.
+fn count_accounts(lists: &[Vec<Account>]) -> usize {
+    let mut count: usize = 0;
+    for list in lists {
+        count = count.saturating_add(list.len());
+    }
+    count
+}
+
+// Puts accounts behind others. If there are no others, these are taken as they are. Else room is made for so many in
+// all.
+fn put_all(accounts: &mut Vec<Account>, list: Vec<Account>, count: usize) -> Result<(), NoMemory>
+    ensures { OnOk result (accounts.new.items ≡ accounts.old.items ++ list.items) }
+{
+    let mut list = list;
+    if accounts.is_empty() {
+        *accounts = list;
+        return Ok(());
+    }
+    accounts.reserve(count.saturating_sub(accounts.len()))?;
+    accounts.append(&mut list)?;
+    Ok(())
+}
+
+// The accounts of lists in one list: one list is taken as it is.
+fn join(alloc: Global, lists: Vec<Vec<Account>>) -> Result<Vec<Account>, NoMemory>
+    ensures { IfOk result (λ all. all.items ≡ joined lists.items) }
+{
+    let count = count_accounts(&lists);
+    let mut all = Vec::new(alloc);
+    for list in lists {
+        put_all(&mut all, list, count)?;
+    }
+    Ok(all)
+}
+
+// The account with this number, if one of the lists has it.
+fn get_in_lists(lists: &[Vec<Account>], number: AccountNo) -> Option<&Account>
+    requires { IsRising (numbers (joined lists.now)) }
+    ensures { option_copied result ≡ account (joined lists.now) number }
+{
+    for list in lists {
+        if let Some(found) = get_up_to(list, number) {
+            return Some(found);
+        }
+    }
+    None
+}
+
+// The account with this number, if the list has it. If its last number is lower, nothing else in it is looked at.
+fn get_up_to(list: &[Account], number: AccountNo) -> Option<&Account>
+    requires { IsRising (numbers list.now) }
+    ensures { option_copied result ≡ account list.now number }
+{
+    if ends_below(list, number) {
+        return None;
+    }
+    get_account(list, number)
+}
+
+// Whether all accounts of a list have lower numbers: its last one tells.
+fn ends_below(list: &[Account], number: AccountNo) -> bool
+    requires { IsRising (numbers list.now) }
+    ensures { result ≡ true → account list.now number ≡ None }
+{
+    match list.last() {
+        Some(last) => last.number() < number,
+        None => true,
+    }
+}
+
+/// What the accounts of lists together hold, have surrendered and have deleted, of both kinds. They are as few as those
+/// of a book. Takes no memory.
+pub fn add_up_lists(lists: &[Vec<Account>]) -> BothTotals
+    requires fit { All IsAccount (joined lists.now) }
+    requires few { length (joined lists.now) ≤ MOST_ACCOUNTS }
+    ensures { result ≡ totals_of (joined lists.now) }
+{
+    let mut totals = BothTotals::none();
+    for list in lists {
+        totals = totals.plus(&add_up(list));
+    }
+    totals
+}

@@ -1,0 +1,61 @@
+//! The day that an input describes.
+
+ghost use Rattle.std.specs.Prelude.{◌≡◌, ◌+◌, IfOk, IfErr, IfSome, OnOk};
+ghost use Rattle.reg_cuts.specs.Rows.{rows_in_text};
+ghost use Rattle.reg_text.specs.Reading.{IsReading};
+ghost use Rattle.reg_text.specs.Inputs.{day_of_parts};
+ghost use Rattle.reg_front.specs.Streams.{CanFail};
+ghost use Rattle.reg_front.specs.Devices.{IsReadWhole};
+ghost use Rattle.reg_front.specs.Runs.{IsReadingFault, Reads};
+
+use crate::device::read_all;
+use crate::fault::FrontFault;
+use crate::stream::Source;
+use reg_text::{DayParts, read_day_of_pieces, read_day_parts_with};
+use std::alloc::Global;
+use std::thread::Threads;
+
+// The day of an input that is read by one call after another, and its bytes.
+fn read_text<T: Threads + Sync, R: Source>(
+    rt: &T,
+    alloc: Global,
+    reader: &mut R,
+    threads: usize,
+) -> Result<(DayParts, Vec<u8>), FrontFault>
+    requires { CanFail (R.stream reader.old) }
+    ensures ok { IfOk result
+        (λ read. IfSome (R.stream reader.old).bytes (λ input. IsReading (rows_in_text input) (day_of_parts read.0))) }
+    ensures whole { OnOk result (IsReadWhole (R.stream reader.old) (R.stream reader.new)) }
+    ensures follows { IfOk result (λ read. read.0.batch.base + 1 ≡ read.0.parts.next) }
+    ensures err { IfErr result (IsReadingFault (R.stream reader.old).bytes) }
+    ensures read { IfErr result (λ fault. Reads fault (R.stream reader.old) (R.stream reader.new)) }
+{
+    let input = read_all(alloc, reader)?;
+    let day = read_day_parts_with(rt, alloc, input.as_slice(), threads)?;
+    Ok((day, input))
+}
+
+/// The day that the whole input describes, read by at most so many threads, and the bytes of the input, whose memory is
+/// used again for the output. Those of an input that was read in pieces are given back.
+pub(crate) fn read_input<T: Threads + Sync, R: Source>(
+    rt: &T,
+    alloc: Global,
+    reader: &mut R,
+    threads: usize,
+) -> Result<(DayParts, Vec<u8>), FrontFault>
+    requires { CanFail (R.stream reader.old) }
+    ensures ok { IfOk result
+        (λ read. IfSome (R.stream reader.old).bytes (λ input. IsReading (rows_in_text input) (day_of_parts read.0))) }
+    ensures whole { OnOk result (IsReadWhole (R.stream reader.old) (R.stream reader.new)) }
+    ensures follows { IfOk result (λ read. read.0.batch.base + 1 ≡ read.0.parts.next) }
+    ensures err { IfErr result (IsReadingFault (R.stream reader.old).bytes) }
+    ensures read { IfErr result (λ fault. Reads fault (R.stream reader.old) (R.stream reader.new)) }
+{
+    match reader.read_pieces(rt, alloc, threads) {
+        Some(pieces) => {
+            let day = read_day_of_pieces(rt, alloc, pieces.as_slice())?;
+            Ok((day, Vec::new(alloc)))
+        }
+        None => read_text(rt, alloc, reader, threads),
+    }
+}

@@ -1,0 +1,197 @@
+//! A file that is read in pieces, each a range of its bytes, by several threads at once.
+
+ghost use Rattle.std.specs.Prelude.{◌≡◌, ◌≤◌, ◌<◌, ◌++◌, ℕ, List, Option, IfSome, IsTrue, drop, length, slice_range};
+ghost use Rattle.std.specs.Prelude.{take};
+ghost use Rattle.std.specs.Thread.{IsSync};
+ghost use Rattle.reg_text.specs.Pieces.{text_of_pieces};
+ghost use Rattle.reg_front.specs.Devices.{most_input};
+
+use crate::device::MOST_INPUT;
+use reg_text::find_row;
+use std::alloc::Global;
+use std::thread;
+use std::thread::Threads;
+
+/// A file whose bytes can be read from any place, by several threads at once.
+pub trait ReadAt {
+    // Its bytes, if they are known.
+    ghost contents: { Self → Option (List ℕ) };
+
+    /// Puts the bytes from a place on into the front of `room`, and answers how many; nothing, if the call failed. It
+    /// gives none only at the end or behind it, or if there is no room.
+    fn read_at(&self, place: u64, room: &mut [u8]) -> Option<usize>
+        ensures bound { IfSome result (λ count. count ≤ length room.new) }
+        ensures bytes { IfSome result (λ count. IfSome (contents self.now)
+            (λ bytes. take count room.new ≡ take count (drop place bytes))) }
+        ensures end { IfSome result (λ count. count ≡ 0 → 0 < length room.new
+            → IfSome (contents self.now) (λ bytes. length bytes ≤ place)) };
+}
+
+// The bytes of a piece, at least, about: fewer take less time than to start a thread.
+const LEAST_PIECE: u64 = 64 * 1024;
+
+// A row that begins a piece is looked for in so many bytes at once, and so often: an account may have 4,096 rows.
+const WINDOW: usize = 4 * 1024;
+
+const MOST_WINDOWS: u64 = 64;
+
+// Fills the room with the bytes from a place on, and answers whether they were there.
+fn fill<F: ReadAt>(file: &F, place: u64, room: &mut [u8]) -> bool
+    ensures { IsTrue result → IfSome (F.contents file.now)
+        (λ bytes. room.new ≡ take (length room.new) (drop place bytes)) }
+{
+    let length = room.len();
+    file.read_at(place, room) == Some(length)
+}
+
+// The bytes from one place up to another.
+fn read_range<F: ReadAt>(alloc: Global, file: &F, from: u64, to: u64) -> Option<Vec<u8>>
+    ensures order { IfSome result (λ piece. from ≤ to) }
+    ensures bytes { IfSome result (λ piece. IfSome (F.contents file.now)
+        (λ bytes. piece.items ≡ slice_range bytes from to)) }
+{
+    let length = usize::try_from(to.checked_sub(from)?).ok()?;
+    let mut piece = Vec::from_elem(alloc, 0, length).ok()?;
+    if fill(file, from, piece.as_mut_slice()) {
+        Some(piece)
+    } else {
+        None
+    }
+}
+
+// A piece, and behind it others.
+fn put_before(pieces: (Vec<u8>, Vec<Vec<u8>>)) -> Option<Vec<Vec<u8>>>
+    ensures { IfSome result (λ all. text_of_pieces all.items ≡ pieces.0.items ++ text_of_pieces pieces.1.items) }
+{
+    let (first, mut all) = pieces;
+    let Ok(()) = all.insert(0, first) else {
+        return None;
+    };
+    Some(all)
+}
+
+// The bytes from one place up to another, in pieces that begin at these places. Each piece but the last is read by a
+// thread of its own where one can be started.
+#[cycle(reading)]
+fn read_cut<T: Threads + Sync, F: ReadAt + Sync>(
+    rt: &T,
+    alloc: Global,
+    file: &F,
+    from: u64,
+    cuts: &[u64],
+    to: u64,
+) -> Option<Vec<Vec<u8>>>
+    ensures order { IfSome result (λ pieces. from ≤ to) }
+    ensures bytes { IfSome result (λ pieces. IfSome (F.contents file.now)
+        (λ bytes. text_of_pieces pieces.items ≡ slice_range bytes from to)) }
+{
+    match cuts.split_first() {
+        None => put_before((read_range(alloc, file, from, to)?, Vec::new(alloc))),
+        Some((cut, later)) => {
+            let both = read_both(rt, alloc, file, from, *cut, later, to)?;
+            let all = put_before(both)?;
+            Some(all)
+        }
+    }
+}
+
+// The first piece in a thread of its own, and those behind it.
+#[cycle(reading)]
+fn read_both<T: Threads + Sync, F: ReadAt + Sync>(
+    rt: &T,
+    alloc: Global,
+    file: &F,
+    from: u64,
+    cut: u64,
+    later: &[u64],
+    to: u64,
+) -> Option<(Vec<u8>, Vec<Vec<u8>>)>
+    ensures order { IfSome result (λ both. (from ≤ cut) × (cut ≤ to)) }
+    ensures first { IfSome result (λ both. IfSome (F.contents file.now)
+        (λ bytes. both.0.items ≡ slice_range bytes from cut)) }
+    ensures others { IfSome result (λ both. IfSome (F.contents file.now)
+        (λ bytes. text_of_pieces both.1.items ≡ slice_range bytes cut to)) }
+{
+    let front = move || read_range(alloc, file, from, cut);
+    let back = move || -> Option<Vec<Vec<u8>>>
+        requires { IsSync T.row × IsSync F.row }
+        ensures order { IfSome result (λ pieces. cut ≤ to) }
+        ensures bytes { IfSome result (λ pieces. IfSome (F.contents file.entry.now)
+            (λ bytes. text_of_pieces pieces.items ≡ slice_range bytes cut to)) }
+    { read_cut(rt, alloc, file, cut, later, to) };
+    let (first, others) = thread::join(rt, front, back);
+    Some((first?, others?))
+}
+
+// Whether the file ends at this place, or before it.
+fn ends_at<F: ReadAt>(file: &F, place: u64) -> bool
+    ensures { IsTrue result → IfSome (F.contents file.now) (λ bytes. length bytes ≤ place) }
+{
+    let mut room = [0; 1];
+    file.read_at(place, &mut room) == Some(0)
+}
+
+// The place of the first row behind this one with which a piece may begin, if it is near.
+fn find_cut<F: ReadAt>(file: &F, place: u64) -> Option<u64> {
+    for window in 0..MOST_WINDOWS {
+        let near = place.checked_add(window.checked_mul(WINDOW as u64)?)?;
+        if let Some(row) = find_row_near(file, near) {
+            return near.checked_add(row as u64);
+        }
+    }
+    None
+}
+
+// How many bytes behind a place such a row begins, if it is in the next ones.
+fn find_row_near<F: ReadAt>(file: &F, place: u64) -> Option<usize> {
+    let mut window = [0; WINDOW];
+    let count = file.read_at(place, &mut window)?;
+    find_row(&window[..count])
+}
+
+// Places at which pieces of about this size may begin, of which the first begins here; nothing, if no row is near one
+// of them. Nothing is promised of them.
+fn find_cuts<F: ReadAt>(
+    alloc: Global,
+    file: &F,
+    from: u64,
+    size: u64,
+    count: u64,
+) -> Option<Vec<u64>> {
+    let mut cuts = Vec::new(alloc);
+    for piece in 1..count {
+        let near = from.checked_add(size.checked_mul(piece)?)?;
+        cuts.push(find_cut(file, near)?).ok()?;
+    }
+    Some(cuts)
+}
+
+/// All bytes of a file from a place on, in pieces that begin with rows, read by at most so many threads. `to` is where
+/// the file ended when it was asked. Nothing, if that is not right any more, if the bytes are few or more than 2^30, or
+/// if a call failed or memory ran out.
+pub fn read_in_pieces<T: Threads + Sync, F: ReadAt + Sync>(
+    rt: &T,
+    alloc: Global,
+    file: &F,
+    from: u64,
+    to: u64,
+    threads: usize,
+) -> Option<Vec<Vec<u8>>>
+    ensures text { IfSome result (λ pieces. IfSome (F.contents file.now)
+        (λ bytes. text_of_pieces pieces.items ≡ drop from bytes)) }
+    ensures limit { IfSome result (λ pieces. IfSome (F.contents file.now)
+        (λ bytes. length (drop from bytes) ≤ most_input)) }
+{
+    let length = to.checked_sub(from)?;
+    let count = (length / LEAST_PIECE).min(threads as u64);
+    if count < 2 || length > MOST_INPUT as u64 {
+        return None;
+    }
+    let cuts = find_cuts(alloc, file, from, length / count, count)?;
+    let pieces = read_cut(rt, alloc, file, from, &cuts, to)?;
+    if ends_at(file, to) {
+        Some(pieces)
+    } else {
+        None
+    }
+}

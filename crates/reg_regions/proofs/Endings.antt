@@ -1,0 +1,185 @@
+-- What regions leave, swapped back, is what the day leaves.
+use Rattle.std.proofs.Common.{◌≡◌, ℕ, suc, ◌+◌, ◌≤◌, eqb, List, [], ◌∷◌, length, get_or, Some}
+use Rattle.std.proofs.Common.{add-zero, refl, sym, ap, subst, ◌∙◌, arith}
+use Rattle.std.specs.Prelude.{All, Contains, IsPermutation, Option, MatchOption}
+use Rattle.std.specs.List.{IsDistinct}
+use Rattle.std.proofs.lemmas.Option.{slice_get-map}
+use Rattle.reg_base.specs.declared.instruction.Instruction.{Instruction}
+use Rattle.reg_account.specs.Account.{AccountValue}
+use Rattle.reg_rules.specs.declared.reply.LogRow.{LogRow}
+use Rattle.reg_rules.specs.declared.reply.Reply.{Reply}
+use Rattle.reg_rules.specs.State.{State, Setting, account, numbers}
+use Rattle.reg_rules.specs.Step.{step}
+use Rattle.reg_rules.specs.Laws.{StepLaws, AgreeOn, IsReady}
+use Rattle.reg_base.specs.Directory.{DirectoryValue}
+use Rattle.reg_book.specs.Book.{BookValue, IsBookKept, directory_of}
+use Rattle.reg_book.specs.Day.{Day, IsDay, setting, closing_state, settled_day, replies_of, log_of}
+use Rattle.reg_book.specs.Settled.{committed}
+use Rattle.reg_book.specs.Fold.{rows_of, replies_in}
+use Rattle.reg_book.specs.Laws.{StaysReady, NumbersStay, ClosingIsABook, CommittedIsClosing}
+use Rattle.reg_regions.specs.declared.region.Placed.{Placed}
+use Rattle.reg_regions.specs.declared.swaps.Swap.{Swap}
+use Rattle.reg_regions.specs.Days.{RegionsAreADay}
+use Rattle.reg_regions.specs.Dealing.{AreDealt, AreTurned, put_all}
+use Rattle.reg_regions.specs.Homes.{IsPlaceUpTo}
+use Rattle.reg_regions.specs.Laws.{reply_of}
+use Rattle.reg_regions.specs.Settling.{places_in}
+use Rattle.reg_regions.specs.Swaps.{IsSwapWithin, exchanged, exchanged_back}
+use Rattle.reg_regions.proofs.Exchanged.{exchanged-same, exchanged-undone, back-same, map-exchanged, map-back}
+use Rattle.reg_regions.proofs.Exchanged.{length-exchanged}
+use Rattle.reg_regions.proofs.Found.{distinct-permutation, account-permutation, size-numbers}
+use Rattle.reg_regions.proofs.Marking.{once-contained, once-within}
+use Rattle.reg_regions.proofs.Replying.{length-put, put-right, same-got, IsTold}
+
+module _ (laws : StepLaws) (ready : StaysReady) (stay : NumbersStay) (regions : RegionsAreADay) (day : Day)
+    (kept : IsDay day) (swaps : List Swap) (after : State) (replies : List Placed)
+    (within : All (IsSwapWithin (length day.book.accounts)) swaps)
+    (dealt : AreDealt (setting day) day.batch (exchanged swaps day.book.accounts) after replies)
+    (each : (place : ℕ) → 1 ≤ place → place ≤ length day.batch.instructions → Contains (places_in replies) place) where
+  distinct : IsDistinct eqb (numbers day.book.accounts)
+  distinct = (ready day kept 0 (omega arith)).once
+
+  same : IsPermutation day.book.accounts (exchanged swaps day.book.accounts)
+  same = exchanged-same swaps day.book.accounts within
+
+  are-numbers : numbers after ≡ numbers (exchanged swaps day.book.accounts)
+  are-numbers =
+      let are = regions day dealt.openings dealt.runs kept
+      (subst (IsPermutation day.book.accounts) (sym dealt.cut) same) dealt.are
+      (λ place low high. subst (λ rs. Contains (places_in rs) place) (sym dealt.told) (each place low high)) in
+      ap numbers (sym dealt.joined) ∙ are.same_numbers ∙ ap numbers dealt.cut
+
+  accounts-after : AgreeOn (numbers day.book.accounts) after (closing_state day)
+  accounts-after =
+      let are = regions day dealt.openings dealt.runs kept
+      (subst (IsPermutation day.book.accounts) (sym dealt.cut) same) dealt.are
+      (λ place low high. subst (λ rs. Contains (places_in rs) place) (sym dealt.told) (each place low high)) in
+      subst (λ s. AgreeOn (numbers day.book.accounts) s (closing_state day)) dealt.joined are.accounts
+
+  -- each reply is the day's
+  pub replies-right : All (IsTold (reply_of day)) replies
+  unfolding IsTold
+  replies-right =
+      let are = regions day dealt.openings dealt.runs kept
+      (subst (IsPermutation day.book.accounts) (sym dealt.cut) same) dealt.are
+      (λ place low high. subst (λ rs. Contains (places_in rs) place) (sym dealt.told) (each place low high)) in
+      subst (All (λ p. Some p.reply ≡ reply_of day p.place)) dealt.told are.replies
+
+  size : length after ≡ length day.book.accounts
+  size = sym (size-numbers after) ∙ ap length are-numbers ∙ size-numbers (exchanged swaps day.book.accounts)
+      ∙ length-exchanged swaps day.book.accounts
+
+  within-after : All (IsSwapWithin (length after)) swaps
+  within-after = subst (λ n. All (IsSwapWithin n) swaps) (sym size) within
+
+  numbers-back : numbers (exchanged_back swaps after) ≡ numbers day.book.accounts
+  numbers-back =
+      map-back (λ (v : AccountValue). v.number) swaps after within-after
+      ∙ ap (exchanged_back swaps) (are-numbers
+      ∙ map-exchanged (λ (v : AccountValue). v.number) swaps day.book.accounts within)
+      ∙ exchanged-undone swaps (numbers day.book.accounts)
+      (subst (λ n. All (IsSwapWithin n) swaps) (sym (size-numbers day.book.accounts)) within)
+
+  found : (a : ℕ) → account after a ≡ account (exchanged_back swaps after) a
+  found = account-permutation after (exchanged_back swaps after)
+      (subst (IsDistinct eqb) (sym are-numbers)
+      (distinct-permutation day.book.accounts (exchanged swaps day.book.accounts) distinct same))
+      (back-same swaps after within-after)
+
+  agree : AgreeOn (numbers day.book.accounts) (exchanged_back swaps after) (closing_state day)
+  agree k d lt = sym (found (get_or (numbers day.book.accounts) k d)) ∙ accounts-after k d lt
+
+  -- the accounts are those after the day, in the book's order
+  pub accounts-right : exchanged_back swaps after ≡ closing_state day
+  accounts-right =
+      let closing_numbers = stay day (length day.batch.instructions) in
+      laws.same_state (exchanged_back swaps after) (closing_state day)
+      (subst (IsDistinct eqb) (sym numbers-back) distinct)
+      (numbers-back ∙ sym closing_numbers)
+      (subst (λ ns. AgreeOn ns (exchanged_back swaps after) (closing_state day)) (sym numbers-back) agree)
+
+-- there is a reply to each instruction
+size-replies : (c : Setting) (s : State) (n : ℕ) (is : List Instruction)
+    → length (replies_in (rows_of c s n is)) ≡ length is
+size-replies c s n [] = refl
+size-replies c s n (i ∷ is) = ap suc (size-replies c (step c s n i).0 (n + 1) is)
+
+-- put at their places, they are the replies of the day
+pub replies-are : (day : Day) (slots : List Reply) (replies : List Placed)
+    → length slots ≡ length day.batch.instructions → All (IsTold (reply_of day)) replies
+    → All (IsPlaceUpTo (length slots)) (places_in replies)
+    → ((place : ℕ) → 1 ≤ place → place ≤ length day.batch.instructions → Contains (places_in replies) place)
+    → put_all replies slots ≡ replies_of day
+replies-are day slots replies many right within each =
+    let total : length (replies_of day) ≡ length day.batch.instructions =
+    size-replies (setting day) day.book.accounts (day.batch.base + 1) day.batch.instructions in
+    let size : length (put_all replies slots) ≡ length slots = length-put replies slots in
+    same-got (put_all replies slots) (replies_of day) (size ∙ many ∙ sym total) (λ k lt.
+    put-right (reply_of day) replies slots k right within
+    (each (suc k) (omega arith) (omega (arith, lt, size, many)))
+    ∙ sym (slice_get-map (λ (row : LogRow). row.reply) (log_of day) k))
+
+-- what stays the same while the day is settled, made of its parts
+pub setting-is : (day : Day) (on : ℕ) (directory : DirectoryValue) → on ≡ day.batch.day
+    → directory ≡ directory_of day.book.accounts
+    → ◌≡◌ {A = Setting} (record { rules = day.rules; day = on; directory = directory }) (setting day)
+setting-is day on directory same listed = λ i. record { rules = day.rules; day = same i; directory = listed i }
+
+module _ (laws : StepLaws) (ready : StaysReady) (stay : NumbersStay) (regions : RegionsAreADay) (day : Day)
+    (kept : IsDay day) (c : Setting) (old new : State) (replies : List Placed)
+    (same : c ≡ setting day) (opened : old ≡ day.book.accounts)
+    (turned : AreTurned c day.batch old new replies) where
+  of_day : AreTurned (setting day) day.batch day.book.accounts new replies
+  of_day = subst (λ k. AreTurned k day.batch day.book.accounts new replies) same
+      (subst (λ s. AreTurned c day.batch s new replies) opened turned)
+
+  each-told : (place : ℕ) → 1 ≤ place → place ≤ length day.batch.instructions → Contains (places_in replies) place
+  each-told = once-contained (length day.batch.instructions) (places_in replies) of_day.each_once
+
+  -- the accounts are those after the day
+  pub turned-accounts : new ≡ closing_state day
+  turned-accounts = of_day.back
+      ∙ accounts-right laws ready stay regions day kept of_day.swaps of_day.after replies of_day.within of_day.dealt
+      each-told
+
+  -- each reply is at a place of the batch
+  pub turned-places : (slots : List Reply) → length slots ≡ length day.batch.instructions
+      → All (IsPlaceUpTo (length slots)) (places_in replies)
+  turned-places slots many =
+      subst (λ n. All (IsPlaceUpTo n) (places_in replies)) (sym many)
+      (once-within (length day.batch.instructions) (places_in replies) turned.each_once)
+
+  -- and the replies are those of the day
+  pub turned-replies : (slots : List Reply) → length slots ≡ length day.batch.instructions
+      → put_all replies slots ≡ replies_of day
+  turned-replies slots many =
+      replies-are day slots replies many
+      (replies-right laws ready stay regions day kept of_day.swaps of_day.after replies of_day.within of_day.dealt
+      each-told)
+      (turned-places slots many) each-told
+
+-- the book after the day
+pub book-after : ClosingIsABook → (day : Day) → IsDay day → (new : State) (directory : DirectoryValue) (next count : ℕ)
+    → new ≡ closing_state day → directory ≡ directory_of day.book.accounts → next ≡ day.book.next
+    → count ≡ length day.batch.instructions → IsBookKept new directory (next + count)
+book-after closing day kept new directory next count is listed same many =
+    subst (λ s. IsBookKept s directory (next + count)) (sym is)
+    (subst (λ d. IsBookKept (closing_state day) d (next + count)) (sym listed)
+    (subst (IsBookKept (closing_state day) (directory_of day.book.accounts)) (sym (λ i. same i + many i))
+    (closing day kept)))
+
+-- is that which a commit of the settled day gives
+pub is-after : CommittedIsClosing → (day : Day) → IsDay day → (new : State) (next count : ℕ)
+    → new ≡ closing_state day → next ≡ day.book.next → count ≡ length day.batch.instructions
+    → ◌≡◌ {A = BookValue} (record { accounts = new; next = next + count }) (committed day.book (settled_day day))
+is-after commits day kept new next count is same many =
+    (λ i. record { accounts = is i; next = same i + many i }) ∙ sym (commits day kept.book kept.follows)
+
+-- the book before the day is ready for its first record number
+pub ready-day : StaysReady → (day : Day) → IsDay day → IsReady (day.batch.base + 1) day.book.accounts
+ready-day ready day kept =
+    subst (λ n. IsReady n day.book.accounts) (add-zero (day.batch.base + 1)) (ready day kept 0 (omega arith))
+
+-- what is known of an answer, where there is one
+pub at-some : {A : Type 0} (o : Option A) (N : Type 0) (P : A → Type 0) (x : A) → o ≡ Some x → MatchOption o N P → P x
+at-some {A} o N P x is known = subst (λ (q : Option A). MatchOption q N P) is known

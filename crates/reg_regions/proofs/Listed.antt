@@ -1,0 +1,196 @@
+-- Lists that are regions, and what comes of them, put together.
+use Rattle.std.proofs.Common.{◌≡◌, ℕ, zero, suc, ◌+◌, ◌-◌, ◌<◌, ◌≤◌, List, [], ◌∷◌, ◌++◌, length, map, take, drop}
+use Rattle.std.proofs.Common.{get_or, Some, Vec, Global, append-nil, refl, sym, ap, subst, ◌∙◌, arith}
+use Rattle.std.specs.Prelude.{All, slice_get}
+use Rattle.std.specs.List.{flat_map}
+use Rattle.std.specs.Option.{option_map_or}
+use Rattle.std.proofs.Math.Seq.{take-append_seam, drop-append_seam}
+use Rattle.std.proofs.lemmas.List.{map-append, take_all, drop_all}
+use Rattle.std.proofs.lemmas.List.Folds.{flat_map-map}
+use Rattle.std.proofs.lemmas.List.Elements.{All-head, All-tail}
+use Rattle.reg_base.specs.Batch.{BatchValue}
+use Rattle.reg_base.specs.Rising.{count_up}
+use Rattle.reg_base.specs.Rules.{AreRules}
+use Rattle.reg_account.specs.Account.{AccountValue}
+use Rattle.reg_rules.specs.State.{State, Setting, numbers}
+use Rattle.reg_rules.specs.Laws.{StepLaws, IsReady}
+use Rattle.reg_book.specs.Indexes.{index_lists}
+use Rattle.reg_regions.specs.declared.dealing.Deal.{Deal}
+use Rattle.reg_regions.specs.declared.region.Placed.{Placed}
+use Rattle.reg_regions.specs.declared.stealing.settled_list.SettledList.{SettledList}
+use Rattle.reg_regions.specs.Days.{Run, all_opening, AreRuns}
+use Rattle.reg_regions.specs.Dealing.{AreDealt}
+use Rattle.reg_regions.specs.Homes.{AreHome, AreAllHome, dealt_places}
+use Rattle.reg_regions.specs.Settling.{IsRun, places_in}
+use Rattle.reg_regions.specs.Lists.{joined_lists, sizes_of, deal_sizes}
+use Rattle.reg_regions.specs.Stealing.{region_openings, region_opening, places_at, IsGround}
+use Rattle.reg_regions.specs.Stealing.{IsSettledList, numbers_of, settled_places}
+use Rattle.reg_regions.proofs.Keeping.{numbers-all}
+use Rattle.reg_regions.proofs.Pieces.{ready-cut, cut-numbers, rest-numbers}
+
+-- a list that was passed as a slice, and written whole
+pub written_whole : {X : Type 0} (now new : List X) (len : ℕ) → len ≡ length now → length new ≡ length now
+    → take len (new ++ drop (length new) now) ≡ new
+written_whole now new len size kept =
+    ap (λ l. take len (new ++ l)) (drop_all (length new) now (omega (arith, kept)))
+    ∙ ap (take len) (append-nil new) ∙ take_all len new (omega (arith, size, kept))
+
+-- the first of what is left of a list
+pub next-opening : (os : List State) (k : ℕ) (a : State) (left : List State) → a ∷ left ≡ drop k os
+    → (k < length os) × (a ≡ get_or os k []) × (left ≡ drop (suc k) os)
+next-opening [] zero a left e = absurd cc
+next-opening [] (suc k) a left e = absurd cc
+next-opening (o ∷ os) zero a left e = (omega arith, cc, cc)
+next-opening (o ∷ os) (suc k) a left e =
+    let (lt, here, rest) = next-opening os k a left e in (omega (arith, lt), here, rest)
+
+next-deal : (ds : List Deal) (k : ℕ) (d : Deal) (left : List Deal) → d ∷ left ≡ drop k ds
+    → (slice_get ds k ≡ Some d) × (left ≡ drop (suc k) ds)
+next-deal [] zero d left e = absurd cc
+next-deal [] (suc k) d left e = absurd cc
+next-deal (x ∷ ds) zero d left e = (cc, cc)
+next-deal (x ∷ ds) (suc k) d left e = next-deal ds k d left e
+
+-- what came of a region
+abbrev pub run_of : SettledList → Run
+run_of s = record { afterwards = s.accounts.items; replies = s.replies.items }
+
+places-flat : (ss : List SettledList) → places_in (flat_map (λ s. s.replies.items) ss) ≡ settled_places ss
+places-flat [] = refl
+places-flat (s ∷ ss) =
+    map-append (λ (p : Placed). p.place) s.replies.items (flat_map (λ t. t.replies.items) ss)
+    ∙ ap (λ ps. places_in s.replies.items ++ ps) (places-flat ss)
+
+length-numbers : (s : State) → length (numbers s) ≡ length s
+length-numbers [] = refl
+length-numbers (v ∷ s) = ap suc (length-numbers s)
+
+sizes-openings : (lists : List (Vec AccountValue Global)) → map length (region_openings lists) ≡ sizes_of lists
+sizes-openings [] = refl
+sizes-openings (l ∷ lists) = ap (λ ns. length l.items ∷ ns) (sizes-openings lists)
+
+module _ (c : Setting) (b : BatchValue) (openings : List State) (deals : List Deal) where
+  -- settled regions with the numbers from one on are what came of the regions that are left
+  runs-from : (ss : List SettledList) (k : ℕ) (os : List State) (ds : List Deal)
+      → numbers_of ss ≡ count_up (suc k) (length os) → os ≡ drop k openings → ds ≡ drop k deals
+      → length os ≡ length ds → All (IsSettledList c b openings deals) ss
+      → AreRuns c b os (map run_of ss) × (settled_places ss ≡ dealt_places ds)
+  runs-from [] k [] [] same at at_deals many all = (tt, refl)
+  runs-from [] k [] (d ∷ ds) same at at_deals many all = absurd (omega (arith, many))
+  runs-from [] k (o ∷ os) ds same at at_deals many all = absurd cc
+  runs-from (s ∷ ss) k [] ds same at at_deals many all = absurd cc
+  runs-from (s ∷ ss) k (o ∷ os) [] same at at_deals many all = absurd (omega (arith, many))
+  runs-from (s ∷ ss) k (o ∷ os) (d ∷ ds) same at at_deals many all =
+      let number : s.number ≡ suc k = cc in
+      let later : numbers_of ss ≡ count_up (suc k + 1) (length os) = cc in
+      let next : suc k + 1 ≡ suc (suc k) = omega arith in
+      let before : s.number - 1 ≡ k = omega (arith, number) in
+      let here : IsSettledList c b openings deals s = All-head (IsSettledList c b openings deals) s ss all in
+      let front = next-opening openings k o os at in
+      let front_deal = next-deal deals k d ds at_deals in
+      let mine : region_opening openings s.number ≡ o = ap (λ j. get_or openings j []) before ∙ sym front.1 in
+      let own : places_at deals s.number ≡ d.places.items =
+      ap (λ j. option_map_or (λ (e : Deal). e.places.items) (slice_get deals j) []) before
+      ∙ ap (λ r. option_map_or (λ (e : Deal). e.places.items) r []) front_deal.0 in
+      let rest = runs-from ss (suc k) os ds (later ∙ ap (λ j. count_up j (length os)) next) front.2 front_deal.1
+      (omega (arith, many)) (All-tail (IsSettledList c b openings deals) s ss all) in (
+        (subst (λ x. IsRun c b x s.accounts.items s.replies.items) mine here.run, rest.0),
+        ap (λ ps. ps ++ settled_places ss) (here.places ∙ own) ∙ ap (λ ps. d.places.items ++ ps) rest.1,
+      )
+
+  sizes-after : StepLaws → (os : List State) (ss : List SettledList) → AreRuns c b os (map run_of ss)
+      → sizes_of (map (λ s. s.accounts) ss) ≡ map length os
+  sizes-after laws [] [] runs = refl
+  sizes-after laws [] (s ∷ ss) runs = absurd runs
+  sizes-after laws (o ∷ os) [] runs = absurd runs
+  sizes-after laws (o ∷ os) (s ∷ ss) runs =
+      let kept = ap numbers runs.0.accounts ∙ numbers-all laws c b o (places_in s.replies.items) in
+      let size : length s.accounts.items ≡ length o =
+      sym (length-numbers s.accounts.items) ∙ ap length kept ∙ length-numbers o in
+      ap (λ n. n ∷ sizes_of (map (λ t. t.accounts) ss)) size
+      ∙ ap (λ ns. length o ∷ ns) (sizes-after laws os ss runs.1)
+
+  module _ (ss : List SettledList) (same : numbers_of ss ≡ count_up 1 (length openings))
+      (many : length openings ≡ length deals) (all : All (IsSettledList c b openings deals) ss)
+      (lists new : List (Vec AccountValue Global)) (replies : List Placed) (opened : openings ≡ region_openings lists)
+      (closed : new ≡ map (λ s. s.accounts) ss) (told : replies ≡ flat_map (λ s. s.replies.items) ss) where
+    runs-whole : AreRuns c b openings (map run_of ss) × (settled_places ss ≡ dealt_places deals)
+    runs-whole = runs-from ss 0 openings deals same refl refl many all
+
+    -- the lists were dealt out, and this is what came of them
+    pub dealt-lists : AreDealt c b (joined_lists lists) (joined_lists new) replies
+    dealt-lists = record {
+      openings = openings;
+      runs = map run_of ss;
+      cut = ap all_opening opened ∙ flat_map-map (λ (s : State). s) (λ l. l.items) lists;
+      joined = flat_map-map (λ (r : Run). r.afterwards) run_of ss
+          ∙ sym (flat_map-map (λ l. l.items) (λ s. s.accounts) ss) ∙ ap joined_lists (sym closed);
+      told = flat_map-map (λ (r : Run). r.replies) run_of ss ∙ sym told;
+      are = runs-whole.0;
+    }
+
+    pub dealt-each : places_in replies ≡ dealt_places deals
+    dealt-each = ap places_in told ∙ places-flat ss ∙ runs-whole.1
+
+    pub dealt-sizes : StepLaws → sizes_of new ≡ sizes_of lists
+    dealt-sizes laws =
+        ap sizes_of closed ∙ sizes-after laws openings ss runs-whole.0 ∙ ap (map length) opened
+        ∙ sizes-openings lists
+
+    pub dealt-places : settled_places ss ≡ dealt_places deals
+    dealt-places = runs-whole.1
+
+module _ (c : Setting) (b : BatchValue) where
+  ready-front : (n : ℕ) (s t : State) → IsReady n (s ++ t) → IsReady n s × IsReady n t
+  ready-front n s t ready =
+      let cut = ready-cut n (length s) (s ++ t) ready in
+      (subst (IsReady n) (take-append_seam s t) cut.0, subst (IsReady n) (drop-append_seam s t) cut.1)
+
+  each-ready : (n : ℕ) (lists : List (Vec AccountValue Global)) → IsReady n (joined_lists lists) → (k : ℕ)
+      → k < length (region_openings lists) → IsReady n (get_or (region_openings lists) k [])
+  each-ready n [] ready k lt = absurd (omega (arith, lt))
+  each-ready n (l ∷ lists) ready zero lt = (ready-front n l.items (joined_lists lists) ready).0
+  each-ready n (l ∷ lists) ready (suc k) lt =
+      each-ready n lists (ready-front n l.items (joined_lists lists) ready).1 k (omega (arith, lt))
+
+  numbers-front : (size : ℕ) (s t : State) → size ≡ length s → take size (numbers (s ++ t)) ≡ numbers s
+  numbers-front size s t is =
+      sym (cut-numbers size (s ++ t)) ∙ ap (λ n. numbers (take n (s ++ t))) is ∙ ap numbers (take-append_seam s t)
+
+  numbers-back : (size : ℕ) (s t : State) → size ≡ length s → drop size (numbers (s ++ t)) ≡ numbers t
+  numbers-back size s t is =
+      sym (rest-numbers size (s ++ t)) ∙ ap (λ n. numbers (drop n (s ++ t))) is ∙ ap numbers (drop-append_seam s t)
+
+  each-home : (lists : List (Vec AccountValue Global)) (deals : List Deal)
+      → AreAllHome c b (numbers (joined_lists lists)) deals → sizes_of lists ≡ deal_sizes deals
+      → (k : ℕ) (d : Deal) → slice_get deals k ≡ Some d
+      → AreHome c b (numbers (get_or (region_openings lists) k [])) d.places.items (index_lists d.indexes.items)
+  each-home lists [] home sizes k d at = absurd cc
+  each-home [] (e ∷ deals) home sizes k d at = absurd cc
+  each-home (l ∷ lists) (e ∷ deals) home sizes zero d at =
+      let size : e.size ≡ length l.items = cc in
+      let same : e ≡ d = cc in
+      subst (λ (x : Deal). AreHome c b (numbers l.items) x.places.items (index_lists x.indexes.items)) same
+      (subst (λ ns. AreHome c b ns e.places.items (index_lists e.indexes.items))
+      (numbers-front e.size l.items (joined_lists lists) size) home.1)
+  each-home (l ∷ lists) (e ∷ deals) home sizes (suc k) d at =
+      let size : e.size ≡ length l.items = cc in
+      let later : sizes_of lists ≡ deal_sizes deals = cc in
+      each-home lists deals (subst (λ ns. AreAllHome c b ns deals)
+      (numbers-back e.size l.items (joined_lists lists) size) home.2) later k d at
+
+  -- lists that are ready, and cut as they were dealt out, are regions
+  pub ground-of : (lists : List (Vec AccountValue Global)) (deals : List Deal) → AreRules c.rules
+      → IsReady (b.base + 1) (joined_lists lists) → AreAllHome c b (numbers (joined_lists lists)) deals
+      → sizes_of lists ≡ deal_sizes deals → IsGround c b (region_openings lists) deals
+  ground-of lists deals rules ready home sizes = record {
+    rules = rules;
+    as_many = sym (lengths-map length (region_openings lists)) ∙ ap length (sizes-openings lists ∙ sizes)
+        ∙ lengths-map (λ (d : Deal). d.size) deals;
+    ready = each-ready (b.base + 1) lists ready;
+    home = each-home lists deals home sizes;
+  }
+    where
+      lengths-map : {X : Type 0} (f : X → ℕ) (xs : List X) → length (map f xs) ≡ length xs
+      lengths-map f [] = refl
+      lengths-map f (x ∷ xs) = ap suc (lengths-map f xs)

@@ -1,0 +1,208 @@
+-- All instructions as those of one region, which has all accounts.
+use Rattle.std.proofs.Common.{◌≡◌, ℕ, zero, suc, ◌+◌, ◌-◌, ◌<◌, ◌≤◌, eqb, List, [], ◌∷◌, ◌++◌, map, length}
+use Rattle.std.proofs.Common.{get_or, take, refl, sym, ap, subst, ◌∙◌, inl, inr, arith, Vec, Global, Result, Ok, Err}
+use Rattle.std.specs.Prelude.{slice_get, IfOk}
+use Rattle.std.specs.List.{AllByRecursion}
+use Rattle.std.specs.Option.{option_map_or}
+use Rattle.std.proofs.lemmas.Bool.{cases_eq, cases_lt, eq-eqb, ne_eqb}
+use Rattle.std.proofs.lemmas.List.{length-map, map-append, take_all}
+use Rattle.std.proofs.lemmas.List.Elements.{All-nil}
+use Rattle.arrayvec.specs.ArrayVec.{ArrayVec}
+use Rattle.reg_base.specs.declared.instruction.Instruction.{Instruction}
+use Rattle.reg_base.specs.Batch.{BatchValue}
+use Rattle.reg_base.specs.Directory.{DirectoryValue}
+use Rattle.reg_base.specs.Footprint.{footprint}
+use Rattle.reg_base.specs.Footprints.{footprints}
+use Rattle.reg_base.specs.Rising.{count_up}
+use Rattle.reg_counting.specs.Counting.{times, once, one_if}
+use Rattle.reg_rules.specs.State.{State, Setting}
+use Rattle.reg_book.specs.Indexes.{StandAt, AllStandAt, each_at, index_lists}
+use Rattle.reg_regions.specs.declared.dealing.Deal.{Deal}
+use Rattle.reg_regions.specs.declared.region.Placed.{Placed}
+use Rattle.reg_regions.specs.declared.stealing.shift.WorkShift.{WorkShift}
+use Rattle.reg_regions.specs.Outcomes.{AreShiftsOf}
+use Rattle.reg_regions.specs.Dealing.{AreDealt, AreTurned}
+use Rattle.reg_regions.specs.Regions.{RiseAbove}
+use Rattle.reg_regions.specs.Homes.{IsHome, AreHome, AreAllHome, dealt_places}
+use Rattle.reg_regions.specs.Settling.{places_in}
+use Rattle.reg_regions.specs.Stealing.{AreWorkShifts}
+use Rattle.reg_regions.specs.Swaps.{IsSwapWithin}
+use Rattle.reg_regions.proofs.Marking.{within-once, beyond-once, zero-once}
+
+pub size-count : (a n : ℕ) → length (count_up a n) ≡ n
+size-count a zero = refl
+size-count a (suc n) = ap suc (size-count (a + 1) n)
+
+get-count : (a n k : ℕ) → k < n → get_or (count_up a n) k 0 ≡ a + k
+get-count a zero k lt = absurd (omega (arith, lt))
+get-count a (suc n) zero lt = omega arith
+get-count a (suc n) (suc k) lt = let later = get-count (a + 1) n k (omega (arith, lt)) in omega (arith, later)
+
+rise-count : (low a n : ℕ) → low < a → RiseAbove low (count_up a n)
+rise-count low a zero lt = tt
+rise-count low a (suc n) lt = (lt, rise-count a (a + 1) n (omega arith))
+
+count-below : (p a n : ℕ) → p < a → times p (count_up a n) ≡ 0
+count-below p a zero lt = refl
+count-below p a (suc n) lt =
+    let none : one_if (eqb a p) ≡ 0 = ap one_if (ne_eqb a p (λ e. omega (arith, lt, e))) in
+    let later = count-below p (a + 1) n (omega (arith, lt)) in
+    omega (arith, none, later)
+
+count-in : (p a n : ℕ) → a ≤ p → p < a + n → times p (count_up a n) ≡ 1
+count-in p a zero low high = absurd (omega (arith, low, high))
+count-in p a (suc n) low high = elim (cases_eq a p) [
+  | inl at ↦
+      let here : one_if (eqb a p) ≡ 1 = ap one_if (eq-eqb a p at) in
+      let later = count-below p (a + 1) n (omega (arith, at)) in
+      omega (arith, here, later)
+  | inr other ↦
+      let none : one_if (eqb a p) ≡ 0 = ap one_if (ne_eqb a p other) in
+      let above : a + 1 ≤ p = elim (cases_lt p (a + 1)) [
+        | inl lt ↦ absurd (other (omega (arith, low, lt)))
+        | inr le ↦ le
+      ] in
+      let later = count-in p (a + 1) n above (omega (arith, high)) in
+      omega (arith, none, later)
+]
+
+count-beyond : (p a n : ℕ) → a + n ≤ p → times p (count_up a n) ≡ 0
+count-beyond p a zero le = refl
+count-beyond p a (suc n) le =
+    let none : one_if (eqb a p) ≡ 0 = ap one_if (ne_eqb a p (λ e. omega (arith, le, e))) in
+    let later = count-beyond p (a + 1) n (omega (arith, le)) in
+    omega (arith, none, later)
+
+-- the places from 1 on, each once
+pub times-count : (n p : ℕ) → times p (count_up 1 n) ≡ once n p
+times-count n p = elim (cases_lt p 1) [
+  | inl low ↦
+      let none : p ≡ 0 = omega (arith, low) in
+      count-below p 1 n low ∙ sym (zero-once n) ∙ ap (once n) (sym none)
+  | inr one ↦ elim (cases_lt n p) [
+    | inl high ↦ count-beyond p 1 n (omega (arith, high)) ∙ sym (beyond-once n p high)
+    | inr le ↦ count-in p 1 n one (omega (arith, le)) ∙ sym (within-once n p one le)
+  ]
+]
+
+count-later : (a n : ℕ) → count_up a (suc n) ≡ count_up a n ++ (a + n) ∷ []
+count-later a zero = let e : a ≡ a + 0 = omega arith in ap (λ x. x ∷ []) e
+count-later a (suc n) =
+    let e : a + 1 + n ≡ a + suc n = omega arith in
+    ap (λ xs. a ∷ xs) (count-later (a + 1) n ∙ ap (λ x. count_up (a + 1) n ++ x ∷ []) e)
+
+-- one place more
+pub count-more : (n : ℕ) → count_up 1 (n + 1) ≡ count_up 1 n ++ (n + 1) ∷ []
+count-more n =
+    let next : n + 1 ≡ suc n = omega arith in
+    let e : 1 + n ≡ n + 1 = omega arith in
+    ap (count_up 1) next ∙ count-later 1 n ∙ ap (λ x. count_up 1 n ++ x ∷ []) e
+
+-- where the accounts of one instruction stand
+stand-at : (d : DirectoryValue) (ns : List ℕ) (indexes : List (List ℕ)) (is : List Instruction) (k : ℕ)
+    → AllByRecursion (AllByRecursion (λ p. p < length ns)) indexes → map (each_at ns) indexes ≡ footprints d is
+    → k < length is
+    → StandAt ns (get_or indexes k []) (option_map_or (λ i. footprint d i.act) (slice_get is k) [])
+stand-at d ns indexes [] k within same lt = absurd (omega (arith, lt))
+stand-at d ns [] (i ∷ is) k within same lt = absurd cc
+stand-at d ns (own ∷ indexes) (i ∷ is) zero within same lt =
+    record { within = within.0; are_there = let e : each_at ns own ≡ footprint d i.act = cc in e }
+stand-at d ns (own ∷ indexes) (i ∷ is) (suc k) within same lt =
+    stand-at d ns indexes is k within.1 (let e : map (each_at ns) indexes ≡ footprints d is = cc in e)
+    (omega (arith, lt))
+
+-- all instructions have their accounts at hand, if these stand where they were found
+pub home-whole : (c : Setting) (b : BatchValue) (ns : List ℕ) (indexes : List (List ℕ))
+    → AllStandAt c.directory ns indexes b.instructions
+    → AreHome c b ns (count_up 1 (length b.instructions)) indexes
+home-whole c b ns indexes found =
+    let n = length b.instructions in
+    record {
+      rising = rise-count 0 1 n (omega arith);
+      each = λ k lt.
+          let inside : k < n = omega (arith, lt, size-count 1 n) in
+          subst (λ p. IsHome c b ns p (get_or indexes k [])) (sym (get-count 1 n k inside))
+          (at k inside);
+      as_many =
+          let many : length (map (each_at ns) indexes) ≡ length (footprints c.directory b.instructions) =
+          ap length found.are_there in
+          let one = length-map indexes (each_at ns) in
+          let other = length-map b.instructions (λ (i : Instruction). footprint c.directory i.act) in
+          let size = size-count 1 n in
+          omega (arith, many, one, other, size);
+    }
+  where
+    at : (k : ℕ) → k < length b.instructions → IsHome c b ns (1 + k) (get_or indexes k [])
+    at k inside = record {
+      from_one = omega arith;
+      within = omega (arith, inside);
+      there =
+          let less : 1 + k - 1 ≡ k = omega arith in
+          subst (λ j. StandAt ns (get_or indexes k [])
+          (option_map_or (λ i. footprint c.directory i.act) (slice_get b.instructions j) [])) (sym less)
+          (stand-at c.directory ns indexes b.instructions k found.within found.are_there inside);
+    }
+
+-- a region of all accounts
+pub home-alone : (c : Setting) (b : BatchValue) (ns : List ℕ) (d : Deal) → d.size ≡ length ns
+    → AreHome c b ns d.places.items (index_lists d.indexes.items) → AreAllHome c b ns (d ∷ [])
+home-alone c b ns d size home =
+    let whole : take d.size ns ≡ ns = take_all d.size ns (omega (arith, size)) in (
+      omega (arith, size),
+      subst (λ xs. AreHome c b xs d.places.items (index_lists d.indexes.items)) (sym whole) home,
+      tt,
+    )
+
+all-both : (P : List ℕ → Type 0) (xs ys : List (List ℕ)) → AllByRecursion P xs → AllByRecursion P ys
+    → AllByRecursion P (xs ++ ys)
+all-both P [] ys one other = other
+all-both P (x ∷ xs) ys one other = (one.0, all-both P xs ys one.1 other)
+
+-- what was found of a run, and of those behind it
+pub found-both : {E : Type 0} (r : Result (Vec (ArrayVec ℕ) Global) E) (d : DirectoryValue) (ns : List ℕ)
+    (one other : List (ArrayVec ℕ)) (is js whole : List Instruction) → whole ≡ is ++ js
+    → AllStandAt d ns (index_lists one) is → AllStandAt d ns (index_lists other) js
+    → IfOk r (λ all. all.items ≡ one ++ other)
+    → IfOk r (λ all. AllStandAt d ns (index_lists all.items) whole)
+found-both (Ok all) d ns one other is js whole cut front back items =
+    let both : index_lists all.items ≡ index_lists one ++ index_lists other =
+    ap index_lists items ∙ map-append (λ (x : ArrayVec ℕ). x.items) one other in
+    record {
+      within = subst (AllByRecursion (AllByRecursion (λ p. p < length ns))) (sym both)
+          (all-both (AllByRecursion (λ p. p < length ns)) (index_lists one) (index_lists other) front.within
+          back.within);
+      are_there = ap (map (each_at ns)) both ∙ map-append (each_at ns) (index_lists one) (index_lists other)
+          ∙ ap (λ xs. xs ++ map (each_at ns) (index_lists other)) front.are_there
+          ∙ ap (λ xs. footprints d is ++ xs) back.are_there
+          ∙ sym (map-append (λ (i : Instruction). footprint d i.act) is js) ∙ ap (footprints d) (sym cut);
+    }
+found-both (Err e) d ns one other is js whole cut front back items = tt
+
+-- what came of one region that has all accounts and instructions
+pub whole-turned : {V E : Type 0} (c : Setting) (b : BatchValue) (r : Result V E) (after : V → State)
+    (told : V → List Placed) (old given : State) (places : List ℕ) → given ≡ old
+    → places ≡ count_up 1 (length b.instructions)
+    → IfOk r (λ v. AreDealt c b given (after v) (told v)) → IfOk r (λ v. places_in (told v) ≡ places)
+    → IfOk r (λ v. AreTurned c b old (after v) (told v))
+whole-turned c b (Ok v) after told old given places same counted dealt placed = record {
+  swaps = [];
+  within = All-nil (IsSwapWithin (length old));
+  after = after v;
+  dealt = subst (λ s. AreDealt c b s (after v) (told v)) same dealt;
+  back = refl;
+  each_once = λ p. ap (times p) (placed ∙ counted) ∙ times-count (length b.instructions) p;
+}
+whole-turned c b (Err e) after told old given places same counted dealt placed = tt
+
+pub shifts-once : (workers n : ℕ) (deals : List Deal) (shifts : List WorkShift)
+    → ((p : ℕ) → times p (dealt_places deals) ≡ once n p) → AreWorkShifts workers deals shifts
+    → AreShiftsOf workers n shifts
+shifts-once workers n deals shifts all are =
+    record { workers_are = are.workers_are; each_once = λ p. are.each p ∙ all p }
+
+pub whole-shifts : {V E : Type 0} (r : Result V E) (shifts : V → List WorkShift) (workers n : ℕ) (deals : List Deal)
+    → dealt_places deals ≡ count_up 1 n → IfOk r (λ v. AreWorkShifts workers deals (shifts v))
+    → IfOk r (λ v. AreShiftsOf workers n (shifts v))
+whole-shifts (Ok v) shifts workers n deals counted are =
+    shifts-once workers n deals (shifts v) (λ p. ap (times p) counted ∙ times-count n p) are
+whole-shifts (Err e) shifts workers n deals counted are = tt

@@ -1,0 +1,29 @@
+use Rattle.std.proofs.Common.{arith, ◌≡◌, ◌+◌, ◌++◌, ◌∷◌, [], map, drop, length, sym, ap, ◌∙◌, suc}
+use Rattle.std.proofs.lemmas.List.{map-append}
+use Rattle.reg_base.specs.Rising.{count_up}
+use Rattle.reg_regions.specs.Stealing.{region_openings}
+use Rattle.reg_regions.proofs.Listed.{next-opening}
+use Rattle.reg_regions.proofs.Tallied.{count-more}
+use Rattle.reg_regions.proofs.stealing.regions.make_regions.Goals as goal
+
+pub loop-accounts-preserved : goal.loop-accounts-preserved
+loop-accounts-preserved g c =
+    let i = c.loop-accounts.invariant in
+    let n = c.loop-accounts.number in
+    let items = c.in-Some.ensures.steps.0 in
+    let fewer = ap length items in
+    let whole = i.whole in
+    let next = next-opening g.C.Cutting.openings n c.in-Some.accounts.items
+    (region_openings c.next.new.self.rest.items) (sym (ap region_openings items) ∙ i.left) in
+    let one : suc n ≡ n + 1 = omega arith in
+    let turn : 1 + n ≡ n + 1 = omega arith in
+    record {
+      can_go = record {};
+      ends = record {};
+      whole = omega arith;
+      left = next.2 ∙ ap (λ k. drop k g.C.Cutting.openings) one;
+      numbers = ap (map (λ r. r.number)) c.in_ok-push.ensures.items
+          ∙ map-append (λ r. r.number) c.loop-accounts.regions.items _
+          ∙ ap (λ ns. ns ++ (n + 1) ∷ []) i.numbers
+          ∙ sym (count-more n 1 ∙ ap (λ k. count_up 1 n ++ k ∷ []) turn);
+    }

@@ -1,0 +1,60 @@
+use Rattle.std.proofs.Common.{◌≡◌, arith, length, sym, ap, subst, ◌∙◌}
+use Rattle.std.specs.Prelude.{All}
+use Rattle.std.proofs.lemmas.List.{length-map}
+use Rattle.std.proofs.lemmas.List.Sorted.{All-permutation}
+use Rattle.reg_base.specs.Rising.{count_up}
+use Rattle.reg_counting.specs.Counting.{times}
+use Rattle.reg_regions.specs.Stealing.{IsSettledList, AreSettled, numbers_of, first_numbers}
+use Rattle.reg_regions.specs.Stealing.{shift_workers, times_in_shifts}
+use Rattle.reg_regions.proofs.Listed.{dealt-lists, dealt-each, dealt-sizes, dealt-places}
+use Rattle.reg_regions.proofs.Tallied.{sorted-numbers, places-permuted, all-flat, length-below}
+use Rattle.reg_regions.proofs.stealing.settle_by_workers.Goals as goal
+
+pub count_up-requires-clause-share : goal.count_up-requires-clause-share
+count_up-requires-clause-share g c =
+    let numbers = ap length (c.in_ok-ended.ensures.numbers ∙ c.in_ok-crew.ensures.numbers) in
+    let many = length-map c.in_ok-ended.ended.items (λ w. w.number) in
+    let count = length-below c.in_ok-deques.deques.len in
+    let share = c.in_ok-crew.ensures.share in
+    let len = c.in_ok-ended.ended.ok.0 in
+    omega (arith, numbers, many, count, share, len)
+
+pub returns : goal.returns
+returns g c =
+    let openings = g.C.Cutting.openings in
+    let setting = c.args.setting.now in
+    let batch = c.args.batch.now in
+    let deals = c.args.deals.now in
+    let lists = c.args.lists.items in
+    let done = c.in_ok-done.done.settled.items in
+    let settled = c.in_order-settled.result.items in
+    let moved = c.in_order-settled.ensures.same in
+    let is = IsSettledList setting batch openings deals in
+    let same : numbers_of settled ≡ count_up 1 (length openings) =
+    sorted-numbers (length openings) done settled moved c.in_order-settled.ensures.sorted
+    c.in_ok-done.ensures.each in
+    let many = c.requires.ground.as_many in
+    let all : All is settled = All-permutation is done settled moved
+    (subst (All is) (sym c.in_ok-done.ensures.settled)
+    (all-flat is (λ w. w.settled.items) c.in_ok-ended.ended.items c.in_ok-ended.ensures.settled)) in
+    let new = c.in_ok-all.all.lists.items in
+    let replies = c.in_ok-all.all.replies.items in
+    let closed = c.in_ok-all.ensures.lists in
+    let told = c.in_ok-all.ensures.replies in
+    let shifts = c.in_ok-all.ensures.shifts in
+    record {
+      dealt = dealt-lists setting batch openings deals settled same many all lists new replies c.requires.openings
+          closed told;
+      places = dealt-each setting batch openings deals settled same many all lists new replies c.requires.openings
+          closed told;
+      sizes = dealt-sizes setting batch openings deals settled same many all lists new replies c.requires.openings
+          closed told c.step_laws.ensures;
+      shifts = record {
+        workers_are = ap (λ v. shift_workers v.items) shifts ∙ c.in_ok-done.ensures.workers
+            ∙ c.in_ok-ended.ensures.numbers ∙ c.in_ok-crew.ensures.numbers ∙ ap first_numbers c.in_ok-deques.ensures;
+        each = λ p. ap (λ v. times_in_shifts p v.items) shifts ∙ c.in_ok-done.ensures.times p
+            ∙ sym (places-permuted p done settled moved)
+            ∙ ap (times p) (dealt-places setting batch openings deals settled same many all lists new replies
+            c.requires.openings closed told);
+      };
+    }

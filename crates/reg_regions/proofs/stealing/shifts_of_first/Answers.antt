@@ -1,0 +1,22 @@
+use Rattle.std.proofs.Common.{◌≡◌, ◌+◌, ◌++◌, ◌∷◌, [], arith, sym, ap, ◌∙◌}
+use Rattle.std.proofs.lemmas.List.{map-append}
+use Rattle.reg_counting.specs.Counting.{times}
+use Rattle.reg_regions.specs.declared.stealing.shift.WorkShift.{WorkShift}
+use Rattle.reg_regions.specs.Stealing.{shift_workers, times_in_shifts, first_numbers, settled_places}
+use Rattle.reg_regions.proofs.Tallied.{shifts-more, numbers-next, times-append}
+use Rattle.reg_regions.proofs.stealing.shifts_of_first.Goals as goal
+
+pub loop-worker-preserved : goal.loop-worker-preserved
+loop-worker-preserved c =
+    let i = c.loop-worker.invariant in
+    let shifts = c.loop-worker.shifts.items in
+    let pushed = c.in_ok-push-2.ensures.items in
+    record {
+      workers = ap shift_workers pushed ∙ map-append (λ (s : WorkShift). s.worker) shifts _
+          ∙ ap (λ ns. ns ++ c.loop-worker.worker ∷ []) i.workers ∙ sym (numbers-next c.loop-worker.worker);
+      times = λ p.
+          let more = shifts-more p shifts _ in
+          let none = ap (times p) c.new.ensures.items in
+          let before = i.times p in
+          ap (times_in_shifts p) pushed ∙ more ∙ ap (λ n. times_in_shifts p shifts + n) none ∙ omega (arith, before);
+    }

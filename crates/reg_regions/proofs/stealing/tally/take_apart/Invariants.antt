@@ -1,0 +1,14 @@
+use Rattle.std.proofs.Common.{◌≡◌, ◌++◌, map}
+use Rattle.std.specs.List.{flat_map}
+use Rattle.reg_regions.proofs.stealing.tally.take_apart.Given as goal
+
+-- what was taken apart, and what is left, are the whole
+abbrev pub invariant-loop-one : goal.invariant-loop-one
+invariant-loop-one l = record {
+  can_go : goal.iterator-loop-one.can_next l.one-iterator;
+  ends : goal.iterator-loop-one.is_finite l.one-iterator;
+  lists : l.lists.items ++ map (λ s. s.accounts) l.one-iterator.rest.items
+      ≡ map (λ s. s.accounts) l.fn.settled.items;
+  replies : l.replies.items ++ flat_map (λ s. s.replies.items) l.one-iterator.rest.items
+      ≡ flat_map (λ s. s.replies.items) l.fn.settled.items;
+}

@@ -1,0 +1,31 @@
+use Rattle.std.proofs.Common.{◌≡◌, ◌∷◌, [], rules, length, sym, ap, subst, ◌∙◌}
+use Rattle.reg_base.specs.Rising.{count_up}
+use Rattle.reg_rules.specs.State.{numbers}
+use Rattle.reg_base.specs.Directory.{DirectoryValue}
+use Rattle.reg_book.specs.Indexes.{AllStandAt, index_lists}
+use Rattle.reg_regions.specs.declared.dealing.Deal.{Deal}
+use Rattle.reg_regions.specs.Homes.{AreHome, AreAllHome}
+use Rattle.reg_regions.proofs.Found.{size-numbers}
+use Rattle.reg_regions.proofs.Placing.{home-whole, home-alone}
+use Rattle.reg_regions.proofs.whole.deal_whole.Goals as goal
+
+pub returns-clause-home : goal.returns-clause-home
+returns-clause-home g c =
+    let setting = c.args.setting.now in
+    let batch = c.args.batch.now in
+    let ns = numbers c.args.accounts.now in
+    let indexes = c.in_ok-indexes.indexes in
+    let places = c.in_ok-places.places in
+    let found : AllStandAt setting.directory ns (index_lists indexes.items) batch.instructions =
+    subst (AllStandAt setting.directory ns (index_lists indexes.items)) c.instructions.ensures
+    (subst (λ (d : DirectoryValue). AllStandAt d ns (index_lists indexes.items) c.instructions.result.now)
+    (sym c.requires.directory) c.in_ok-indexes.ensures) in
+    let placed : places.items ≡ count_up 1 (length batch.instructions) =
+    c.in_ok-places.ensures ∙ ap (count_up 1) c.len.ensures.value in
+    let home : AreHome setting batch ns places.items (index_lists indexes.items) =
+    subst (λ ps. AreHome setting batch ns ps (index_lists indexes.items)) (sym placed)
+    (home-whole setting batch ns (index_lists indexes.items) found) in
+    let deal : Deal = record { size = length c.args.accounts.now; places = places; indexes = indexes } in
+    let items : c.push.new.self.items ≡ deal ∷ [] = search rules in
+    subst (AreAllHome setting batch ns) (sym items)
+    (home-alone setting batch ns deal (sym (size-numbers c.args.accounts.now)) home)

@@ -1,0 +1,33 @@
+-- A day that is settled by regions: who carried out what, and why it was not settled.
+use Rattle.std.specs.Prelude.{◌≡◌, ◌≢◌, ℕ, ◌+◌, Bool, true, false, nat_le, ◌&&◌, List, Option, Some, None}
+use Rattle.reg_base.specs.Batch.{BatchValue}
+use Rattle.reg_book.specs.Book.{BookValue}
+use Rattle.reg_counting.specs.Counting.{once}
+use Rattle.reg_regions.specs.declared.not_settled.RegionsFault.{RegionsFault}
+use Rattle.reg_regions.specs.declared.not_settled.RegionsFault.TheVariants.{Workers, WrongBase, NoMemory}
+use Rattle.reg_regions.specs.declared.stealing.shift.WorkShift.{WorkShift}
+use Rattle.reg_regions.specs.Stealing.{shift_workers, first_numbers, times_in_shifts}
+
+-- this number of workers is within its limits. The number stands here, so that a wrong constant in the code is refused
+abbrev pub may_work : ℕ → Bool
+may_work workers = nat_le 1 workers && nat_le workers 8
+
+-- one shift a worker, in rising order, and each of the places 1 to n stands in them once, and no other number does
+pub record AreShiftsOf (workers : ℕ) (count : ℕ) (shifts : List WorkShift) : Type 0 where
+  pub workers_are : shift_workers shifts ≡ first_numbers workers
+  pub each_once : (place : ℕ) → times_in_shifts place shifts ≡ once count place
+
+-- the number of workers is not within its limits; or it is, and the batch does not begin with the book's next record
+-- number; or it does, and memory ran out
+abbrev pub IsRegionsFault : ℕ → BookValue → BatchValue → RegionsFault → Type 0
+IsRegionsFault workers book batch Workers = may_work workers ≡ false
+IsRegionsFault workers book batch (WrongBase next) =
+    (may_work workers ≡ true) × (next ≡ book.next) × (batch.base + 1 ≢ book.next)
+IsRegionsFault workers book batch NoMemory = (may_work workers ≡ true) × (batch.base + 1 ≡ book.next)
+
+-- what comes back of a book that was not settled: the whole book if the fault was found before an account moved, and
+-- nothing if memory ran out
+abbrev pub handed_back : RegionsFault → BookValue → Option BookValue
+handed_back Workers book = Some book
+handed_back (WrongBase next) book = Some book
+handed_back NoMemory book = None

@@ -1,0 +1,82 @@
+-- Workers that take regions from deques: what a region begins with, and what comes of all.
+use Rattle.std.specs.Prelude.{◌≡◌, ℕ, zero, suc, ◌+◌, ◌-◌, ◌<◌, List, [], ◌∷◌, ◌++◌, All, Contains, map, length, Some}
+use Rattle.std.specs.Prelude.{slice_get, slice_index_or}
+use Rattle.std.specs.List.{flat_map}
+use Rattle.std.specs.Option.{option_map_or}
+use Rattle.std.specs.declared.vec.Vec.{Vec}
+use Rattle.std.proofs.Common.{Global}
+use Rattle.reg_base.specs.Batch.{BatchValue}
+use Rattle.reg_base.specs.Rules.{AreRules}
+use Rattle.reg_account.specs.Account.{AccountValue}
+use Rattle.reg_rules.specs.State.{State, Setting, numbers}
+use Rattle.reg_rules.specs.Laws.{IsReady}
+use Rattle.reg_book.specs.Indexes.{index_lists}
+use Rattle.reg_claim.specs.declared.views.View.{View}
+use Rattle.reg_counting.specs.Counting.{total, times}
+use Rattle.reg_regions.specs.declared.dealing.Deal.{Deal}
+use Rattle.reg_regions.specs.declared.region.Placed.{Placed}
+use Rattle.reg_regions.specs.declared.stealing.settled_list.SettledList.{SettledList}
+use Rattle.reg_regions.specs.declared.stealing.shift.WorkShift.{WorkShift}
+use Rattle.reg_regions.specs.Days.{Run}
+use Rattle.reg_regions.specs.Homes.{AreHome, dealt_places}
+use Rattle.reg_regions.specs.Settling.{IsRun, places_in}
+
+-- what each list has
+abbrev pub region_openings : List (Vec AccountValue Global) → List State
+region_openings lists = map (λ l. l.items) lists
+
+-- the accounts that the region with this number, counted from 1, begins with
+abbrev pub region_opening : List State → ℕ → State
+region_opening openings number = slice_index_or openings (number - 1) []
+
+-- the places of its instructions
+abbrev pub places_at : List Deal → ℕ → List ℕ
+places_at deals number = option_map_or (λ d. d.places.items) (slice_get deals (number - 1)) []
+
+-- regions begin with these accounts, which are ready and stand where their instructions say
+pub record IsGround (c : Setting) (b : BatchValue) (openings : List State) (deals : List Deal) : Type 0 where
+  pub rules : AreRules c.rules
+  pub as_many : length openings ≡ length deals
+  pub ready : (k : ℕ) → k < length openings → IsReady (b.base + 1) (slice_index_or openings k [])
+  pub home : (k : ℕ) (d : Deal) → slice_get deals k ≡ Some d
+      → AreHome c b (numbers (slice_index_or openings k [])) d.places.items (index_lists d.indexes.items)
+
+-- this came of the region with its number: all its instructions were carried out on what it begins with
+pub record IsSettledList (c : Setting) (b : BatchValue) (openings : List State) (deals : List Deal) (s : SettledList)
+    : Type 0 where
+  pub run : IsRun c b (region_opening openings s.number) s.accounts.items s.replies.items
+  pub places : places_in s.replies.items ≡ places_at deals s.number
+
+-- the same of each
+abbrev pub AreSettled : Setting → BatchValue → List State → List Deal → List SettledList → Type 0
+AreSettled c b openings deals settled = All (IsSettledList c b openings deals) settled
+
+-- the numbers of settled regions
+abbrev pub numbers_of : List SettledList → List ℕ
+numbers_of settled = map (λ s. s.number) settled
+
+-- the places of their instructions, in the order in which these were carried out
+abbrev pub settled_places : List SettledList → List ℕ
+settled_places settled = flat_map (λ s. places_in s.replies.items) settled
+
+-- the seat has claimed the place, and has not finished it
+abbrev pub HasClaimed : ℕ → View → Type 0
+HasClaimed place v = Contains v.claimed place × ¬ Contains v.finished place
+
+-- the workers of shifts
+abbrev pub shift_workers : List WorkShift → List ℕ
+shift_workers shifts = map (λ s. s.worker) shifts
+
+-- how often a place stands in shifts, taken together
+abbrev pub times_in_shifts : ℕ → List WorkShift → ℕ
+times_in_shifts place shifts = total (λ s. times place s.places.items) shifts
+
+-- the numbers from 0 on, so many
+abbrev pub first_numbers : ℕ → List ℕ
+first_numbers zero = []
+first_numbers (suc n) = first_numbers n ++ n ∷ []
+
+-- one shift a worker, in rising order, and each place stands in them as often as it was dealt out
+pub record AreWorkShifts (workers : ℕ) (deals : List Deal) (shifts : List WorkShift) : Type 0 where
+  pub workers_are : shift_workers shifts ≡ first_numbers workers
+  pub each : (place : ℕ) → times_in_shifts place shifts ≡ times place (dealt_places deals)

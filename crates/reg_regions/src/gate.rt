@@ -1,0 +1,15 @@
+//! What workers pass before each instruction.
+
+/// What a worker passes before it carries out an instruction. Several workers may pass at once.
+pub trait PlaceGate: Sync {
+    /// A worker, counted from 0, is about to carry out the instruction at a place, counted from 1.
+    fn enter(&self, worker: u32, place: u32);
+}
+
+/// A gate that does nothing.
+#[derive(Clone, Copy)]
+pub struct FreePlaces;
+
+impl PlaceGate for FreePlaces {
+    fn enter(&self, _worker: u32, _place: u32) {}
+}

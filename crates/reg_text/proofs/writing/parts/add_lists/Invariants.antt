@@ -1,0 +1,19 @@
+use Rattle.std.proofs.Common.{◌++◌}
+use Rattle.reg_book.proofs.TotalFacts.{AddUpWith}
+use Rattle.reg_book.specs.Parts.{joined}
+use Rattle.reg_text.specs.declared.writing.pieces.Blocks.{Blocks}
+use Rattle.reg_text.specs.Pieces.{AreBlocksOfLists, text_of_pieces}
+use Rattle.reg_text.proofs.BlockFacts.{blocks_text}
+use Rattle.reg_text.proofs.RunFacts.{IsSpelled}
+use Rattle.reg_text.proofs.writing.parts.add_lists.Given as goal
+
+-- the pieces so far, and the runs of lists that are left, whose totals are still to be added
+abbrev pub invariant-loop-run : goal.invariant-loop-run
+invariant-loop-run g l = record {
+  next : (goal.iterator-loop-run g).can_next l.run-iterator;
+  ends : (goal.iterator-loop-run g).is_finite l.run-iterator;
+  spelled : IsSpelled AreBlocksOfLists (λ first lists. blocks_text (joined lists)) (λ (blocks : Blocks). blocks.text)
+      (λ others. AddUpWith l.totals l.fn.parts.accounts (joined others))
+      (text_of_pieces l.fn.pieces.items ++ blocks_text l.fn.parts.accounts) l.size l.pieces.items
+      l.run-iterator.rest.items;
+}

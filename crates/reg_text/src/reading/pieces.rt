@@ -1,0 +1,100 @@
+//! Reading a day text that lies in pieces: each piece is read as a part, where it lies.
+
+ghost use Rattle.std.specs.Prelude.{◌≡◌, ◌++◌, MatchResult, Some, IfOk, IfSome};
+ghost use Rattle.reg_cuts.specs.Parts.{text_of_parts};
+ghost use Rattle.reg_cuts.specs.Rows.{rows_in_text};
+ghost use Rattle.reg_text.specs.declared.reading.tag.Tag.TheVariants as tag;
+ghost use Rattle.reg_text.specs.Drafts.{draft_of};
+ghost use Rattle.reg_text.specs.Day.{day_said};
+ghost use Rattle.reg_text.specs.DraftLimits.{FitsSoFar};
+ghost use Rattle.reg_text.specs.Faults.{AnswersFault, at_end, day_of_rows};
+ghost use Rattle.reg_text.specs.Pieces.{text_of_pieces};
+
+use crate::cause::DayFault;
+use crate::reading::draft::Draft;
+use crate::reading::text::read_rows;
+use crate::reading::threads::{STARTS, read_all_parts};
+use reg_base::NoMemory;
+use reg_cuts::cut_near;
+use std::alloc::{AllocError, Global};
+use std::thread::Threads;
+
+/// Where the first row begins in a part of a text with which a piece may begin: the row of an account, or of an
+/// instruction if no account follows. Nothing is promised of the place: what can't be read by pieces is put together.
+pub fn find_row(part: &[u8]) -> Option<usize> {
+    let (before, behind) = cut_near(part, &STARTS, 0);
+    if behind.is_empty() {
+        None
+    } else {
+        Some(before.len())
+    }
+}
+
+// The parts of a text that lie in the end of its first piece, which may be empty, and in later pieces.
+#[tactic(auto, using(crate::proofs::TextFacts::row_loop))]
+fn parts_in<'t>(
+    alloc: Global,
+    first: &'t [u8],
+    later: &'t [Vec<u8>],
+) -> Result<Vec<&'t [u8]>, AllocError>
+    ensures { IfOk result (λ parts. text_of_parts parts.items ≡ first.now ++ text_of_pieces later.now) }
+{
+    let mut parts = Vec::new(alloc);
+    if !first.is_empty() {
+        parts.push(first)?;
+    }
+    for piece in later {
+        parts.push(piece.as_slice())?;
+    }
+    Ok(parts)
+}
+
+// What the rows of a text say, each piece of which is read in a thread of its own where one can be started.
+fn read_by_pieces<R: Threads + Sync>(
+    rt: &R,
+    alloc: Global,
+    pieces: &[Vec<u8>],
+    least: usize,
+) -> Option<Draft>
+    ensures { IfSome result (λ draft. FitsSoFar (draft_of draft) × (draft.body.last ≡ Some tag.End)
+        × (day_of_rows (rows_in_text (text_of_pieces pieces.now)) ≡ at_end 0 (day_said (draft_of draft)))) }
+{
+    let (first, later) = pieces.split_first()?;
+    let (head, behind) = cut_near(first, &STARTS, 0);
+    let Ok(parts) = parts_in(alloc, behind, later) else {
+        return None;
+    };
+    read_all_parts(rt, alloc, head, &parts, least)
+}
+
+// The pieces put together.
+#[tactic(auto, using(crate::proofs::TextFacts::row_loop))]
+fn join_pieces(alloc: Global, pieces: &[Vec<u8>]) -> Result<Vec<u8>, NoMemory>
+    ensures { IfOk result (λ text. text.items ≡ text_of_pieces pieces.now) }
+{
+    let mut text = Vec::new(alloc);
+    for piece in pieces {
+        text.extend_from_slice(piece)?;
+    }
+    Ok(text)
+}
+
+/// What the rows of a text in pieces say, up to its row `end`: what `read_rows` reads in the pieces put together, which
+/// it does if anything is in the way. The accounts lie in lists of so many bytes of the text or more, about.
+pub(crate) fn read_rows_of_pieces<R: Threads + Sync>(
+    rt: &R,
+    alloc: Global,
+    pieces: &[Vec<u8>],
+    least: usize,
+) -> Result<Draft, DayFault>
+    ensures { MatchResult result
+        (λ draft. FitsSoFar (draft_of draft) × (draft.body.last ≡ Some tag.End)
+        × (day_of_rows (rows_in_text (text_of_pieces pieces.now)) ≡ at_end 0 (day_said (draft_of draft))))
+        (λ e. AnswersFault e (day_of_rows (rows_in_text (text_of_pieces pieces.now)))) }
+{
+    if let Some(draft) = read_by_pieces(rt, alloc, pieces, least) {
+        return Ok(draft);
+    }
+    let text = join_pieces(alloc, pieces)?;
+    read_rows(alloc, &text)
+}

@@ -1,0 +1,192 @@
+//! Settlement by regions: what only running threads show.
+
+use crate::fixtures::worked;
+use crate::levels::{TURNS, UNKNOWN, full_batch};
+use crate::orders::{APART, TWICE};
+use crossbeam_utils::Backoff;
+use reg_base::{Batch, Rules};
+use reg_book::{Parts, settle_plain};
+use reg_regions::{FreePlaces, PlaceGate, RegionsFault, WorkShift, settle_regions};
+use reg_text::{DayInput, write_book};
+use std::alloc::Global;
+use std::process::Abort;
+use std::sync::atomic::{AtomicU32, Ordering};
+use std::thread::Threads;
+
+// The book in one list.
+fn in_parts(rt: &impl Abort, alloc: Global, day: DayInput) -> (Parts, Rules, Batch) {
+    let DayInput { book, rules, batch } = day;
+    (
+        Parts::of_book(alloc, book).expect(rt, "memory"),
+        rules,
+        batch,
+    )
+}
+
+// The text of the book.
+fn book_of(rt: &impl Abort, alloc: Global, parts: Parts) -> String {
+    let book = parts.into_book(alloc).expect(rt, "memory");
+    let bytes = write_book(alloc, &book).expect(rt, "memory");
+    String::from_utf8(bytes).expect(rt, "a text")
+}
+
+// The text of the book that a day leaves, one instruction after another.
+fn plainly(rt: &impl Abort, alloc: Global, instructions: &str) -> String {
+    let DayInput {
+        mut book,
+        rules,
+        batch,
+    } = worked(rt, alloc, instructions);
+    let settled = settle_plain(alloc, &book, &rules, &batch).expect(rt, "memory");
+    let fault = book.commit(settled).err();
+    assert!(rt; fault.is_none());
+    let bytes = write_book(alloc, &book).expect(rt, "memory");
+    String::from_utf8(bytes).expect(rt, "a text")
+}
+
+// How many places each worker ran.
+fn lengths(rt: &impl Abort, alloc: Global, shifts: &[WorkShift]) -> String {
+    let mut told = String::new(alloc);
+    for shift in shifts {
+        let one = format!(in alloc; "{}:{} ", shift.worker, shift.places.len());
+        told.push_str(one.expect(rt, "memory").as_str())
+            .expect(rt, "memory");
+    }
+    told
+}
+
+// How many places each of so many workers ran of a day, which leaves what its instructions leave one after another.
+fn shifts<R: Abort + Threads + Sync, G: PlaceGate>(
+    rt: &R,
+    alloc: Global,
+    instructions: &str,
+    workers: u32,
+    gate: &G,
+) -> String {
+    let (parts, rules, batch) = in_parts(rt, alloc, worked(rt, alloc, instructions));
+    let done = settle_regions(rt, alloc, parts, &rules, &batch, workers, gate);
+    let (closed, shifts) = done.expect(rt, "memory");
+    assert!(rt; book_of(rt, alloc, closed.parts) == plainly(rt, alloc, instructions));
+    lengths(rt, alloc, shifts.as_slice())
+}
+
+// A gate that holds each instruction until so many have entered, and counts those that waited in vain.
+#[derive(Drop)]
+struct Meeting {
+    wanted: u32,
+    entered: AtomicU32,
+    missed: AtomicU32,
+}
+
+impl PlaceGate for Meeting {
+    fn enter(&self, _worker: u32, _place: u32) {
+        self.entered.fetch_add(1, Ordering::SeqCst);
+        self.wait(self.wanted);
+    }
+}
+
+impl Meeting {
+    fn of(wanted: u32) -> Meeting {
+        Meeting {
+            wanted,
+            entered: AtomicU32::new(0),
+            missed: AtomicU32::new(0),
+        }
+    }
+
+    // Waits until so many have entered, and counts if it waits in vain.
+    fn wait(&self, wanted: u32) {
+        let backoff = Backoff::new();
+        for _ in 0..TURNS {
+            if self.entered.load(Ordering::SeqCst) >= wanted {
+                return;
+            }
+            backoff.snooze();
+        }
+        self.missed.fetch_add(1, Ordering::SeqCst);
+    }
+}
+
+// A gate that holds the first instruction until all others have entered.
+#[derive(Drop)]
+struct HeldFirst {
+    meeting: Meeting,
+}
+
+impl PlaceGate for HeldFirst {
+    fn enter(&self, _worker: u32, _place: u32) {
+        if self.meeting.entered.fetch_add(1, Ordering::SeqCst) == 0 {
+            self.meeting.wait(self.meeting.wanted);
+        }
+    }
+}
+
+#[test]
+fn instructions_of_two_bundles_run_at_once(rt: HostRuntime) {
+    let gate = Meeting::of(2);
+    let told = shifts(&rt, rt.alloc(), APART, 2, &gate);
+    assert_eq!(rt; told.as_str(), "0:1 1:1 ");
+    assert_eq!(rt; gate.missed.load(Ordering::SeqCst), 0);
+}
+
+#[test]
+fn eight_workers_run_eight_bundles_at_once(rt: HostRuntime) {
+    let gate = Meeting::of(8);
+    let told = shifts(&rt, rt.alloc(), UNKNOWN, 8, &gate);
+    assert_eq!(rt; told.as_str(), "0:1 1:1 2:1 3:1 4:1 5:1 6:1 7:1 ");
+    assert_eq!(rt; gate.missed.load(Ordering::SeqCst), 0);
+}
+
+// The one that is not held steals what lies in the deque of the other.
+#[test]
+fn a_held_worker_holds_up_no_region_but_its_own(rt: HostRuntime) {
+    let gate = HeldFirst {
+        meeting: Meeting::of(8),
+    };
+    let told = shifts(&rt, rt.alloc(), UNKNOWN, 2, &gate);
+    assert!(rt;
+        told.as_str() == "0:1 1:7 " || told.as_str() == "0:7 1:1 ",
+        "{told}"
+    );
+    assert_eq!(rt; gate.meeting.missed.load(Ordering::SeqCst), 0);
+}
+
+#[test]
+fn each_number_of_workers_settles_a_full_batch(rt: HostRuntime) {
+    let instructions = full_batch(&rt, rt.alloc());
+    for workers in 1..9 {
+        shifts(&rt, rt.alloc(), instructions.as_str(), workers, &FreePlaces);
+    }
+}
+
+// Why a book is not settled by nine workers, nor with a batch that begins one record late; and its next record number
+// after the right batch.
+fn settled_at_last<R: Abort + Threads + Sync>(
+    rt: &R,
+    alloc: Global,
+) -> (RegionsFault, RegionsFault, u64) {
+    let (parts, rules, batch) = in_parts(rt, alloc, worked(rt, alloc, TWICE));
+    let late = Batch::new(batch.day(), batch.base() + 1, Vec::new(alloc)).expect(rt, "a batch");
+    let refused = settle_regions(rt, alloc, parts, &rules, &late, 2, &FreePlaces).err();
+    let first = refused.expect(rt, "a book that is not settled");
+    let parts = first.parts.expect(rt, "the book");
+    let refused = settle_regions(rt, alloc, parts, &rules, &batch, 9, &FreePlaces).err();
+    let second = refused.expect(rt, "a book that is not settled");
+    let parts = second.parts.expect(rt, "the book");
+    let done = settle_regions(rt, alloc, parts, &rules, &batch, 2, &FreePlaces);
+    let (closed, _) = done.expect(rt, "memory");
+    (first.fault, second.fault, closed.parts.next_record())
+}
+
+#[test]
+fn a_book_that_is_handed_back_can_be_settled(rt: HostRuntime) {
+    let found = settled_at_last(&rt, rt.alloc());
+    assert_eq!(rt;
+        found,
+        (
+            RegionsFault::WrongBase { next: 1 },
+            RegionsFault::Workers,
+            3
+        )
+    );
+}
