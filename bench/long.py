@@ -16,7 +16,7 @@ orders    draws days, and of each many more, whose instructions are some of its 
           several times now and then. PROGRAM settles each by one worker and by a drawn number of them, on one, two and
           four processors, and both must write the same. If WORKERS is named, it settles all of them in one process in
           the place of PROGRAM, by one to eight workers, of whom one is held up and the others are delayed at random: on
-          copies of accounts, and then on the book's own. Each must be the day that its instructions give one after
+          copies of accounts, and then by regions of the book. Each must be the day that its instructions give one after
           another. The report of one of them must be the second answer. So far more days are tried in the same time than
           by `days`.
 seams     draws such texts, and texts of cases/ that were changed (`mutations.py`). Behind drawn lines of each it puts

@@ -7,14 +7,15 @@ It starts crates/registry_workers/out/registry_workers, which `cd crates/registr
 
 Tries
   - batches of one to sixty drawn transfers by one to eight workers, each batch ten times with one worker held up before
-    each run, and ten times with delays of all workers that are drawn; each run on copies, and then on the book's own
-    accounts. It must give the day that settling one instruction after another gives, have each instruction in one
-    shift, once, and let the workers enter the gate in a legal order, each with the places of its shift. With
+    each run, and ten times with delays of all workers that are drawn; each run on copies, and then by regions of the
+    book. It must give the day that settling one instruction after another gives, have each instruction in one shift,
+    once, and let the workers enter the gate in a legal order, each with the places of its shift. With
     --processors N the program has that many processors.
 Measures, for 16,384 transfers that are wide (no two share an account), chained (each touches an account of the one
 before it) and mixed (random pairs of 2,000 accounts), the milliseconds of processor time and of the clock, least of
 all repeats, without those of reading the text: of settling plainly, in batch order on values of their own, level by
-level and by workers that steal, the last two for each number of workers. All of them in turn, in one run.
+level, by workers that steal and by workers that own regions of the book, the last three for each number of workers.
+All of them in turn, in one run.
 """
 
 import argparse
@@ -75,7 +76,7 @@ def shapes(chance: Random) -> dict[str, bytes]:
 
 def ways() -> list[tuple[object, ...]]:
     """All ways of settling, as the program's words."""
-    return [("plain",), ("place",), ("order",), *itertools.product(("levels", "stealing", "close"), WORKERS)]
+    return [("plain",), ("place",), ("order",), *itertools.product(("levels", "stealing", "regions"), WORKERS)]
 
 
 def measure(repeat: int, chance: Random) -> None:

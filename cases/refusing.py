@@ -245,8 +245,8 @@ OTHERS = [
     ("put:16", MANY),
     ("settle_with:2", MANY),
     ("settle_with:2", DISTRIBUTED),
-    ("close_with:2", MANY),
-    ("close_with:2", DISTRIBUTED),
+    ("settle_regions:2", MANY),
+    ("settle_regions:2", DISTRIBUTED),
     ("read_day", TRANSFER),
     ("read_day", LISTS),
     ("read_day", PERIODS),
@@ -493,7 +493,7 @@ def cases_of(library: str, work: str, refusals: str, registry: str) -> Iterator[
     for of, workers in BATCHES:
         for word in ("settle_plain", "run_order"):
             yield call(word, of)
-        for word in ("settle_waves", "settle_with", "close_with", "command_settle"):
+        for word in ("settle_waves", "settle_with", "settle_regions", "command_settle"):
             yield call(f"{word}:{workers}", of)
         yield program(workers, of)
     yield program(4, ALL_ACTS)

@@ -53,7 +53,7 @@ pub fn run<T: Threads + Wait + Sync, R: Source, W: Sink>(
 
 /// Does what [`run`] does for [`Command::Plan`]. Threads read the text by parts, as many as there are processors, at
 /// most 8, and are joined. None of them waits for another one, so this call returns, if those of the reader and the
-/// writer do. [`run`] may wait for workers.
+/// writer do.
 ///
 /// # Errors
 /// As [`run`], but never `Workers` or `NoAccount`.

@@ -36,6 +36,7 @@
 mod calls;
 mod command;
 mod counted;
+mod cuts;
 mod device;
 mod engine;
 mod fault;

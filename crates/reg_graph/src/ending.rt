@@ -46,7 +46,7 @@ impl<'c, 'a, N: Naming> World<'c, 'a, N> {
         ensures answer { MatchResult result
             (λ s. (is_over (world_of self.entry.parts) ≡ true) × (s ≡ settled_day (the_day self.entry.context.now)))
             (λ w. (is_over (world_of self.entry.parts) ≡ false) × (w ≡ self.entry)) }
-        ensures of_book { IfOk result (λ s. IsOfBook self.entry.context.now.book s) }
+        ensures of_book { IfOk result (λ s. IsOfBook self.entry.context.now.book.now s) }
     {
         if !self.is_over() {
             return Err(self);

@@ -44,7 +44,6 @@ mod world;
 
 pub use reg_schedules::{Event, EventFault, MOST_WORKERS, Whereabouts, laws};
 pub use reg_tasks::{
-    BookOf, Context, Done, Lack, Naming, Outcome, Parcel, Ran, RunFault, Slots, Task, Unnamed,
-    Vault, run_order,
+    Context, Done, Lack, Naming, Outcome, Parcel, Ran, RunFault, Slots, Task, Unnamed, run_order,
 };
 pub use world::World;

@@ -173,7 +173,7 @@ impl<'c, 'a, N: Naming> Levels<'c, 'a, N> {
     pub fn into_settled(self, alloc: Global) -> Result<Settled, Lack>
         requires laid { self.laid ≡ length self.order.items }
         ensures settled { IfOk result (λ s. IfSome N.day (λ d. s ≡ settled_day d)) }
-        ensures of_book { IfOk result (λ s. IsOfBook self.entry.slots.context.now.book s) }
+        ensures of_book { IfOk result (λ s. IsOfBook self.entry.slots.context.now.book.now s) }
         ensures lack { IfErr result (IsLack N.day) }
     {
         last_toucher_is_last();

@@ -25,15 +25,15 @@ use Rattle.reg_account.specs.Account.{AccountValue}
 use Rattle.reg_base.specs.declared.instruction.Instruction.{Instruction}
 use Rattle.reg_rules.specs.State.{State, Setting}
 use Rattle.reg_rules.specs.Step.{step, row_of}
-use Rattle.reg_book.specs.Day.{Day, IsDay, setting, row_at, log_of, replies_of, settled_day}
-use Rattle.reg_book.specs.Fold.{rows_of, replies_in}
+use Rattle.reg_book.specs.Day.{Day, IsDay, setting, row_at, log_of, settled_day}
+use Rattle.reg_book.specs.Fold.{rows_of}
 use Rattle.reg_book.specs.Laws.{ValueIsLastTouchers, SettledAreTouched, SettledIsInOrder}
 use Rattle.reg_schedules.specs.Schedules.{AreLastValues}
 use Rattle.reg_schedules.specs.Pool.{directory, footprint_at, leads_on}
 use Rattle.reg_schedules.proofs.Members.{In}
 use Rattle.reg_schedules.proofs.Known.{footprint_touches}
 use Rattle.reg_schedules.proofs.Tails.{clash, touched_somewhere, last_of_all, not_last, last_touches}
-use Rattle.reg_tasks.specs.Gathering.{AreLast, AreOutcomes, AreWithin, named_accounts, places_of, replies_kept}
+use Rattle.reg_tasks.specs.Gathering.{AreLast, AreOutcomes, AreWithin, named_accounts, places_of}
 use Rattle.reg_tasks.specs.Gathering.{row_replied, rows_in, replies_by_number, replies_from, counts_up, is_last}
 use Rattle.reg_tasks.specs.Gathering.{are_each, have_accounts, are_outcomes}
 use Rattle.reg_tasks.specs.LastParcels.{parcels_in}
@@ -434,32 +434,6 @@ module _ {N : Type 0} {b : Ghosts N} (day : Day) (named : b.day ≡ Some day) wh
       → (rows : List LogRow) → map Some rows ≡ rows_in day done → rows ≡ log_of day
   log_from done e rows made =
       same_some rows (log_of day) (made ∙ rows_right done ∙ ap (map (row_at day)) e ∙ all_rows day)
-
-  -- and replies of all places are those of the day
-  pub replies_from_all : (done : List (Done N b)) → places_of done ≡ count_up 1 (length day.batch.instructions)
-      → replies_kept done ≡ replies_of day
-  replies_from_all done e =
-      same_some (replies_kept done) (replies_of day)
-      (right done ∙ ap (map (λ p. option_map (λ (row : LogRow). row.reply) (row_at day p))) e
-      ∙ apart (count_up 1 (length day.batch.instructions))
-      ∙ ap (map (option_map (λ (row : LogRow). row.reply))) (all_rows day) ∙ inside (log_of day))
-    where
-      right : (ds : List (Done N b))
-          → map Some (replies_kept ds)
-          ≡ map (λ p. option_map (λ (row : LogRow). row.reply) (row_at day p)) (places_of ds)
-      right [] = refl
-      right (d ∷ ds) = ap (λ o. o ∷ map Some (replies_kept ds)) (sym (d.right day named))
-          ∙ ap (λ os. option_map (λ (row : LogRow). row.reply) (row_at day d.place) ∷ os) (right ds)
-
-      apart : (ps : List ℕ) → map (λ p. option_map (λ (row : LogRow). row.reply) (row_at day p)) ps
-          ≡ map (option_map (λ (row : LogRow). row.reply)) (map (row_at day) ps)
-      apart [] = refl
-      apart (p ∷ ps) = ap (λ os. option_map (λ (row : LogRow). row.reply) (row_at day p) ∷ os) (apart ps)
-
-      inside : (rows : List LogRow) → map (option_map (λ (row : LogRow). row.reply)) (map Some rows)
-          ≡ map Some (replies_in rows)
-      inside [] = refl
-      inside (row ∷ rows) = ap (λ os. Some row.reply ∷ os) (inside rows)
 
 -- the values of the last parcels, by rising account, are the settled accounts
 module _ {N : Type 0} {b : Ghosts N} where

@@ -16,5 +16,4 @@ pub mod Fitting
 pub mod Assembled
 pub mod Values
 pub mod Touching
-pub mod LotFacts
-pub mod Returned
+pub mod LastNames

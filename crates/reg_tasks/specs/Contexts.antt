@@ -6,4 +6,4 @@ use Rattle.reg_tasks.specs.declared.context.Context.{Context}
 module _ {N : Type 0} {b : Ghosts N} where
   -- the book, the rules and the batch
   abbrev pub the_day : Context N b → Day
-  the_day context = day_of context.book context.rules.now context.batch.now
+  the_day context = day_of context.book.now context.rules.now context.batch.now

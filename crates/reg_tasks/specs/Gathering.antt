@@ -76,10 +76,6 @@ module _ {N : Type 0} {b : Ghosts N} where
   abbrev pub places_of : List (Done N b) → List ℕ
   places_of done = map (λ d. d.place) done
 
-  -- the replies to them
-  abbrev pub replies_kept : List (Done N b) → List Reply
-  replies_kept done = map (λ d. d.reply) done
-
   -- their rows in a day
   abbrev pub rows_in : Day → List (Done N b) → List (Option LogRow)
   rows_in day done = map (λ d. row_replied day d.place d.reply) done
@@ -96,11 +92,6 @@ module _ {N : Type 0} {b : Ghosts N} where
 pub record AreOutcomes (day : Day) (places : List ℕ) (names : List (ℕ × ℕ)) : Type 0 where
   pub each : IsPermutation (count_up 1 (length day.batch.instructions)) places
   pub last : AreLast day names
-
--- if a day is named, the places are not each of its places once
-abbrev pub AreNotEach : Option Day → List ℕ → Type 0
-AreNotEach name places =
-    (day : Day) → name ≡ Some day → ¬ (IsPermutation (count_up 1 (length day.batch.instructions)) places)
 
 -- if a day is named, these are not each of its places once and the names of the values that are left at its end
 abbrev pub AreNotAll : Option Day → List ℕ → List (ℕ × ℕ) → Type 0

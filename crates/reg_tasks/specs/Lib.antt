@@ -1,7 +1,5 @@
 pub mod Contexts
-pub mod Lent
 pub mod LastParcels
-pub mod Lots
 pub mod Names
 pub mod Parcels
 pub mod Tasks

@@ -7,14 +7,12 @@ ghost use Rattle.reg_plan.specs.Plans.{IsPlan, inward, outward};
 ghost use Rattle.reg_book.specs.Book.{directory_of};
 ghost use Rattle.reg_book.specs.Day.{IsDay};
 ghost use Rattle.reg_book.specs.Settling.{IsSettleFault};
-ghost use Rattle.reg_schedules.specs.Pool.{footprint_at};
+ghost use Rattle.reg_schedules.specs.Pool.{directory, footprint_at};
 ghost use Rattle.reg_base.specs.Rising.{IsRising};
 ghost use Rattle.reg_base.specs.declared.limits.TheConstants.{MOST_TOUCHED};
-ghost use Rattle.reg_tasks.specs.Lent.{lent_book, AreOfBook};
 ghost use Rattle.reg_tasks.specs.Names.{IsNamed};
 ghost use Rattle.reg_tasks.specs.Slots.{opened_accounts};
 
-use crate::book_of::BookOf;
 use crate::naming::Naming;
 use crate::parcel::Parcel;
 use reg_base::laws::each_footprint_is_sound;
@@ -23,23 +21,18 @@ use reg_book::{Book, SettleFault};
 use reg_plan::{Arrow, LikelySlots, Opening, Plan};
 use std::alloc::Global;
 use std::marker::PhantomData;
-use std::thread::Threads;
-
-// So many instructions or more are what one of several threads looks up: to start one for fewer would take longer. So
-// threads begin at twice as many.
-const FEW: u32 = 1_024;
 
 /// The book, the rules and the batch of a day, and the plan of its instructions.
 #[derive(Drop)]
 pub struct Context<'a, N: Naming> {
-    book: BookOf<'a, N>,
+    book: &'a Book,
     rules: &'a Rules,
     batch: &'a Batch,
     plan: Plan,
     of: PhantomData<N>,
-    pub ghost named: { IsNamed N.day book rules.now batch.now },
-    pub ghost follows: { batch.now.base + 1 ≡ book.next },
-    pub ghost planned: { ∥ IsPlan (directory_of book.accounts) batch.now.instructions plan ∥₁ },
+    pub ghost named: { IsNamed N.day book.now rules.now batch.now },
+    pub ghost follows: { batch.now.base + 1 ≡ book.now.next },
+    pub ghost planned: { ∥ IsPlan (directory_of book.now.accounts) batch.now.instructions plan ∥₁ },
 }
 
 impl<'a, N: Naming> Context<'a, N> {
@@ -60,64 +53,15 @@ impl<'a, N: Naming> Context<'a, N> {
     ) -> Result<Context<'a, N>, SettleFault>
         requires day { IsNamed N.day book.now rules.now batch.now }
         ensures answer { MatchResult result
-            (λ c. (batch.now.base + 1 ≡ book.now.next) × (c.book ≡ book.now) × (c.rules.now ≡ rules.now)
+            (λ c. (batch.now.base + 1 ≡ book.now.next) × (c.book.now ≡ book.now) × (c.rules.now ≡ rules.now)
             × (c.batch.now ≡ batch.now))
             (IsSettleFault book.now batch.now) }
-    {
-        let book = BookOf::kept(book);
-        let plan = Plan::of(alloc, batch, book.directory());
-        Context::over(book, rules, batch, plan)
-    }
-
-    /// The context of the named day while its instructions are settled on the accounts of its book, which were given
-    /// away: the directory and the next record number are those of the book. It opens no account: a
-    /// [`Vault`](crate::Vault) does. At most so many threads make the plan of a large batch.
-    ///
-    /// The time is linear in the instructions, sorting apart.
-    ///
-    /// # Errors
-    /// `WrongBase` if the first record number of the batch is not the book's next record number. Otherwise `NoMemory`
-    /// if memory ran out.
-    pub fn of_lent<R: Threads + Sync>(
-        rt: &R,
-        alloc: Global,
-        directory: &'a Directory,
-        next: u64,
-        rules: &'a Rules,
-        batch: &'a Batch,
-        threads: u32,
-    ) -> Result<Context<'a, N>, SettleFault>
-        requires lent { AreOfBook (lent_book N.day) directory.now next }
-        requires day { IsNamed N.day (lent_book N.day) rules.now batch.now }
-        ensures answer { MatchResult result
-            (λ c. (batch.now.base + 1 ≡ next) × (c.book ≡ lent_book N.day) × (c.rules.now ≡ rules.now)
-            × (c.batch.now ≡ batch.now))
-            (IsSettleFault (lent_book N.day) batch.now) }
-    {
-        let book = BookOf::lent(directory, next);
-        let plan = Plan::of_with(rt, alloc, batch, book.directory(), threads, FEW);
-        Context::over(book, rules, batch, plan)
-    }
-
-    // The context of a day of this book, with the plan of its instructions, for which there may have been no memory.
-    fn over(
-        book: BookOf<'a, N>,
-        rules: &'a Rules,
-        batch: &'a Batch,
-        plan: Result<Plan, NoMemory>,
-    ) -> Result<Context<'a, N>, SettleFault>
-        requires day { IsNamed N.day book rules.now batch.now }
-        requires planned { IfOk plan (IsPlan (directory_of book.accounts) batch.now.instructions) }
-        ensures answer { MatchResult result
-            (λ c. (batch.now.base + 1 ≡ book.entry.next) × (c.book ≡ book.entry) × (c.rules.now ≡ rules.now)
-            × (c.batch.now ≡ batch.now))
-            (IsSettleFault book.entry batch.now) }
     {
         let next = book.next_record();
         if batch.base() + 1 != next {
             return Err(SettleFault::WrongBase { next });
         }
-        let Ok(plan) = plan else {
+        let Ok(plan) = Plan::of(alloc, batch, book.directory()) else {
             return Err(SettleFault::NoMemory);
         };
         Ok(Context {
@@ -132,16 +76,16 @@ impl<'a, N: Naming> Context<'a, N> {
     /// The plan of the instructions.
     pub fn plan(&self) -> &Plan
         ensures value { result.now ≡ self.now.plan }
-        ensures planned { ∥ IsPlan (directory_of self.now.book.accounts) self.now.batch.now.instructions result.now ∥₁ }
+        ensures planned { ∥ IsPlan (directory (the_day self.now)) self.now.batch.now.instructions result.now ∥₁ }
     {
         &self.plan
     }
 
-    /// The book, or what stays of it while its accounts are given away.
-    pub fn book(&self) -> &BookOf<'a, N>
-        ensures { result.now ≡ self.now.book }
+    /// The book.
+    pub fn book(&self) -> &'a Book
+        ensures { result.now ≡ self.now.book.now }
     {
-        &self.book
+        self.book
     }
 
     /// The rules.
@@ -208,22 +152,18 @@ impl<'a, N: Naming> Context<'a, N> {
         self.plan.outward(place)
     }
 
-    // The value of an account of the book, which is likely to have this slot. If the accounts of the book were given
-    // away, there is none: nobody asks then.
+    // The value of an account of the book, which is likely to have this slot.
     pub(crate) fn open(
         &self,
         alloc: Global,
         number: AccountNo,
         likely_slot: u32,
     ) -> Result<Parcel<N>, NoMemory>
-        requires known { is_some (account self.now.book.accounts number) ≡ true }
-        ensures value { IfOk result (λ p. account self.now.book.accounts number ≡ Some p.value) }
+        requires known { is_some (account self.now.book.now.accounts number) ≡ true }
+        ensures value { IfOk result (λ p. account self.now.book.now.accounts number ≡ Some p.value) }
         ensures after { IfOk result (λ p. p.after ≡ 0) }
     {
-        let Some(book) = self.book.itself() else {
-            return Err(NoMemory);
-        };
-        let value = book.get(number).unwrap().copy(alloc)?;
+        let value = self.book.get(number).unwrap().copy(alloc)?;
         Ok(Parcel::new(value, 0, likely_slot))
     }
 
@@ -235,8 +175,8 @@ impl<'a, N: Naming> Context<'a, N> {
         likely_slot: u32,
     ) -> Result<Parcel<N>, NoMemory>
         requires touched { IsTrue
-            (is_touched (directory_of self.now.book.accounts) self.now.batch.now.instructions number) }
-        ensures value { IfOk result (λ p. account self.now.book.accounts number ≡ Some p.value) }
+            (is_touched (directory_of self.now.book.now.accounts) self.now.batch.now.instructions number) }
+        ensures value { IfOk result (λ p. account self.now.book.now.accounts number ≡ Some p.value) }
         ensures after { IfOk result (λ p. p.after ≡ 0) }
     {
         // An account that an instruction touches is in the directory, and so in the book.
@@ -247,11 +187,11 @@ impl<'a, N: Naming> Context<'a, N> {
     /// The opening value of an account that some instruction touches, as a copy of what the book has.
     ///
     /// # Errors
-    /// `NoMemory` if memory ran out, or if the accounts of the book were given away.
+    /// `NoMemory` if memory ran out.
     pub fn opening(&self, alloc: Global, number: AccountNo) -> Result<Parcel<N>, NoMemory>
         requires touched { IsTrue
-            (is_touched (directory_of self.now.book.accounts) self.now.batch.now.instructions number) }
-        ensures value { IfOk result (λ p. account self.now.book.accounts number ≡ Some p.value) }
+            (is_touched (directory_of self.now.book.now.accounts) self.now.batch.now.instructions number) }
+        ensures value { IfOk result (λ p. account self.now.book.now.accounts number ≡ Some p.value) }
         ensures after { IfOk result (λ p. p.after ≡ 0) }
     {
         self.open_touched(alloc, number, 0)

@@ -98,7 +98,7 @@ fn are_rising(accounts: &[Account]) -> bool
 // Whether rows and accounts, each in order, make a settled day of the context's batch that may be committed to its
 // book.
 fn are_whole<N: Naming>(context: &Context<N>, rows: &[LogRow], accounts: &[Account]) -> bool
-    ensures { IsTrue result ↔ IsWhole context.now.book context.now.batch.now rows.now accounts.now }
+    ensures { IsTrue result ↔ IsWhole context.now.book.now context.now.batch.now rows.now accounts.now }
 {
     let batch = context.batch();
     let book = context.book();
@@ -143,7 +143,7 @@ fn settle<N: Naming>(
 ) -> Option<Settled>
     requires gathered { IsGathered N.day rows.items accounts.items }
     ensures settled { MatchOption result (N.day ≡ None) (λ s. IfSome N.day (λ d. s ≡ settled_day d)) }
-    ensures of_book { IfSome result (λ s. IsOfBook context.now.book s) }
+    ensures of_book { IfSome result (λ s. IsOfBook context.now.book.now s) }
 {
     context.is_day();
     settled_is_closing();
@@ -163,7 +163,7 @@ pub(crate) fn settle_log<N: Naming>(
 ) -> Result<Settled, Lack>
     requires log { AreFirstRows N.day (length context.now.batch.now.instructions) log.items }
     ensures settled { IfOk result (λ s. IfSome N.day (λ d. s ≡ settled_day d)) }
-    ensures of_book { IfOk result (λ s. IsOfBook context.now.book s) }
+    ensures of_book { IfOk result (λ s. IsOfBook context.now.book.now s) }
     ensures lack { IfErr result
         (LacksFor ((d : Day) → N.day ≡ Some d
         → have_accounts (opened_accounts context.now.plan.openings) (names_of (parcels_in parcels.items)) ≡ false)) }
@@ -190,7 +190,7 @@ fn settle_sorted<N: Naming>(
     parcels: Vec<LastParcel<N>>,
 ) -> Result<Settled, Lack>
     ensures settled { IfOk result (λ s. IfSome N.day (λ d. s ≡ settled_day d)) }
-    ensures of_book { IfOk result (λ s. IsOfBook context.now.book s) }
+    ensures of_book { IfOk result (λ s. IsOfBook context.now.book.now s) }
     ensures lack { IfErr result (LacksFor ((d : Day) → N.day ≡ Some d
         → are_outcomes (the_day context.now) (opened_accounts context.now.plan.openings)
         (places_of rows.items) (names_of (parcels_in parcels.items)) ≡ false)) }
@@ -265,7 +265,7 @@ impl<N: Naming> Context<'_, N> {
         requires log { log.items ≡ log_of (the_day self.now) }
         requires accounts { AreLastValues (the_day self.now) accounts.items }
         ensures settled { result ≡ settled_day (the_day self.now) }
-        ensures of_book { IsOfBook self.now.book result }
+        ensures of_book { IsOfBook self.now.book.now result }
     {
         self.is_day();
         settled_is_closing();
@@ -289,7 +289,7 @@ impl<N: Naming> Context<'_, N> {
         mut parcels: Vec<LastParcel<N>>,
     ) -> Result<Settled, Lack>
         ensures settled { IfOk result (λ s. IfSome N.day (λ d. s ≡ settled_day d)) }
-        ensures of_book { IfOk result (λ s. IsOfBook self.now.book s) }
+        ensures of_book { IfOk result (λ s. IsOfBook self.now.book.now s) }
         ensures lack { IfErr result (LacksFor (AreNotAll N.day (places_of rows.items)
             (names_of (parcels_in parcels.items)))) }
     {
@@ -316,7 +316,7 @@ impl<N: Naming> Context<'_, N> {
         requires rows { AreRows N.day rows.items }
         requires parcels { AreClosing N.day (names_of parcels.items) }
         ensures settled { IfOk result (λ s. IfSome N.day (λ d. s ≡ settled_day d)) }
-        ensures of_book { IfOk result (λ s. IsOfBook self.now.book s) }
+        ensures of_book { IfOk result (λ s. IsOfBook self.now.book.now s) }
     {
         let done = with_places(alloc, self, rows)?;
         let lasts = last_parcels(alloc, self, parcels)?;

@@ -38,7 +38,6 @@
 #![tactic(auto)]
 
 mod arrows;
-mod book_of;
 mod collect;
 mod context;
 mod done;
@@ -46,9 +45,7 @@ mod gate;
 mod gather;
 mod lack;
 mod last_parcel;
-mod laying;
 mod likely;
-mod lot;
 mod naming;
 mod nearby;
 mod needs;
@@ -56,16 +53,12 @@ mod opened;
 mod order;
 mod outcome;
 mod parcel;
-mod replies;
 mod run;
 mod slot;
 mod slots;
-mod taking;
 mod task;
 mod turn;
-mod vault;
 
-pub use book_of::BookOf;
 pub use context::Context;
 pub use done::Done;
 pub use gate::{FreeGate, Gate};
@@ -78,4 +71,3 @@ pub use parcel::Parcel;
 pub use slots::Slots;
 pub use task::Task;
 pub use turn::run_at;
-pub use vault::Vault;

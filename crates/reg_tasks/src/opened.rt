@@ -21,10 +21,10 @@ pub(crate) fn open_all<N: Naming>(
     accounts: &[AccountNo],
     mut likely: LikelySlots,
 ) -> Result<Vec<Parcel<N>>, NoMemory>
-    requires known { All (λ a. is_some (account context.now.book.accounts a) ≡ true) accounts.now }
+    requires known { All (λ a. is_some (account context.now.book.now.accounts a) ≡ true) accounts.now }
     ensures names { IfOk result (λ ps. names_of ps.items ≡ map (λ a. (a, 0)) accounts.now) }
     ensures values { IfOk result
-        (λ ps. map (λ p. Some p.value) ps.items ≡ map (λ a. account context.now.book.accounts a) accounts.now) }
+        (λ ps. map (λ p. Some p.value) ps.items ≡ map (λ a. account context.now.book.now.accounts a) accounts.now) }
 {
     let mut parcels = Vec::with_capacity(alloc, accounts.len())?;
     for account in accounts {
@@ -69,7 +69,7 @@ impl<N: Naming> Context<'_, N> {
             (λ p. is_some p ≡ (tail_of self.now.plan place
             (slice_index (footprint_at (the_day self.now) place) index) == 0)) }
         ensures value { IfOk result
-            (λ p. IfSome p (λ p. account self.now.book.accounts
+            (λ p. IfSome p (λ p. account self.now.book.now.accounts
             (slice_index (footprint_at (the_day self.now) place) index) ≡ Some p.value)) }
         ensures after { IfOk result (λ p. IfSome p (λ p. p.after ≡ 0)) }
     {

@@ -93,7 +93,7 @@ fn run_places<N: Naming>(
 fn run_legal<N: Naming>(alloc: Global, context: &Context<N>, order: &[u32]) -> Result<Settled, Lack>
     requires legal { first_order_fault context.now.plan order.now ≡ None }
     ensures settled { IfOk result (λ s. IfSome N.day (λ d. s ≡ settled_day d)) }
-    ensures of_book { IfOk result (λ s. IsOfBook context.now.book s) }
+    ensures of_book { IfOk result (λ s. IsOfBook context.now.book.now s) }
     ensures lack { IfErr result (IsLack N.day) }
 {
     last_toucher_is_last();
@@ -120,7 +120,7 @@ pub fn run_order<N: Naming>(
 ) -> Result<Settled, RunFault>
     ensures legal { OnOk result (first_order_fault context.now.plan order.now ≡ None) }
     ensures settled { IfOk result (λ s. IfSome N.day (λ d. s ≡ settled_day d)) }
-    ensures of_book { IfOk result (λ s. IsOfBook context.now.book s) }
+    ensures of_book { IfOk result (λ s. IsOfBook context.now.book.now s) }
     ensures fault { IfErr result (IsRunFault context.now.plan order.now) }
 {
     context.plan().check_order(alloc, order)?;

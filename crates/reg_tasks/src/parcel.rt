@@ -10,7 +10,7 @@ use std::marker::PhantomData;
 
 /// The value of one account as the instruction at a place left it, or, at place 0, as it was before the first. If a
 /// day is named, a parcel has exactly the value that the instructions one after another give. Nothing makes one except
-/// a context, a vault and the run of a task, and it is not `Clone`.
+/// a context and the run of a task, and it is not `Clone`.
 #[derive(Drop)]
 pub struct Parcel<N: Naming> {
     value: Account,

@@ -10,9 +10,7 @@ use crate::naming::Naming;
 use crate::outcome::{Outcome, Ran};
 use crate::parcel::Parcel;
 use crate::slot::{are_ready, empty_slots, have_slots, lay_parcels, open_slots, take_parcels};
-use crate::taking::{lay_slots, take_slots};
 use crate::task::Task;
-use crate::vault::Vault;
 use reg_base::NoMemory;
 use reg_base::laws::{each_footprint_is_sound, last_toucher_is_last};
 use reg_book::Settled;
@@ -30,14 +28,12 @@ pub struct Slots<'c, 'a, N: Naming> {
 }
 
 impl<'c, 'a, N: Naming> Slots<'c, 'a, N> {
-    ghost use Rattle.std.specs.Prelude.{ℕ, ◌≤◌, Some, None, true, false, map, IfOk, IfErr, IfSome, OnOk, OnErr};
-    ghost use Rattle.std.specs.List.{list_all};
-    ghost use Rattle.std.specs.Option.{option_map};
+    ghost use Rattle.std.specs.Prelude.{ℕ, ◌≤◌, Some, None, true, false, IfOk, IfErr, IfSome, OnOk, OnErr};
     ghost use Rattle.reg_book.specs.Day.{Day, settled_day};
     ghost use Rattle.reg_book.specs.Settled.{IsOfBook};
     ghost use Rattle.reg_tasks.specs.Contexts.{the_day};
     ghost use Rattle.reg_base.specs.Rising.{count_up};
-    ghost use Rattle.reg_tasks.specs.Gathering.{places_of, is_last_there, AreFirstRows};
+    ghost use Rattle.reg_tasks.specs.Gathering.{places_of, AreFirstRows};
     ghost use Rattle.reg_tasks.specs.Names.{IsRowOfDay};
     ghost use Rattle.reg_tasks.specs.Parcels.{names_of};
     ghost use Rattle.reg_tasks.specs.Slots.{AreOpened, AreTaken, AreLaid, StandAsBefore, IsAtEnd, LacksFor, have_slots};
@@ -59,28 +55,6 @@ impl<'c, 'a, N: Naming> Slots<'c, 'a, N> {
         tails_are_last_touchers();
         let slots = open_slots(alloc, context)?;
         Ok(Slots { context, slots })
-    }
-
-    /// The same as [`Slots::open`], but the accounts are taken out of a vault and not copied.
-    ///
-    /// # Errors
-    /// `Memory` if memory ran out. `Foreign` if one of the accounts was taken out before. The accounts that were taken
-    /// out by this call are lost then.
-    pub fn open_from(
-        alloc: Global,
-        context: &'c Context<'a, N>,
-        vault: &mut Vault<N>,
-    ) -> Result<Slots<'c, 'a, N>, Lack>
-        ensures context { IfOk result (λ s. s.context.now ≡ context.now) }
-        ensures opened { IfOk result (λ s. AreOpened (the_day context.now) (stands s)) }
-    {
-        last_toucher_is_last();
-        tails_are_last_touchers();
-        let taken = take_slots(alloc, context, vault)?;
-        Ok(Slots {
-            context,
-            slots: taken,
-        })
     }
 
     /// The day whose instructions these are.
@@ -175,21 +149,6 @@ impl<'c, 'a, N: Naming> Slots<'c, 'a, N> {
         Ok((ran, done))
     }
 
-    /// Lays what stands in the slots back into a vault. Takes no memory.
-    ///
-    /// # Errors
-    /// `Foreign` if a slot is empty, or if what stands in it is not what the last instruction left. What was not laid
-    /// back is lost then.
-    pub fn lay_back(self, vault: &mut Vault<N>) -> Result<(), Lack>
-        ensures last { OnOk result
-            (list_all (is_last_there (the_day self.entry.context.now) self.entry.context.now.plan)
-            (map (option_map name_of) self.entry.slots.items) ≡ true) }
-        ensures lack { IfErr result (λ lack. lack ≡ Foreign) }
-    {
-        let Slots { context, slots, .. } = self;
-        lay_slots(context, vault, slots)
-    }
-
     /// The settled day, from its log and what stands in the slots.
     ///
     /// # Errors
@@ -198,7 +157,7 @@ impl<'c, 'a, N: Naming> Slots<'c, 'a, N> {
     pub fn into_settled_with(self, alloc: Global, log: Vec<LogRow>) -> Result<Settled, Lack>
         requires log { AreFirstRows N.day (length self.context.now.batch.now.instructions) log.items }
         ensures settled { IfOk result (λ s. IfSome N.day (λ d. s ≡ settled_day d)) }
-        ensures of_book { IfOk result (λ s. IsOfBook self.entry.context.now.book s) }
+        ensures of_book { IfOk result (λ s. IsOfBook self.entry.context.now.book.now s) }
         ensures lack { IfErr result
             (LacksFor ((d : Day) → N.day ≡ Some d
             → ¬ (IsAtEnd d (count_up 1 (length d.batch.instructions)) (stands self.entry)))) }
@@ -217,7 +176,7 @@ impl<'c, 'a, N: Naming> Slots<'c, 'a, N> {
     /// some account is not what its last instruction left. If no day is named, also if they are of another context.
     pub fn into_settled(self, alloc: Global, done: Vec<Done<N>>) -> Result<Settled, Lack>
         ensures settled { IfOk result (λ s. IfSome N.day (λ d. s ≡ settled_day d)) }
-        ensures of_book { IfOk result (λ s. IsOfBook self.entry.context.now.book s) }
+        ensures of_book { IfOk result (λ s. IsOfBook self.entry.context.now.book.now s) }
         ensures lack { IfErr result
             (LacksFor ((d : Day) → N.day ≡ Some d → ¬ (IsAtEnd d (places_of done.items) (stands self.entry)))) }
     {

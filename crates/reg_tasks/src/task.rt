@@ -131,7 +131,7 @@ impl<N: Naming> Task<N> {
             ≡ map (λ a. (a, 0)) (footprint_at (the_day context.now) place))) }
         ensures values { IfOk result
             (λ t. IfSome t (λ t. map (λ p. Some p.value) t.parcels.items
-            ≡ map (λ a. account context.now.book.accounts a) (footprint_at (the_day context.now) place))) }
+            ≡ map (λ a. account context.now.book.now.accounts a) (footprint_at (the_day context.now) place))) }
     {
         if !context.arrows_to(place).is_empty() {
             return Ok(None);

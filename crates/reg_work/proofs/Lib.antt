@@ -1,4 +1,3 @@
-pub mod ClosedBooks
 pub mod Counting
 pub mod Dividing
 pub mod Ending

@@ -1,20 +1,15 @@
 -- What one worker ran: each place, once.
-use Rattle.std.proofs.Common.{arith, add-one, ◌≡◌, ℕ, zero, suc, ◌+◌, ◌==◌, List, [], ◌∷◌, ◌++◌, length, take, Some}
+use Rattle.std.proofs.Common.{arith, add-one, ◌≡◌, ℕ, zero, suc, ◌+◌, ◌==◌, List, [], ◌∷◌, ◌++◌, take, Some}
 use Rattle.std.proofs.Common.{refl, sym, ap, ◌∙◌}
 use Rattle.std.specs.Prelude.{slice_get}
 use Rattle.std.proofs.lemmas.Option.{same_Some}
 use Rattle.std.proofs.lemmas.List.{map-append}
-use Rattle.std.proofs.Math.Seq.{take-length}
 use mathlib.Core.Logic.{dite}
 use native.Mathlib.Decide.{ℕ_discrete, dec_le}
 use Rattle.reg_counting.specs.Counting.{times, once, one_if}
 use Rattle.reg_claim.proofs.Numbers.{equal-one, apart-none, once-yes, once-past, once-zero}
 use Rattle.reg_rules.specs.declared.reply.LogRow.{LogRow}
-use Rattle.reg_base.specs.declared.instruction.Instruction.{Instruction}
-use Rattle.reg_rules.specs.State.{Setting, State}
-use Rattle.reg_rules.specs.Step.{step}
-use Rattle.reg_book.specs.Fold.{rows_of, replies_in}
-use Rattle.reg_book.specs.Day.{Day, row_at, log_of, replies_of, setting}
+use Rattle.reg_book.specs.Day.{Day, row_at, log_of}
 use Rattle.reg_tasks.specs.declared.outcome.Ran.{Ran}
 use Rattle.reg_work.specs.declared.shift.Shift.{Shift}
 use Rattle.reg_work.specs.Shifts.{AreShifts, places_ran}
@@ -81,16 +76,3 @@ row-more log n rows now row items before at =
 -- the row of the next place, as a row of the log
 pub row-next : (d : Day) (n : ℕ) (row : LogRow) → row_at d (n + 1) ≡ Some row → slice_get (log_of d) n ≡ Some row
 row-next d n row e = let one : suc n ≡ n + 1 = omega arith in ap (row_at d) one ∙ e
-
--- there is a row for each instruction
-count-rows : (c : Setting) (s : State) (number : ℕ) (is : List Instruction) → length (rows_of c s number is) ≡ length is
-count-rows c s number [] = refl
-count-rows c s number (i ∷ is) = ap suc (count-rows c (step c s number i).0 (number + 1) is)
-
--- as many rows as there are instructions have all replies of the day
-pub all-replies : (d : Day) (n : ℕ) (rows : List LogRow) → rows ≡ take n (log_of d) → n ≡ length d.batch.instructions
-    → replies_in rows ≡ replies_of d
-all-replies d n rows first count =
-    let all : n ≡ length (log_of d) =
-    count ∙ sym (count-rows (setting d) d.book.accounts (d.batch.base + 1) d.batch.instructions) in
-    ap replies_in (first ∙ ap (λ k. take k (log_of d)) all ∙ take-length (log_of d))

@@ -1,5 +1,5 @@
 -- Why workers did not settle a batch.
-use Rattle.std.specs.Prelude.{◌≡◌, ◌≢◌, ℕ, ◌+◌, ◌≤◌, Bool, true, false, nat_le, ◌&&◌, Option, Some, None}
+use Rattle.std.specs.Prelude.{◌≡◌, ◌≢◌, ℕ, ◌+◌, ◌≤◌, Bool, true, false, nat_le, ◌&&◌}
 use Rattle.reg_base.specs.Batch.{BatchValue}
 use Rattle.reg_book.specs.Book.{BookValue}
 use Rattle.reg_work.specs.declared.fault.WorkFault.{WorkFault}
@@ -17,11 +17,3 @@ IsWorkFault workers book batch (WrongBase next) =
     (are_workers workers ≡ true) × (next ≡ book.next) × (batch.base + 1 ≢ book.next)
 IsWorkFault workers book batch NoThread = (2 ≤ workers) × (are_workers workers ≡ true) × (batch.base + 1 ≡ book.next)
 IsWorkFault workers book batch NoMemory = (are_workers workers ≡ true) × (batch.base + 1 ≡ book.next)
-
--- what comes back of a book that was not closed: the whole book if the fault was found before an account moved, and
--- nothing after any other fault
-abbrev pub given_back : WorkFault → BookValue → Option BookValue
-given_back Workers book = Some book
-given_back (WrongBase next) book = Some book
-given_back NoThread book = None
-given_back NoMemory book = None

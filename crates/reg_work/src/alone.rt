@@ -76,7 +76,7 @@ pub(crate) fn settle_alone<N: Naming, G: Gate>(
     gate: &G,
 ) -> Result<(Settled, Vec<Shift<N>>), Lack>
     ensures settled { IfOk result (λ s. IfSome N.day (λ d. s.0 ≡ settled_day d)) }
-    ensures of_book { IfOk result (λ s. IsOfBook context.now.book s.0) }
+    ensures of_book { IfOk result (λ s. IsOfBook context.now.book.now s.0) }
     ensures shifts { IfOk result (λ s. AreShifts 1 (length context.now.batch.now.instructions) s.1.items) }
 {
     let mut slots = Slots::open(alloc, context)?;

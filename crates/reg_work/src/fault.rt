@@ -1,12 +1,12 @@
 //! Why a day was not settled.
 
-ghost use Rattle.std.specs.Prelude.{◌≡◌, Some, None};
+ghost use Rattle.std.specs.Prelude.{◌≡◌};
 ghost use Rattle.reg_work.specs.Shortages.{fault_of_shortage, fault_of_context};
 ghost use Rattle.reg_tasks.specs.declared.lack.Lack.TheVariants.{Memory};
 ghost use Rattle.reg_work.specs.declared.fault.Shortage.TheVariants.{Day};
 
 use reg_base::NoMemory;
-use reg_book::{Book, SettleFault};
+use reg_book::SettleFault;
 use reg_tasks::Lack;
 use std::alloc::AllocError;
 use thiserror::Error;
@@ -31,29 +31,6 @@ pub enum WorkFault {
     NoMemory,
 }
 
-/// Why a book was not closed, and the book if it is whole.
-#[derive(Debug, Drop, Error)]
-#[error("{fault}")]
-pub struct NotClosed {
-    /// Why it was not closed.
-    pub fault: WorkFault,
-    /// The book as it was, exactly if the fault is `Workers` or `WrongBase`. After any other fault its accounts had
-    /// moved, and it is gone.
-    pub book: Option<Book>,
-}
-
-impl NotClosed {
-    // A fault that was found before an account moved, and the book as it was.
-    pub(crate) fn with_book(fault: WorkFault, book: Book) -> NotClosed
-        ensures { result ≡ record { fault = fault; book = Some book } }
-    {
-        NotClosed {
-            fault,
-            book: Some(book),
-        }
-    }
-}
-
 /// What workers lacked: the first of these that applies.
 #[derive(Clone, Copy, Debug, PartialEq, Eq, Error)]
 pub(crate) enum Shortage {
@@ -74,18 +51,6 @@ impl From<Shortage> for WorkFault {
         match shortage {
             Shortage::Thread => WorkFault::NoThread,
             Shortage::Day(_) => WorkFault::NoMemory,
-        }
-    }
-}
-
-/// What is lacking is found while the accounts are on their way: the book is gone.
-impl From<Shortage> for NotClosed {
-    ghost from_gives = { λ shortage e. e ≡ record { fault = fault_of_shortage shortage; book = None } };
-
-    fn from(shortage: Shortage) -> NotClosed {
-        NotClosed {
-            fault: shortage.into(),
-            book: None,
         }
     }
 }

@@ -38,11 +38,9 @@
 #![tactic(auto)]
 
 mod alone;
-mod closing;
 mod execution;
 mod fault;
 mod level;
-mod opener;
 mod parts;
 mod shared;
 mod shift;
@@ -53,8 +51,7 @@ mod waves;
 mod work_loop;
 mod worker;
 
-pub use closing::close_with;
-pub use fault::{NotClosed, WorkFault};
+pub use fault::WorkFault;
 pub use reg_tasks::{FreeGate, Gate};
 pub use shift::Shift;
 pub use stealing::settle_with;

@@ -16,7 +16,6 @@ ghost use Rattle.reg_work.specs.Shortages.{IsShortage};
 
 use crate::alone::settle_alone;
 use crate::fault::{Shortage, WorkFault};
-use crate::opener::{COPIED_AT_ONCE, Copying, Opener};
 use crate::shared::{Shared, SharedIds};
 use crate::shift::Shift;
 use crate::tally::{Work, count_up, join_parts};
@@ -74,7 +73,6 @@ fn run_workers<
     I: SharedIds + Send + Sync,
     R: Threads + Wait + Sync,
     G: Gate,
-    O: Opener<N>,
 >(
     rt: &R,
     alloc: Global,
@@ -86,8 +84,6 @@ fn run_workers<
     owners: Vec<Owner<N>>,
     passes: Vec<Pass<N>>,
     gate: &G,
-    others: Copying,
-    own: &mut O,
 ) -> Result<Work<N>, Shortage>
     requires count { length context.now.batch.now.instructions ≡ I.count }
     requires table { (table_id table ≡ I.table) × (places table ≡ I.count) × (seat_table seat ≡ I.table) }
@@ -111,29 +107,18 @@ fn run_workers<
         opened: AtomicU32::new(0),
         of: PhantomData,
     };
-    let ended_workers = run_in_threads(rt, alloc, &shared, gate, unstarted, last, others, own)?;
+    let ended_workers = run_in_threads(rt, alloc, &shared, gate, unstarted, last)?;
     let Shared { table, .. } = shared;
     Ok(count_up(alloc, table, rest, ended_workers)?)
 }
 
-/// Runs the day of a context by several workers, which have docks, deques and a claim table. The calling thread opens
-/// places by an opener of its own.
-///
-/// # Errors
-/// `Thread` if a thread could not be started. Otherwise what the day lacked.
-pub(crate) fn run_by_stealing<
-    N: Naming + Send + Sync,
-    R: Threads + Wait + Sync,
-    G: Gate,
-    O: Opener<N>,
->(
+// Runs the day of a context by several workers, which have docks, deques and a claim table.
+fn run_by_stealing<N: Naming + Send + Sync, R: Threads + Wait + Sync, G: Gate>(
     rt: &R,
     alloc: Global,
     context: &Context<N>,
     workers: u32,
     gate: &G,
-    others: Copying,
-    own: &mut O,
 ) -> Result<Work<N>, Shortage>
     requires several { 2 ≤ workers }
     requires workers { are_workers workers ≡ true }
@@ -147,8 +132,8 @@ pub(crate) fn run_by_stealing<
     let Ok((table, seat)) = ClaimTable::new(alloc, context.batch().len()) else {
         return Err(Shortage::Day(Lack::Memory));
     };
-    run_workers::<N, Brand, R, G, O>(
-        rt, alloc, context, docks, table, seat, yard, owners, passes, gate, others, own,
+    run_workers::<N, Brand, R, G>(
+        rt, alloc, context, docks, table, seat, yard, owners, passes, gate,
     )
 }
 
@@ -162,17 +147,14 @@ fn settle_context<N: Naming + Send + Sync, R: Threads + Wait + Sync, G: Gate>(
 ) -> Result<(Settled, Vec<Shift<N>>), Shortage>
     requires workers { are_workers workers ≡ true }
     ensures settled { IfOk result (λ s. IfSome N.day (λ d. s.0 ≡ settled_day d)) }
-    ensures of_book { IfOk result (λ s. IsOfBook context.now.book s.0) }
+    ensures of_book { IfOk result (λ s. IsOfBook context.now.book.now s.0) }
     ensures shifts { IfOk result (λ s. AreShifts workers (length context.now.batch.now.instructions) s.1.items) }
     ensures lack { IfErr result (IsShortage workers) }
 {
     if workers == 1 {
         return Ok(settle_alone(alloc, context, gate)?);
     }
-    let others = Copying {
-        places: COPIED_AT_ONCE,
-    };
-    let work = run_by_stealing(rt, alloc, context, workers, gate, others, &mut { others })?;
+    let work = run_by_stealing(rt, alloc, context, workers, gate)?;
     let Work {
         shifts,
         done,

@@ -6,7 +6,6 @@ ghost use Rattle.reg_work.specs.Shifts.{numbers_below};
 ghost use Rattle.reg_work.specs.EndedWorkers.{ended_numbers};
 
 use crate::fault::Shortage;
-use crate::opener::{Copying, Opener};
 use crate::shared::{Shared, SharedIds};
 use crate::work_loop::{EndedWorker, work};
 use crate::worker::Worker;
@@ -28,8 +27,7 @@ impl<N: Naming, I: SharedIds> Promise<EndedWorker<N, I>> for EndOf {
 
 type Handle<N, I> = PromisedHandle<EndedWorker<N, I>, EndOf>;
 
-// Starts a thread for each worker, from worker 0 on, until one cannot be started. There is room for their handles. Each
-// worker has the opener.
+// Starts a thread for each worker, from worker 0 on, until one cannot be started. There is room for their handles.
 fn start_all<
     's,
     'b: 's,
@@ -45,7 +43,6 @@ fn start_all<
     shared: &'s Shared<'b, N, I>,
     gate: &'s G,
     unstarted: Vec<Worker<N, I>>,
-    opener: Copying,
     handles: &mut Vec<Handle<N, I>>,
 ) -> Result<(), Shortage>
     requires none { handles.old.items ≡ [] }
@@ -63,7 +60,7 @@ fn start_all<
             EndOf { number },
             move || -> EndedWorker<N, I>
                 ensures { result.number ≡ number }
-            { work(rt, alloc, shared, gate, number, worker, &mut { opener }) },
+            { work(rt, alloc, shared, gate, number, worker) },
         );
         let Ok(handle) = started else {
             return Err(Shortage::Thread);
@@ -98,8 +95,8 @@ fn join_and_drop<N: Naming, I: SharedIds, R: Threads>(rt: &R, handles: Vec<Handl
     }
 }
 
-/// Runs the workers: each in a thread of its own, but for the last, which is the calling thread. It opens places by an
-/// opener of its own. All threads are joined.
+/// Runs the workers: each in a thread of its own, but for the last, which is the calling thread. All threads are
+/// joined.
 ///
 /// # Errors
 /// `Thread` if a thread could not be started: then those that were started are told to leave. Otherwise `Memory` if
@@ -109,7 +106,6 @@ pub(crate) fn run_in_threads<
     I: SharedIds + Send + Sync,
     R: Threads + Wait + Sync,
     G: Gate,
-    O: Opener<N>,
 >(
     rt: &R,
     alloc: Global,
@@ -117,8 +113,6 @@ pub(crate) fn run_in_threads<
     gate: &G,
     unstarted: Vec<Worker<N, I>>,
     last: Worker<N, I>,
-    others: Copying,
-    own: &mut O,
 ) -> Result<Vec<EndedWorker<N, I>>, Shortage>
     requires few { vec_len unstarted ≤ 7 }
     ensures workers { IfOk result
@@ -139,22 +133,13 @@ pub(crate) fn run_in_threads<
             let mut last = last;
             let mut handles = Vec::with_capacity(alloc, count)?;
             let mut ended_workers = Vec::with_capacity(alloc, count + 1)?;
-            let Ok(()) = start_all(
-                scope,
-                rt,
-                alloc,
-                shared,
-                gate,
-                unstarted,
-                others,
-                &mut handles,
-            ) else {
+            let Ok(()) = start_all(scope, rt, alloc, shared, gate, unstarted, &mut handles) else {
                 last.stop(shared);
                 // A thread that is not joined may run on, and what it leaves is never dropped.
                 join_and_drop(rt, handles);
                 return Err(Shortage::Thread);
             };
-            let ended_worker = work(rt, alloc, shared, gate, count as u32, last, own);
+            let ended_worker = work(rt, alloc, shared, gate, count as u32, last);
             join_all(rt, handles, &mut ended_workers);
             ended_workers.push_reserved(ended_worker);
             Ok(ended_workers)

@@ -93,7 +93,7 @@ fn settle_context<N: Naming + Send + Sync, R: Threads + Wait, G: Gate>(
 ) -> Result<Settled, Shortage>
     requires workers { are_workers workers ≡ true }
     ensures settled { IfOk result (λ s. IfSome N.day (λ d. s ≡ settled_day d)) }
-    ensures of_book { IfOk result (λ s. IsOfBook context.now.book s) }
+    ensures of_book { IfOk result (λ s. IsOfBook context.now.book.now s) }
     ensures lack { IfErr result (IsShortage workers) }
 {
     let mut levels = Levels::open(alloc, context)?;

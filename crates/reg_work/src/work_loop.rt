@@ -4,7 +4,6 @@ ghost use Rattle.std.specs.Prelude.{◌≡◌, true};
 ghost use Rattle.reg_claim.specs.Seats.{known};
 ghost use Rattle.reg_work.specs.Ends.{sees_end};
 
-use crate::opener::Opener;
 use crate::shared::{Shared, SharedIds};
 use crate::worker::Worker;
 use crossbeam_utils::Backoff;
@@ -45,14 +44,13 @@ fn run_task<N: Naming, I: SharedIds, R: Wait, G: Gate>(
     Ok(worker.finish(shared, execution)?)
 }
 
-// The task that a worker runs next, if it finds one: of its own deque, else of the places that it opens, some or all of
-// them, else of another worker's deque. It opens and steals nothing once it sees that the workers are to leave.
-fn find<N: Naming, I: SharedIds, R: Wait, O: Opener<N>>(
+// The task that a worker runs next, if it finds one: of its own deque, else of the places that it opens, else of
+// another worker's deque. It opens and steals nothing once it sees that the workers are to leave.
+fn find<N: Naming, I: SharedIds, R: Wait>(
     rt: &R,
     alloc: Global,
     shared: &Shared<'_, N, I>,
     worker: &mut Worker<N, I>,
-    opener: &mut O,
 ) -> Result<Option<Task<N>>, Lack> {
     let own = worker.take_own();
     if own.is_some() {
@@ -62,35 +60,27 @@ fn find<N: Naming, I: SharedIds, R: Wait, O: Opener<N>>(
         if worker.is_over(shared) {
             return Ok(None);
         }
-        if !worker.open_next(rt, alloc, shared, opener)? {
+        if !worker.open_next(rt, alloc, shared)? {
             break;
-        }
-        if opener.opens_ahead() {
-            continue;
         }
         let opened = worker.take_own();
         if opened.is_some() {
             return Ok(opened);
         }
     }
-    let opened = worker.take_own();
-    if opened.is_some() {
-        return Ok(opened);
-    }
     Ok(worker.steal(shared))
 }
 
 // One step of a worker: finds a task and runs it. Answers whether it found one.
-fn step<N: Naming, I: SharedIds, R: Wait, G: Gate, O: Opener<N>>(
+fn step<N: Naming, I: SharedIds, R: Wait, G: Gate>(
     rt: &R,
     alloc: Global,
     shared: &Shared<'_, N, I>,
     gate: &G,
     number: u32,
     worker: &mut Worker<N, I>,
-    opener: &mut O,
 ) -> Result<bool, Lack> {
-    let Some(task) = find(rt, alloc, shared, worker, opener)? else {
+    let Some(task) = find(rt, alloc, shared, worker)? else {
         return Ok(false);
     };
     run_task(rt, alloc, shared, gate, number, worker, task)?;
@@ -109,14 +99,13 @@ fn pause<R: Wait>(rt: &R, backoff: &Backoff) {
 
 /// Runs tasks until all are done, or the workers are to leave. If something is lacking, it tells all workers to leave.
 /// It leaves only after a look that shows the one or the other.
-pub(crate) fn work<N: Naming, I: SharedIds, R: Wait, G: Gate, O: Opener<N>>(
+pub(crate) fn work<N: Naming, I: SharedIds, R: Wait, G: Gate>(
     rt: &R,
     alloc: Global,
     shared: &Shared<'_, N, I>,
     gate: &G,
     number: u32,
     worker: Worker<N, I>,
-    opener: &mut O,
 ) -> EndedWorker<N, I>
     ensures { result.number ≡ number }
 {
@@ -124,7 +113,7 @@ pub(crate) fn work<N: Naming, I: SharedIds, R: Wait, G: Gate, O: Opener<N>>(
     let mut lack = None;
     let backoff = Backoff::new();
     for _ in rt.forever() {
-        let found = match step(rt, alloc, shared, gate, number, &mut worker, opener) {
+        let found = match step(rt, alloc, shared, gate, number, &mut worker) {
             Ok(found) => found,
             Err(why) => {
                 worker.stop(shared);

@@ -7,7 +7,6 @@ ghost use Rattle.reg_deques.specs.Yards.{deques_of_pass};
 ghost use Rattle.reg_work.specs.Shifts.{places_ran};
 
 use crate::execution::Execution;
-use crate::opener::Opener;
 use crate::shared::{Shared, SharedIds};
 use reg_base::NoMemory;
 use reg_claim::Seat;
@@ -18,6 +17,9 @@ use std::alloc::Global;
 use std::marker::PhantomData;
 use std::sync::Wait;
 use std::sync::atomic::Ordering;
+
+// So many places are opened at once. The values of so many instructions are still near the processor when they are run.
+const AT_ONCE: u32 = 32;
 
 /// A worker: its deque, what it knows of the others, its seat, and what it did.
 #[derive(Drop)]
@@ -93,40 +95,37 @@ impl<N: Naming, I: SharedIds> Worker<N, I> {
         shared.table.stop(&mut self.seat);
     }
 
-    /// Opens the next places of the day that no worker has opened, as many as the opener opens at once. Answers whether
-    /// there may be more.
+    /// Opens the next places of the day that no worker has opened, by copies of the book's accounts: several workers
+    /// open in turn. Answers whether there may be more.
     ///
     /// # Errors
-    /// `Memory` if memory ran out. `Foreign` if an account is not there, or if a dock gives back an opening value.
-    pub(crate) fn open_next<R: Wait, O: Opener<N>>(
+    /// `Memory` if memory ran out. `Foreign` if a dock gives back an opening value.
+    pub(crate) fn open_next<R: Wait>(
         &mut self,
         rt: &R,
         alloc: Global,
         shared: &Shared<'_, N, I>,
-        opener: &mut O,
     ) -> Result<bool, Lack>
         ensures rest { OwnerAlone self.old self.new }
     {
         let count = shared.context.batch().len();
-        let places = opener.at_once();
-        if places == 0 || shared.opened.load(Ordering::SeqCst) >= count {
+        if shared.opened.load(Ordering::SeqCst) >= count {
             return Ok(false);
         }
-        let first = shared.opened.fetch_add(places, Ordering::SeqCst);
-        for before in first..first.saturating_add(places).min(count) {
-            self.open_place(rt, alloc, shared, opener, before + 1)?;
+        let first = shared.opened.fetch_add(AT_ONCE, Ordering::SeqCst);
+        for before in first..first.saturating_add(AT_ONCE).min(count) {
+            self.open_place(rt, alloc, shared, before + 1)?;
         }
         Ok(true)
     }
 
     // Opens a place: puts its task into the worker's own deque, if the instruction waits for no other, and otherwise
     // delivers the opening values that it needs.
-    fn open_place<R: Wait, O: Opener<N>>(
+    fn open_place<R: Wait>(
         &mut self,
         rt: &R,
         alloc: Global,
         shared: &Shared<'_, N, I>,
-        opener: &mut O,
         place: u32,
     ) -> Result<(), Lack>
         requires from_one { 1 ≤ place }
@@ -136,12 +135,12 @@ impl<N: Naming, I: SharedIds> Worker<N, I> {
             (length (inward shared.now.context.now.plan.arrows place) ≡ 0
             → owned self.new.owner ≡ with_put (place ∷ []) (owned self.old.owner)) }
     {
-        if let Some(task) = opener.open_task(alloc, shared.context, place)? {
+        if let Some(task) = Task::open(alloc, shared.context, place)? {
             return self.put(task);
         }
         let arrows = shared.context.arrows_to(place);
         for index in 0..shared.context.touched_at(place).len() {
-            if let Some(parcel) = opener.open_value(alloc, shared.context, place, arrows, index)? {
+            if let Some(parcel) = shared.context.opening_at(alloc, place, arrows, index)? {
                 self.deliver(rt, shared, parcel)?;
             }
         }

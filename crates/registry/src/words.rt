@@ -33,7 +33,7 @@ Exit statuses:
   0  the text was written
   2  the words, the number of workers or the account were not taken
   3  the input is not a day text: standard error names the first faulty row and the cause
-  4  memory ran out, or a thread could not be started
+  4  memory ran out
   5  standard input or standard output failed";
 
 /// The command that these words ask for. They stand without the program's name.

@@ -4,6 +4,7 @@ use crate::digest::{Digest, digest_of};
 use reg_base::NoMemory;
 use reg_book::{BookFault, SettleFault};
 use reg_plan::OrderFault;
+use reg_regions::RegionsFault;
 use reg_tasks::RunFault;
 use reg_text::{DayFault, StatementFault};
 use reg_work::WorkFault;
@@ -91,6 +92,15 @@ impl From<RunFault> for Ended {
         match fault {
             RunFault::NoMemory => Ended::NoMemory,
             RunFault::Order(_) => Ended::Otherwise,
+        }
+    }
+}
+
+impl From<RegionsFault> for Ended {
+    fn from(fault: RegionsFault) -> Ended {
+        match fault {
+            RegionsFault::NoMemory => Ended::NoMemory,
+            RegionsFault::Workers | RegionsFault::WrongBase { .. } => Ended::Otherwise,
         }
     }
 }

@@ -4,11 +4,12 @@ use crate::call::{Call, try_call, try_rehearsed, try_threads, try_using_up};
 use crate::digest::digest_of;
 use crate::endings::{Ended, how_ended};
 use crate::stop::Stop;
-use reg_base::{Batch, Rules};
-use reg_book::{Book, SettleFault, settle_in_place, settle_plain};
+use reg_base::{Batch, NoMemory, Rules};
+use reg_book::{ClosedDay, ClosedParts, Parts, SettleFault, settle_in_place, settle_plain};
+use reg_regions::{FreePlaces, settle_regions};
 use reg_tasks::{Context, Unnamed, run_order};
 use reg_text::{DayInput, read_day};
-use reg_work::{FreeGate, close_with, settle_waves, settle_with};
+use reg_work::{FreeGate, settle_waves, settle_with};
 use std::alloc::Global;
 use std::io::Write;
 use std::sync::Wait;
@@ -170,43 +171,78 @@ fn closed_in_place(alloc: Global, day: DayInput) -> Ended {
     how_ended(settle_in_place(alloc, book, &rules, &batch))
 }
 
-// The book, which `close_with` gives back for an empty batch that begins one record late. Nothing in here takes memory.
-fn given_back<R: Threads + Wait + Sync>(
+// A day whose accounts are in one list.
+#[derive(Drop)]
+struct ListedDay {
+    parts: Parts,
+    rules: Rules,
+    batch: Batch,
+}
+
+impl ListedDay {
+    // The day of a text.
+    fn of(alloc: Global, text: &[u8]) -> Result<ListedDay, Stop> {
+        let DayInput { book, rules, batch } = day_of(alloc, text)?;
+        match Parts::of_book(alloc, book) {
+            Ok(parts) => Ok(ListedDay {
+                parts,
+                rules,
+                batch,
+            }),
+            Err(NoMemory) => Err(Stop::Short),
+        }
+    }
+}
+
+// The book, which `settle_regions` gives back for an empty batch that begins one record late. Nothing in here takes
+// memory.
+fn given_back<R: Threads + Sync>(
     rt: &R,
     alloc: Global,
-    book: Book,
+    parts: Parts,
     rules: &Rules,
     batch: &Batch,
-) -> Option<Book> {
+) -> Option<Parts> {
     let Ok(late) = Batch::new(batch.day(), batch.base() + 1, Vec::new(alloc)) else {
         return None;
     };
-    match close_with(rt, alloc, book, rules, &late, 1, &FreeGate) {
+    match settle_regions(rt, alloc, parts, rules, &late, 1, &FreePlaces) {
         Ok(_) => None,
-        Err(not_closed) => not_closed.book,
+        Err(not_settled) => not_settled.parts,
     }
 }
 
-// `close_with`, of which the closed day alone is looked at, with a book that it has given back before.
-fn closed_by_workers<R: Threads + Wait + Sync>(
+// The closed day with its accounts in one list.
+fn joined(alloc: Global, closed: ClosedParts) -> Result<ClosedDay, NoMemory> {
+    let ClosedParts { parts, replies } = closed;
+    let book = parts.into_book(alloc)?;
+    Ok(ClosedDay { book, replies })
+}
+
+// `settle_regions`, of which the closed day alone is looked at, with a book that it has given back before.
+fn closed_by_regions<R: Threads + Sync>(
     rt: &R,
     alloc: Global,
-    day: DayInput,
+    day: ListedDay,
     workers: u32,
 ) -> Ended {
-    let DayInput { book, rules, batch } = day;
-    let Some(book) = given_back(rt, alloc, book, &rules, &batch) else {
+    let ListedDay {
+        parts,
+        rules,
+        batch,
+    } = day;
+    let Some(parts) = given_back(rt, alloc, parts, &rules, &batch) else {
         return Ended::Otherwise;
     };
-    match close_with(rt, alloc, book, &rules, &batch, workers, &FreeGate) {
-        Ok((closed, _)) => Ended::Done(digest_of(&closed)),
-        Err(not_closed) => not_closed.fault.into(),
+    match settle_regions(rt, alloc, parts, &rules, &batch, workers, &FreePlaces) {
+        Ok((closed, _)) => how_ended(joined(alloc, closed)),
+        Err(not_settled) => not_settled.fault.into(),
     }
 }
 
-/// Tries `close_with`: first with a wrong base, for which it gives the book back, and then with the right one. If it
-/// was refused something, that book is gone, and it is tried with another one.
-pub(crate) fn try_closing<R: Threads + Wait + Sync, W: Write>(
+/// Tries `settle_regions`: first with a wrong base, for which it gives the book back, and then with the right one. If
+/// it was refused something, that book is gone, and it is tried with another one.
+pub(crate) fn try_regions<R: Threads + Sync, W: Write>(
     rt: &R,
     alloc: Global,
     text: &[u8],
@@ -214,7 +250,7 @@ pub(crate) fn try_closing<R: Threads + Wait + Sync, W: Write>(
     writer: &mut W,
 ) -> Result<(), Stop> {
     let wanted = closed_in_place(alloc, day_of(alloc, text)?);
-    let (first, second) = (day_of(alloc, text)?, day_of(alloc, text)?);
-    let call = |day: DayInput| closed_by_workers(rt, alloc, day, workers);
+    let (first, second) = (ListedDay::of(alloc, text)?, ListedDay::of(alloc, text)?);
+    let call = |day: ListedDay| closed_by_regions(rt, alloc, day, workers);
     try_using_up(first, second, call, wanted, writer)
 }

@@ -5,7 +5,7 @@ use crate::books::{try_directory, try_draft};
 use crate::claims::try_table;
 use crate::docks::{try_dock, try_docks};
 use crate::plans::{try_check, try_plan, try_plan_text, try_plan_with};
-use crate::settling::{try_closing, try_order, try_plain, try_waves, try_workers};
+use crate::settling::{try_order, try_plain, try_regions, try_waves, try_workers};
 use crate::single::try_apply;
 use crate::steps::try_execute;
 use crate::stop::Stop;
@@ -49,8 +49,8 @@ pub fn try_named<R: Threads + Wait + Sync, W: Write>(
     if name == "apply" {
         return try_apply(alloc, text, writer);
     }
-    if name == "close_with" {
-        return try_closing(rt, alloc, text, number, writer);
+    if name == "settle_regions" {
+        return try_regions(rt, alloc, text, number, writer);
     }
     let Ok(day) = read_day(alloc, text) else {
         return Err(Stop::Input);

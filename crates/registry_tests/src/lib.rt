@@ -20,7 +20,6 @@ mod regions;
 #[cfg(test)]
 mod stealing;
 #[cfg(test)]
-mod vaults;
 #[cfg(test)]
 mod words;
 #[cfg(test)]

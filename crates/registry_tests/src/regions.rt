@@ -107,6 +107,16 @@ impl Meeting {
     }
 }
 
+// Six transfers to unknown accounts, which touch no account: a region each, as many as two workers want.
+const SIX: &str = "\
+do,2025-03-31,101,102,transfer,1,71,general,1
+do,2025-03-31,101,102,transfer,1,72,general,1
+do,2025-03-31,101,102,transfer,1,73,general,1
+do,2025-03-31,101,102,transfer,1,74,general,1
+do,2025-03-31,101,102,transfer,1,75,general,1
+do,2025-03-31,101,102,transfer,1,76,general,1
+";
+
 // A gate that holds the first instruction until all others have entered.
 #[derive(Drop)]
 struct HeldFirst {
@@ -141,11 +151,11 @@ fn eight_workers_run_eight_bundles_at_once(rt: HostRuntime) {
 #[test]
 fn a_held_worker_holds_up_no_region_but_its_own(rt: HostRuntime) {
     let gate = HeldFirst {
-        meeting: Meeting::of(8),
+        meeting: Meeting::of(6),
     };
-    let told = shifts(&rt, rt.alloc(), UNKNOWN, 2, &gate);
+    let told = shifts(&rt, rt.alloc(), SIX, 2, &gate);
     assert!(rt;
-        told.as_str() == "0:1 1:7 " || told.as_str() == "0:7 1:1 ",
+        told.as_str() == "0:1 1:5 " || told.as_str() == "0:5 1:1 ",
         "{told}"
     );
     assert_eq!(rt; gate.meeting.missed.load(Ordering::SeqCst), 0);

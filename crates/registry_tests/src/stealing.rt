@@ -2,13 +2,11 @@
 
 use crate::fixtures::worked;
 use crate::levels::{Meeting, TURNS, UNKNOWN, full_batch};
-use crate::orders::{APART, TWICE, settled, told};
+use crate::orders::{APART, settled, told};
 use crossbeam_utils::Backoff;
-use reg_base::{Batch, Rules};
-use reg_book::Book;
 use reg_tasks::{Naming, Task};
-use reg_text::{DayInput, write_book};
-use reg_work::{FreeGate, Gate, Shift, WorkFault, close_with, settle_with};
+use reg_text::DayInput;
+use reg_work::{FreeGate, Gate, Shift, settle_with};
 use std::alloc::Global;
 use std::process::Abort;
 use std::sync::Wait;
@@ -121,57 +119,6 @@ fn met<R: Abort + Threads + Wait + Sync>(
     told
 }
 
-// Of so many workers who each wait until so many have entered, after the last one has opened all places: how many
-// waited in vain.
-fn missed_by_owners<R: Abort + Threads + Wait + Sync>(rt: &R, alloc: Global, workers: u32) -> u32 {
-    let DayInput { book, rules, batch } = worked(rt, alloc, UNKNOWN);
-    let gate = Meeting::of(workers);
-    let closed = close_with(rt, alloc, book, &rules, &batch, workers, &gate);
-    assert!(rt; closed.is_ok());
-    gate.missed.load(Ordering::SeqCst)
-}
-
-// Why so many workers do not close a book with a batch, and the book, which they give back as it was.
-fn given_back<R: Abort + Threads + Wait + Sync>(
-    rt: &R,
-    alloc: Global,
-    book: Book,
-    rules: &Rules,
-    batch: &Batch,
-    workers: u32,
-) -> (WorkFault, Book) {
-    let before = write_book(alloc, &book).expect(rt, "memory");
-    let refused = close_with(rt, alloc, book, rules, batch, workers, &FreeGate).err();
-    let not_closed = refused.expect(rt, "a book that is not closed");
-    let back = not_closed.book.expect(rt, "the book");
-    assert!(rt; write_book(alloc, &back).expect(rt, "memory") == before);
-    (not_closed.fault, back)
-}
-
-// Why a book is not closed with a batch that begins one record late, and why not by nine workers; and its next record
-// number after the right batch was settled by two workers.
-fn closed_at_last<R: Abort + Threads + Wait + Sync>(
-    rt: &R,
-    alloc: Global,
-) -> (WorkFault, WorkFault, u64) {
-    let DayInput { book, rules, batch } = worked(rt, alloc, TWICE);
-    let late = Batch::new(batch.day(), batch.base() + 1, Vec::new(alloc)).expect(rt, "a batch");
-    let (wrong_base, book) = given_back(rt, alloc, book, &rules, &late, 2);
-    let (too_many, book) = given_back(rt, alloc, book, &rules, &batch, 9);
-    let closed = close_with(rt, alloc, book, &rules, &batch, 2, &FreeGate);
-    let (closed, _) = closed.expect(rt, "memory and threads");
-    (wrong_base, too_many, closed.book.next_record())
-}
-
-#[test]
-fn a_book_that_is_given_back_can_be_closed(rt: HostRuntime) {
-    let found = closed_at_last(&rt, rt.alloc());
-    assert_eq!(rt;
-        found,
-        (WorkFault::WrongBase { next: 1 }, WorkFault::Workers, 3)
-    );
-}
-
 #[test]
 fn two_workers_run_at_once(rt: HostRuntime) {
     let told = met(&rt, rt.alloc(), APART, 2);
@@ -195,14 +142,6 @@ fn all_of_several_workers_run_at_once(rt: HostRuntime) {
 }
 
 #[test]
-fn all_others_steal_from_the_last_worker(rt: HostRuntime) {
-    for workers in 2..9 {
-        let missed = missed_by_owners(&rt, rt.alloc(), workers);
-        assert_eq!(rt; missed, 0, "{workers} workers");
-    }
-}
-
-#[test]
 fn a_worker_steals_what_is_complete_in_another_ones_deque(rt: HostRuntime) {
     let gate = Pair {
         second: AtomicU32::new(0),
@@ -220,9 +159,8 @@ fn a_held_worker_holds_no_other_one(rt: HostRuntime) {
         last: AtomicU32::new(0),
         missed: AtomicU32::new(0),
     };
-    let DayInput { book, rules, batch } = worked(&rt, rt.alloc(), ASIDE);
-    let closed = close_with(&rt, rt.alloc(), book, &rules, &batch, 2, &gate);
-    assert!(rt; closed.is_ok());
+    let day = worked(&rt, rt.alloc(), ASIDE);
+    shifts(&rt, rt.alloc(), &day, 2, &gate);
     assert_eq!(rt; gate.missed.load(Ordering::SeqCst), 0);
 }
 

@@ -1,8 +1,9 @@
 //! A gate that delays workers and notes who entered when.
 
 use crossbeam_utils::Backoff;
+use reg_regions::{PlaceGate, WorkShift};
 use reg_tasks::{Naming, Task};
-use reg_work::{Gate, Shift};
+use reg_work::Gate;
 use std::alloc::{AllocError, Global};
 use std::sync::atomic::{AtomicU32, Ordering};
 
@@ -79,6 +80,15 @@ impl Noting {
         }
     }
 
+    // Notes a worker that enters with a place, and delays it.
+    fn pass(&self, worker: u32, place: u32) {
+        self.note(worker, place);
+        let backoff = Backoff::new();
+        for _ in 0..self.delays.turns(worker, place) {
+            backoff.snooze();
+        }
+    }
+
     /// The places in the order in which workers entered with them.
     pub(crate) fn order(&self, alloc: Global) -> Result<Vec<u32>, AllocError> {
         let mut order = Vec::new(alloc);
@@ -91,27 +101,29 @@ impl Noting {
     }
 
     /// Whether a worker entered with just the places of its shift, in their order.
-    pub(crate) fn is_followed<N: Naming>(&self, shift: &Shift<N>) -> bool {
+    pub(crate) fn is_followed(&self, shift: &WorkShift) -> bool {
         let mut entered = 0;
         for (place, worker) in self.places.iter().zip(self.workers.iter()) {
             if worker.load(Ordering::SeqCst) != shift.worker {
                 continue;
             }
-            if shift.ran.get(entered).map(|ran| ran.place()) != Some(place.load(Ordering::SeqCst)) {
+            if shift.places.get(entered).copied() != Some(place.load(Ordering::SeqCst)) {
                 return false;
             }
             entered = entered.saturating_add(1);
         }
-        entered == shift.ran.len()
+        entered == shift.places.len()
     }
 }
 
 impl Gate for Noting {
     fn enter<N: Naming>(&self, worker: u32, task: &Task<N>) {
-        self.note(worker, task.place());
-        let backoff = Backoff::new();
-        for _ in 0..self.delays.turns(worker, task.place()) {
-            backoff.snooze();
-        }
+        self.pass(worker, task.place());
+    }
+}
+
+impl PlaceGate for Noting {
+    fn enter(&self, worker: u32, place: u32) {
+        self.pass(worker, place);
     }
 }

@@ -4,8 +4,8 @@
 //! The first word says what is done: `read` reads the text alone, `plain` settles one instruction after another,
 //! `place` the same on the book's own accounts, `plan` makes the plan, `order` runs the instructions in batch order on
 //! values of their own, `schedule` by a schedule of four workers, `levels` settles level by level, `stealing` by
-//! workers that steal, `close` by workers that steal to whom the book's own accounts move. `lanes` writes which places
-//! each worker ran, in order.
+//! workers that steal, `regions` by workers that own regions of the book. `lanes` writes which places each worker that
+//! steals ran, in order.
 //!
 //! `orders` runs the instructions in each order that a further word lists, such as `2,1,3`, and writes a line for each:
 //! `same` if the settled day is that of `plain`, or the fault. A word such as `4:17` stands for a schedule of 4 workers
@@ -13,17 +13,17 @@
 //!
 //! `try` settles by workers that steal and are delayed before each run, and writes `same` if the settled day is that of
 //! `plain`, each place was run once, the order in which workers entered the gate is legal, and each worker's shift is
-//! what it entered with. Then it does the same by workers to whom the book's own accounts move, with the book that
-//! `place` leaves.
+//! what it entered with. Then it does the same by workers that own regions of the book, with the book that `place`
+//! leaves.
 //!
 //! `each` does what `try` does with several day texts that stand one behind another, once with each, and writes a line
 //! for each.
 //!
-//! For `levels`, `stealing`, `close`, `lanes` and `try` the second word is the number of workers. For `lanes` the third
-//! is a seed from which delays are drawn, or 0 for none. For `try` the third is a worker, counted from 0, that is held
-//! up, or a higher number for none, the fourth a seed, or 0, and the fifth how often it is tried. For `each` the second
-//! word is a seed, which is one more for each further day; it says how many workers there are, which of them is held
-//! up, and how they are delayed. The third is the most days that are tried.
+//! For `levels`, `stealing`, `regions`, `lanes` and `try` the second word is the number of workers. For `lanes` the
+//! third is a seed from which delays are drawn, or 0 for none. For `try` the third is a worker, counted from 0, that is
+//! held up, or a higher number for none, the fourth a seed, or 0, and the fifth how often it is tried. For `each` the
+//! second word is a seed, which is one more for each further day; it says how many workers there are, which of them is
+//! held up, and how they are delayed. The third is the most days that are tried.
 #![tactic(auto)]
 
 mod gates;
@@ -37,11 +37,11 @@ use crate::gates::{Delays, NOBODY, Noting};
 use crate::orders::{make_plan, run_batch, run_four, try_orders};
 use crate::stop::{Stop, number_at, tell};
 use crate::tries::{try_each, try_stealing};
-use crate::ways::{by_owners, by_stealing, close_in_place, read};
+use crate::ways::{by_regions, by_stealing, close_in_place, in_one_list, read};
 use reg_book::settle_plain;
-use reg_tasks::Naming;
+use reg_regions::{FreePlaces, WorkShift};
 use reg_text::DayInput;
-use reg_work::{FreeGate, Shift, settle_waves};
+use reg_work::{FreeGate, settle_waves};
 use std::alloc::{AllocError, Global};
 use std::env;
 use std::io::{Read, Write};
@@ -50,12 +50,12 @@ use std::sync::Wait;
 use std::thread::Threads;
 
 // Writes the places that a worker ran.
-fn tell_lane<N: Naming, W: Write>(writer: &mut W, shift: &Shift<N>) -> Result<(), Stop> {
+fn tell_lane<W: Write>(writer: &mut W, shift: &WorkShift) -> Result<(), Stop> {
     if write!(writer, "{}:", shift.worker).is_err() {
         return Err(Stop::Output);
     }
-    for ran in shift.ran.iter() {
-        if write!(writer, " {}", ran.place()).is_err() {
+    for place in shift.places.iter() {
+        if write!(writer, " {place}").is_err() {
             return Err(Stop::Output);
         }
     }
@@ -89,13 +89,14 @@ fn settle_plainly(alloc: Global, day: &DayInput) -> Result<(), Stop> {
     }
 }
 
-fn close_stealing<R: Threads + Wait + Sync>(
+fn settle_in_regions<R: Threads + Sync>(
     rt: &R,
     alloc: Global,
     day: DayInput,
     workers: u32,
 ) -> Result<(), Stop> {
-    by_owners(rt, alloc, day, workers, &FreeGate)?;
+    let parts = in_one_list(alloc, day)?;
+    by_regions(rt, alloc, parts, workers, &FreePlaces)?;
     Ok(())
 }
 
@@ -142,7 +143,7 @@ fn carry_out<R: Threads + Wait + Sync, W: Write>(
             close_in_place(alloc, day)?;
             Ok(())
         }
-        "close" => close_stealing(rt, alloc, day, number_at(rest, 0)?),
+        "regions" => settle_in_regions(rt, alloc, day, number_at(rest, 0)?),
         "try" => try_stealing(rt, alloc, text, &day, rest, writer),
         _ => carry_out_on(rt, alloc, &day, first.as_str(), rest, writer),
     }

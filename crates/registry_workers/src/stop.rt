@@ -1,6 +1,7 @@
 //! Why a run ends early, and what is written.
 
-use reg_work::{NotClosed, WorkFault};
+use reg_regions::RegionsFault;
+use reg_work::WorkFault;
 use std::alloc::{AllocError, Global};
 use std::fmt::{Debug, Display};
 use std::io::Write;
@@ -30,9 +31,12 @@ impl From<WorkFault> for Stop {
     }
 }
 
-impl From<NotClosed> for Stop {
-    fn from(not_closed: NotClosed) -> Stop {
-        not_closed.fault.into()
+impl From<RegionsFault> for Stop {
+    fn from(fault: RegionsFault) -> Stop {
+        match fault {
+            RegionsFault::NoMemory => Stop::Short,
+            RegionsFault::Workers | RegionsFault::WrongBase { .. } => Stop::Input,
+        }
     }
 }
 

@@ -2,13 +2,12 @@
 
 use crate::gates::{Delays, Noting};
 use crate::stop::{Stop, number_at, tell, told};
-use crate::ways::{by_owners, by_stealing, close_in_place, read};
+use crate::ways::{by_regions, by_stealing, close_in_place, joined, read, read_in_lists};
 use reg_book::settle_plain;
 use reg_cuts::cut_near;
 use reg_plan::Plan;
-use reg_tasks::Naming;
+use reg_regions::WorkShift;
 use reg_text::DayInput;
-use reg_work::Shift;
 use std::alloc::{AllocError, Global};
 use std::io::Write;
 use std::sync::Wait;
@@ -18,20 +17,16 @@ use std::thread::Threads;
 const START: [&[u8]; 1] = [b"\nformat,"];
 
 // Notes how often each place was run.
-fn note_places<N: Naming>(times: &mut [u32], shift: &Shift<N>) {
-    for ran in shift.ran.iter() {
-        if let Some(count) = times.get_mut(ran.place() as usize) {
+fn note_places(times: &mut [u32], shift: &WorkShift) {
+    for place in shift.places.iter() {
+        if let Some(count) = times.get_mut(*place as usize) {
             *count = count.saturating_add(1);
         }
     }
 }
 
 // Whether each place of the day is in these shifts, once.
-fn are_whole<N: Naming>(
-    alloc: Global,
-    day: &DayInput,
-    shifts: &[Shift<N>],
-) -> Result<bool, AllocError> {
+fn are_whole(alloc: Global, day: &DayInput, shifts: &[WorkShift]) -> Result<bool, AllocError> {
     let mut times = Vec::from_elem(alloc, 0, day.batch.len() as usize + 1)?;
     for shift in shifts {
         note_places(times.as_mut_slice(), shift);
@@ -40,11 +35,11 @@ fn are_whole<N: Naming>(
 }
 
 // What a run by workers that were noted is like, in a word: `same` if it is as it has to be.
-fn judge<N: Naming>(
+fn judge(
     alloc: Global,
     day: &DayInput,
     gate: &Noting,
-    shifts: &[Shift<N>],
+    shifts: &[WorkShift],
 ) -> Result<&'static str, Stop> {
     if !are_whole(alloc, day, shifts)? {
         return Ok("a place is not run once");
@@ -99,8 +94,8 @@ fn try_settling<R: Threads + Wait + Sync>(
     judge(alloc, day, &gate, shifts.as_slice())
 }
 
-// The same, but the accounts of the text's own book move to the workers.
-fn try_closing<R: Threads + Wait + Sync>(
+// The same, but the workers own regions of the text's own book.
+fn try_regions<R: Threads + Sync>(
     rt: &R,
     alloc: Global,
     text: &[u8],
@@ -110,8 +105,9 @@ fn try_closing<R: Threads + Wait + Sync>(
     wanted: &str,
 ) -> Result<&'static str, Stop> {
     let gate = Noting::of(alloc, day.batch.len(), delays)?;
-    let (closed, shifts) = by_owners(rt, alloc, read(alloc, text)?, workers, &gate)?;
-    if told(alloc, &closed)?.as_str() != wanted {
+    let parts = read_in_lists(rt, alloc, text, workers)?;
+    let (closed, shifts) = by_regions(rt, alloc, parts, workers, &gate)?;
+    if told(alloc, &joined(alloc, closed)?)?.as_str() != wanted {
         return Ok("another closed day");
     }
     judge(alloc, day, &gate, shifts.as_slice())
@@ -130,7 +126,7 @@ fn try_delayed<R: Threads + Wait + Sync, W: Write>(
 ) -> Result<(), Stop> {
     let mut word = try_settling(rt, alloc, day, workers, delays, wanted.settled.as_str())?;
     if word == "same" {
-        word = try_closing(
+        word = try_regions(
             rt,
             alloc,
             text,

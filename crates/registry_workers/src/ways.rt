@@ -2,11 +2,12 @@
 
 use crate::stop::Stop;
 use reg_base::NoMemory;
-use reg_book::{ClosedDay, Settled, settle_in_place};
-use reg_text::{DayInput, read_day};
-use reg_work::{Gate, NotClosed, Shift, WorkFault, close_with, settle_with};
+use reg_book::{ClosedDay, ClosedParts, Parts, Settled, settle_in_place};
+use reg_regions::{PlaceGate, WorkShift, settle_regions};
+use reg_tasks::Naming;
+use reg_text::{DayInput, DayParts, read_day, read_day_in_lists};
+use reg_work::{Gate, Shift, settle_with};
 use std::alloc::Global;
-use std::marker::Brand;
 use std::sync::Wait;
 use std::thread::Threads;
 
@@ -18,31 +19,98 @@ pub(crate) fn read(alloc: Global, text: &[u8]) -> Result<DayInput, Stop> {
     }
 }
 
-pub(crate) type WithShifts = Result<(Settled, Vec<Shift<Brand>>), WorkFault>;
+/// The day that a text says, with its accounts in up to four lists for each worker, however few they are.
+pub(crate) fn read_in_lists<R: Threads + Sync>(
+    rt: &R,
+    alloc: Global,
+    text: &[u8],
+    workers: u32,
+) -> Result<DayParts, Stop> {
+    match read_day_in_lists(rt, alloc, text, workers as usize, 1) {
+        Ok(day) => Ok(day),
+        Err(_) => Err(Stop::Input),
+    }
+}
 
-/// Settles by workers that steal.
+/// A day with its accounts in one list.
+pub(crate) fn in_one_list(alloc: Global, day: DayInput) -> Result<DayParts, Stop> {
+    let DayInput { book, rules, batch } = day;
+    match Parts::of_book(alloc, book) {
+        Ok(parts) => Ok(DayParts {
+            parts,
+            rules,
+            batch,
+        }),
+        Err(NoMemory) => Err(Stop::Short),
+    }
+}
+
+// The places that a worker ran.
+fn work_shift<N: Naming>(alloc: Global, shift: &Shift<N>) -> Result<WorkShift, Stop> {
+    let mut places = Vec::new(alloc);
+    for ran in shift.ran.iter() {
+        if places.push(ran.place()).is_err() {
+            return Err(Stop::Short);
+        }
+    }
+    Ok(WorkShift {
+        worker: shift.worker,
+        places,
+    })
+}
+
+fn work_shifts<N: Naming>(alloc: Global, shifts: &[Shift<N>]) -> Result<Vec<WorkShift>, Stop> {
+    let mut all = Vec::new(alloc);
+    for shift in shifts {
+        let one = work_shift(alloc, shift)?;
+        if all.push(one).is_err() {
+            return Err(Stop::Short);
+        }
+    }
+    Ok(all)
+}
+
+/// Settles by workers that steal, on copies of the accounts.
 pub(crate) fn by_stealing<R: Threads + Wait + Sync, G: Gate>(
     rt: &R,
     alloc: Global,
     day: &DayInput,
     workers: u32,
     gate: &G,
-) -> WithShifts {
-    settle_with(rt, alloc, &day.book, &day.rules, &day.batch, workers, gate)
+) -> Result<(Settled, Vec<WorkShift>), Stop> {
+    let (settled, shifts) = settle_with(
+        rt, alloc, &day.book, &day.rules, &day.batch, workers, gate,
+    )?;
+    let places = work_shifts(alloc, shifts.as_slice())?;
+    Ok((settled, places))
 }
 
-pub(crate) type Closed = Result<(ClosedDay, Vec<Shift<Brand>>), NotClosed>;
-
-/// Settles by workers that steal, to whom the book's own accounts move.
-pub(crate) fn by_owners<R: Threads + Wait + Sync, G: Gate>(
+/// Settles by workers that own regions of the book and steal them.
+pub(crate) fn by_regions<R: Threads + Sync, G: PlaceGate>(
     rt: &R,
     alloc: Global,
-    day: DayInput,
+    day: DayParts,
     workers: u32,
     gate: &G,
-) -> Closed {
-    let DayInput { book, rules, batch } = day;
-    close_with(rt, alloc, book, &rules, &batch, workers, gate)
+) -> Result<(ClosedParts, Vec<WorkShift>), Stop> {
+    let DayParts {
+        parts,
+        rules,
+        batch,
+    } = day;
+    match settle_regions(rt, alloc, parts, &rules, &batch, workers, gate) {
+        Ok(done) => Ok(done),
+        Err(not_settled) => Err(not_settled.fault.into()),
+    }
+}
+
+/// A closed day with its accounts in one list.
+pub(crate) fn joined(alloc: Global, closed: ClosedParts) -> Result<ClosedDay, Stop> {
+    let ClosedParts { parts, replies } = closed;
+    match parts.into_book(alloc) {
+        Ok(book) => Ok(ClosedDay { book, replies }),
+        Err(NoMemory) => Err(Stop::Short),
+    }
 }
 
 /// Settles on the book's own accounts.

@@ -140,7 +140,7 @@ pub(crate) fn take_apart(
     ensures shifts { IfOk result (λ all. all.shifts ≡ shifts) }
 {
     let mut lists = Vec::with_capacity(alloc, settled.len())?;
-    let mut replies = Vec::new(alloc);
+    let mut replies = Vec::with_capacity(alloc, count_replies(&settled))?;
     for one in settled {
         let SettledList {
             accounts,
@@ -155,6 +155,15 @@ pub(crate) fn take_apart(
         replies,
         shifts,
     })
+}
+
+// How many replies regions have together. Nothing is promised of the number: room is made for so many.
+fn count_replies(settled: &[SettledList]) -> usize {
+    let mut count: usize = 0;
+    for one in settled {
+        count = count.saturating_add(one.replies.len());
+    }
+    count
 }
 
 fn append_replies(replies: &mut Vec<Placed>, own: Vec<Placed>) -> Result<(), NoMemory>

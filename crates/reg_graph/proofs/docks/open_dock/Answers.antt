@@ -14,7 +14,7 @@ among-at (n ∷ ns) (suc k) a lt e = or_right (eqb n a) (is_among ns a) (among-a
 
 pub opening-requires : goal.opening-requires
 opening-requires g c =
-    let day = day_of c.args.context.now.book c.args.context.now.rules.now c.args.context.now.batch.now in
+    let day = day_of c.args.context.now.book.now c.args.context.now.rules.now c.args.context.now.batch.now in
     let a = c.account-item.result in
     let there = among-at c.touched_at-accounts.result.now c.loop-account.account-index a c.loop-account-test.true
     c.account-item.is in

@@ -10,9 +10,9 @@ use Rattle.reg_graph.proofs.docks.open_dock.Given as goal
 abbrev pub invariant-loop-account : goal.invariant-loop-account
 invariant-loop-account g l = record {
   came : parcels_of l.came.items
-      ++ known_of (map (opening_of (day_of l.context.book l.context.rules.now l.context.batch.now))
+      ++ known_of (map (opening_of (day_of l.context.book.now l.context.rules.now l.context.batch.now))
       (filter (λ a. tail_of l.context.plan l.place a == 0) (drop l.account-index l.accounts)))
-      ≡ opened_at (day_of l.context.book l.context.rules.now l.context.batch.now) l.context.plan l.place;
+      ≡ opened_at (day_of l.context.book.now l.context.rules.now l.context.batch.now) l.context.plan l.place;
   fits : vec_len l.came + length (drop l.account-index l.accounts) ≤ vec_capacity l.came;
   room : vec_capacity l.came ≡ length l.accounts;
 }

@@ -11,7 +11,7 @@ pub returns-then-not-are_counted : goal.returns-then-not-are_counted
 returns-then-not-are_counted g c =
     let first : c.base-2.result + 1 ≡ c.args.context.now.batch.now.base + 1 = search rules in (
       λ t. absurd cc,
-      λ w. absurd (not_whole_counted c.args.context.now.book c.args.context.now.batch.now c.args.rows.now
+      λ w. absurd (not_whole_counted c.args.context.now.book.now c.args.context.now.batch.now c.args.rows.now
           c.args.accounts.now (subst IsBatch c.batch-batch.ensures c.base-2.ensures.room)
           (c.base-2.result + 1) first (sym c.are_counted.ensures ∙ c.if-not-are_counted.true) w),
     )
@@ -19,14 +19,14 @@ returns-then-not-are_counted g c =
 pub returns-then-not-are_rising : goal.returns-then-not-are_rising
 returns-then-not-are_rising g c = (
   λ t. absurd cc,
-  λ w. absurd (not_whole_rising c.args.context.now.book c.args.context.now.batch.now c.args.rows.now c.args.accounts.now
-      (subst IsBatch c.batch-batch.ensures c.base-2.ensures.room)
+  λ w. absurd (not_whole_rising c.args.context.now.book.now c.args.context.now.batch.now c.args.rows.now
+      c.args.accounts.now (subst IsBatch c.batch-batch.ensures c.base-2.ensures.room)
       (sym c.are_rising.ensures ∙ c.if-not-are_rising.true) w),
 )
 
 pub returns : goal.returns
 returns g c =
-    let book : BookValue = c.args.context.now.book in
+    let book : BookValue = c.args.context.now.book.now in
     let batch : BatchValue = c.args.context.now.batch.now in
     let fits = subst IsBatch c.batch-batch.ensures c.base-2.ensures.room in
     let first : c.base-2.result + 1 ≡ batch.base + 1 = search rules in

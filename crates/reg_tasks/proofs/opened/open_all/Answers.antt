@@ -9,7 +9,7 @@ pub loop-account-preserved : goal.loop-account-preserved
 loop-account-preserved g c =
     let k = c.loop-account.account-index in
     let accounts = c.args.accounts.now in
-    let book = c.args.context.now.book.accounts in
+    let book = c.args.context.now.book.now.accounts in
     let a = c.account-item.result in
     let p = c.in_ok-parcel.parcel in
     let pushed : c.push.new.self.items ≡ c.loop-account.parcels.items ++ p ∷ [] = search rules in

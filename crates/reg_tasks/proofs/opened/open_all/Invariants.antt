@@ -8,5 +8,5 @@ abbrev pub invariant-loop-account : goal.invariant-loop-account
 invariant-loop-account g l = record {
   names : names_of l.parcels.items ≡ map (λ a. (a, 0)) (take l.account-index l.accounts);
   values : map (λ p. Some p.value) l.parcels.items
-      ≡ map (λ a. account l.context.book.accounts a) (take l.account-index l.accounts);
+      ≡ map (λ a. account l.context.book.now.accounts a) (take l.account-index l.accounts);
 }

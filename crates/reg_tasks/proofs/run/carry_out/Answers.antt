@@ -9,7 +9,7 @@ use Rattle.reg_tasks.proofs.run.carry_out.Goals as goal
 
 pub returns-clause-ok : goal.returns-clause-ok
 returns-clause-ok g c =
-    let day = day_of c.args.context.now.book c.args.context.now.rules.now c.args.context.now.batch.now in
+    let day = day_of c.args.context.now.book.now c.args.context.now.rules.now c.args.context.now.batch.now in
     let number = c.number_of-number.result in
     let lent : Setting = record {
       rules = c.rules.result.now;

@@ -19,7 +19,7 @@ open_touched-requires g c =
     ap (λ os. get_or os k o) (sym c.openings-openings.ensures.value) ∙ sym c.opening-item.is in
     record {
       touched = ∥∥₁_elim c.args.context.now.planned (Prim.hlevel props) (λ made.
-          opening_touched (directory_of c.args.context.now.book.accounts) c.args.context.now.batch.now.instructions
+          opening_touched (directory_of c.args.context.now.book.now.accounts) c.args.context.now.batch.now.instructions
           c.args.context.now.plan made o (k, within, is));
     }
 
@@ -31,7 +31,7 @@ loop-opening-preserved g c =
     let at = drop_more openings k o c.loop-opening-test.true
     ∙ ap (λ w. w ∷ drop (k + 1) openings) (sym c.opening-item.is) in
     let pushed : c.push.new.self.items ≡ c.loop-opening.slots.items ++ Some c.in_ok-parcel.parcel ∷ [] = search rules in
-    let number = number_found c.args.context.now.book.accounts o.account c.in_ok-parcel.parcel.value
+    let number = number_found c.args.context.now.book.now.accounts o.account c.in_ok-parcel.parcel.value
     c.in_ok-parcel.ensures.value in
     ap (λ ss. map (option_map name_of) ss ++ map unopened (drop (k + 1) openings)) pushed
     ∙ opened_more c.loop-opening.slots.items c.in_ok-parcel.parcel o (drop (k + 1) openings)

@@ -10,5 +10,5 @@ returns-then-after-len g c =
     let size : c.len.result ≡ length context.batch.now.instructions = search rules in
     let above : length context.batch.now.instructions < c.args.parcel.now.after =
     omega (arith, size, c.after-after.ensures, c.if-after-len.true) in
-    sym (goes-nowhere (directory_of context.book.accounts) context.batch.now.instructions context.plan
+    sym (goes-nowhere (directory_of context.book.now.accounts) context.batch.now.instructions context.plan
     (parcel_of c.args.parcel.now) context.planned above)

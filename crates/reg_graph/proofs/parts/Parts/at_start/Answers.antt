@@ -8,7 +8,7 @@ use Rattle.reg_graph.proofs.parts.Parts.at_start.Goals as goal
 
 pub loop-before-preserved : goal.loop-before-preserved
 loop-before-preserved g c =
-    let day = day_of c.args.context.now.book c.args.context.now.rules.now c.args.context.now.batch.now in
+    let day = day_of c.args.context.now.book.now c.args.context.now.rules.now c.args.context.now.batch.now in
     let plan = c.args.context.now.plan in
     let n = c.len-places.result in
     let k = c.loop-before.before in
@@ -33,7 +33,7 @@ loop-before-preserved g c =
 
 pub returns-clause-start : goal.returns-clause-start
 returns-clause-start g c =
-    let day = day_of c.args.context.now.book c.args.context.now.rules.now c.args.context.now.batch.now in
+    let day = day_of c.args.context.now.book.now c.args.context.now.rules.now c.args.context.now.batch.now in
     let plan = c.args.context.now.plan in
     let n = c.len-places.result in
     let k = c.loop-before.before in

@@ -10,15 +10,15 @@ abbrev pub invariant-loop-before : goal.invariant-loop-before
 invariant-loop-before g l = record {
   there : l.worker < length l.parts.lists.items;
   count : length l.parts.docks.items ≡ l.before;
-  rooms : DocksHaveRoom (day_of l.context.book l.context.rules.now l.context.batch.now) l.parts.docks.items;
+  rooms : DocksHaveRoom (day_of l.context.book.now l.context.rules.now l.context.batch.now) l.parts.docks.items;
   docks : docks_of l.parts.docks.items
-      ++ docks_from (day_of l.context.book l.context.rules.now l.context.batch.now) l.context.plan (suc l.before)
+      ++ docks_from (day_of l.context.book.now l.context.rules.now l.context.batch.now) l.context.plan (suc l.before)
       (l.places - l.before)
-      ≡ docks_from (day_of l.context.book l.context.rules.now l.context.batch.now) l.context.plan 1 l.places;
-  lists : dealt l.worker (ready_from (day_of l.context.book l.context.rules.now l.context.batch.now) l.context.plan
+      ≡ docks_from (day_of l.context.book.now l.context.rules.now l.context.batch.now) l.context.plan 1 l.places;
+  lists : dealt l.worker (ready_from (day_of l.context.book.now l.context.rules.now l.context.batch.now) l.context.plan
       (suc l.before) (l.places - l.before)) (task_lists l.parts.lists.items)
-      ≡ dealt 0 (ready_from (day_of l.context.book l.context.rules.now l.context.batch.now) l.context.plan 1 l.places)
-      (replicate l.workers []);
+      ≡ dealt 0 (ready_from (day_of l.context.book.now l.context.rules.now l.context.batch.now) l.context.plan 1
+      l.places) (replicate l.workers []);
   others : world_of l.parts ≡ record {
     docks = docks_of l.parts.docks.items;
     lists = task_lists l.parts.lists.items;

@@ -49,7 +49,7 @@ receive-requires-clause-room g c =
     ap (λ ps. first_head plan (parcels_of ps)) (sym c.deref.ensures.value) ∙ sym c.in-Some.ensures in
     let size : length came.items ≡ vec_len came = search rules in
     let many : length (parcels_of came.items) ≡ length came.items = length-map came.items _ in
-    let day = day_of c.args.context.now.book c.args.context.now.rules.now c.args.context.now.batch.now in
+    let day = day_of c.args.context.now.book.now c.args.context.now.rules.now c.args.context.now.batch.now in
     omega (
       arith,
       c.requires.room c.in-Some.place (parcels_of came.items) head (sym c.in-Some-take_dock.ensures.came),
@@ -75,7 +75,7 @@ returns-in-Ok-clause-ok g c =
     let w = world_of p in
     let k = c.args.worker in
     let plan = c.args.context.now.plan in
-    let day = day_of c.args.context.now.book c.args.context.now.rules.now c.args.context.now.batch.now in
+    let day = day_of c.args.context.now.book.now c.args.context.now.rules.now c.args.context.now.batch.now in
     let place = c.in-Some.place in
     let came = c.in-Some-take_dock.came in
     let rest = c.remove-parcel.new.self.items in
@@ -106,7 +106,7 @@ returns-in-Err-clause-ok g c =
     let w = world_of p in
     let k = c.args.worker in
     let plan = c.args.context.now.plan in
-    let day = day_of c.args.context.now.book c.args.context.now.rules.now c.args.context.now.batch.now in
+    let day = day_of c.args.context.now.book.now c.args.context.now.rules.now c.args.context.now.batch.now in
     let place = c.in-Some.place in
     let came = c.in-Some-take_dock.came in
     let rest = c.remove-parcel.new.self.items in
@@ -135,16 +135,18 @@ returns-in-Err-clause-ok g c =
 
 pub returns-in_default-take_dock-clause-rooms : goal.returns-in_default-take_dock-clause-rooms
 returns-in_default-take_dock-clause-rooms g c =
-    c.take_dock.ensures.rooms (day_of c.args.context.now.book c.args.context.now.rules.now c.args.context.now.batch.now)
+    c.take_dock.ensures.rooms
+    (day_of c.args.context.now.book.now c.args.context.now.rules.now c.args.context.now.batch.now)
     c.requires.rooms
 
 pub returns-in-Ok-clause-rooms : goal.returns-in-Ok-clause-rooms
 returns-in-Ok-clause-rooms g c =
-    c.take_dock.ensures.rooms (day_of c.args.context.now.book c.args.context.now.rules.now c.args.context.now.batch.now)
+    c.take_dock.ensures.rooms
+    (day_of c.args.context.now.book.now c.args.context.now.rules.now c.args.context.now.batch.now)
     c.requires.rooms
 
 pub returns-in-Err-clause-rooms : goal.returns-in-Err-clause-rooms
 returns-in-Err-clause-rooms g c =
-    let day = day_of c.args.context.now.book c.args.context.now.rules.now c.args.context.now.batch.now in
+    let day = day_of c.args.context.now.book.now c.args.context.now.rules.now c.args.context.now.batch.now in
     c.put_dock.ensures.rooms day (c.take_dock.ensures.rooms day c.requires.rooms) (c.in-Err.ensures.1
     ∙ c.in-Some-take_dock.ensures.room day c.requires.rooms)

@@ -48,7 +48,7 @@ returns-in-None-clause-answer g c =
     ∙ ap (λ h. Some (hand_of h)) (sym c.replace.ensures.value ∙ c.in-Carries.is
     ∙ ap (λ r. hand.Carries r c.in-Carries.parcels) c.in-None.is) in
     let plan = c.args.context.now.plan in
-    let day = day_of c.args.context.now.book c.args.context.now.rules.now c.args.context.now.batch.now in
+    let day = day_of c.args.context.now.book.now c.args.context.now.rules.now c.args.context.now.batch.now in
     let hands = map-set hand_of p.hands.items k c.replace.new.dest in
     let one = with-one w k (Carries None qs) (delivered_by day plan k w) held in
     let anew = ap (λ hs. delivered_by day plan k (record w { hands = hs }) (Carries None qs)) hands
@@ -68,7 +68,7 @@ returns-in-Some-clause-answer g c =
     let here : k < length p.hands.items = search rules in
     let was = view-at hand_of p.hands.items k c.index_mut.result.now here c.index_mut.ensures.value in
     let plan = c.args.context.now.plan in
-    let day = day_of c.args.context.now.book c.args.context.now.rules.now c.args.context.now.batch.now in
+    let day = day_of c.args.context.now.book.now c.args.context.now.rules.now c.args.context.now.batch.now in
     let is = c.in-Carries.is ∙ ap (λ r. hand.Carries r c.in-Carries.parcels) c.in-Some.is in (
       ap (λ hs. record w { hands = map hand_of hs })
           (set-twice p.hands.items k c.replace.new.dest (hand.Carries (Some c.in-Some.task) c.in-Carries.parcels))
@@ -86,7 +86,7 @@ returns-in-Holds-clause-answer g c =
     let here : k < length p.hands.items = search rules in
     let was = view-at hand_of p.hands.items k c.index_mut.result.now here c.index_mut.ensures.value in
     let plan = c.args.context.now.plan in
-    let day = day_of c.args.context.now.book c.args.context.now.rules.now c.args.context.now.batch.now in (
+    let day = day_of c.args.context.now.book.now c.args.context.now.rules.now c.args.context.now.batch.now in (
       ap (λ hs. record w { hands = map hand_of hs })
           (set-twice p.hands.items k c.replace.new.dest (hand.Holds c.in-Holds.task))
           ∙ ap (λ hs. record w { hands = hs })

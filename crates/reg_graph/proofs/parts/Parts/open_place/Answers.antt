@@ -20,12 +20,12 @@ dealt-next : (g : Over) (c : After-len g) (next : ℕ) (more : List TaskValue)
     → next ≡ cond (eqb (suc c.args.worker) (length (task_lists c.args.self.now.lists.items))) 0 (suc c.args.worker)
     → dealt next more (task_lists (slice_set c.args.self.now.lists.items c.args.worker c.push_back.new.self))
     ≡ dealt c.args.worker (before_some
-    (complete (day_of c.args.context.now.book c.args.context.now.rules.now c.args.context.now.batch.now)
+    (complete (day_of c.args.context.now.book.now c.args.context.now.rules.now c.args.context.now.batch.now)
     c.args.context.now.plan c.args.place
-    (opened_at (day_of c.args.context.now.book c.args.context.now.rules.now c.args.context.now.batch.now)
+    (opened_at (day_of c.args.context.now.book.now c.args.context.now.rules.now c.args.context.now.batch.now)
     c.args.context.now.plan c.args.place)) more) (task_lists c.args.self.now.lists.items)
 dealt-next g c next more turn =
-    let day = day_of c.args.context.now.book c.args.context.now.rules.now c.args.context.now.batch.now in
+    let day = day_of c.args.context.now.book.now c.args.context.now.rules.now c.args.context.now.batch.now in
     let lists = c.args.self.now.lists.items in
     let list = c.index_mut.result.now in
     let done = ap (complete day c.args.context.now.plan c.args.place) (sym c.in_ok-came.ensures.came)
@@ -72,19 +72,19 @@ returns-else-next-len-clause-lists g c = λ more.
 
 pub returns-then-next-len-clause-rooms : goal.returns-then-next-len-clause-rooms
 returns-then-next-len-clause-rooms g c =
-    let day = day_of c.args.context.now.book c.args.context.now.rules.now c.args.context.now.batch.now in
+    let day = day_of c.args.context.now.book.now c.args.context.now.rules.now c.args.context.now.batch.now in
     subst (DocksHaveRoom day) (sym c.in_ok-push-in-Ok.ensures.items)
     (room-more day c.args.self.now.docks.items c.args.place None c.requires.next c.requires.rooms tt)
 
 pub returns-else-next-len-clause-rooms : goal.returns-else-next-len-clause-rooms
 returns-else-next-len-clause-rooms g c =
-    let day = day_of c.args.context.now.book c.args.context.now.rules.now c.args.context.now.batch.now in
+    let day = day_of c.args.context.now.book.now c.args.context.now.rules.now c.args.context.now.batch.now in
     subst (DocksHaveRoom day) (sym c.in_ok-push-in-Ok.ensures.items)
     (room-more day c.args.self.now.docks.items c.args.place None c.requires.next c.requires.rooms tt)
 
 pub returns-in_ok-push-in-Err-clause-rooms : goal.returns-in_ok-push-in-Err-clause-rooms
 returns-in_ok-push-in-Err-clause-rooms g c =
-    let day = day_of c.args.context.now.book c.args.context.now.rules.now c.args.context.now.batch.now in
+    let day = day_of c.args.context.now.book.now c.args.context.now.rules.now c.args.context.now.batch.now in
     subst (DocksHaveRoom day) (sym c.in_ok-push-in-Err.ensures.items)
     (room-more day c.args.self.now.docks.items c.args.place (Some c.in-Err.came) c.requires.next c.requires.rooms
     (ap vec_capacity c.in-Err.ensures.back ∙ c.in_ok-came.ensures.room))

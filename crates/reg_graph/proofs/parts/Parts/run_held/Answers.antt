@@ -57,7 +57,7 @@ returns-in-Ok-run-clause-ok g c =
     let k = c.args.worker in
     let t = c.args.task.place in
     let plan = c.args.context.now.plan in
-    let day = day_of c.args.context.now.book c.args.context.now.rules.now c.args.context.now.batch.now in
+    let day = day_of c.args.context.now.book.now c.args.context.now.rules.now c.args.context.now.batch.now in
     let vs : State = values_of c.in-Ok-run.outcome.parcels.items in
     let came = c.into_parts-row.result.2.items in
     let row = c.into_parts-row.result.1 in
@@ -109,7 +109,7 @@ returns-in-Ok-run-clause-ok g c =
 
 pub keep_leading-kept-requires-clause-fits : goal.keep_leading-kept-requires-clause-fits
 keep_leading-kept-requires-clause-fits g c =
-    let day = day_of c.args.context.now.book c.args.context.now.rules.now c.args.context.now.batch.now in
+    let day = day_of c.args.context.now.book.now c.args.context.now.rules.now c.args.context.now.batch.now in
     let many = as-many day c.args.task.place c.args.task.parcels.items c.in-Ok-run.outcome.parcels.items
     c.in-Ok-run.outcome.row c.in-Ok-run.ensures.made in
     omega (
@@ -122,7 +122,7 @@ keep_leading-kept-requires-clause-fits g c =
 
 pub keep_leading-kept-requires-clause-room : goal.keep_leading-kept-requires-clause-room
 keep_leading-kept-requires-clause-room g c =
-    let day = day_of c.args.context.now.book c.args.context.now.rules.now c.args.context.now.batch.now in
+    let day = day_of c.args.context.now.book.now c.args.context.now.rules.now c.args.context.now.batch.now in
     let many = as-many day c.args.task.place c.args.task.parcels.items c.in-Ok-run.outcome.parcels.items
     c.in-Ok-run.outcome.row c.in-Ok-run.ensures.made in
     let room : vec_len c.reserve.new.self + c.parcel_count-count.result ≤ vec_capacity c.reserve.new.self =

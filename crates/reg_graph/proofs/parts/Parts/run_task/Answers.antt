@@ -30,7 +30,7 @@ returns-in-Holds-clause-answer g c =
     let w = world_of p in
     let k = c.args.worker in
     let plan = c.args.context.now.plan in
-    let day = day_of c.args.context.now.book c.args.context.now.rules.now c.args.context.now.batch.now in
+    let day = day_of c.args.context.now.book.now c.args.context.now.rules.now c.args.context.now.batch.now in
     let task = task_of c.in-Holds.task in
     let here : k < length p.hands.items = search rules in
     let held = view-at hand_of p.hands.items k c.index_mut.result.now here c.index_mut.ensures.value
@@ -52,7 +52,7 @@ returns-in-Carries-clause-answer g c =
     let w = world_of p in
     let k = c.args.worker in
     let plan = c.args.context.now.plan in
-    let day = day_of c.args.context.now.book c.args.context.now.rules.now c.args.context.now.batch.now in
+    let day = day_of c.args.context.now.book.now c.args.context.now.rules.now c.args.context.now.batch.now in
     let here : k < length p.hands.items = search rules in
     let held = view-at hand_of p.hands.items k c.index_mut.result.now here c.index_mut.ensures.value
     ∙ ap (λ h. Some (hand_of h)) (sym c.replace.ensures.value ∙ c.in-Carries.is) in (

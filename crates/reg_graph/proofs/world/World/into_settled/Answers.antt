@@ -7,5 +7,5 @@ use Rattle.reg_graph.proofs.world.World.into_settled.Goals as goal
 pub settle_day-requires-clause-log : goal.settle_day-requires-clause-log
 settle_day-requires-clause-log g c =
     c.move_rows.ensures ∙ ap known_of c.is_settled.ensures.rows
-    ∙ known-all (log_of (day_of c.args.self.context.now.book c.args.self.context.now.rules.now
+    ∙ known-all (log_of (day_of c.args.self.context.now.book.now c.args.self.context.now.rules.now
     c.args.self.context.now.batch.now))

@@ -6,7 +6,7 @@ use Rattle.reg_graph.proofs.world.World.is_settled.Goals as goal
 
 pub returns : goal.returns
 returns g c =
-    let day = day_of c.args.self.now.context.now.book c.args.self.now.context.now.rules.now
+    let day = day_of c.args.self.now.context.now.book.now c.args.self.now.context.now.rules.now
     c.args.self.now.context.now.batch.now in
     let plan = c.args.self.now.context.now.plan in
     let w = world_of c.args.self.now.parts in

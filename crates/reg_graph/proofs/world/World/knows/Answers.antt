@@ -13,7 +13,7 @@ use Rattle.reg_graph.proofs.world.World.knows.Goals as goal
 
 pub returns-clause-rows : goal.returns-clause-rows
 returns-clause-rows g c =
-    let day = day_of c.args.self.now.context.now.book c.args.self.now.context.now.rules.now
+    let day = day_of c.args.self.now.context.now.book.now c.args.self.now.context.now.rules.now
     c.args.self.now.context.now.batch.now in
     let plan = c.args.self.now.context.now.plan in
     let w = world_of c.args.self.now.parts in
@@ -25,7 +25,7 @@ returns-clause-rows g c =
 
 pub returns-clause-docks : goal.returns-clause-docks
 returns-clause-docks g c =
-    let day = day_of c.args.self.now.context.now.book c.args.self.now.context.now.rules.now
+    let day = day_of c.args.self.now.context.now.book.now c.args.self.now.context.now.rules.now
     c.args.self.now.context.now.batch.now in
     let plan = c.args.self.now.context.now.plan in
     let w = world_of c.args.self.now.parts in
@@ -39,7 +39,7 @@ returns-clause-docks g c =
 
 pub returns-clause-few : goal.returns-clause-few
 returns-clause-few g c =
-    let day = day_of c.args.self.now.context.now.book c.args.self.now.context.now.rules.now
+    let day = day_of c.args.self.now.context.now.book.now c.args.self.now.context.now.rules.now
     c.args.self.now.context.now.batch.now in
     let plan = c.args.self.now.context.now.plan in
     let w = world_of c.args.self.now.parts in
@@ -53,7 +53,7 @@ returns-clause-few g c =
 
 pub returns-clause-once : goal.returns-clause-once
 returns-clause-once g c =
-    let day = day_of c.args.self.now.context.now.book c.args.self.now.context.now.rules.now
+    let day = day_of c.args.self.now.context.now.book.now c.args.self.now.context.now.rules.now
     c.args.self.now.context.now.batch.now in
     let plan = c.args.self.now.context.now.plan in
     let w = world_of c.args.self.now.parts in
@@ -66,7 +66,7 @@ returns-clause-once g c =
 
 pub returns-clause-list_room : goal.returns-clause-list_room
 returns-clause-list_room g c =
-    let day = day_of c.args.self.now.context.now.book c.args.self.now.context.now.rules.now
+    let day = day_of c.args.self.now.context.now.book.now c.args.self.now.context.now.rules.now
     c.args.self.now.context.now.batch.now in
     let plan = c.args.self.now.context.now.plan in
     let w = world_of c.args.self.now.parts in
@@ -84,7 +84,7 @@ returns-clause-list_room g c =
 
 pub returns-clause-held : goal.returns-clause-held
 returns-clause-held g c =
-    let day = day_of c.args.self.now.context.now.book c.args.self.now.context.now.rules.now
+    let day = day_of c.args.self.now.context.now.book.now c.args.self.now.context.now.rules.now
     c.args.self.now.context.now.batch.now in
     let plan = c.args.self.now.context.now.plan in
     let w = world_of c.args.self.now.parts in
@@ -99,7 +99,7 @@ returns-clause-held g c =
 
 pub returns-clause-sent : goal.returns-clause-sent
 returns-clause-sent g c =
-    let day = day_of c.args.self.now.context.now.book c.args.self.now.context.now.rules.now
+    let day = day_of c.args.self.now.context.now.book.now c.args.self.now.context.now.rules.now
     c.args.self.now.context.now.batch.now in
     let plan = c.args.self.now.context.now.plan in
     let w = world_of c.args.self.now.parts in
@@ -115,7 +115,7 @@ returns-clause-sent g c =
 
 pub returns-clause-dock_room : goal.returns-clause-dock_room
 returns-clause-dock_room g c =
-    let day = day_of c.args.self.now.context.now.book c.args.self.now.context.now.rules.now
+    let day = day_of c.args.self.now.context.now.book.now c.args.self.now.context.now.rules.now
     c.args.self.now.context.now.batch.now in
     let plan = c.args.self.now.context.now.plan in
     let w = world_of c.args.self.now.parts in

@@ -2,7 +2,7 @@ use Rattle.std.proofs.Common.{◌≡◌, true, sym, subst, ◌∙◌}
 use Rattle.reg_book.specs.Day.{Day}
 use Rattle.reg_tasks.specs.Contexts.{the_day}
 use Rattle.reg_tasks.specs.Gathering.{IsLastName, is_last}
-use Rattle.reg_tasks.proofs.Returned.{last-name}
+use Rattle.reg_tasks.proofs.LastNames.{last-name}
 use Rattle.reg_tasks.proofs.context.Context.last_parcel.Goals as goal
 
 pub new-last-requires : goal.new-last-requires

@@ -15,10 +15,10 @@ use Rattle.reg_tasks.proofs.context.Context.settle_day.Given.{Over}
 -- the sorted accounts are the settled ones
 accounts-now : (g : Over) (c : After-base g)
     → c.sort_accounts.new.accounts
-    ≡ (settled_day (day_of c.args.self.now.book c.args.self.now.rules.now c.args.self.now.batch.now)).accounts
+    ≡ (settled_day (day_of c.args.self.now.book.now c.args.self.now.rules.now c.args.self.now.batch.now)).accounts
 accounts-now g c =
     accounts_are c.settled_is_closing.ensures.settled
-    (day_of c.args.self.now.book c.args.self.now.rules.now c.args.self.now.batch.now)
+    (day_of c.args.self.now.book.now c.args.self.now.rules.now c.args.self.now.batch.now)
     c.settled_is_of_book.ensures.in_order c.is_day.ensures
     c.args.accounts.items c.sort_accounts.new.accounts c.requires.accounts
     (subst (λ (vs : State). IsPermutation vs c.sort_accounts.new.accounts) c.deref_mut.ensures.value
@@ -40,17 +40,17 @@ in-order : (g : Over) (c : After-base g)
 in-order g c =
     let base : c.base.result ≡ c.args.self.now.batch.now.base = search rules in
     let settled = c.settled_is_of_book.ensures.in_order
-    (day_of c.args.self.now.book c.args.self.now.rules.now c.args.self.now.batch.now) c.is_day.ensures in
+    (day_of c.args.self.now.book.now c.args.self.now.rules.now c.args.self.now.batch.now) c.is_day.ensures in
     subst (λ b. record_numbers c.args.log.items ≡ count_up (b + 1) (length c.args.log.items)) (sym base)
     (subst (λ rows. record_numbers rows ≡ count_up (c.args.self.now.batch.now.base + 1) (length rows))
     (sym c.requires.log) settled.in_order)
 
 is-settled : (g : Over) (c : After-base g)
     → gathered c.args.self.now.batch.now c.args.log.items c.sort_accounts.new.accounts
-    ≡ settled_day (day_of c.args.self.now.book c.args.self.now.rules.now c.args.self.now.batch.now)
+    ≡ settled_day (day_of c.args.self.now.book.now c.args.self.now.rules.now c.args.self.now.batch.now)
 is-settled g c =
     day_gathered c.settled_is_closing.ensures.settled
-    (day_of c.args.self.now.book c.args.self.now.rules.now c.args.self.now.batch.now) c.args.log.items
+    (day_of c.args.self.now.book.now c.args.self.now.rules.now c.args.self.now.batch.now) c.args.log.items
     c.sort_accounts.new.accounts c.requires.log (accounts-now g c)
 
 pub of-requires-clause-numbered : goal.of-requires-clause-numbered
@@ -59,7 +59,7 @@ of-requires-clause-numbered g c = in-order g c
 pub of-requires-clause-rising : goal.of-requires-clause-rising
 of-requires-clause-rising g c =
     let settled = c.settled_is_of_book.ensures.in_order
-    (day_of c.args.self.now.book c.args.self.now.rules.now c.args.self.now.batch.now) c.is_day.ensures in
+    (day_of c.args.self.now.book.now c.args.self.now.rules.now c.args.self.now.batch.now) c.is_day.ensures in
     subst (λ (vs : State). IsRising (numbers vs)) (sym (written g c ∙ accounts-now g c)) settled.rising
 
 pub returns-clause-settled : goal.returns-clause-settled
@@ -75,6 +75,6 @@ returns-clause-of_book g c =
     let base : c.base.result ≡ c.args.self.now.batch.now.base = search rules in
     let is = c.of.ensures ∙ (λ i. record { base = base i; rows = c.args.log.items; accounts = written g before i })
     ∙ is-settled g before in
-    subst (IsOfBook c.args.self.now.book) (sym is)
+    subst (IsOfBook c.args.self.now.book.now) (sym is)
     (c.settled_is_of_book.ensures.of_book
-    (day_of c.args.self.now.book c.args.self.now.rules.now c.args.self.now.batch.now) c.is_day.ensures)
+    (day_of c.args.self.now.book.now c.args.self.now.rules.now c.args.self.now.batch.now) c.is_day.ensures)

@@ -40,7 +40,7 @@ of_unordered-requires-clause-needed g c =
 
 pub returns-then-not-are_needed-clause-complete : goal.returns-then-not-are_needed-clause-complete
 returns-then-not-are_needed-clause-complete g c =
-    let day = day_of c.args.context.now.book c.args.context.now.rules.now c.args.context.now.batch.now in
+    let day = day_of c.args.context.now.book.now c.args.context.now.rules.now c.args.context.now.batch.now in
     let plan = c.args.context.now.plan in
     incomplete day plan c.args.place (parcels_of c.args.parcels.items)
     (ap (λ ns. has_names ns (names_needed (inward plan.arrows c.args.place) (footprint_at day c.args.place)))

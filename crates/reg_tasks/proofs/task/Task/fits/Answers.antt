@@ -27,7 +27,7 @@ pub returns-clause-is_for : goal.returns-clause-is_for
 returns-clause-is_for g c = λ t.
     let items = c.args.self.now.parcels.items in
     let own : numbers (values_of items)
-    ≡ footprint_at (day_of c.args.context.now.book c.args.context.now.rules.now c.args.context.now.batch.now)
+    ≡ footprint_at (day_of c.args.context.now.book.now c.args.context.now.rules.now c.args.context.now.batch.now)
     c.args.self.now.place =
     ap (λ ps. numbers (values_of ps)) (sym c.deref.ensures.value) ∙ c.are_of.ensures.0 c.if-not-are_of.false
     ∙ c.touched_at-touched.ensures.value in

@@ -28,7 +28,7 @@ pub put_in_order-requires-clause-distinct : goal.put_in_order-requires-clause-di
 put_in_order-requires-clause-distinct g c =
     subst (IsDistinct nat_eq) (sym c.touched_at.ensures.value)
     (footprint_distinct c.each_footprint_is_sound.ensures
-    (day_of c.args.context.now.book c.args.context.now.rules.now c.args.context.now.batch.now) c.args.place)
+    (day_of c.args.context.now.book.now c.args.context.now.rules.now c.args.context.now.batch.now) c.args.place)
 
 pub invariant_of-result : goal.invariant_of-result
 invariant_of-result g c =
@@ -39,7 +39,7 @@ invariant_of-result g c =
     record {
       complete = λ d e.
           complete_from c.tails_are_last_touchers.ensures c.last_toucher_is_last.ensures
-          (day_of c.args.context.now.book c.args.context.now.rules.now c.args.context.now.batch.now)
+          (day_of c.args.context.now.book.now c.args.context.now.rules.now c.args.context.now.batch.now)
           c.args.context.now.plan
           c.args.context.now.planned c.args.place _ c.requires.from_one c.requires.within
           (ap names_of (written_whole c.args.parcels.items c.put_in_order.new.parcels c.args.parcels.len size kept)
@@ -51,7 +51,7 @@ invariant_of-result g c =
 
 pub returns-clause-complete : goal.returns-clause-complete
 returns-clause-complete g c =
-    let day = day_of c.args.context.now.book c.args.context.now.rules.now c.args.context.now.batch.now in
+    let day = day_of c.args.context.now.book.now c.args.context.now.rules.now c.args.context.now.batch.now in
     let plan = c.args.context.now.plan in
     let size : c.args.parcels.len ≡ length c.args.parcels.items = search rules in
     let kept : length c.put_in_order.new.parcels ≡ length c.args.parcels.items =

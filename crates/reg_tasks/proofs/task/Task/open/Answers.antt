@@ -11,15 +11,15 @@ use Rattle.reg_tasks.proofs.task.Task.open.Goals as goal
 
 pub open_all-requires : goal.open_all-requires
 open_all-requires g c =
-    let day = day_of c.args.context.now.book c.args.context.now.rules.now c.args.context.now.batch.now in
+    let day = day_of c.args.context.now.book.now c.args.context.now.rules.now c.args.context.now.batch.now in
     record {
-      known = subst (All (λ a. is_some (account c.args.context.now.book.accounts a) ≡ true))
+      known = subst (All (λ a. is_some (account c.args.context.now.book.now.accounts a) ≡ true))
           (sym c.touched_at.ensures.value) (all_known c.each_footprint_is_sound.ensures day c.args.place);
     }
 
 pub invariant_of-result : goal.invariant_of-result
 invariant_of-result g c =
-    let day = day_of c.args.context.now.book c.args.context.now.rules.now c.args.context.now.batch.now in
+    let day = day_of c.args.context.now.book.now c.args.context.now.rules.now c.args.context.now.batch.now in
     let plan = c.args.context.now.plan in
     let arrows = c.arrows_to.result.now in
     let touched = c.touched_at.result.now in

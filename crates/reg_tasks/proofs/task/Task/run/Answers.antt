@@ -29,9 +29,9 @@ pack_after-parcels-requires-clause-right g c =
     let right : (d : Day) → g.N.Naming.day ≡ Some d
     → IsRight d c.args.self.place (values_of c.args.self.parcels.items) c.carry_out.new.own c.in-Ok-carry_out.row =
     ran_named c.step_laws.ensures c.each_is_a_step.ensures c.value_is_last_touchers.ensures
-    (day_of c.args.context.now.book c.args.context.now.rules.now c.args.context.now.batch.now) c.args.self.place
+    (day_of c.args.context.now.book.now c.args.context.now.rules.now c.args.context.now.batch.now) c.args.self.place
     c.args.self.parcels.items c.carry_out.new.own c.in-Ok-carry_out.row c.args.context.now.named c.args.self.complete
-    (ap (run_at (day_of c.args.context.now.book c.args.context.now.rules.now c.args.context.now.batch.now)
+    (ap (run_at (day_of c.args.context.now.book.now c.args.context.now.rules.now c.args.context.now.batch.now)
     c.args.self.place) (sym (c.deref_mut.ensures.value ∙ c.unpack-own.ensures.own))
     ∙ c.in-Ok-carry_out.ensures.ok) in
     let touched : (d : Day) → g.N.Naming.day ≡ Some d → numbers (values_of c.args.self.parcels.items)
@@ -52,9 +52,9 @@ new-requires-clause-row g c =
     let right : (d : Day) → g.N.Naming.day ≡ Some d
     → IsRight d c.args.self.place (values_of c.args.self.parcels.items) c.carry_out.new.own c.in-Ok-carry_out.row =
     ran_named c.step_laws.ensures c.each_is_a_step.ensures c.value_is_last_touchers.ensures
-    (day_of c.args.context.now.book c.args.context.now.rules.now c.args.context.now.batch.now) c.args.self.place
+    (day_of c.args.context.now.book.now c.args.context.now.rules.now c.args.context.now.batch.now) c.args.self.place
     c.args.self.parcels.items c.carry_out.new.own c.in-Ok-carry_out.row c.args.context.now.named c.args.self.complete
-    (ap (run_at (day_of c.args.context.now.book c.args.context.now.rules.now c.args.context.now.batch.now)
+    (ap (run_at (day_of c.args.context.now.book.now c.args.context.now.rules.now c.args.context.now.batch.now)
     c.args.self.place) (sym (c.deref_mut.ensures.value ∙ c.unpack-own.ensures.own))
     ∙ c.in-Ok-carry_out.ensures.ok) in
     λ d e. (right d e).row_is
@@ -64,9 +64,9 @@ new-requires-clause-left g c =
     let right : (d : Day) → g.N.Naming.day ≡ Some d
     → IsRight d c.args.self.place (values_of c.args.self.parcels.items) c.carry_out.new.own c.in-Ok-carry_out.row =
     ran_named c.step_laws.ensures c.each_is_a_step.ensures c.value_is_last_touchers.ensures
-    (day_of c.args.context.now.book c.args.context.now.rules.now c.args.context.now.batch.now) c.args.self.place
+    (day_of c.args.context.now.book.now c.args.context.now.rules.now c.args.context.now.batch.now) c.args.self.place
     c.args.self.parcels.items c.carry_out.new.own c.in-Ok-carry_out.row c.args.context.now.named c.args.self.complete
-    (ap (run_at (day_of c.args.context.now.book c.args.context.now.rules.now c.args.context.now.batch.now)
+    (ap (run_at (day_of c.args.context.now.book.now c.args.context.now.rules.now c.args.context.now.batch.now)
     c.args.self.place) (sym (c.deref_mut.ensures.value ∙ c.unpack-own.ensures.own))
     ∙ c.in-Ok-carry_out.ensures.ok) in
     let touched : (d : Day) → g.N.Naming.day ≡ Some d → numbers (values_of c.args.self.parcels.items)
