@@ -75,7 +75,7 @@ def of_tag(fault: Fault, row: list[str], version: int) -> str:
     if len(row) == 1 and "," in tag:
         return "the whole row stands in double quotes: take them away"
     if fault.expected.endswith("format"):
-        return "a header row: a day text has none"
+        return "a header row: a day text has none. ./day import reads a table with one"
     return ""
 
 

@@ -49,9 +49,8 @@ def add_words(parser: argparse.ArgumentParser) -> None:
     parser.add_argument("reports", metavar="REPORT", nargs="+", help="a report")
     parser.add_argument("--refused", action="store_true", help="only what was refused")
     parser.add_argument("--account", type=int, metavar="N", help="only rows with this account")
-    parser.add_argument(
-        "--day", dest="days", metavar="DAY", nargs="+", default=[], help="the day texts of reports, for due days"
-    )
+    texts_of = "the day texts of reports, for due days; or dates of days of a folder, in place of reports"
+    parser.add_argument("--day", dest="days", metavar="DAY", nargs="+", default=[], help=texts_of)
     showing.add_words(parser)
 
 

@@ -45,8 +45,8 @@ OFFICE_COMMANDS = {
     "db": "makes a database of all days, for questions in SQL",
     "month": "makes one page of several days: compliance, totals, refusals, changes by hand",
     "send": "makes a package for each holder, to print or to send",
-    "import": "makes rows of a day text of a spreadsheet",
-    "export": "writes a table for a spreadsheet",
+    "import": "makes instructions or accounts of a table that a spreadsheet saved; needs no folder",
+    "export": "writes a table for a spreadsheet; needs no folder, if paths are named",
 }
 MODULES = {"hand-in": "hand_in", "take-back": "take_back", "try": "trial", "import": "importing", "export": "exporting"}
 
@@ -62,7 +62,7 @@ explain, export.
 
 exit status: 0 it is as it has to be, 1 something was found, 2 the words do not fit, 3 a file is not what it must be:
 then standard error has its name, the line, the field, what was found and what was expected. 5 standard output did not
-take all, or standard input is a folder.
+take all, or standard input is a folder. 130 somebody interrupted it.
 """
 # What the program writes of its version.
 VERSION = Path(__file__).resolve().parents[3] / "cases" / "program" / "version.stdout"
@@ -91,6 +91,7 @@ def help_text() -> str:
 def parser_of(name: str, module: Command) -> Words:
     parser = Words(prog=f"./day {name}", description=module.__doc__, epilog=f"example:\n  {module.EXAMPLE}")
     module.add_words(parser)
+    named_day.add_words(name, parser)
     return parser
 
 

@@ -87,17 +87,20 @@ def calendar_of(day: DayText, path: str | None, notes: Notes) -> list[datetime.d
     return every
 
 
+MORE_WORK = "add work rows (./day next --work, ./day hand-in)"
+
+
 def look_at_calendar(head: rules.Day, book: dict[int, Block], notes: Notes) -> None:
     """Warns where the calendar is too short for what may be proposed or done on the day."""
     last = head.working_days[-1] if head.working_days else None
     end = f"the calendar ends on {last}" if last else "the calendar is empty"
     lag, name = max((head.lags[key], name) for key, name in LAGS.items())
     if head.due(head.date, lag) is None:
-        notes.warn(f"{end}, before the due day of {head.date} with the lag {name} of {lag}: add working days by --work")
+        notes.warn(f"{end}, before the due day of {head.date} with the lag {name} of {lag}: {MORE_WORK}")
     window = head.lags["reversal"]
     if head.due(head.date, window) is None:
         window_ends = f"the window REVERSAL of {window} working days from {head.date} is over"
-        notes.warn(f"{end}, before {window_ends}: add working days by --work")
+        notes.warn(f"{end}, before {window_ends}: {MORE_WORK}")
     begins_late(head, book, notes)
 
 
@@ -115,11 +118,13 @@ def begins_late(head: rules.Day, book: dict[int, Block], notes: Notes) -> None:
 # The accounts.
 
 
-def book_with_changes(day: DayText, report: Report, path: str | None, notes: Notes) -> dict[int, Block]:
-    """The book of the next day, with the blocks of a file."""
+def book_with_changes(
+    day: DayText, report: Report, path: str | None, notes: Notes, periods: list[tuple[int, int]] | None = None
+) -> dict[int, Block]:
+    """The book of the next day, with the blocks of a file. The periods are those of DAY, if no others are named."""
     if path is None:
         return report.book
-    changes = read_changes(day, report, path)
+    changes = read_changes(day, report, path, periods or day.head.periods)
     for number, block in changes.items():
         old = report.book.get(number)
         for fault in refusals(old, block):
@@ -136,23 +141,23 @@ def book_with_changes(day: DayText, report: Report, path: str | None, notes: Not
     return book
 
 
-def read_changes(day: DayText, report: Report, path: str) -> dict[int, Block]:
+def read_changes(day: DayText, report: Report, path: str, periods: list[tuple[int, int]]) -> dict[int, Block]:
     """The accounts of a file of changes. One that names a period which the day does not have is told what the day
     lacks."""
-    years = [last for _, last in day.head.periods]
+    years = [last for _, last in periods]
     reading = faults.Reading(last="work", version=2, next_record=report.next_record, last_years=years)
     try:
         return read_blocks(path, reading)
     except RowFault as fault:
         if fault.field != "PERIOD":
             raise
-        periods = "1 period" if len(years) == 1 else f"{len(years)} periods"
-        lacking = (
-            f"{day.path} has {periods}: add the row of that period to it, and in version 1 also format,2 and current,1"
+        count = "1 period" if len(years) == 1 else f"{len(years)} periods"
+        expected = (
+            f"a period of the day, and {day.path} has {count}: add the row of that period to it, and in version 1 also "
+            "format,2 and current,1; in a folder, ./day change --period does so (see "
+            "docs/FORMATS.md#from-version-1-to-version-2)"
         )
-        raise FileFault(
-            fault.path, fault.line, fault.field, fault.found, f"{lacking} (docs/FORMATS.md#from-version-1-to-version-2)"
-        ) from None
+        raise FileFault(fault.path, fault.line, fault.field, fault.found, expected) from None
 
 
 def tell_change(report: Report, old: Block | None, new: Block, notes: Notes) -> None:
@@ -254,13 +259,13 @@ def in_order(first: str, second: str, notes: Notes) -> tuple[str, str]:
     return first, second
 
 
-def tell_days(before: DayText, head: rules.Day, notes: Notes) -> None:
+def about_date(before: DayText, head: rules.Day) -> Iterator[str]:
     """Tells if the day is no working day, and which working days lie between."""
     if head.date not in head.working_days:
-        notes.add(f"{head.date:%A} {head.date} is no working day by the calendar")
+        yield f"{head.date:%A} {head.date} is no working day by the calendar"
     between = [skipped for skipped in head.working_days if before.head.date < skipped < head.date]
     if between:
-        notes.add(f"working days that have no text: {weekdays.in_words(between)}")
+        yield f"working days that have no text: {weekdays.in_words(between)}"
 
 
 def next_head(
@@ -271,7 +276,7 @@ def next_head(
     calendar = calendar_of(day, words.work, notes)
     book = book_with_changes(day, report, words.changes, notes)
     head = dataclasses.replace(day.head, date=date, working_days=calendar, accounts=Accounts(book))
-    tell_days(day, head, notes)
+    notes.lines += about_date(day, head)
     look_at_calendar(head, book, notes)
     return head, book
 

@@ -1,6 +1,7 @@
 """The words of the commands: what is said once is said once, and a list takes all that is given to it."""
 import argparse
 import os
+import re
 import sys
 from typing import IO, Any, Iterator
 
@@ -37,6 +38,13 @@ def given_before(namespace: argparse.Namespace) -> dict[str, Any]:
     return given
 
 
+def whole_number(word: str) -> int:
+    """The number that a word spells."""
+    if not re.fullmatch("-?[0-9]+", word, re.ASCII):
+        raise argparse.ArgumentTypeError(f"found {word!r}; expected a number")
+    return int(word)
+
+
 class Words(argparse.ArgumentParser):
     """A parser of the words of a command."""
 
@@ -44,6 +52,7 @@ class Words(argparse.ArgumentParser):
         super().__init__(formatter_class=argparse.RawDescriptionHelpFormatter, allow_abbrev=False, **more)
         for name in (None, "store"):
             self.register("action", name, Given)
+        self.register("type", int, whole_number)
 
     def _print_message(self, message: str, file: IO[str] | None = None) -> None:
         """Writes the help, or why the words are not taken. (The one of argparse passes over a stream that takes

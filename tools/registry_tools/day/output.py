@@ -30,7 +30,8 @@ def must_be_writable(path: str | Path) -> None:
     if real.exists() and (not real.stat().st_mode & ANYBODY_WRITES or not os.access(real, os.W_OK)):
         raise FileFault(path, 0, "", "it may not be written", "")
     if not real.parent.is_dir():
-        why = "Not a directory" if real.parent.exists() or not_a_folder(real.parent) else "No such file or directory"
+        is_file = real.parent.exists() or not_a_folder(real.parent)
+        why = "Not a directory" if is_file else f"there is no folder {Path(path).parent}"
         raise FileFault(path, 0, "", f"it cannot be written: {why}", "")
     if not os.access(real.parent, os.W_OK | os.X_OK):
         raise FileFault(path, 0, "", "it cannot be written: its folder may not be written", "")
@@ -60,6 +61,8 @@ class NewFolder:
             raise FileFault(self.path, 0, "", "a link to nothing", "a folder that is not there yet, or is empty")
         if self.path.exists() and not self.is_there:
             raise FileFault(self.path, 0, "", "a file", "a folder that is not there yet, or is empty")
+        if not self.path.parent.exists() and not not_a_folder(self.path.parent):
+            raise FileFault(self.path, 0, "", f"it cannot be written: there is no folder {self.path.parent}", "")
         try:
             self.beside.mkdir()
         except OSError as error:

@@ -4,7 +4,10 @@ import argparse
 
 from registry_tools import words as program_words
 
-STATUSES = "0 it is as it has to be, 1 something was found, 2 the words do not fit, 3 a file is not what it must be."
+STATUSES = (
+    "0 it is as it has to be\n1 something was found\n2 the words do not fit\n3 a file is not what it must be\n"
+    "5 standard output did not take all, or standard input is a folder\n130 somebody interrupted it"
+)
 # What ./run takes beside the words of the program.
 OF_SCRIPT: dict[str, list[str]] = {"--prove": [], "--version": []}
 

@@ -63,13 +63,18 @@ def read_once(path: str) -> bytes:
     return Path(path).read_bytes()
 
 
-def bytes_of(path: str | Path) -> bytes:
-    """The content of a file, or of standard input, whose name is `-`."""
+def packed_bytes_of(path: str | Path) -> bytes:
+    """The content of a file, or of standard input, whose name is `-`, as it is there."""
     progress.tell(f"reading {path}")
     try:
-        content = Path(path).read_bytes() if is_file(path) else read_once(str(path))
+        return Path(path).read_bytes() if is_file(path) else read_once(str(path))
     except OSError as error:
         raise FileFault(path, 0, "", f"it cannot be read: {error.strerror}", "") from None
+
+
+def bytes_of(path: str | Path) -> bytes:
+    """The text that a file or standard input has."""
+    content = packed_bytes_of(path)
     if Path(path).suffix == ".gz":
         try:
             content = gzip.decompress(content)

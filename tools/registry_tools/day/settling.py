@@ -6,18 +6,33 @@ neither.
 import importlib.util
 import os
 import subprocess
+import sys
 from pathlib import Path
 from types import ModuleType
 from typing import Protocol
 
 from registry_tools.day.day_text import DayText
 from registry_tools.day.errors import FileFault, WordsFault
+from registry_tools.day.progress import progress
 from registry_tools.day.report import Report
 
 TOP = Path(__file__).resolve().parents[3]
 LIBRARY = TOP / "out/library/lib/libregistry.so.1"
 CALLS = TOP / "examples/python/src/registry/native.py"
 NO_LIBRARY = "there is no library that is as new as its sources: name a program, or run tools/library first"
+
+
+# What programs have said on standard error so far.
+told: set[str] = set()
+
+
+def tell_once(said: bytes) -> None:
+    """Passes on what a program says beside its text, such as that it is not proved: each word of it once."""
+    words = said.decode("utf-8", "replace").strip()
+    if words and words not in told:
+        told.add(words)
+        progress.clear()
+        print(words, file=sys.stderr)
 
 
 class NotSettled(Exception):
@@ -47,6 +62,7 @@ class Program:
         if run.returncode:
             said = run.stderr.decode(errors="replace").strip()
             raise NotSettled(f"{self.name} settle ends with status {run.returncode}: {said}")
+        tell_once(run.stderr)
         return run.stdout
 
 

@@ -104,7 +104,8 @@ def look_at_files(audit: Audit) -> None:
     named = {str(event.date) for event in filed}
     for path in listed(office.path / folder.DAYS):
         if path.name not in named:
-            audit.add(FileFault(path, 0, "", "a day that the journal does not name", "no such folder"))
+            found = "something that the journal does not name"
+            audit.add(FileFault(path, 0, "", found, "the days of the journal alone"))
 
 
 def faults_of_files(office: Office, event: Event) -> Iterator[FileFault]:

@@ -24,6 +24,7 @@ from registry_tools.day.day_text import DayText
 from registry_tools.day.errors import FOUND, WordsFault
 from registry_tools.day.notes import Notes
 from registry_tools.day.office import composing, edits, folder, handed, words
+from registry_tools.day.office.composing import NextDay
 from registry_tools.day.office.edits import ADD, DROP, OPEN, PUT, Edit
 from registry_tools.day.office.folder import Office
 from registry_tools.day.office.handed import HandedIn
@@ -49,8 +50,8 @@ def add_words(parser: argparse.ArgumentParser) -> None:
     own.add_argument("--holder", metavar="N", help="another holder")
     own.add_argument("--outside", choices=faults.YES_NO, help="transfers outside the trusted list")
     own.add_argument("--waiver", choices=faults.YES_NO, help="waiver of approval")
-    wrong = "emissions or a figure of a wrong year or account"
-    own.add_argument("--leave-out", metavar="emissions:YEAR", nargs=1, default=[], help=wrong)
+    wrong = "emissions:YEAR or figure:YEAR, of a wrong year or account"
+    own.add_argument("--leave-out", metavar="ROW:YEAR", nargs=1, default=[], help=wrong)
     rules = parser.add_argument_group("of the rules, and new accounts")
     rules.add_argument("--open-account", metavar="NUMBER,KIND,HOLDER", nargs=1, default=[], help="opens an account")
     rules.add_argument("--admin", metavar="±USER", nargs=1, default=[], help="an administrator")
@@ -167,8 +168,9 @@ def run(said: argparse.Namespace) -> int:
         handed_in.remove_unnamed()
         composing.last_pair(office)
         date = composing.date_of(None, office, handed_in)
-        before = composing.compose(office, handed_in.until(date), date).day(office.next_folder / NEXT)
-        return show(office, handed_in, before, edits_of(said, before.head.lags), said.yes, who, why)
+        composed = composing.compose(office, handed_in.until(date), date)
+        lags = composed.day(office.next_folder / NEXT).head.lags
+        return show(office, handed_in, composed, edits_of(said, lags), said.yes, who, why)
 
 
 def on_paths(said: argparse.Namespace) -> int:
@@ -200,22 +202,25 @@ def account_differences(before: DayText, after: DayText) -> Iterator[str]:
 
 
 def show(
-    office: Office, handed_in: HandedIn, before: DayText, made: list[Edit], counts: bool, who: str, why: str
+    office: Office, handed_in: HandedIn, composed: NextDay, made: list[Edit], counts: bool, who: str, why: str
 ) -> int:
     """Shows the difference, looks whether the next day can have it, and keeps it if it counts."""
-    date = before.head.date
+    date, before = composed.date, composed.day(office.next_folder / NEXT)
     content = handed.text_of_rows([edit.row() for edit in made])
     try:
         part = handed.put(handed_in, handed.EDITS, content, len(made), why, who)
-        after = composing.compose(office, handed_in.until(date), date).day(office.next_folder / NEXT)
+        changed = composing.compose(office, handed_in.until(date), date)
+        after = changed.day(office.next_folder / NEXT)
         print("\n".join([*edits.differences(before.heading, after.heading), *account_differences(before, after)]))
+        new = [note for note in changed.notes if note.startswith("LOOK AT THIS") and note not in composed.notes]
+        print("".join(f"{note}\n" for note in new), end="")
         if counts:
             handed_in.keep()
     finally:
         # (what does not count is taken away at once)
         office.handed_in().remove_unnamed()
     if counts:
-        print(f"handed in for {date}: places {part.start} to {part.end - 1}")
+        print(f"handed in for {date}: {handed.places(part.start, part.end)}")
         return 0
     print(f"this would be changed for {date}; nothing is, without --yes")
     return FOUND

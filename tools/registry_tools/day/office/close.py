@@ -4,12 +4,14 @@ a line of the journal.
 
 The first day has its own date. --second settles by the second answer (tools/rules.py) in place of the program: then
 nothing is proved. If office.ini says so, statements and pages are made, in FOLDER/days/DATE/statements and pages.
-Nothing is changed if something is wrong; what was refused is told, and is no reason not to close.
+Nothing is changed if something is wrong; what was refused is told, and is no reason not to close. What the program says
+beside the report, such as that it is not proved, is told too.
 
 exit status: 0 if the day is filed.
 """
 import argparse
 import contextlib
+import datetime
 import io
 import os
 from dataclasses import dataclass
@@ -63,6 +65,7 @@ def run(said: argparse.Namespace) -> int:
         handed_in.remove_unnamed()
         date = composing.date_of(said.date, office, handed_in)
         mine, later = handed_in.until(date), [part for part in handed_in.parts if part.is_of_later(date)]
+        left = left_for_later(handed_in, date)
         settled = settle(office, composing.compose(office, mine, date), said.second)
         with Change(office) as change:
             event = file_day(office, change, mine, settled, who)
@@ -72,8 +75,17 @@ def run(said: argparse.Namespace) -> int:
             composing.write_waits(there.folder, settled.day, settled.report, str(waiting))
             there.keep()
             change.keep(event)
-    print("\n".join(summary(settled, said.second)))
+    print("\n".join([*summary(settled, said.second), *left]))
     return 0
+
+
+def left_for_later(handed_in: HandedIn, date: datetime.date) -> list[str]:
+    """Tells what was handed in and does not come into the day, since it is of a later one that was undone."""
+    items = [item for item in handed_in.items(*handed.KINDS) if item.part.is_of_later(date)]
+    if not items:
+        return []
+    first = min(item.part.day for item in items if item.part.day)
+    return [f"LOOK AT THIS: not in this day, and handed in for {first} or later: {len(items)}; ./day status shows them"]
 
 
 def settle(office: Office, composed: NextDay, by_second: bool) -> Settled:
@@ -147,7 +159,8 @@ def summary(settled: Settled, by_second: bool) -> list[str]:
         if not logged.is_done and logged.name != NOT_DUE:
             refused[logged.name] = refused.get(logged.name, 0) + 1
     lines = [note for note in settled.composed.notes if note.startswith(("LOOK AT THIS", "by hand", "  "))]
-    records = f"records {day.head.next_record} to {report.next_record - 1}" if report.log else "no records"
+    first, last = day.head.next_record, report.next_record - 1
+    records = "no records" if first > last else f"record {first}" if first == last else f"records {first} to {last}"
     how = " by the second answer" if by_second else ""
     lines.append(
         f"{day.head.date} is settled{how} and filed: {records}, done {sum(logged.is_done for logged in report.log)}"

@@ -12,7 +12,7 @@ from typing import Iterator
 
 from registry_tools import faults, rules
 from registry_tools.day import next as next_day
-from registry_tools.day import pending
+from registry_tools.day import pending, weekdays
 from registry_tools.day.accounts import Accounts, Reader
 from registry_tools.day.day_text import DayText, day_of
 from registry_tools.day.due import due_day_after, head_after
@@ -70,7 +70,7 @@ def date_of(word: str | None, office: Office, handed_in: HandedIn) -> datetime.d
         return first.head.date
     last = office.last()
     assert last is not None  # (without a filed day there is the first text)
-    undone = [part.day for part in handed_in.parts if part.day]
+    undone = [item.part.day for item in handed_in.items(*handed.KINDS) if item.part.day]
     if undone:
         return min(undone)
     later = [date for date in working_days(office, last, handed_in) if date > last.date]
@@ -88,7 +88,7 @@ def last_pair(office: Office) -> tuple[DayText, Report]:
     """The last day of a folder, and its report."""
     last = office.last()
     if last is None:
-        raise WordsFault(f"{office.path} has no settled day yet")
+        raise WordsFault(f"{office.path} has no settled day yet: ./day init puts another first text there")
     return read_pair(str(office.file(last, "day")), str(office.file(last, "report")))
 
 
@@ -142,7 +142,13 @@ def later_day(office: Office, handed_in: HandedIn, date: datetime.date) -> NextD
     contents = contents_of(handed_in)
     with tempfile.TemporaryDirectory() as work:
         paths = {kind: written(Path(work) / f"{kind}.csv", content) for kind, content in contents.items()}
-        composed = later_text(day, report, date, paths, str(office.file(last, "waiting")))
+        try:
+            composed = later_text(day, report, date, paths, str(office.file(last, "waiting")))
+        except FileFault as fault:
+            # (nobody finds a file of this command later)
+            if str(fault.path).startswith(f"{tempfile.gettempdir()}/"):
+                fault.path, fault.line = f"{Path(fault.path).stem} that were handed in, row {fault.line}", 0
+            raise
         merged = re.compile(rf"{re.escape(tempfile.gettempdir())}/[^/]+/(\w+)\.csv:")
         composed.notes = [merged.sub(r"\1 that were handed in, row ", note) for note in composed.notes]
     return replace(composed, new=[*handed_in.items(DO)], contents=contents)
@@ -160,16 +166,17 @@ def later_text(day: DayText, report: Report, date: datetime.date, paths: dict[st
     notes = Notes()
     calendar = next_day.calendar_of(day, paths[WORK], notes)
     made = edits_in(paths[EDITS])
-    with edited_changes(made, report, paths[CHANGES]) as changes:
-        book = next_day.book_with_changes(day, report, changes, notes)
     heading = edits.edited_heading(made, [*next_day.heading_of(day, date, report.next_record, calendar)])
+    head = head_of(heading)
+    with edited_changes(made, report, paths[CHANGES]) as changes:
+        book = next_day.book_with_changes(day, report, changes, notes, head.periods)
     notes.lines += [
         f"by hand: the rules: {difference}"
         for difference in edits.differences(day.heading, heading)
         if not difference[2:].startswith(("day,", "work,"))
     ]
-    head = replace(head_of(heading), accounts=Accounts(book))
-    next_day.tell_days(day, head, notes)
+    head = replace(head, accounts=Accounts(book))
+    notes.warn(*next_day.about_date(day, head), *about_past(day, calendar, head))
     next_day.look_at_calendar(head, book, notes)
     waiting = next_day.waiting_after(day, report, pending.read_pending(waits), date, notes)
     entered = next_day.enter_due(head, waiting, notes)
@@ -181,6 +188,13 @@ def later_text(day: DayText, report: Report, date: datetime.date, paths: dict[st
         rows += block.rows
     rows += [*(waits.do_row() for waits in entered), *new.rows, "end"]
     return NextDay(date, report.next_record, handed.text_of_rows(rows), waiting, entered, [], {}, notes.lines)
+
+
+def about_past(before: DayText, calendar: list[datetime.date], head: rules.Day) -> Iterator[str]:
+    """Tells if a hand changes the working days before the day."""
+    dates = [date for date in sorted({*calendar} ^ {*head.working_days}) if date <= before.head.date]
+    if dates:
+        yield f"the calendar of settled days changes, and with it due days and windows: {weekdays.in_words(dates)}"
 
 
 def head_of(heading: list[str]) -> rules.Day:
@@ -209,8 +223,9 @@ def edits_in(path: str | None) -> list[Edit]:
 @contextlib.contextmanager
 def edited_changes(made: list[Edit], report: Report, path: str | None) -> Iterator[str | None]:
     """A file of the accounts that are changed by hand: by whole blocks, and by differences. Without differences, the
-    file of blocks."""
-    if not any(edit.number for edit in made):
+    file of blocks, if its accounts rise."""
+    numbers = [int(row.split(",")[1]) for row in rows_in(path) if row.startswith("account,")]
+    if not any(edit.number for edit in made) and numbers == sorted(numbers):
         yield path
         return
     blocks: dict[int, list[str]] = {}

@@ -144,9 +144,12 @@ def edited_heading(edits: Iterable[Edit], heading: list[str]) -> list[str]:
         if edit.number == 0:
             rows = {PUT: put_rule, ADD: add_rule, DROP: drop_rule}[edit.how](edit, rows)
     periods = sum(row.startswith("period,") for row in rows)
+    named = any(row.startswith("current,") for row in rows)
     if periods > 1 and "format,1" in rows:
         rows[rows.index("format,1")] = "format,2"
-        rows.append("current,1")
+        rows += [] if named else ["current,1"]
+    elif named and "format,1" in rows:
+        raise WordsFault("the one period is the current one: --period FIRST-LAST adds another")
     return sorted(rows, key=place_of_rule)
 
 

@@ -28,6 +28,8 @@ SETTINGS, JOURNAL, DAYS, NEXT, PREPARED = "office.ini", "journal.csv", "days", "
 VALID, NEW_DAY, NEW_NEXT, OLD_DAY, OLD_NEXT = "valid", "day", "next", "old-day", "old-next"
 BUILT, DONE = ".building", ".done"
 LAYOUT = "1"
+# What office.ini names.
+NAMES = ("layout", "program", "statements", "pages")
 
 
 @dataclass(frozen=True)
@@ -59,6 +61,9 @@ def read_settings(path: Path) -> Settings:
         section = parser["office"]
     except (configparser.Error, KeyError) as error:
         raise FileFault(path, 0, "", f"these are no settings: {error}".replace("\n", " "), "") from None
+    unknown = next((name for name in section if name not in NAMES), None)
+    if unknown is not None:
+        raise FileFault(path, 0, "name", shown(unknown), f"one of {', '.join(NAMES)}")
     if section.get("layout") != LAYOUT:
         raise FileFault(path, 0, "layout", shown(section.get("layout", "")), LAYOUT)
     return Settings(section.get("program", ""), is_yes(path, section, "statements"), is_yes(path, section, "pages"))
@@ -117,7 +122,8 @@ def folder_of(word: str | None) -> Path:
     path = Path(word) if word is not None else Path(".")
     if not (path / SETTINGS).is_file():
         where = f"--office {word}" if word is not None else "this folder"
-        raise WordsFault(f"{where} is no folder of days: it has no {SETTINGS}; ./day init makes one")
+        ways = "--office FOLDER names one, ./day init makes one"
+        raise WordsFault(f"{where} is no folder of days: it has no {SETTINGS}; {ways}")
     return path
 
 

@@ -15,7 +15,7 @@ import os
 from registry_tools.day.errors import FileFault
 from registry_tools.day.office import composing, files, folder, handed, trial, words
 from registry_tools.day.office.folder import Office
-from registry_tools.day.office.handed import DO, HandedIn, Part
+from registry_tools.day.office.handed import CHANGES, DO, HandedIn, Part, places
 from registry_tools.day.rows import bytes_of, rows_of
 
 EXAMPLE = "./day hand-in examples/week/tuesday-do.csv examples/week/tuesday-work.csv --office out/office"
@@ -45,9 +45,9 @@ def run(said: argparse.Namespace) -> int:
             office.handed_in().remove_unnamed()
             raise
         for part in parts:
-            print(f"handed in: {part.name}: {words_of_count(part)}, places {part.start} to {part.end - 1}")
+            print(f"handed in: {part.name}: {words_of_count(part)}, {places(part.start, part.end)}")
         mine = {place for part in parts for place in range(part.start, part.end)}
-        return trial.tell(looked, next_day, lambda tried: tried.place in mine)
+        return trial.tell(looked, next_day, mine)
 
 
 def words_of_count(part: Part) -> str:
@@ -69,6 +69,8 @@ def add(office: Office, handed_in: HandedIn, path: str, who: str, is_again: bool
         refuse_file(office, handed_in, path, content)
     if kind == DO and not is_again:
         refuse_instructions(office, handed_in, path)
+    if kind == CHANGES:
+        refuse_accounts(handed_in, path)
     return handed.put(handed_in, kind, content, count, os.path.basename(path), who)
 
 
@@ -110,3 +112,16 @@ def refuse_instructions(office: Office, handed_in: HandedIn, path: str) -> None:
             expected = "an instruction that is new; --again hands it in once more"
             raise FileFault(path, source.line(place), "do row", f"one {had[row]}: {row}", expected)
         seen[row] = source.line(place)
+
+
+def refuse_accounts(handed_in: HandedIn, path: str) -> None:
+    """Ends the command at an account that was handed in before: nobody knows which of its blocks is meant."""
+    there = {item.rows[0].split(",")[1]: item.place for item in handed_in.items(CHANGES)}
+    source = rows_of(path)
+    for place, row in enumerate(source.rows):
+        tag, _, rest = row.partition(",")
+        number = rest.partition(",")[0]
+        if tag == "account" and number in there:
+            found = f"account {number}, which was handed in at place {there[number]}"
+            expected = "another account; ./day take-back takes that one back"
+            raise FileFault(path, source.line(place), "NO", found, expected)

@@ -71,6 +71,11 @@ class Part:
         return row_of(["handed", *fields])
 
 
+def places(start: int, end: int) -> str:
+    """The places from one on and before another one, in words."""
+    return f"places {start} to {end - 1}" if end > start + 1 else f"place {start}"
+
+
 @dataclass
 class Taken:
     """An item that was taken back."""
@@ -171,13 +176,16 @@ def begins_item(kind: str, row: str) -> bool:
     return row.startswith(begins[kind])
 
 
+EXPECTED = "rows do, work or account in the first row: what is to be handed in (./day import makes them of a table)"
+
+
 def kind_of(source: Rows) -> str:
     """What a file has to hand in, by its first row."""
     tag = source.rows[0].partition(",")[0] if source.rows else ""
     for kind in (DO, CHANGES, WORK):
         if begins_item(kind, f"{tag},"):
             return kind
-    raise source.fault(0, "tag", shown(tag), "rows do, work or account in the first row: what is to be handed in")
+    raise source.fault(0, "tag", shown(tag), EXPECTED)
 
 
 def checked_count(path: str, kind: str) -> int:

@@ -25,7 +25,10 @@ def add_words(parser: argparse.ArgumentParser) -> None:
 
 def run(said: argparse.Namespace) -> int:
     rows: list[list[Cell]] = []
-    for past_day in past.read_all(past.paths_of(said)):
+    paths = past.paths_of(said)
+    if not paths:
+        raise WordsFault("no day is settled yet")
+    for past_day in past.read_all(paths):
         rows += changes_by_hand(past_day, said.account)
         rows += log_of(past_day, said.account)
     if not rows:

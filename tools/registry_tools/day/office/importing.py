@@ -1,5 +1,5 @@
-"""Makes rows of a day text of a spreadsheet: instructions, or accounts. Standard output gets the rows, standard error a
-preview.
+"""Makes instructions, or accounts, as rows of a day text, of a table that a spreadsheet saved. Standard output gets the
+rows, standard error a preview.
 
 FILE is csv with commas, semicolons or tabs, in UTF-8 or UTF-16, or .xlsx, whose first sheet is read. Its first row
 names the columns, in any order; ./day export shows all columns. Columns that nobody knows are refused, empty rows are
@@ -7,7 +7,7 @@ passed over. Dates are as 2026-12-14, or as --dates shows the last day of 2026: 
 separator is refused, and nothing is guessed: neither what a formula without a stored value would give, nor which day a
 time belongs to.
 
-Nothing is written if a cell is wrong: then each is told, with what was found and what is expected.
+Nothing is written if a cell is wrong: then the first 100 are told, each with what was found and what is expected.
 """
 import argparse
 import datetime
@@ -26,7 +26,7 @@ EXAMPLE = (
     "./day export examples/week/monday.csv examples/week/monday-report.csv --instructions --xlsx out/new.xlsx\n"
     "  ./day import out/new.xlsx > out/new.csv"
 )
-MOST_SHOWN = 5
+MOST_SHOWN, MOST_TOLD = 5, 100
 DATE_COLUMNS = {"proposed"}
 SHOWN_DAY = ("31", "12", "2026")
 
@@ -96,8 +96,9 @@ class Table:
 
     def fault(self, number: int, name: str, found: str, expected: str) -> FileFault:
         """What is wrong in a column of a row; of a column that is not there, in the row."""
-        column = self.columns.index(name) if name in self.columns else 0
-        return self.sheet.fault(number, column, name, found, expected)
+        if name not in self.columns:
+            return self.sheet.row_fault(number, name, "no such column", expected)
+        return self.sheet.fault(number, self.columns.index(name), name, found, expected)
 
 
 def instructions_of(table: Table) -> Iterator[str | FileFault]:
@@ -227,8 +228,10 @@ def run(said: argparse.Namespace) -> int:
     # (under a heading that is wrong, nobody knows what a cell is)
     made = [] if wrong else [*(accounts_of if said.accounts else instructions_of)(table)]
     wrong += [line for line in made if isinstance(line, FileFault)]
-    for fault in wrong:
+    for fault in wrong[:MOST_TOLD]:
         print(fault, file=sys.stderr)
+    if len(wrong) > MOST_TOLD:
+        print(f"and {len(wrong) - MOST_TOLD} more", file=sys.stderr)
     if wrong:
         print(f"cells that are wrong: {len(wrong)}; nothing was written", file=sys.stderr)
         return FILE

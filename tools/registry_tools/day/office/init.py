@@ -2,8 +2,8 @@
 that.
 
 FOLDER is made, or gets another first text, as long as no day of it was settled. The text is looked at as the program
-would: if it has a fault, nothing is made. office.ini in the folder says which program settles, and whether ./day close
-makes statements and pages; change it with an editor.
+would: if it has a fault, nothing is made, and ./day explain tells all its faults. office.ini in the folder says which
+program settles, and whether ./day close makes statements and pages; change it with an editor.
 """
 import argparse
 import os
@@ -34,7 +34,7 @@ def run(said: argparse.Namespace) -> int:
     text = content.decode("utf-8-sig", "surrogateescape")
     first = day_of(rows_of_text(said.first, text))
     content = handed.text_of_rows(first.source.rows)
-    program = os.path.abspath(said.program) if said.program else ""
+    program = program_of(said.program)
     settings = Settings(program, said.statements, said.pages)
     path = Path(said.folder)
     if (path / folder.SETTINGS).is_file():
@@ -44,6 +44,13 @@ def run(said: argparse.Namespace) -> int:
     date, counts = first.head.date, f"accounts {len(first.book)}, instructions {len(first.instructions)}"
     print(f"{path}: the first text is that of {date}: {counts}. ./day close --date {date} settles it")
     return 0
+
+
+def program_of(word: str) -> str:
+    """The path of the program that a word names, if it names one."""
+    if word and not (os.path.isfile(word) and os.access(word, os.X_OK)):
+        raise WordsFault(f"--program {word}: found no file that can be run; expected a program, such as ./run")
+    return os.path.abspath(word) if word else ""
 
 
 def make(path: Path, said: argparse.Namespace, who: str, first: DayText, content: bytes, settings: Settings) -> None:

@@ -1,6 +1,9 @@
 """The words `--day DATE` of the commands that take a day and its report: they name a day of a folder in place of two
 paths."""
+import argparse
 import datetime
+import itertools
+from typing import Iterator
 
 from registry_tools.day.errors import WordsFault
 from registry_tools.day.office import folder
@@ -18,6 +21,8 @@ TAKES = {
     "log": REPORTS,
     "explain": TEXT,
 }
+# Words that are only told: they are taken out before the others are read.
+NAMED = "named"
 
 
 def is_date(word: str) -> bool:
@@ -27,16 +32,28 @@ def is_date(word: str) -> bool:
         return False
 
 
+def add_words(name: str, parser: argparse.ArgumentParser) -> None:
+    """Tells the parser of a command the words by which a day is named. `with_paths` puts paths in their place before
+    the words are read."""
+    if name not in TAKES:
+        return
+    group = parser.add_argument_group("of a folder of days, in place of paths")
+    if TAKES[name] != REPORTS:
+        group.add_argument("--day", metavar="DATE", dest=NAMED, default=argparse.SUPPRESS, help="a settled day")
+    where = "the folder of days; without it, the one in which the command is run"
+    group.add_argument("--office", metavar="FOLDER", dest=NAMED, default=argparse.SUPPRESS, help=where)
+
+
 def with_paths(name: str, arguments: list[str]) -> list[str]:
     """The words of a command, with the paths of the days that they name by date."""
-    place = arguments.index("--day") if name in TAKES and "--day" in arguments else None
-    dates = []
-    if place is not None:
-        for word in arguments[place + 1 :] if name == "log" else arguments[place + 1 : place + 2]:
-            if not is_date(word):
-                break
-            dates.append(word)
+    if name not in TAKES or {"-h", "--help"} & {*arguments}:
+        return arguments
+    arguments = [*parts_of(arguments)]
+    place = arguments.index("--day") if "--day" in arguments else None
+    dates = dates_behind(name, arguments[place + 1 :]) if place is not None else []
     if place is None or not dates:
+        if "--office" in arguments:
+            raise WordsFault("--office FOLDER stands with --day DATE, in place of paths")
         return arguments
     rest = arguments[:place] + arguments[place + 1 + len(dates) :]
     office = folder.opened(taken_office(rest), folder.to_errors)
@@ -46,6 +63,22 @@ def with_paths(name: str, arguments: list[str]) -> list[str]:
     if name == "page":
         rest += known_of(office, dates[0], rest)
     return [days[0], *rest] if TAKES[name] == TEXT else [days[0], reports[0], *rest]
+
+
+def parts_of(arguments: list[str]) -> Iterator[str]:
+    """The words, of which --day=DATE and --office=FOLDER are two each."""
+    for word in arguments:
+        option, is_one, value = word.partition("=")
+        yield from (option, value) if is_one and option in ("--day", "--office") else (word,)
+
+
+def dates_behind(name: str, behind: list[str]) -> list[str]:
+    """The dates that stand behind --day: one, or of logs several. There paths of day texts may stand, too."""
+    if TAKES[name] != REPORTS:
+        if not behind or not is_date(behind[0]):
+            raise WordsFault(f"--day {behind[0] if behind else 'has nothing behind it, and'} is no date, as 2026-12-14")
+        return behind[:1]
+    return [*itertools.takewhile(is_date, behind)]
 
 
 def known_of(office: Office, date: str, rest: list[str]) -> list[str]:

@@ -41,7 +41,6 @@ NOT_DUE_YET = "It was not due yet."
 IN_A_LETTER = {
     "FROM": "the account that gives", "TO": "the account that receives", "ACCOUNT": "the account",
     "OTHER": "the other account",
-    "D": "the settlement day",
 }  # fmt: skip
 NAMED = re.compile(r"\b(" + "|".join(IN_A_LETTER) + r")\b")
 # Sentences that only an administrator can do something about.
@@ -199,7 +198,7 @@ def accounts_of(report: Report, wanted: list[int] | None) -> dict[int, list[int]
             holders.setdefault(int(block.rows[0].split(",")[3]), []).append(number)
     for holder in wanted or []:
         if holder not in holders:
-            raise WordsFault(f"--holder {holder}: no account of a holder is theirs")
+            raise WordsFault(f"--holder {holder}: no operator, aircraft or trading account has this holder")
     return {holder: holders[holder] for holder in wanted or holders}
 
 
@@ -247,7 +246,7 @@ def run(said: argparse.Namespace) -> int:
             for number in numbers:
                 rows = [row for of_day in texts for row in of_day.get(number, [])]
                 made.write(f"{holder}-{number}.csv", statement_over(pairs, number, rows))
-    print(f"packages for {len(holders)} holders, of {sum(map(len, holders.values()))} accounts: {said.folder}")
+    print(f"{said.folder}: packages {len(holders)}, accounts {sum(map(len, holders.values()))}")
     return 0
 
 

@@ -6,7 +6,7 @@ from registry_tools import rules
 from registry_tools.day.day_text import DayText
 from registry_tools.day.errors import FileFault
 from registry_tools.day.progress import progress
-from registry_tools.day.settling import NotSettled, find_library
+from registry_tools.day.settling import NotSettled, find_library, tell_once
 from registry_tools.day.verify import expected_rows
 
 RUN = Path(__file__).resolve().parents[4] / "run"
@@ -39,7 +39,9 @@ def by_program(program: str, text: bytes) -> bytes:
         raise FileFault(words[0], 0, "", f"it cannot be run: {error.strerror}", "") from None
     if run.returncode:
         said = run.stderr.decode("utf-8", "replace").strip()
-        raise FileFault(words[0], 0, "", f"settle ends with status {run.returncode}: {said}", "")
+        more = "without the program, --second has the second answer settle"
+        raise FileFault(words[0], 0, "", f"settle ends with status {run.returncode}: {said}\n{more}", "")
+    tell_once(run.stderr)
     return run.stdout
 
 

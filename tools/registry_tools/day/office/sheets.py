@@ -17,6 +17,7 @@ from xml.sax.saxutils import escape
 
 from registry_tools.day.errors import FileFault
 from registry_tools.day.output import NewFile
+from registry_tools.day.rows import packed_bytes_of
 
 MAIN = "{http://schemas.openxmlformats.org/spreadsheetml/2006/main}"
 RELATION = "{http://schemas.openxmlformats.org/officeDocument/2006/relationships}id"
@@ -42,8 +43,15 @@ class Sheet:
 
     def fault(self, row: int, column: int, field: str, found: str, expected: str) -> FileFault:
         """What is wrong with a cell. Rows and columns count from 0."""
-        where = f"sheet {self.name}, cell " if self.name else "cell "
-        return FileFault(f"{self.path}, {where}{name_of_cell(row, column)}", 0, field, found, expected)
+        return self.fault_at(f"cell {name_of_cell(row, column)}", field, found, expected)
+
+    def row_fault(self, row: int, field: str, found: str, expected: str) -> FileFault:
+        """What is wrong with a row, which counts from 0."""
+        return self.fault_at(f"row {row + 1}", field, found, expected)
+
+    def fault_at(self, place: str, field: str, found: str, expected: str) -> FileFault:
+        sheet = f"sheet {self.name}, " if self.name else ""
+        return FileFault(f"{self.path}, {sheet}{place}", 0, field, found, expected)
 
 
 def name_of_column(column: int) -> str:
@@ -64,11 +72,7 @@ def name_of_cell(row: int, column: int) -> str:
 
 
 def read(path: str) -> Sheet:
-    try:
-        with open(path, "rb") as stream:
-            content = stream.read()
-    except OSError as error:
-        raise FileFault(path, 0, "", f"it cannot be read: {error.strerror}", "") from None
+    content = packed_bytes_of(path)
     return read_workbook(path, content) if content.startswith(b"PK\x03\x04") else read_csv(path, content)
 
 

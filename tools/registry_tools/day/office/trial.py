@@ -12,7 +12,6 @@ import contextlib
 import itertools
 from dataclasses import dataclass
 from pathlib import Path
-from typing import Callable
 
 from registry_tools import rules, texts
 from registry_tools.day.checks import advice_for, checks
@@ -96,9 +95,10 @@ def table_of(looked: list[Looked]) -> list[str]:
     return texts.table([*COLUMNS], rows, {"place"})
 
 
-def tell(looked: list[Looked], next_day: NextDay, is_shown: Callable[[Looked], bool]) -> int:
-    """Tells what would be refused or wait, of those that are shown, and answers the exit status."""
-    shown = [tried for tried in looked if is_shown(tried)]
+def tell(looked: list[Looked], next_day: NextDay, places: set[int] | None = None) -> int:
+    """Tells what would be refused or wait, of all instructions or of those at these places, and answers the exit
+    status."""
+    shown = [tried for tried in looked if places is None or tried.place in places]
     refused = [tried for tried in shown if tried.is_refused]
     for note in next_day.notes:
         if note.startswith(("LOOK AT THIS", "by hand", "  ")):
@@ -109,7 +109,8 @@ def tell(looked: list[Looked], next_day: NextDay, is_shown: Callable[[Looked], b
         print(f"{name}: {checks()[name].meaning} {advice_for(name)}")
     done, waiting = sum(tried.outcome == "done" for tried in shown), sum(tried.waits for tried in shown)
     counts = f"done {done}, waiting {waiting}, refused {len(refused)}"
-    print(f"as it stands, on {next_day.date}: {counts}")
+    if shown or places is None:
+        print(f"{'' if places is None else 'of these, '}as it stands, on {next_day.date}: {counts}")
     return FOUND if refused else 0
 
 
@@ -138,7 +139,7 @@ def run(said: argparse.Namespace) -> int:
     done = [tried for tried in looked if tried.outcome == "done"]
     if done:
         print("\n".join(table_of(done)))
-    return max(tell(looked, next_day, lambda _: True), ask_library(next_day, looked))
+    return max(tell(looked, next_day), ask_library(next_day, looked))
 
 
 def ask_library(next_day: NextDay, looked: list[Looked]) -> int:

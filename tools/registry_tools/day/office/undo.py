@@ -2,15 +2,19 @@
 since, and the day and its report are gone. The journal keeps that it was filed, the sums of its files, who took it
 back, and why.
 
+What stands there again comes into the text of that day or a later one. If the day was closed for a date that is too
+late, --date names the right one.
+
 A day that was released is not taken back: what others know of stays. Then another instruction corrects what was done.
 """
 import argparse
+import datetime
 
 from registry_tools.day.day_text import day_of
 from registry_tools.day.errors import WordsFault
-from registry_tools.day.office import composing, files, folder, handed, journal, words
+from registry_tools.day.office import composing, files, folder, handed, journal, past, words
 from registry_tools.day.office.folder import Change, Office
-from registry_tools.day.office.handed import FIRST, HandedIn
+from registry_tools.day.office.handed import FIRST, HandedIn, places
 from registry_tools.day.office.journal import UNDONE, Event
 from registry_tools.day.pairs import read_pair
 from registry_tools.day.rows import rows_of
@@ -20,6 +24,7 @@ EXAMPLE = './day undo --why "a surrender was entered for the wrong account" --of
 
 def add_words(parser: argparse.ArgumentParser) -> None:
     words.add_office(parser)
+    parser.add_argument("--date", metavar="DATE", help="the earlier day that was meant")
     words.add_who(parser)
     words.add_why(parser)
 
@@ -37,15 +42,28 @@ def run(said: argparse.Namespace) -> int:
         event = Event(
             UNDONE, journal.now(), who, last.date, last.first, last.next, last.sums, why, office.journal.last_line
         )
-        since = office.handed_in()
+        date, since = date_of(said.date, office, last), office.handed_in()
         with Change(office) as change:
-            there = handed.again(change.make(folder.NEW_NEXT), event.line, *filed_parts(office, last), last.date)
+            there = handed.again(change.make(folder.NEW_NEXT), event.line, *filed_parts(office, last), date)
+            end = there.end
             handed.put_left(there, since, since.parts)
             write_waits_before(office, there)
             there.keep()
             change.keep(event)
-    print(f"{last.date} is undone: what it was made of is in {office.next_folder} again, places 1 to {there.end - 1}")
+    again = f"what it was made of is in {office.next_folder} again, {places(1, end)}, for {date} or later"
+    print(f"{last.date} is undone: {again if end > 1 else 'nothing had been handed in for it'}")
     return 0
+
+
+def date_of(word: str | None, office: Office, last: Event) -> datetime.date:
+    """The first day that has again what the last day was made of: that day, or the earlier one that was meant."""
+    date = past.date_of("--date", word, last.date)
+    before = office.journal.filed()[:-1]
+    if word is not None and not before:
+        raise WordsFault(f"--date {word}: the first text of this folder is that of {last.date}")
+    if before and date <= before[-1].date:
+        raise WordsFault(f"--date {word} is not later than {before[-1].date}, the day before")
+    return date
 
 
 def filed_parts(office: Office, last: Event) -> tuple[HandedIn, dict[str, bytes]]:

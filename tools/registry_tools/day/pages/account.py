@@ -210,7 +210,7 @@ def chart(kind: str, balances: Balances) -> Markup:
         return f"{floor - CHART_HEIGHT * number / most:.1f}"
 
     steps = "".join(f"V{y(number)}H{LEFT + width * place:.1f}" for place, number in enumerate(amounts, 1))
-    title = f"The balance of {kind} allowances {balances[0][0]} to after {balances[-1][0]}"
+    title = f"The balance of {kind} allowances, {balances[0][0]} to {balances[-1][0]}"
     return Markup(
         f'<svg role="img" viewBox="0 0 {CHART_WIDTH} {floor + 20}" width="{CHART_WIDTH}"><title>{title}</title>'
         f'<path class="axis" d="M{LEFT},{TOP}H{CHART_WIDTH - LEFT}M{LEFT},{floor}H{CHART_WIDTH - LEFT}"/>'

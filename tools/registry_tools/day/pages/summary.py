@@ -21,7 +21,7 @@ MOST_REFUSED = MOST_DONE = 100
 LOG_COLUMNS = ["Record", "Accounts", "Instruction", "Proposed", "Proposer", "Approver"]
 DONE, DONE_CAPTION = "done.html", "Instructions that were done"
 WAITING, WAITING_COLUMNS = "waiting.html", ["Record", "Instruction", "Proposed", "Due"]
-ENTERED_AGAIN = "./day next enters each of them again on its due day, with its old date of proposal."
+ENTERED_AGAIN = "./day next and ./day close enter each of them again on its due day, with its old date of proposal."
 ELSEWHERE = "What waits since earlier days stands in the pending file of ./day next."
 
 
