@@ -36,7 +36,6 @@
 mod calls;
 mod command;
 mod counted;
-mod cuts;
 mod device;
 mod engine;
 mod fault;

@@ -6,8 +6,8 @@ ghost use Rattle.std.specs.Thread.{IsSync};
 ghost use Rattle.reg_text.specs.Pieces.{text_of_pieces};
 ghost use Rattle.reg_front.specs.Devices.{most_input};
 
-use crate::cuts::find_cuts;
 use crate::device::MOST_INPUT;
+use reg_text::find_row;
 use std::alloc::Global;
 use std::thread;
 use std::thread::Threads;
@@ -29,6 +29,11 @@ pub trait ReadAt {
 
 // The bytes of a piece, at least, about: fewer take less time than to start a thread.
 const LEAST_PIECE: u64 = 64 * 1024;
+
+// A row that begins a piece is looked for in so many bytes at once, and so often: an account may have 4,096 rows.
+const WINDOW: usize = 4 * 1024;
+
+const MOST_WINDOWS: u64 = 64;
 
 // Fills the room with the bytes from a place on, and answers whether they were there.
 fn fill<F: ReadAt>(file: &F, place: u64, room: &mut [u8]) -> bool
@@ -126,6 +131,41 @@ fn ends_at<F: ReadAt>(file: &F, place: u64) -> bool
     file.read_at(place, &mut room) == Some(0)
 }
 
+// The place of the first row behind this one with which a piece may begin, if it is near.
+fn find_cut<F: ReadAt>(file: &F, place: u64) -> Option<u64> {
+    for window in 0..MOST_WINDOWS {
+        let near = place.checked_add(window.checked_mul(WINDOW as u64)?)?;
+        if let Some(row) = find_row_near(file, near) {
+            return near.checked_add(row as u64);
+        }
+    }
+    None
+}
+
+// How many bytes behind a place such a row begins, if it is in the next ones.
+fn find_row_near<F: ReadAt>(file: &F, place: u64) -> Option<usize> {
+    let mut window = [0; WINDOW];
+    let count = file.read_at(place, &mut window)?;
+    find_row(&window[..count])
+}
+
+// Places at which pieces of about this size may begin, of which the first begins here; nothing, if no row is near one
+// of them. Nothing is promised of them.
+fn find_cuts<F: ReadAt>(
+    alloc: Global,
+    file: &F,
+    from: u64,
+    size: u64,
+    count: u64,
+) -> Option<Vec<u64>> {
+    let mut cuts = Vec::new(alloc);
+    for piece in 1..count {
+        let near = from.checked_add(size.checked_mul(piece)?)?;
+        cuts.push(find_cut(file, near)?).ok()?;
+    }
+    Some(cuts)
+}
+
 /// All bytes of a file from a place on, in pieces that begin with rows, read by at most so many threads. `to` is where
 /// the file ended when it was asked. Nothing, if that is not right any more, if the bytes are few or more than 2^30, or
 /// if a call failed or memory ran out.
@@ -147,7 +187,7 @@ pub fn read_in_pieces<T: Threads + Sync, F: ReadAt + Sync>(
     if count < 2 || length > MOST_INPUT as u64 {
         return None;
     }
-    let cuts = find_cuts(alloc, file, from, to, count)?;
+    let cuts = find_cuts(alloc, file, from, length / count, count)?;
     let pieces = read_cut(rt, alloc, file, from, &cuts, to)?;
     if ends_at(file, to) {
         Some(pieces)
