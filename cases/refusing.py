@@ -526,8 +526,8 @@ def thread_cases(library: str, work: str, registry: str) -> Iterator[tuple[Progr
         others = workers - 1
         yield settle_case(library, work, registry, workers, ALL_ACTS), 0
         yield settle_case(library, work, registry, workers, LONG), 2 * others
-        # (the lists of accounts are spelled in shares of equally many, and those of eight workers make seven shares)
-        spellers = min(others, 6)
+        # (the lists of accounts are spelled in shares of equally many, and those of six workers make five shares)
+        spellers = 4 if workers == 6 else others
         settlers = workers if others else 0
         yield settle_case(library, work, registry, workers, FULL), 4 * others + settlers + spellers
         yield settle_case(library, work, registry, workers, FILED, is_file=True), 3 * others
