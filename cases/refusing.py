@@ -25,6 +25,7 @@ DO_WITHOUT_THREADS = (
     "plan_with",
     "read_day_by_parts",
     "settle",
+    "settle_regions",
     "write_report_of_parts",
     "write_report_pieces",
 )
