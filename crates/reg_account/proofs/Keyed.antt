@@ -12,7 +12,7 @@ use Rattle.std.proofs.lemmas.Bool.{eq-eqb, eqb-true, eqb-false, ne_eqb, cases_lt
 use Rattle.std.proofs.lemmas.List.{length-append}
 use Rattle.std.proofs.lemmas.Option.{none-some}
 use Rattle.reg_base.specs.Rising.{IsRising}
-use Rattle.reg_base.proofs.RisesFrom.{RisesFrom, rises_from}
+use Rattle.reg_base.proofs.lemmas.RisesFrom.{RisesFrom, rises_from}
 
 -- a rising list, both ways
 pub from_zero : (xs : List ℕ) → IsRising xs → RisesFrom 0 xs

@@ -16,7 +16,7 @@ use Rattle.reg_base.specs.declared.kinds.AllowanceKind.{AllowanceKind}
 use Rattle.reg_base.specs.declared.kinds.AllowanceKind.TheVariants.{General, Aviation}
 use Rattle.reg_base.specs.Numbers.{IsAccountNo, IsHolderNo}
 use Rattle.reg_base.specs.Rising.{IsRising, is_rising_from}
-use Rattle.reg_base.proofs.RisesFrom.{RisesFrom}
+use Rattle.reg_base.proofs.lemmas.RisesFrom.{RisesFrom}
 use Rattle.reg_account.specs.declared.parts.AccountFault.{AccountFault}
 use Rattle.reg_account.specs.declared.parts.AccountFault.TheVariants as fault
 use Rattle.reg_account.specs.declared.parts.AccountFault.TheVariants.{Holding, Users, Trusted, Rows, Retired, Emissions}

@@ -9,15 +9,15 @@ use Rattle.reg_account.specs.declared.years.Figure.{Figure}
 
 -- the correction factors of later periods, the surrenders and deletions, the emissions and the determined figures as
 -- plain data
-pub record RecordsValue : Type 0 where
+pub record HistoryValue : Type 0 where
   pub corrections : List Correction
   pub rows : List RetirementRow
   pub emissions : List Emission
   pub figures : List Figure
 
 -- none of them
-abbrev pub no_records : RecordsValue
-no_records = record { corrections = []; rows = []; emissions = []; figures = [] }
+abbrev pub no_history : HistoryValue
+no_history = record { corrections = []; rows = []; emissions = []; figures = [] }
 
 -- all lists as plain data
 pub record ListsValue : Type 0 where
@@ -32,8 +32,8 @@ pub record ListsValue : Type 0 where
 abbrev pub no_lists : ListsValue
 no_lists = record { corrections = []; users = []; trusted = []; rows = []; emissions = []; figures = [] }
 
--- the lists with these records
-abbrev pub lists_made : List Representative → List TrustedEntry → RecordsValue → ListsValue
+-- the lists with this history
+abbrev pub lists_made : List Representative → List TrustedEntry → HistoryValue → ListsValue
 lists_made users trusted r = record {
   corrections = r.corrections;
   users = users;

@@ -1,4 +1,4 @@
-//! The records of an account that has some, with the sums over its rows.
+//! The history of an account that has some, with the sums over its rows.
 
 ghost use Rattle.std.specs.Prelude.{◌≡◌, ◌++◌, [], ◌∷◌, false, IfOk, OnOk, OnErr, MatchOption};
 ghost use Rattle.reg_base.specs.Rising.{IsRising};
@@ -6,7 +6,7 @@ ghost use Rattle.reg_base.specs.declared.limits.TheConstants.{MOST_PERIODS};
 ghost use Rattle.reg_base.specs.Numbers.{IsWithin};
 ghost use Rattle.reg_account.specs.Rows.{row_numbers, row_in, retired_in, surrendered_in, with_mark};
 ghost use Rattle.reg_account.specs.Years.{emission_years, figure_years, with_emission, with_figure};
-ghost use Rattle.reg_account.specs.Lists.{RecordsValue, no_records};
+ghost use Rattle.reg_account.specs.Lists.{HistoryValue, no_history};
 
 use crate::corrections::Correction;
 use crate::rows::{RetirementRow, copy_rows, index_of, mark_reversed};
@@ -16,7 +16,7 @@ use reg_base::{AllowanceKind, NoMemory, RecordNo, Retirement};
 use std::alloc::Global;
 use std::marker::Model;
 
-/// Records, and the sums over the rows.
+/// A history, and the sums over the rows.
 #[derive(Debug, Drop)]
 pub(crate) struct Kept {
     corrections: Vec<Correction>,
@@ -28,10 +28,10 @@ pub(crate) struct Kept {
 }
 
 impl Model for Kept {
-    ghost use Rattle.reg_account.specs.Lists.{RecordsValue};
+    ghost use Rattle.reg_account.specs.Lists.{HistoryValue};
     ghost use Rattle.reg_account.specs.Sums.{SumsAgree};
 
-    ghost Value = { RecordsValue };
+    ghost Value = { HistoryValue };
 
     ghost view = { λ k. record {
       corrections = k.corrections.items;
@@ -45,7 +45,7 @@ impl Model for Kept {
 
 impl Kept {
     pub(crate) fn empty(alloc: Global) -> Self
-        ensures { result ≡ no_records }
+        ensures { result ≡ no_history }
     {
         Kept {
             corrections: Vec::new(alloc),

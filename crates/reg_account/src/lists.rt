@@ -1,5 +1,5 @@
 //! The lists of an account: its correction factors of later periods, its representatives, its trusted account list, and
-//! its records.
+//! its history.
 
 ghost use Rattle.std.specs.Prelude.{◌≡◌, ◌++◌, [], ◌∷◌, false, IfOk, OnOk, OnErr, MatchOption};
 ghost use Rattle.reg_base.specs.Rising.{IsRising};
@@ -11,7 +11,7 @@ ghost use Rattle.reg_account.specs.Years.{emission_years, figure_years, with_emi
 ghost use Rattle.reg_account.specs.Lists.{ListsValue, no_lists};
 
 use crate::corrections::Correction;
-use crate::records::Records;
+use crate::history::History;
 use crate::rows::RetirementRow;
 use crate::trusted::{Entries, TrustedEntry, put_entry, remove_entry};
 use crate::users::Representative;
@@ -29,7 +29,7 @@ type Users = SmallVec<Representative, 4>;
 struct Filled {
     users: Users,
     trusted: Entries,
-    records: Records,
+    history: History,
 }
 
 /// The lists of an account, not yet tested: its correction factors of later periods, its representatives, its trusted
@@ -38,7 +38,7 @@ struct Filled {
 #[derive(Debug, Drop)]
 pub struct Lists {
     alloc: Global,
-    // One allocation has what most accounts have. Records are rarer and larger: they are behind another.
+    // One allocation has what most accounts have. A history is rarer and larger: it is behind another.
     filled: Option<Box<Filled>>,
 }
 
@@ -49,7 +49,7 @@ impl Model for Lists {
     ghost Value = { ListsValue };
 
     ghost view = { λ l. option_map_or
-        (λ b. lists_made b.value.users.items b.value.trusted.items b.value.records) l.filled no_lists };
+        (λ b. lists_made b.value.users.items b.value.trusted.items b.value.history) l.filled no_lists };
 }
 
 impl Lists {
@@ -68,7 +68,7 @@ impl Lists {
         ensures { result.now ≡ self.now.corrections }
     {
         match &self.filled {
-            Some(filled) => filled.records.corrections(),
+            Some(filled) => filled.history.corrections(),
             None => &[],
         }
     }
@@ -98,7 +98,7 @@ impl Lists {
         ensures { result.now ≡ self.now.rows }
     {
         match &self.filled {
-            Some(filled) => filled.records.rows(),
+            Some(filled) => filled.history.rows(),
             None => &[],
         }
     }
@@ -108,7 +108,7 @@ impl Lists {
         ensures { result.now ≡ self.now.emissions }
     {
         match &self.filled {
-            Some(filled) => filled.records.emissions(),
+            Some(filled) => filled.history.emissions(),
             None => &[],
         }
     }
@@ -118,7 +118,7 @@ impl Lists {
         ensures { result.now ≡ self.now.figures }
     {
         match &self.filled {
-            Some(filled) => filled.records.figures(),
+            Some(filled) => filled.history.figures(),
             None => &[],
         }
     }
@@ -134,10 +134,10 @@ impl Lists {
         ensures err { OnErr result (self.new ≡ self.old) }
     {
         match &mut self.filled {
-            Some(filled) => filled.records.push_correction(correction),
+            Some(filled) => filled.history.push_correction(correction),
             None => {
                 let mut filled = Filled::empty(self.alloc);
-                filled.records.push_correction(correction)?;
+                filled.history.push_correction(correction)?;
                 self.filled = Some(Box::new(self.alloc, filled)?);
                 Ok(())
             }
@@ -194,10 +194,10 @@ impl Lists {
         ensures err { OnErr result (self.new ≡ self.old) }
     {
         match &mut self.filled {
-            Some(filled) => filled.records.push_row(row),
+            Some(filled) => filled.history.push_row(row),
             None => {
                 let mut filled = Filled::empty(self.alloc);
-                filled.records.push_row(row)?;
+                filled.history.push_row(row)?;
                 self.filled = Some(Box::new(self.alloc, filled)?);
                 Ok(())
             }
@@ -214,10 +214,10 @@ impl Lists {
         ensures err { OnErr result (self.new ≡ self.old) }
     {
         match &mut self.filled {
-            Some(filled) => filled.records.push_emission(emission),
+            Some(filled) => filled.history.push_emission(emission),
             None => {
                 let mut filled = Filled::empty(self.alloc);
-                filled.records.push_emission(emission)?;
+                filled.history.push_emission(emission)?;
                 self.filled = Some(Box::new(self.alloc, filled)?);
                 Ok(())
             }
@@ -234,10 +234,10 @@ impl Lists {
         ensures err { OnErr result (self.new ≡ self.old) }
     {
         match &mut self.filled {
-            Some(filled) => filled.records.push_figure(figure),
+            Some(filled) => filled.history.push_figure(figure),
             None => {
                 let mut filled = Filled::empty(self.alloc);
-                filled.records.push_figure(figure)?;
+                filled.history.push_figure(figure)?;
                 self.filled = Some(Box::new(self.alloc, filled)?);
                 Ok(())
             }
@@ -261,7 +261,7 @@ impl Lists {
         ensures { result ≡ retired_in way kind self.now.rows }
     {
         match &self.filled {
-            Some(filled) => filled.records.sum(way, kind),
+            Some(filled) => filled.history.sum(way, kind),
             None => 0,
         }
     }
@@ -273,7 +273,7 @@ impl Lists {
         ensures { result ≡ surrendered_in period self.now.rows }
     {
         match &self.filled {
-            Some(filled) => filled.records.surrendered_for(period),
+            Some(filled) => filled.history.surrendered_for(period),
             None => 0,
         }
     }
@@ -313,7 +313,7 @@ impl Lists {
         ensures err { OnErr result (self.new ≡ self.old) }
     {
         match &mut self.filled {
-            Some(filled) => filled.records.put_emission(new),
+            Some(filled) => filled.history.put_emission(new),
             None => self.push_emission(new),
         }
     }
@@ -328,7 +328,7 @@ impl Lists {
         ensures err { OnErr result (self.new ≡ self.old) }
     {
         match &mut self.filled {
-            Some(filled) => filled.records.put_figure(new),
+            Some(filled) => filled.history.put_figure(new),
             None => self.push_figure(new),
         }
     }
@@ -341,7 +341,7 @@ impl Lists {
         ensures marked { self.new ≡ record self.old { rows = with_mark number self.old.rows } }
     {
         match &mut self.filled {
-            Some(filled) => filled.records.reverse(number),
+            Some(filled) => filled.history.reverse(number),
             None => None,
         }
     }
@@ -362,29 +362,29 @@ impl Lists {
 }
 
 impl Filled {
-    ghost use Rattle.reg_account.specs.Lists.{no_records};
+    ghost use Rattle.reg_account.specs.Lists.{no_history};
 
     fn empty(alloc: Global) -> Self
         ensures users { result.users.items ≡ [] }
         ensures trusted { result.trusted.items ≡ [] }
-        ensures records { result.records ≡ no_records }
+        ensures history { result.history ≡ no_history }
     {
         Filled {
             users: SmallVec::new(alloc),
             trusted: SmallVec::new(alloc),
-            records: Records::empty(alloc),
+            history: History::empty(alloc),
         }
     }
 
     fn copy(&self, alloc: Global) -> Result<Filled, NoMemory>
         ensures users { IfOk result (λ f. f.users.items ≡ self.now.users.items) }
         ensures trusted { IfOk result (λ f. f.trusted.items ≡ self.now.trusted.items) }
-        ensures records { IfOk result (λ f. f.records ≡ self.now.records) }
+        ensures history { IfOk result (λ f. f.history ≡ self.now.history) }
     {
         Ok(Filled {
             users: SmallVec::from_slice(alloc, self.users.as_slice())?,
             trusted: SmallVec::from_slice(alloc, self.trusted.as_slice())?,
-            records: self.records.copy(alloc)?,
+            history: self.history.copy(alloc)?,
         })
     }
 }

@@ -16,7 +16,7 @@ use Rattle.reg_rules.specs.Conservation.{number_of}
 use Rattle.reg_book.specs.Book.{BookValue, IsBook}
 use Rattle.reg_book.specs.Settled.{record_numbers}
 use Rattle.reg_book.specs.Fold.{state_after}
-use Rattle.reg_book.specs.Day.{Day, IsDay, setting, state_at, value_at, log_of, closing_state, settled_day}
+use Rattle.reg_book.specs.Day.{DayValue, IsDay, setting, state_at, value_at, log_of, closing_state, settled_day}
 use Rattle.reg_book.specs.Laws.{CommittedIsClosing, ClosedStays, NumbersStay, StaysReady, SettledIsOfBook}
 use Rattle.reg_book.specs.Conservation.{created, deleted, undeleted, FoldConserves}
 use Rattle.reg_book.specs.Chains.{book_after, book_after_days, book_at, IsChain, IsChainByHand, MayBecome}
@@ -39,12 +39,12 @@ counted_on first (suc some) more =
     ∙ ap (λ n. count_up (first + 1) some ++ count_up n more) same)
 
 -- what days add up to is what the first adds, and then the others
-instructions-first : (day : Day) (days : List Day)
+instructions-first : (day : DayValue) (days : List DayValue)
     → instructions_in (day ∷ days) ≡ length day.batch.instructions + instructions_in days
-instructions-first day days = sum_by-cons (λ (d : Day). length d.batch.instructions) day days
+instructions-first day days = sum_by-cons (λ (d : DayValue). length d.batch.instructions) day days
 
 -- the log of a day has a number for each instruction, from the next record number on
-day-numbers : (day : Day) → IsDay day
+day-numbers : (day : DayValue) → IsDay day
     → record_numbers (log_of day) ≡ count_up day.book.next (length day.batch.instructions)
 day-numbers day kept =
     count-rows_of (setting day) day.book.accounts (day.batch.base + 1) day.batch.instructions
@@ -53,7 +53,7 @@ day-numbers day kept =
     (size-rows_of (setting day) day.book.accounts (day.batch.base + 1) day.batch.instructions)
 
 -- the first days of a chain are one
-pub some-days : (book : BookValue) (days : List Day) (j : ℕ) → IsChainByHand book days
+pub some-days : (book : BookValue) (days : List DayValue) (j : ℕ) → IsChainByHand book days
     → IsChainByHand book (take j days)
 some-days book [] zero chain = tt
 some-days book [] (suc j) chain = tt
@@ -69,7 +69,7 @@ same-book left begun is = record {
 }
 
 -- a chain without changes is one with them
-pub plain-chain : (book : BookValue) (days : List Day) → IsChain book days → IsChainByHand book days
+pub plain-chain : (book : BookValue) (days : List DayValue) → IsChain book days → IsChainByHand book days
 plain-chain book [] chain = tt
 plain-chain book (day ∷ days) chain =
     (chain.0, same-book book day.book chain.1, plain-chain (book_after day) days chain.2)
@@ -80,13 +80,13 @@ still_closed a s t same closed = ap (option_map (λ (v : AccountValue). v.status
 
 module _ (closing : CommittedIsClosing) where
   -- what a day leaves
-  accounts-after : (day : Day) → IsDay day → (book_after day).accounts ≡ closing_state day
+  accounts-after : (day : DayValue) → IsDay day → (book_after day).accounts ≡ closing_state day
   accounts-after day kept = ap (λ (b : BookValue). b.accounts) (closing day kept.book kept.follows)
 
-  next-after : (day : Day) → IsDay day → (book_after day).next ≡ day.book.next + length day.batch.instructions
+  next-after : (day : DayValue) → IsDay day → (book_after day).next ≡ day.book.next + length day.batch.instructions
   next-after day kept = ap (λ (b : BookValue). b.next) (closing day kept.book kept.follows)
 
-  numbered-days : (book : BookValue) (days : List Day) → IsChainByHand book days
+  numbered-days : (book : BookValue) (days : List DayValue) → IsChainByHand book days
       → record_numbers (log_of_days days) ≡ count_up book.next (instructions_in days)
   numbered-days book [] chain = refl
   numbered-days book (day ∷ days) chain =
@@ -100,7 +100,7 @@ module _ (closing : CommittedIsClosing) where
       ∙ sym (ap (λ n. count_up book.next n) (instructions-first day days)
       ∙ counted_on book.next today (instructions_in days))
 
-  next-days : (book : BookValue) (days : List Day) → IsChainByHand book days
+  next-days : (book : BookValue) (days : List DayValue) → IsChainByHand book days
       → (book_after_days book days).next ≡ book.next + instructions_in days
   next-days book [] chain = omega arith
   next-days book (day ∷ days) chain =
@@ -117,7 +117,7 @@ module _ (closing : CommittedIsClosing) where
 
   module _ (stays : ClosedStays) where
     -- an account that some instruction left closed, or that was closed before, is so in the book that the day leaves
-    closed-day : (day : Day) → IsDay day → (a i : ℕ) → status (state_at day i) a ≡ Some Closed
+    closed-day : (day : DayValue) → IsDay day → (a i : ℕ) → status (state_at day i) a ≡ Some Closed
         → account (book_after day).accounts a ≡ value_at day a i
     closed-day day kept a i closed =
         let is = day.batch.instructions in
@@ -127,7 +127,7 @@ module _ (closing : CommittedIsClosing) where
         ap (λ (s : State). account s a) (accounts-after day kept ∙ all)
         ∙ stays day a i (i + length is) (omega arith) closed
 
-    closed-days : (book : BookValue) (days : List Day) (a : ℕ) → IsChainByHand book days
+    closed-days : (book : BookValue) (days : List DayValue) (a : ℕ) → IsChainByHand book days
         → status book.accounts a ≡ Some Closed
         → account (book_after_days book days).accounts a ≡ account book.accounts a
     closed-days book [] a chain closed = refl
@@ -137,7 +137,7 @@ module _ (closing : CommittedIsClosing) where
         closed-days (book_after day) days a chain.2
         (still_closed a book.accounts (book_after day).accounts (still ∙ begun) closed) ∙ still ∙ begun
 
-    closed-between : (book : BookValue) (days : List Day) (a i j : ℕ) → IsChainByHand book days → i ≤ j
+    closed-between : (book : BookValue) (days : List DayValue) (a i j : ℕ) → IsChainByHand book days → i ≤ j
         → status (book_at book days i).accounts a ≡ Some Closed
         → account (book_at book days j).accounts a ≡ account (book_at book days i).accounts a
     closed-between book [] a zero zero chain le closed = refl
@@ -150,7 +150,8 @@ module _ (closing : CommittedIsClosing) where
     closed-between book (day ∷ days) a (suc i) (suc j) chain le closed =
         closed-between (book_after day) days a i j chain.2 (omega (arith, le)) closed
 
-    closed-from : (book : BookValue) (days : List Day) (k : ℕ) (day : Day) (a i j : ℕ) → IsChainByHand book days
+    closed-from : (book : BookValue) (days : List DayValue) (k : ℕ) (day : DayValue) (a i j : ℕ)
+        → IsChainByHand book days
         → slice_get days k ≡ Some day → k < j
         → status (state_at day i) a ≡ Some Closed → account (book_at book days j).accounts a ≡ value_at day a i
     closed-from book [] zero day a i j chain at le closed = absurd cc
@@ -158,15 +159,15 @@ module _ (closing : CommittedIsClosing) where
     closed-from book (x ∷ days) k day a i zero chain at le closed = absurd (omega (arith, le))
     closed-from book (x ∷ days) zero day a i (suc j) chain at le closed =
         let is : x ≡ day = same_Some x day at in
-        let own : status (state_at x i) a ≡ Some Closed = ap (λ (d : Day). status (state_at d i) a) is ∙ closed in
+        let own : status (state_at x i) a ≡ Some Closed = ap (λ (d : DayValue). status (state_at d i) a) is ∙ closed in
         let left = closed-day x chain.0 a i own in
         closed-days (book_after x) (take j days) a (some-days (book_after x) days j chain.2)
         (still_closed a (state_at x i) (book_after x).accounts left own)
-        ∙ left ∙ ap (λ (d : Day). value_at d a i) is
+        ∙ left ∙ ap (λ (d : DayValue). value_at d a i) is
     closed-from book (x ∷ days) (suc k) day a i (suc j) chain at le closed =
         closed-from (book_after x) days k day a i j chain.2 at (omega (arith, le)) closed
 
-  conserved-days : FoldConserves → (book : BookValue) (days : List Day) → IsChainByHand book days
+  conserved-days : FoldConserves → (book : BookValue) (days : List DayValue) → IsChainByHand book days
       → (kind : AllowanceKind)
       → number_of kind (book_after_days book days).accounts + deleted_in days kind
       ≡ number_of kind book.accounts + created_in days kind + undeleted_in days kind
@@ -177,9 +178,9 @@ module _ (closing : CommittedIsClosing) where
       let left : number_of kind (book_after day).accounts ≡ number_of kind (closing_state day) =
       ap (number_of kind) (accounts-after day chain.0) in
       let begun : number_of kind day.book.accounts ≡ number_of kind book.accounts = chain.1.allowances kind in
-      let created_first = sum_by-cons (λ (d : Day). created d kind) day days in
-      let deleted_first = sum_by-cons (λ (d : Day). deleted d kind) day days in
-      let undeleted_first = sum_by-cons (λ (d : Day). undeleted d kind) day days in
+      let created_first = sum_by-cons (λ (d : DayValue). created d kind) day days in
+      let deleted_first = sum_by-cons (λ (d : DayValue). deleted d kind) day days in
+      let undeleted_first = sum_by-cons (λ (d : DayValue). undeleted d kind) day days in
       omega (arith, later, today, left, begun, created_first, deleted_first, undeleted_first)
 
   pub laws-by_hand : ClosedStays → FoldConserves → ChainLaws IsChainByHand
@@ -202,7 +203,7 @@ module _ (closing : CommittedIsClosing) where
   }
 
   -- what a day leaves is a book
-  book-day : StaysReady → SettledIsOfBook → (day : Day) → IsDay day → IsBook (book_after day)
+  book-day : StaysReady → SettledIsOfBook → (day : DayValue) → IsDay day → IsBook (book_after day)
   book-day ready of_book day kept =
       let is = day.batch.instructions in
       let settled = settled_day day in

@@ -11,7 +11,7 @@ use Rattle.reg_rules.specs.Laws.{StepLaws}
 use Rattle.reg_book.specs.Book.{BookValue, IsBook, IsBookKept, directory_of}
 use Rattle.reg_book.specs.Fold.{state_after}
 use Rattle.reg_book.specs.Settled.{committed}
-use Rattle.reg_book.specs.Day.{Day, IsDay, setting, settled_day}
+use Rattle.reg_book.specs.Day.{DayValue, IsDay, setting, settled_day}
 use Rattle.reg_book.proofs.Commits.{committed-closing}
 use Rattle.reg_book.proofs.Days.{closing-all, directory-fold}
 use Rattle.reg_book.proofs.Directories.{length-numbers}
@@ -20,13 +20,13 @@ use Rattle.reg_book.proofs.Folds.{numbers-fold}
 use Rattle.reg_book.proofs.Values.{numbered-day, ready-fold, ready-book}
 
 -- all accounts after the day
-abbrev pub after_day : Day → State
+abbrev pub after_day : DayValue → State
 after_day day = state_after (setting day) day.book.accounts (day.batch.base + 1) day.batch.instructions
 
 module _ (laws : StepLaws) where
   -- what became of the slice of a book's accounts is what became of the accounts: on and d are what the batch and the
   -- book gave, seen is the slice of table, own what it became
-  pub whole-after : (day : Day) (on : ℕ) (d : DirectoryValue) (table seen own : State) (len : ℕ)
+  pub whole-after : (day : DayValue) (on : ℕ) (d : DirectoryValue) (table seen own : State) (len : ℕ)
       → on ≡ day.batch.day → d ≡ directory_of day.book.accounts → table ≡ day.book.accounts → seen ≡ table
       → len ≡ length table
       → own ≡ state_after (record { rules = day.rules; day = on; directory = d }) seen
@@ -45,7 +45,7 @@ module _ (laws : StepLaws) where
       ∙ ap (λ (s : State). state_after (setting day) s (day.batch.base + 1) day.batch.instructions) (read ∙ among)
 
   -- they are the accounts of a book, with the directory that it had
-  pub kept-after_day : (day : Day) (accounts : State) (directory : DirectoryValue) (next count : ℕ) → IsDay day
+  pub kept-after_day : (day : DayValue) (accounts : State) (directory : DirectoryValue) (next count : ℕ) → IsDay day
       → accounts ≡ after_day day
       → directory ≡ directory_of day.book.accounts → next ≡ day.book.next → count ≡ length day.batch.instructions
       → IsBookKept accounts directory (next + count)
@@ -70,7 +70,7 @@ module _ (laws : StepLaws) where
       })
 
   -- and that book is the one to which the settled day was committed
-  pub committed-after_day : (day : Day) (accounts : State) (next count : ℕ) → IsBook day.book
+  pub committed-after_day : (day : DayValue) (accounts : State) (next count : ℕ) → IsBook day.book
       → day.batch.base + 1 ≡ day.book.next
       → accounts ≡ after_day day → next ≡ day.book.next → count ≡ length day.batch.instructions
       → ◌≡◌ {A = BookValue} (record { accounts = accounts; next = next + count }) (committed day.book (settled_day day))

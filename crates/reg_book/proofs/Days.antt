@@ -25,7 +25,7 @@ use Rattle.reg_base.specs.Touches.{is_touched}
 use Rattle.reg_book.specs.Fold.{state_after, rows_of, replies_in, rows_from, touched_of}
 use Rattle.reg_book.specs.Settled.{SettledValue, IsSettled, IsOfBook}
 use Rattle.reg_book.specs.Laws.{LogIsMadeAgain}
-use Rattle.reg_book.specs.Day.{Day, IsDay, setting, log_of, rows_replied, closing_state, settled_day}
+use Rattle.reg_book.specs.Day.{DayValue, IsDay, setting, log_of, rows_replied, closing_state, settled_day}
 use Rattle.reg_book.proofs.Directories.{listing, length-numbers, get-directory_of}
 use Rattle.reg_book.proofs.Lookups.{account-filter, numbers-filter, rising-distinct, written_whole}
 use Rattle.reg_book.proofs.Folds.{size-rows_of, count-rows_of, rows-again, numbers-fold, others-fold, fold-local}
@@ -173,13 +173,13 @@ module _ (laws : StepLaws) where
           (λ _. (at v all.0, more)) (λ _. more)
 
 -- the state after all instructions
-pub closing-all : (day : Day)
+pub closing-all : (day : DayValue)
     → closing_state day ≡ state_after (setting day) day.book.accounts (day.batch.base + 1) day.batch.instructions
 closing-all day = ap (state_after (setting day) day.book.accounts (day.batch.base + 1))
     (take_all (length day.batch.instructions) day.batch.instructions (omega arith))
 
 -- what the settlement of the touched accounts made: their state after the batch, and the log
-pub record IsMade (day : Day) (own : State) (rows : List LogRow) : Type 0 where
+pub record IsMade (day : DayValue) (own : State) (rows : List LogRow) : Type 0 where
   pub accounts : own ≡ state_after (setting day)
       (touched_of (directory_of day.book.accounts) day.batch.instructions day.book.accounts)
       (day.batch.base + 1) day.batch.instructions
@@ -188,7 +188,7 @@ pub record IsMade (day : Day) (own : State) (rows : List LogRow) : Type 0 where
       (day.batch.base + 1) day.batch.instructions
 
 module _ (laws : StepLaws) where
-  made-accounts : (day : Day) (own : State) (rows : List LogRow) → IsBook day.book → IsMade day own rows
+  made-accounts : (day : DayValue) (own : State) (rows : List LogRow) → IsBook day.book → IsMade day own rows
       → own ≡ (settled_day day).accounts
   made-accounts day own rows kept made =
       made.accounts
@@ -198,11 +198,11 @@ module _ (laws : StepLaws) where
       (touched-rising (directory_of day.book.accounts) day.batch.instructions day.book.accounts kept.rising))
       ∙ ap (touched_of (directory_of day.book.accounts) day.batch.instructions) (sym (closing-all day))
 
-  made-rows : (day : Day) (own : State) (rows : List LogRow) → IsMade day own rows → rows ≡ (settled_day day).rows
+  made-rows : (day : DayValue) (own : State) (rows : List LogRow) → IsMade day own rows → rows ≡ (settled_day day).rows
   made-rows day own rows made =
       made.log ∙ touched-rows laws (setting day) day.batch.instructions day.book.accounts (day.batch.base + 1)
 
-  made-day : (day : Day) (base : ℕ) (own : State) (rows : List LogRow) → IsBook day.book → base ≡ day.batch.base
+  made-day : (day : DayValue) (base : ℕ) (own : State) (rows : List LogRow) → IsBook day.book → base ≡ day.batch.base
       → IsMade day own rows
       → ◌≡◌ {A = SettledValue} (record { base = base; rows = rows; accounts = own }) (settled_day day)
   made-day day base own rows kept same made =
@@ -212,7 +212,7 @@ module _ (laws : StepLaws) where
         accounts = made-accounts day own rows kept made i;
       }
 
-  pub settled-kept : (day : Day) → IsBook day.book → IsBatch day.batch → IsSettled (settled_day day)
+  pub settled-kept : (day : DayValue) → IsBook day.book → IsBatch day.batch → IsSettled (settled_day day)
   settled-kept day kept fits = record {
     rising = touched-rising (directory_of day.book.accounts) day.batch.instructions (closing_state day)
         (subst IsRising (sym (numbers-fold laws (setting day) day.book.accounts (day.batch.base + 1)
@@ -225,7 +225,7 @@ module _ (laws : StepLaws) where
     );
   }
 
-  pub settled-of_book : (day : Day) → IsDay day → IsOfBook day.book (settled_day day)
+  pub settled-of_book : (day : DayValue) → IsDay day → IsOfBook day.book (settled_day day)
   settled-of_book day kept =
       let is = day.batch.instructions in
       let ready = ready-fold laws (setting day) day.book.accounts
@@ -251,7 +251,7 @@ module _ (laws : StepLaws) where
       }
 
   -- the touched accounts are ready for the first record number
-  pub touched-ready : (day : Day) → IsDay day
+  pub touched-ready : (day : DayValue) → IsDay day
       → IsReady (day.batch.base + 1)
       (touched_of (directory_of day.book.accounts) day.batch.instructions day.book.accounts)
   touched-ready day kept =
@@ -266,7 +266,7 @@ module _ (laws : StepLaws) where
 
   -- what is kept of the calls that settled the day: on, d, is and all are what the book and the batch gave, table are
   -- the copies, seen is their slice, own what it became
-  pub day-made : (day : Day) (on : ℕ) (d : DirectoryValue) (is : List Instruction) (all table seen own : State)
+  pub day-made : (day : DayValue) (on : ℕ) (d : DirectoryValue) (is : List Instruction) (all table seen own : State)
       (rows : List LogRow) (base len : ℕ)
       → IsBook day.book → on ≡ day.batch.day → d ≡ directory_of day.book.accounts → is ≡ day.batch.instructions
       → all ≡ day.book.accounts

@@ -7,7 +7,7 @@ use Rattle.std.proofs.lemmas.List.{drop_more, get_or_append_left, get_or_default
 use Rattle.std.proofs.lemmas.List.Folds.{find-append}
 use Rattle.std.proofs.lemmas.List.{map-append}
 use Rattle.reg_base.specs.Rising.{IsRising}
-use Rattle.reg_base.proofs.RisesFrom.{rises_from}
+use Rattle.reg_base.proofs.lemmas.RisesFrom.{rises_from}
 use Rattle.reg_account.specs.Account.{AccountValue}
 use Rattle.reg_rules.specs.State.{State, account, numbers}
 use Rattle.reg_book.specs.Parts.{joined}

@@ -1,3 +1,4 @@
+pub mod lemmas
 pub mod Accounts
 pub mod Closings
 pub mod Commits
@@ -16,7 +17,6 @@ pub mod Replacements
 pub mod Singles
 pub mod Turns
 pub mod Values
-pub mod TotalFacts
 pub mod Joined
 pub mod Conserved
 pub mod ClosedStay

@@ -5,7 +5,7 @@ use Rattle.std.specs.Prelude.{Contains}
 use Rattle.std.proofs.lemmas.List.{append-nil, take_all, drop_all}
 use Rattle.std.proofs.lemmas.Map.Keys.{IsDistinct-cons}
 use Rattle.reg_base.specs.Rising.{IsRising}
-use Rattle.reg_base.proofs.RisesFrom.{RisesFrom, rises_from}
+use Rattle.reg_base.proofs.lemmas.RisesFrom.{RisesFrom, rises_from}
 use Rattle.std.specs.List.{IsDistinct, AllByRecursion}
 use Rattle.std.proofs.lemmas.Bool.{eq-eqb, ne_eqb, eqb-true}
 use Rattle.reg_account.specs.Account.{AccountValue}

@@ -14,7 +14,7 @@ use Rattle.std.proofs.lemmas.List.{get_or_append_left, length-append}
 use Rattle.std.proofs.lemmas.Option.{same_Some}
 use Rattle.reg_base.specs.declared.kinds.AccountKind.{AccountKind}
 use Rattle.reg_base.specs.Rising.{IsRising}
-use Rattle.reg_base.proofs.RisesFrom.{RisesFrom, rises_from}
+use Rattle.reg_base.proofs.lemmas.RisesFrom.{RisesFrom, rises_from}
 use Rattle.reg_account.specs.Rows.{row_numbers, AreBelow}
 use Rattle.reg_account.specs.Account.{AccountValue, IsAccount}
 use Rattle.reg_rules.specs.Effect.{IsBehind}

@@ -6,7 +6,7 @@ use Rattle.std.proofs.lemmas.Bool.{eq-eqb}
 use Rattle.std.proofs.lemmas.Option.{same_Some}
 use Rattle.std.proofs.lemmas.List.{drop-set, drop_more, get_or-drop, length-drop}
 use Rattle.reg_base.specs.Rising.{IsRising}
-use Rattle.reg_base.proofs.RisesFrom.{rises_from}
+use Rattle.reg_base.proofs.lemmas.RisesFrom.{rises_from}
 use Rattle.reg_account.specs.Account.{AccountValue}
 use Rattle.reg_rules.specs.State.{State, account, numbers}
 use Rattle.reg_book.specs.Book.{overlay}

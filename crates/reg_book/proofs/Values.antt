@@ -20,7 +20,7 @@ use Rattle.reg_rules.specs.Laws.{StepLaws, IsReady}
 use Rattle.reg_book.specs.Book.{directory_of}
 use Rattle.reg_base.specs.Touches.{is_touched, touches_at, last_toucher}
 use Rattle.reg_book.specs.Fold.{state_after, rows_of}
-use Rattle.reg_book.specs.Day.{Day, IsDay, setting, state_at, value_at}
+use Rattle.reg_book.specs.Day.{DayValue, IsDay, setting, state_at, value_at}
 use Rattle.reg_book.specs.Laws.{EachIsAStep, NumbersStay, UntouchedStay, ValueIsLastTouchers, StaysReady}
 use Rattle.reg_book.proofs.Folds.{numbers-fold, others-fold}
 use Rattle.reg_book.proofs.Lookups.{not_contained, or_cases, rising-distinct}
@@ -82,7 +82,7 @@ pub others-numbered : (n : ℕ) (i : Instruction) (is : List Instruction) → Ha
     → HaveNumbers (n + 1) is
 others-numbered n i is h = record { from_one = omega arith; last = omega (arith, h.last) }
 
-pub numbered-day : (day : Day) → IsDay day → HaveNumbers (day.batch.base + 1) day.batch.instructions
+pub numbered-day : (day : DayValue) → IsDay day → HaveNumbers (day.batch.base + 1) day.batch.instructions
 numbered-day day kept = record { from_one = omega arith; last = omega (arith, kept.batch.numbered) }
 
 numbered-before : (n j : ℕ) (is : List Instruction) → j ≤ length is → HaveNumbers n is → HaveNumbers n (take j is)
@@ -133,7 +133,7 @@ module _ (laws : StepLaws) where
       (ready-fold c (step c s n i).0 (n + 1) is rules day (others-numbered n i is numbered) all.1
       (laws.stays_ready c s n i rules day (first-numbered n i is numbered) all.0 ready))
 
-  pub ready-book : (day : Day) → IsDay day → IsReady (day.batch.base + 1) day.book.accounts
+  pub ready-book : (day : DayValue) → IsDay day → IsReady (day.batch.base + 1) day.book.accounts
   ready-book day kept = record {
     once = rising-distinct day.book.accounts kept.book.rising;
     fit = kept.book.within_limits;

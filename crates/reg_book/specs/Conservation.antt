@@ -8,7 +8,7 @@ use Rattle.reg_rules.specs.State.{State, Setting}
 use Rattle.reg_rules.specs.Checks.{refusal}
 use Rattle.reg_rules.specs.Step.{step}
 use Rattle.reg_rules.specs.Conservation.{number_of, created_by, deleted_by, undeleted_by}
-use Rattle.reg_book.specs.Day.{Day, IsDay, setting, closing_state}
+use Rattle.reg_book.specs.Day.{DayValue, IsDay, setting, closing_state}
 
 -- an amount, if the instruction is not refused
 abbrev pub if_accepted : Option Refusal → ℕ → ℕ
@@ -22,24 +22,24 @@ added amount c s number (i ∷ is) =
     if_accepted (refusal c s i) (amount s i.act) + added amount c (step c s number i).0 (number + 1) is
 
 -- what the accepted instructions of a day add up to
-abbrev pub added_by : (State → Act → ℕ) → Day → ℕ
+abbrev pub added_by : (State → Act → ℕ) → DayValue → ℕ
 added_by amount day = added amount (setting day) day.book.accounts (day.batch.base + 1) day.batch.instructions
 
 -- how many allowances of a kind the accepted creations of the day create
-abbrev pub created : Day → AllowanceKind → ℕ
+abbrev pub created : DayValue → AllowanceKind → ℕ
 created day kind = added_by (λ s act. created_by kind act) day
 
 -- how many its accepted deletions delete
-abbrev pub deleted : Day → AllowanceKind → ℕ
+abbrev pub deleted : DayValue → AllowanceKind → ℕ
 deleted day kind = added_by (λ s act. deleted_by kind act) day
 
 -- how many deleted ones its accepted reversals bring back
-abbrev pub undeleted : Day → AllowanceKind → ℕ
+abbrev pub undeleted : DayValue → AllowanceKind → ℕ
 undeleted day kind = added_by (undeleted_by kind) day
 
 -- law: the number of allowances that all accounts hold or have surrendered changes only by accepted creations,
 -- deletions and reversals of deletions
 abbrev pub FoldConserves : Type 0
-FoldConserves = (day : Day) → IsDay day → (kind : AllowanceKind)
+FoldConserves = (day : DayValue) → IsDay day → (kind : AllowanceKind)
     → number_of kind (closing_state day) + deleted day kind
     ≡ number_of kind day.book.accounts + created day kind + undeleted day kind

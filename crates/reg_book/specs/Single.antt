@@ -10,7 +10,7 @@ use Rattle.reg_rules.specs.Step.{step, row_of}
 use Rattle.reg_book.specs.declared.apply.ApplyFault.{ApplyFault}
 use Rattle.reg_book.specs.declared.apply.ApplyFault.TheVariants.{NumbersSpent, NoMemory}
 use Rattle.reg_book.specs.Book.{BookValue, directory_of}
-use Rattle.reg_book.specs.Day.{Day, day_of}
+use Rattle.reg_book.specs.Day.{DayValue, day_of}
 
 -- what is fixed on a settlement day on which this book is settled by these rules
 abbrev pub setting_on : BookValue → RulesValue → ℕ → Setting
@@ -29,7 +29,7 @@ row_applied book rules day i =
     let c = setting_on book rules day in row_of c book.next i (step c book.accounts book.next i).1
 
 -- the day whose batch is this one instruction
-abbrev pub day_of_one : BookValue → RulesValue → ℕ → Instruction → Day
+abbrev pub day_of_one : BookValue → RulesValue → ℕ → Instruction → DayValue
 day_of_one book rules day i = day_of book rules (record { day = day; base = book.next - 1; instructions = i ∷ [] })
 
 -- why the instruction was not applied: no record number is left, or there is one, no check fails, and memory ran out

@@ -9,12 +9,12 @@ use Rattle.std.proofs.lemmas.List.Elements.{All-contains_itself}
 use Rattle.std.proofs.lemmas.Bool.Decides.{nat_tests}
 use mathlib.Core.Logic.{dite}
 use native.Mathlib.Decide.{ℕ_discrete, dec_le}
-use Rattle.reg_counting.specs.Counting.{one_if, total, times}
-use Rattle.reg_counting.proofs.Totals.{total-append}
-use Rattle.reg_claim.specs.declared.views.View.{View}
+use Rattle.reg_facts.specs.Counting.{one_if, total, times}
+use Rattle.reg_facts.proofs.lemmas.Totals.{total-append}
+use Rattle.reg_claim.specs.declared.views.SeatView.{SeatView}
 use Rattle.reg_claim.specs.Views.{spent, is_odd, is_seat, seats, all_claimed}
 use Rattle.reg_claim.specs.Claims.{IsSet, IsSeatView, IsClaimTable}
-use Rattle.reg_claim.proofs.Numbers.{contains-times, times-contains, distinct-times, times-distinct}
+use Rattle.reg_claim.proofs.lemmas.Numbers.{contains-times, times-contains, distinct-times, times-distinct}
 
 -- 1 for a word that is not 0
 abbrev pub set_of : ℕ → ℕ
@@ -27,21 +27,21 @@ flag words zero = 0
 flag words (suc j) = set_of (get_or words (suc j) 0)
 
 -- what each view, spent or not, says while the count is c
-pub record Knows (c : ℕ) (v : View) : Type 0 where
+pub record Knows (c : ℕ) (v : SeatView) : Type 0 where
   pub finished : (p : ℕ) → times p v.finished ≤ times p v.claimed
   pub seen : v.seen ≤ c
   pub stopped : v.seen % 2 ≡ 1 → c % 2 ≡ 1
 
--- a view without a share is spent
-abbrev pub Rests : View → Type 0
-Rests v = v.share ≡ 0 → v ≡ spent
+-- a view without a stake is spent
+abbrev pub Rests : SeatView → Type 0
+Rests v = v.stake ≡ 0 → v ≡ spent
 
-pub record Counted (n : ℕ) (words : List ℕ) (views : List View) : Type 0 where
+pub record Counted (n : ℕ) (words : List ℕ) (views : List SeatView) : Type 0 where
   pub wide : length words ≡ n + 1
   pub small : n < 4294967296
   pub claims : (p : ℕ) → total (λ v. times p v.claimed) views ≡ flag words p
   pub done : get_or words 0 0 / 2 ≡ total (λ v. length v.finished) views
-  pub shares : total (λ v. v.share) views ≡ 16
+  pub stakes : total (λ v. v.stake) views ≡ 16
   pub each : All (Knows (get_or words 0 0)) views
   pub rest : All Rests views
 
@@ -53,66 +53,67 @@ pub is-odd : (c : ℕ) → c % 2 ≡ 1 → is_odd c ≡ true
 is-odd c h = grind (arith, nat_tests)
 
 -- lists behind one another
-pub flat-times : (f : View → List ℕ) (p : ℕ) (views : List View)
+pub flat-times : (f : SeatView → List ℕ) (p : ℕ) (views : List SeatView)
     → times p (flat_map f views) ≡ total (λ v. times p (f v)) views
 flat-times f p [] = refl
 flat-times f p (v ∷ vs) = let r = flat-times f p vs in
     let a = total-append (λ x. one_if (x == p)) (f v) (flat_map f vs) in omega arith
 
-pub flat-length : (f : View → List ℕ) (views : List View) → length (flat_map f views) ≡ total (λ v. length (f v)) views
+pub flat-length : (f : SeatView → List ℕ) (views : List SeatView)
+    → length (flat_map f views) ≡ total (λ v. length (f v)) views
 flat-length f [] = refl
 flat-length f (v ∷ vs) = let r = flat-length f vs in let a = length-append (f v) (flat_map f vs) in omega arith
 
 -- views that a join spent count for nothing
-seats-total : (f : View → ℕ) → f spent ≡ 0 → (views : List View) → AllByRecursion Rests views
+seats-total : (f : SeatView → ℕ) → f spent ≡ 0 → (views : List SeatView) → AllByRecursion Rests views
     → total f (seats views) ≡ total f views
 seats-total f bare [] rest = refl
 seats-total f bare (v ∷ vs) rest =
     let r = seats-total f bare vs rest.1 in
-    dite (ℕ_discrete v.share 0)
+    dite (ℕ_discrete v.stake 0)
     (λ none.
-    let no : nat_lt 0 v.share ≡ false = grind (arith, nat_tests) in
+    let no : nat_lt 0 v.stake ≡ false = grind (arith, nat_tests) in
     let same : f v ≡ f spent = ap f (rest.0 none) in
     let head : total f (seats (v ∷ vs)) ≡ total f (seats vs) =
     ap (λ (b : Bool). total f (cond b (v ∷ seats vs) (seats vs))) no in omega arith)
     (λ some.
-    let yes : nat_lt 0 v.share ≡ true = grind (arith, nat_tests) in
+    let yes : nat_lt 0 v.stake ≡ true = grind (arith, nat_tests) in
     let head : total f (seats (v ∷ vs)) ≡ f v + total f (seats vs) =
     ap (λ (b : Bool). total f (cond b (v ∷ seats vs) (seats vs))) yes in omega arith)
 
 -- what holds of seats' views, and of spent ones, holds of all views
-all-views : (P : View → Type 0) → P spent → (views : List View) → AllByRecursion Rests views
+all-views : (P : SeatView → Type 0) → P spent → (views : List SeatView) → AllByRecursion Rests views
     → AllByRecursion P (seats views) → AllByRecursion P views
 all-views P bare [] rest h = tt
-all-views P bare (v ∷ vs) rest h = dite (ℕ_discrete v.share 0)
+all-views P bare (v ∷ vs) rest h = dite (ℕ_discrete v.stake 0)
     (λ none.
-    let no : nat_lt 0 v.share ≡ false = grind (arith, nat_tests) in
+    let no : nat_lt 0 v.stake ≡ false = grind (arith, nat_tests) in
     let tail : AllByRecursion P (seats vs) =
     subst (λ (b : Bool). AllByRecursion P (cond b (v ∷ seats vs) (seats vs))) no h in
     (subst P (sym (rest.0 none)) bare, all-views P bare vs rest.1 tail))
     (λ some.
-    let yes : nat_lt 0 v.share ≡ true = grind (arith, nat_tests) in
+    let yes : nat_lt 0 v.stake ≡ true = grind (arith, nat_tests) in
     let both : P v × AllByRecursion P (seats vs) =
     subst (λ (b : Bool). AllByRecursion P (cond b (v ∷ seats vs) (seats vs))) yes h in
     (both.0, all-views P bare vs rest.1 both.1))
 
-all-seats : (P : View → Type 0) (views : List View) → AllByRecursion P views → AllByRecursion P (seats views)
+all-seats : (P : SeatView → Type 0) (views : List SeatView) → AllByRecursion P views → AllByRecursion P (seats views)
 all-seats P [] h = tt
-all-seats P (v ∷ vs) h = dite (ℕ_discrete v.share 0)
+all-seats P (v ∷ vs) h = dite (ℕ_discrete v.stake 0)
     (λ none.
-    let no : nat_lt 0 v.share ≡ false = grind (arith, nat_tests) in
+    let no : nat_lt 0 v.stake ≡ false = grind (arith, nat_tests) in
     subst (λ (b : Bool). AllByRecursion P (cond b (v ∷ seats vs) (seats vs))) (sym no) (all-seats P vs h.1))
     (λ some.
-    let yes : nat_lt 0 v.share ≡ true = grind (arith, nat_tests) in
+    let yes : nat_lt 0 v.stake ≡ true = grind (arith, nat_tests) in
     subst (λ (b : Bool). AllByRecursion P (cond b (v ∷ seats vs) (seats vs))) (sym yes) (h.0, all-seats P vs h.1))
 
-map-all : (P Q : View → Type 0) → ((v : View) → P v → Q v) → (views : List View) → AllByRecursion P views
+map-all : (P Q : SeatView → Type 0) → ((v : SeatView) → P v → Q v) → (views : List SeatView) → AllByRecursion P views
     → AllByRecursion Q views
 map-all P Q f [] h = tt
 map-all P Q f (v ∷ vs) h = (f v h.0, map-all P Q f vs h.1)
 
 -- both at once
-both-all : (P Q : View → Type 0) (views : List View) → AllByRecursion P views → AllByRecursion Q views
+both-all : (P Q : SeatView → Type 0) (views : List SeatView) → AllByRecursion P views → AllByRecursion Q views
     → AllByRecursion (λ v. P v × Q v) views
 both-all P Q [] h k = tt
 both-all P Q (v ∷ vs) h k = ((h.0, k.0), both-all P Q vs h.1 k.1)
@@ -147,7 +148,7 @@ set-flag words zero h = absurd (let a = h.0 in omega arith)
 set-flag words (suc j) h = set_of-some (get_or words (suc j) 0) h.2
 
 -- a finished list
-within-times : (c : ℕ) (v : View) → IsSeatView c v → (p : ℕ) → times p v.finished ≤ times p v.claimed
+within-times : (c : ℕ) (v : SeatView) → IsSeatView c v → (p : ℕ) → times p v.finished ≤ times p v.claimed
 within-times c v k p =
     let most = distinct-times v.finished k.finished_once p in
     dite (ℕ_discrete (times p v.finished) 0)
@@ -158,7 +159,7 @@ within-times c v k p =
     let a = contains-times v.claimed p there in omega arith)
 
 -- what the lists say, counted
-module _ (n : ℕ) (words : List ℕ) (views : List View) (t : IsClaimTable n words views) where
+module _ (n : ℕ) (words : List ℕ) (views : List SeatView) (t : IsClaimTable n words views) where
   resting : AllByRecursion Rests views
   resting = map-all (λ v. is_seat v ≡ false → v ≡ spent) Rests (λ v h none. h (grind (arith, nat_tests))) views
       (recursion_from_All (λ v. is_seat v ≡ false → v ≡ spent) views t.rest)
@@ -184,7 +185,7 @@ module _ (n : ℕ) (words : List ℕ) (views : List View) (t : IsClaimTable n wo
     claims = claims-counted;
     done = (let a = flat-length (λ v. v.finished) (seats views) in
         let b = seats-total (λ v. length v.finished) refl views resting in t.counted ∙ a ∙ b);
-    shares = sym (seats-total (λ v. v.share) refl views resting) ∙ t.shares;
+    stakes = sym (seats-total (λ v. v.stake) refl views resting) ∙ t.stakes;
     each = All-from_recursion (Knows (get_or words 0 0)) views (all-views (Knows (get_or words 0 0))
         (record { finished = λ p. omega arith; seen = omega arith; stopped = λ o. absurd (omega arith) }) views resting
         (map-all (IsSeatView (get_or words 0 0)) (Knows (get_or words 0 0))
@@ -197,8 +198,8 @@ module _ (n : ℕ) (words : List ℕ) (views : List View) (t : IsClaimTable n wo
     rest = All-from_recursion Rests views resting;
   }
 
-each-most : (views : List View) → ((p : ℕ) → total (λ v. times p v.claimed) views ≤ 1)
-    → AllByRecursion (λ (v : View). (p : ℕ) → times p v.claimed ≤ 1) views
+each-most : (views : List SeatView) → ((p : ℕ) → total (λ v. times p v.claimed) views ≤ 1)
+    → AllByRecursion (λ (v : SeatView). (p : ℕ) → times p v.claimed ≤ 1) views
 each-most [] h = tt
 each-most (v ∷ vs) h = ((λ p. let a = h p in omega arith), each-most vs (λ p. let a = h p in omega arith))
 
@@ -206,7 +207,7 @@ within-claimed : (xs ys : List ℕ) → ((p : ℕ) → times p xs ≤ times p ys
 within-claimed xs ys h = All-weaker (Contains xs) (Contains ys) (λ p there. let a = contains-times xs p there in
     let b = h p in times-contains ys p (omega arith)) xs (All-contains_itself xs)
 
-seat-view : (c : ℕ) (v : View) → Knows c v → ((p : ℕ) → times p v.claimed ≤ 1) → IsSeatView c v
+seat-view : (c : ℕ) (v : SeatView) → Knows c v → ((p : ℕ) → times p v.claimed ≤ 1) → IsSeatView c v
 seat-view c v k most = record {
   finished_once = times-distinct v.finished (λ p. let a = k.finished p in let b = most p in omega arith);
   finished_claimed = within-claimed v.finished v.claimed k.finished;
@@ -215,7 +216,7 @@ seat-view c v k most = record {
 }
 
 -- what the sums say, of the lists
-module _ (n : ℕ) (words : List ℕ) (views : List View) (k : Counted n words views) where
+module _ (n : ℕ) (words : List ℕ) (views : List SeatView) (k : Counted n words views) where
   rests : AllByRecursion Rests views
   rests = recursion_from_All Rests views k.rest
 
@@ -244,6 +245,6 @@ module _ (n : ℕ) (words : List ℕ) (views : List View) (k : Counted n words v
         (both-all (Knows (get_or words 0 0)) (λ v. (p : ℕ) → times p v.claimed ≤ 1) views
         (recursion_from_All (Knows (get_or words 0 0)) views k.each)
         (each-most views (λ p. let a = k.claims p in let b = flag-most words p in omega arith)))));
-    shares = seats-total (λ v. v.share) refl views rests ∙ k.shares;
+    stakes = seats-total (λ v. v.stake) refl views rests ∙ k.stakes;
     rest = All-weaker Rests (λ v. is_seat v ≡ false → v ≡ spent) (λ v h no. h (grind (arith, nat_tests))) views k.rest;
   }

@@ -16,53 +16,55 @@ use native.Mathlib.Decide.{ℕ_discrete, dec_le}
 use lib.ListN.{get_elem?}
 use Rattle.atomic_table.specs.Table.{State, step, keeps, Allows, Splits, Joins, opening, stepped}
 use Rattle.atomic_table.proofs.Lists.{at_set}
-use Rattle.reg_counting.specs.Counting.{one_if, total, times, once}
-use Rattle.reg_counting.proofs.Totals.{total-set, total-append}
-use Rattle.reg_claim.specs.declared.views.View.{View}
+use Rattle.reg_facts.specs.Counting.{one_if, total, times, once}
+use Rattle.reg_facts.proofs.lemmas.Totals.{total-set, total-append}
+use Rattle.reg_claim.specs.declared.views.SeatView.{SeatView}
 use Rattle.reg_claim.specs.Views.{fresh, newcomer, spent, with_claimed, with_finished, with_seen, with_less}
 use Rattle.reg_claim.specs.Views.{joined_views}
 use Rattle.reg_claim.specs.Claims.{IsClaimTable}
 use Rattle.reg_claim.specs.Steps.{IsLater, Known, ClaimStep, FinishStep, LookStep, StopStep}
-use Rattle.reg_claim.proofs.Numbers.{equal-one, apart-none, contains-times, times-contains, once-yes, length-most}
+use Rattle.reg_claim.proofs.lemmas.Numbers.{equal-one, apart-none, contains-times, times-contains, once-yes}
+use Rattle.reg_claim.proofs.lemmas.Numbers.{length-most}
 use Rattle.reg_claim.proofs.Counts.{set_of, set_of-some, flag, flag-most, Knows, Rests, Counted, counted, ruled, odd-is}
 use Rattle.reg_claim.proofs.Counts.{is-odd, flat-times, flat-length}
 
 abbrev St : Type 0
-St = State (Unit {0}) View
+St = State (Unit {0}) SeatView
 
 abbrev pub Holds : ℕ → St → Type 0
 Holds n s = IsClaimTable n s.words s.views
 
 -- one view among all
-there : (views : List View) (id : ℕ) (v : View) → get_elem? views id ≡ some v → slice_get views id ≡ Some v
+there : (views : List SeatView) (id : ℕ) (v : SeatView) → get_elem? views id ≡ some v → slice_get views id ≡ Some v
 there [] id v at = absurd (some-ne-none v (sym at))
 there (x ∷ xs) zero v at = ap Some (some-injective x v at)
 there (x ∷ xs) (suc id) v at = there xs id v at
 
-one-by : (P : View → Type 0) (views : List View) (id : ℕ) (v : View) → get_elem? views id ≡ some v
+one-by : (P : SeatView → Type 0) (views : List SeatView) (id : ℕ) (v : SeatView) → get_elem? views id ≡ some v
     → AllByRecursion P views → P v
 one-by P [] id v at h = absurd (some-ne-none v (sym at))
 one-by P (x ∷ xs) zero v at h = subst P (some-injective x v at) h.0
 one-by P (x ∷ xs) (suc id) v at h = one-by P xs id v at h.1
 
-pub one-of : (P : View → Type 0) (views : List View) (id : ℕ) (v : View) → get_elem? views id ≡ some v → All P views
+pub one-of : (P : SeatView → Type 0) (views : List SeatView) (id : ℕ) (v : SeatView) → get_elem? views id ≡ some v
+    → All P views
     → P v
 one-of P views id v at h = one-by P views id v at (recursion_from_All P views h)
 
-changed-total : (f : View → ℕ) (views : List View) (id : ℕ) (v w : View) → get_elem? views id ≡ some v
+changed-total : (f : SeatView → ℕ) (views : List SeatView) (id : ℕ) (v w : SeatView) → get_elem? views id ≡ some v
     → total f (set views id w) + f v ≡ total f views + f w
 changed-total f views id v w at = total-set f views id v w (there views id v at)
 
-pub total-at : (f : View → ℕ) (views : List View) (id : ℕ) (v : View) → get_elem? views id ≡ some v
+pub total-at : (f : SeatView → ℕ) (views : List SeatView) (id : ℕ) (v : SeatView) → get_elem? views id ≡ some v
     → f v ≤ total f views
 total-at f [] id v at = absurd (some-ne-none v (sym at))
 total-at f (x ∷ xs) zero v at = let h = ap f (some-injective x v at) in omega arith
 total-at f (x ∷ xs) (suc id) v at = let h = total-at f xs id v at in omega arith
 
-total-push : (f : View → ℕ) (views : List View) (v : View) → total f (views ++ v ∷ []) ≡ total f views + f v
+total-push : (f : SeatView → ℕ) (views : List SeatView) (v : SeatView) → total f (views ++ v ∷ []) ≡ total f views + f v
 total-push f views v = let a = total-append f views (v ∷ []) in omega arith
 
-total-most : (f g : View → ℕ) (views : List View) → AllByRecursion (λ v. f v ≤ g v) views
+total-most : (f g : SeatView → ℕ) (views : List SeatView) → AllByRecursion (λ v. f v ≤ g v) views
     → total f views ≤ total g views
 total-most f g [] h = omega arith
 total-most f g (v ∷ vs) h = let a = h.0 in let b = total-most f g vs h.1 in omega arith
@@ -87,7 +89,7 @@ flag-once words n (suc j) wide = dite (dec_le (suc j) n)
     (λ past. let a = ap set_of (get_or_past words (suc j) 0 (omega arith)) in omega arith)
 
 -- at most n places are finished, so the count is far from its end
-pub finished-most : (n : ℕ) (words : List ℕ) (views : List View) → Counted n words views → (p : ℕ)
+pub finished-most : (n : ℕ) (words : List ℕ) (views : List SeatView) → Counted n words views → (p : ℕ)
     → times p (flat_map (λ v. v.finished) views) ≤ once n p
 finished-most n words views k p =
     let a = flat-times (λ v. v.finished) p views in
@@ -98,28 +100,28 @@ finished-most n words views k p =
     let c = k.claims p in
     let d = flag-once words n p k.wide in omega arith
 
-pub done-most : (n : ℕ) (words : List ℕ) (views : List View) → Counted n words views → get_or words 0 0 / 2 ≤ n
+pub done-most : (n : ℕ) (words : List ℕ) (views : List SeatView) → Counted n words views → get_or words 0 0 / 2 ≤ n
 done-most n words views k =
     let a = length-most n (flat_map (λ v. v.finished) views) (finished-most n words views k) in
     let b = flat-length (λ v. v.finished) views in
     let c = k.done in omega arith
 
 -- one view and one word change
-module _ (n : ℕ) (words : List ℕ) (views : List View) (id : ℕ) (v : View) (k : Counted n words views)
-    (at : get_elem? views id ≡ some v) (lives : 0 < v.share) where
-  changed : (words' : List ℕ) (w : View) → length words' ≡ length words
+module _ (n : ℕ) (words : List ℕ) (views : List SeatView) (id : ℕ) (v : SeatView) (k : Counted n words views)
+    (at : get_elem? views id ≡ some v) (lives : 0 < v.stake) where
+  changed : (words' : List ℕ) (w : SeatView) → length words' ≡ length words
       → ((p : ℕ) → times p w.claimed + flag words p ≡ times p v.claimed + flag words' p)
       → length w.finished + get_or words 0 0 / 2 ≡ length v.finished + get_or words' 0 0 / 2
-      → w.share ≡ v.share → get_or words 0 0 ≤ get_or words' 0 0
+      → w.stake ≡ v.stake → get_or words 0 0 ≤ get_or words' 0 0
       → (get_or words 0 0 % 2 ≡ 1 → get_or words' 0 0 % 2 ≡ 1)
       → Knows (get_or words' 0 0) w → Counted n words' (set views id w)
-  changed words' w wide claims done share more odd mine = record {
+  changed words' w wide claims done stake more odd mine = record {
     wide = wide ∙ k.wide;
     small = k.small;
     claims = λ p. let t = changed-total (λ u. times p u.claimed) views id v w at in let a = k.claims p in
         let b = claims p in omega arith;
     done = (let t = changed-total (λ u. length u.finished) views id v w at in let a = k.done in omega arith);
-    shares = (let t = changed-total (λ u. u.share) views id v w at in let a = k.shares in omega arith);
+    stakes = (let t = changed-total (λ u. u.stake) views id v w at in let a = k.stakes in omega arith);
     each = All-set (Knows (get_or words' 0 0)) views id w mine
         (All-weaker (Knows (get_or words 0 0)) (Knows (get_or words' 0 0))
         (λ u h. (let s = h.seen in
@@ -187,16 +189,16 @@ module _ (n : ℕ) (words : List ℕ) (views : List View) (id : ℕ) (v : View) 
       (record { finished = mine.finished; seen = omega arith; stopped = λ o. (let b = mine.stopped o in omega arith) })
 
   -- the count becomes y
-  counts : (y : ℕ) (w : View) → w.claimed ≡ v.claimed → length w.finished + get_or words 0 0 / 2
-      ≡ length v.finished + y / 2 → w.share ≡ v.share
+  counts : (y : ℕ) (w : SeatView) → w.claimed ≡ v.claimed → length w.finished + get_or words 0 0 / 2
+      ≡ length v.finished + y / 2 → w.stake ≡ v.stake
       → get_or words 0 0 ≤ y → (get_or words 0 0 % 2 ≡ 1 → y % 2 ≡ 1) → Knows y w
       → Counted n (set words 0 y) (set views id w)
-  counts y w claims done share more odd knows =
+  counts y w claims done stake more odd knows =
       let wide = k.wide in
       let new : get_or (set words 0 y) 0 0 ≡ y = get_or-set_same words 0 y 0 (omega arith) in
       changed (set words 0 y) w (length-set words 0 y)
       (λ p. let a = flag-count words y p in let b = ap (times p) claims in omega arith)
-      (omega arith) share (omega arith) (λ o. (let b = odd o in omega arith)) (subst (λ c. Knows c w) (sym new) knows)
+      (omega arith) stake (omega arith) (λ o. (let b = odd o in omega arith)) (subst (λ c. Knows c w) (sym new) knows)
 
   looked : Counted n (set words 0 (get_or words 0 0)) (set views id (with_seen (get_or words 0 0) v))
   looked = counts (get_or words 0 0) (with_seen (get_or words 0 0) v) refl refl refl (omega arith) (λ o. o)
@@ -239,7 +241,7 @@ module _ (n : ℕ) (words : List ℕ) (views : List View) (id : ℕ) (v : View) 
       })
 
 -- a place whose word is 0 is in no list of any seat
-fresh-claim : (n : ℕ) (words : List ℕ) (views : List View) (id : ℕ) (v : View) → Counted n words views
+fresh-claim : (n : ℕ) (words : List ℕ) (views : List SeatView) (id : ℕ) (v : SeatView) → Counted n words views
     → get_elem? views id ≡ some v → (j : ℕ) → get_or words (suc j) 0 ≡ 0
     → ¬ Contains v.claimed (suc j) × ¬ Contains v.finished (suc j)
 fresh-claim n words views id v k at j free =
@@ -252,33 +254,34 @@ fresh-claim n words views id v k at j free =
       (λ h. let some_of = contains-times v.finished (suc j) h in absurd (omega arith)),
     )
 
-none-left : (f : View → ℕ) → f spent ≡ 0 → (views : List View) → AllByRecursion Rests views
-    → total (λ u. u.share) views ≡ 0 → total f views ≡ 0
+none-left : (f : SeatView → ℕ) → f spent ≡ 0 → (views : List SeatView) → AllByRecursion Rests views
+    → total (λ u. u.stake) views ≡ 0 → total f views ≡ 0
 none-left f bare [] rest h = refl
 none-left f bare (x ∷ xs) rest h =
     let here : f x ≡ f spent = ap f (rest.0 (omega arith)) in
     let tail = none-left f bare xs rest.1 (omega arith) in omega arith
 
--- where one seat has the whole share, all other views are spent
-pub alone : (f : View → ℕ) → f spent ≡ 0 → (views : List View) (id : ℕ) (v : View) → get_elem? views id ≡ some v
-    → AllByRecursion Rests views → total (λ u. u.share) views ≤ v.share → total f views ≡ f v
+-- where one seat has the whole stake, all other views are spent
+pub alone : (f : SeatView → ℕ) → f spent ≡ 0 → (views : List SeatView) (id : ℕ) (v : SeatView)
+    → get_elem? views id ≡ some v
+    → AllByRecursion Rests views → total (λ u. u.stake) views ≤ v.stake → total f views ≡ f v
 alone f bare [] id v at rest h = absurd (some-ne-none v (sym at))
 alone f bare (x ∷ xs) zero v at rest h =
     let same : x ≡ v = some-injective x v at in
-    let s = ap (λ (u : View). u.share) same in
+    let s = ap (λ (u : SeatView). u.stake) same in
     let tail = none-left f bare xs rest.1 (omega arith) in
     let g = ap f same in omega arith
 alone f bare (x ∷ xs) (suc id) v at rest h =
-    let big = total-at (λ u. u.share) xs id v at in
+    let big = total-at (λ u. u.stake) xs id v at in
     let here : f x ≡ f spent = ap f (rest.0 (omega arith)) in
     let tail = alone f bare xs id v at rest.1 (omega arith) in omega arith
 
--- a place whose word is set was claimed by the seat, if that has the whole share
-own-claim : (n : ℕ) (words : List ℕ) (views : List View) (id : ℕ) (v : View) → Counted n words views
+-- a place whose word is set was claimed by the seat, if that has the whole stake
+own-claim : (n : ℕ) (words : List ℕ) (views : List SeatView) (id : ℕ) (v : SeatView) → Counted n words views
     → get_elem? views id ≡ some v → (j : ℕ) → get_or words (suc j) 0 ≢ 0
-    → v.share ≡ 16 → Contains v.claimed (suc j)
+    → v.stake ≡ 16 → Contains v.claimed (suc j)
 own-claim n words views id v k at j full last =
-    let shares = k.shares in
+    let stakes = k.stakes in
     let set_one : flag words (suc j) ≡ 1 = set_of-some (get_or words (suc j) 0) full in
     let all = k.claims (suc j) in
     let own = alone (λ u. times (suc j) u.claimed) refl views id v at (recursion_from_All Rests views k.rest)
@@ -286,7 +289,7 @@ own-claim n words views id v k at j full last =
     times-contains v.claimed (suc j) (omega arith)
 
 -- the four steps that find a number in a word
-claim-next : (n slots id : ℕ) (me : Known) (j : ℕ) → 0 < me.0.share → suc j ≤ n
+claim-next : (n slots id : ℕ) (me : Known) (j : ℕ) → 0 < me.0.stake → suc j ≤ n
     → Allows (Holds n) slots id me (suc j) (λ _. 1) (ClaimStep (step slots (suc j) 1 0 none) me)
 claim-next n slots id me j lives within s t homes at small =
     let k = counted n s.words s.views t in
@@ -311,12 +314,12 @@ claim-next n slots id me j lives within s t homes at small =
       (refl, (λ free. absurd (full free)), λ _. (refl, own-claim n s.words s.views id me.0 k at j full)),
     ))
 
-pub claim-allowed : (n slots id : ℕ) (me : Known) (place : ℕ) → 0 < me.0.share → 1 ≤ place → place ≤ n
+pub claim-allowed : (n slots id : ℕ) (me : Known) (place : ℕ) → 0 < me.0.stake → 1 ≤ place → place ≤ n
     → Allows (Holds n) slots id me place (λ _. 1) (ClaimStep (step slots place 1 0 none) me)
 claim-allowed n slots id me zero lives first within = absurd (omega arith)
 claim-allowed n slots id me (suc j) lives first within = claim-next n slots id me j lives within
 
-pub look-allowed : (n slots id : ℕ) (me : Known) → 0 < me.0.share
+pub look-allowed : (n slots id : ℕ) (me : Known) → 0 < me.0.stake
     → Allows (Holds n) slots id me 0 (λ x. x) (LookStep me)
 look-allowed n slots id me lives s t homes at small =
     let k = counted n s.words s.views t in
@@ -331,7 +334,7 @@ look-allowed n slots id me lives s t homes at small =
 or-most : (c : ℕ) → bit_or c 1 / 2 ≡ c / 2 → bit_or c 1 ≤ c + 1
 or-most c h = omega arith
 
-pub stop-allowed : (n slots id : ℕ) (me : Known) → 0 < me.0.share
+pub stop-allowed : (n slots id : ℕ) (me : Known) → 0 < me.0.stake
     → Allows (Holds n) slots id me 0 (λ x. bit_or x 1) (StopStep me)
 stop-allowed n slots id me lives s t homes at small =
     let k = counted n s.words s.views t in
@@ -351,7 +354,7 @@ stop-allowed n slots id me lives s t homes at small =
       ),
     )
 
-pub finish-allowed : (n slots id : ℕ) (me : Known) (place : ℕ) → 0 < me.0.share → Contains me.0.claimed place
+pub finish-allowed : (n slots id : ℕ) (me : Known) (place : ℕ) → 0 < me.0.stake → Contains me.0.claimed place
     → ¬ Contains me.0.finished place
     → Allows (Holds n) slots id me 0 (λ x. (x + 2) % 2 ^ 64) (FinishStep place me)
 finish-allowed n slots id me place lives has_it not_yet s t homes at small =
@@ -360,7 +363,7 @@ finish-allowed n slots id me place lives has_it not_yet s t homes at small =
     let most = done-most n s.words s.views k in
     let few = k.small in
     let same : c + 2 ≡ (c + 2) % 18446744073709551616 = omega arith in
-    let w : View = with_seen (c + 2) (with_finished place me.0) in
+    let w : SeatView = with_seen (c + 2) (with_finished place me.0) in
     let after : Counted n (set s.words 0 (c + 2)) (set s.views id w) =
     finished n s.words s.views id me.0 k at lives place has_it not_yet in
     let new : get_or (set s.words 0 (c + 2)) 0 0 ≡ c + 2 =
@@ -382,10 +385,10 @@ finish-allowed n slots id me place lives has_it not_yet s t homes at small =
     )
 
 -- seats split and joined
-pub split-allowed : (n id : ℕ) (v : View) → 2 ≤ v.share → Splits (Holds n) id v (with_less v) (newcomer v.seen)
+pub split-allowed : (n id : ℕ) (v : SeatView) → 2 ≤ v.stake → Splits (Holds n) id v (with_less v) (newcomer v.seen)
 split-allowed n id v enough s t at =
     let k = counted n s.words s.views t in
-    let vs : List View = set s.views id (with_less v) in
+    let vs : List SeatView = set s.views id (with_less v) in
     let c : ℕ = get_or s.words 0 0 in
     let own : Knows c v = one-of (Knows c) s.views id v at k.each in
     ruled n s.words (vs ++ newcomer v.seen ∷ []) (record {
@@ -395,8 +398,8 @@ split-allowed n id v enough s t at =
           let y = total-push (λ u. times p u.claimed) vs (newcomer v.seen) in let z = k.claims p in omega arith;
       done = (let x = changed-total (λ u. length u.finished) s.views id v (with_less v) at in
           let y = total-push (λ u. length u.finished) vs (newcomer v.seen) in let z = k.done in omega arith);
-      shares = (let x = changed-total (λ u. u.share) s.views id v (with_less v) at in
-          let y = total-push (λ u. u.share) vs (newcomer v.seen) in let z = k.shares in omega arith);
+      stakes = (let x = changed-total (λ u. u.stake) s.views id v (with_less v) at in
+          let y = total-push (λ u. u.stake) vs (newcomer v.seen) in let z = k.stakes in omega arith);
       each = All-push (Knows c) vs (newcomer v.seen)
           (All-set (Knows c) s.views id (with_less v)
           (record { finished = own.finished; seen = own.seen; stopped = own.stopped }) k.each)
@@ -412,12 +415,12 @@ max-odd : (a b c : ℕ) → (a % 2 ≡ 1 → c % 2 ≡ 1) → (b % 2 ≡ 1 → c
 max-odd a b c f g h = ⊎_elim (λ le. let e : max a b ≡ b = omega arith in
     g (rw e at h)) (λ ge. let e : max a b ≡ a = omega arith in f (rw e at h)) (either-most a b)
 
-pub join-allowed : (n id : ℕ) (v : View) (other : ℕ) (w : View) → 0 < v.share
+pub join-allowed : (n id : ℕ) (v : SeatView) (other : ℕ) (w : SeatView) → 0 < v.stake
     → Joins (Holds n) id v other w (joined_views v w) spent
 join-allowed n id v other w lives s t at two at' =
     let k = counted n s.words s.views t in
     let c : ℕ = get_or s.words 0 0 in
-    let vs : List View = set s.views id (joined_views v w) in
+    let vs : List SeatView = set s.views id (joined_views v w) in
     let was : get_elem? s.views other ≡ some w =
     ⊎_elim (λ x. absurd (two x.0)) (λ x. x.1) (at_set s.views id other (joined_views v w) w at') in
     let own : Knows c v = one-of (Knows c) s.views id v at k.each in
@@ -435,8 +438,8 @@ join-allowed n id v other w lives s t at two at' =
           let y = changed-total (λ u. length u.finished) vs other w spent at' in
           let z = length-append v.finished w.finished in
           let a = k.done in omega arith);
-      shares = (let x = changed-total (λ u. u.share) s.views id v (joined_views v w) at in
-          let y = changed-total (λ u. u.share) vs other w spent at' in let a = k.shares in omega arith);
+      stakes = (let x = changed-total (λ u. u.stake) s.views id v (joined_views v w) at in
+          let y = changed-total (λ u. u.stake) vs other w spent at' in let a = k.stakes in omega arith);
       each = All-set (Knows c) vs other spent
           (record { finished = λ p. omega arith; seen = omega arith; stopped = λ o. absurd (omega arith) })
           (All-set (Knows c) s.views id (joined_views v w)
@@ -472,7 +475,7 @@ begins n words few is =
       small = few;
       claims = λ p. sym (ap (λ ws. flag ws p) is ∙ zero-flag (n + 1) p);
       done = (omega arith);
-      shares = refl;
+      stakes = refl;
       each = All-from_recursion (Knows (get_or words 0 0)) (fresh ∷ [])
           (record { finished = λ p. omega arith; seen = omega arith; stopped = λ o. absurd (omega arith) }, tt);
       rest = All-from_recursion Rests (fresh ∷ []) ((λ idle. absurd (omega arith)), tt);

@@ -1,4 +1,4 @@
-pub mod Numbers
+pub mod lemmas
 pub mod Counts
 pub mod Keeps
 pub mod Closing

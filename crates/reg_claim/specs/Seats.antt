@@ -1,12 +1,12 @@
 -- What a contract says of a table and its seats.
 use Rattle.std.specs.Prelude.{◌≡◌, ℕ}
 use Rattle.atomic_table.specs.Seated.{TableId}
-use Rattle.reg_claim.specs.declared.views.View.{View}
+use Rattle.reg_claim.specs.declared.views.SeatView.{SeatView}
 use Rattle.reg_claim.specs.declared.seats.Seat.{Seat}
 use Rattle.reg_claim.specs.declared.claim_table.ClaimTable.{ClaimTable}
 
 -- what the seat knows
-abbrev pub known : Seat → View
+abbrev pub known : Seat → SeatView
 known seat = seat.seat.me.0
 
 -- the table that the seat is of

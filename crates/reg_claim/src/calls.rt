@@ -1,7 +1,7 @@
 //! What a worker does with the table and its seat.
 
 ghost use Rattle.std.specs.Prelude.{◌≡◌, ◌+◌, ◌/◌, ◌≤◌, ◌<◌, ℕ, true, All, Contains, length, IfOk, MatchBool};
-ghost use Rattle.reg_counting.specs.Counting.{times, once};
+ghost use Rattle.reg_facts.specs.Counting.{times, once};
 ghost use Rattle.reg_claim.specs.Views.{fresh, newcomer, with_claimed, with_finished, with_seen, with_less};
 ghost use Rattle.reg_claim.specs.Views.{joined_views, is_odd};
 ghost use Rattle.reg_claim.specs.Claims.{HasNoRepeat};
@@ -17,7 +17,7 @@ use std::alloc::Global;
 use std::marker::Brand;
 
 impl ClaimTable {
-    /// A table of `count` places, none of which is claimed, and its first seat, which has the whole share.
+    /// A table of `count` places, none of which is claimed, and its first seat, which has the whole stake.
     ///
     /// # Errors
     ///
@@ -32,11 +32,11 @@ impl ClaimTable {
         Ok((ClaimTable { table }, Seat { seat }))
     }
 
-    /// Hands one part of a seat's share to a new seat, which has seen what the first has. The lists stay with the
+    /// Hands one part of a seat's stake to a new seat, which has seen what the first has. The lists stay with the
     /// first. The seat must be of this table, and have two parts or more.
     pub fn split(&self, seat: Seat) -> (Seat, Seat)
         requires own { IsSeatOf self.now seat }
-        requires share { 2 ≤ (known seat).share }
+        requires stake { 2 ≤ (known seat).stake }
         ensures same { (seat_table result.0 ≡ seat_table seat) × (seat_table result.1 ≡ seat_table seat) }
         ensures first { known result.0 ≡ with_less (known seat) }
         ensures second { known result.1 ≡ newcomer (known seat).seen }
@@ -46,7 +46,7 @@ impl ClaimTable {
         (Seat { seat }, Seat { seat: other })
     }
 
-    /// Makes one seat of two of this table: with both shares, what both did, and the greater count that they saw.
+    /// Makes one seat of two of this table: with both stakes, what both did, and the greater count that they saw.
     pub fn join(&self, seat: Seat, other: Seat) -> Seat
         requires own { IsSeatOf self.now seat }
         requires other { IsSeatOf self.now other }
@@ -62,7 +62,7 @@ impl ClaimTable {
     /// Claims a place, 1 to the number of places, by one swap. True for the first claim of the place: then it is this
     /// seat's to finish. Else the seat knows no more than before. The seat must be of this table.
     ///
-    /// A seat with the whole share knows the answer: true if it has not claimed the place before.
+    /// A seat with the whole stake knows the answer: true if it has not claimed the place before.
     pub fn claim(&self, seat: &mut Seat, place: u32) -> bool
         requires own { IsSeatOf self.now seat.old }
         requires place { 1 ≤ place }
@@ -71,7 +71,7 @@ impl ClaimTable {
         ensures view { MatchBool result (known seat.new ≡ with_claimed place (known seat.old))
             (known seat.new ≡ known seat.old) }
         ensures first { result ≡ true → ¬ Contains (known seat.old).claimed place }
-        ensures alone { (known seat.old).share ≡ 16 → ¬ Contains (known seat.old).claimed place → result ≡ true }
+        ensures alone { (known seat.old).stake ≡ 16 → ¬ Contains (known seat.old).claimed place → result ≡ true }
         ensures claimed { result ≡ true → Contains (known seat.new).claimed place }
         ensures unfinished { result ≡ true → ¬ Contains (known seat.new).finished place }
     {
@@ -135,11 +135,11 @@ impl ClaimTable {
         self.table.shared.fetch_or::<Stopping>(&mut seat.seat, 0, 1);
     }
 
-    /// Ends the table with its last seat, which must be of this table and have the whole share, 16. What is finished is
+    /// Ends the table with its last seat, which must be of this table and have the whole stake, 16. What is finished is
     /// what this seat finished: no place twice, and if it is as many as there are places, each place once.
     pub fn close(self, seat: Seat) -> Tally
         requires own { IsSeatOf self seat }
-        requires last { (known seat).share ≡ 16 }
+        requires last { (known seat).stake ≡ 16 }
         ensures done { result.done ≡ length (known seat).finished }
         ensures most { result.done ≤ places self }
         ensures seen { (known seat).seen / 2 ≤ result.done }

@@ -3,7 +3,7 @@
 ghost use Rattle.std.specs.Prelude.{◌≡◌, ◌+◌};
 
 use crate::protocol::Claims;
-use crate::views::View;
+use crate::views::SeatView;
 use atomic_table::Table;
 use std::alloc::Global;
 
@@ -11,7 +11,7 @@ use std::alloc::Global;
 /// own.
 #[derive(Drop)]
 pub struct ClaimTable {
-    pub(crate) table: Table<(), View, u32, Claims, Global>,
+    pub(crate) table: Table<(), SeatView, u32, Claims, Global>,
     pub(crate) ghost wide: { table.shared.table_id.words ≡ table.shared.key + 1 },
     pub(crate) ghost no_slots: { table.shared.table_id.slots ≡ 0 },
 }

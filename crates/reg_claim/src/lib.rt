@@ -43,4 +43,4 @@ mod views;
 pub use claim_table::{ClaimTable, Look, Tally};
 pub use fault::NoMemory;
 pub use seats::Seat;
-pub use views::View;
+pub use views::SeatView;

@@ -2,14 +2,14 @@
 
 ghost use Rattle.std.specs.Prelude.{ℕ};
 
-use crate::views::View;
+use crate::views::SeatView;
 use atomic_table::{Join, Play, Split, TableRule};
 use std::marker::{Brand, PhantomData};
 
 /// The rule that holds between any two steps. It is told how many places there are.
 pub(crate) struct Claims;
 
-impl TableRule<(), View, u32> for Claims {
+impl TableRule<(), SeatView, u32> for Claims {
     ghost use Rattle.reg_claim.specs.Claims.{IsClaimTable};
     ghost use Rattle.reg_claim.specs.Views.{fresh};
 
@@ -21,7 +21,7 @@ impl TableRule<(), View, u32> for Claims {
 // A swap of a place's word.
 pub(crate) struct Claiming;
 
-impl Play<(), View> for Claiming {
+impl Play<(), SeatView> for Claiming {
     ghost use Rattle.reg_claim.specs.Steps.{ClaimStep};
 
     ghost then = { ClaimStep };
@@ -41,7 +41,7 @@ pub(crate) struct Finishing<P: Finished> {
     of: PhantomData<P>,
 }
 
-impl<P: Finished> Play<(), View> for Finishing<P> {
+impl<P: Finished> Play<(), SeatView> for Finishing<P> {
     ghost use Rattle.reg_claim.specs.Steps.{FinishStep};
 
     ghost then = { λ step m found m'. FinishStep P.place m found m' };
@@ -50,7 +50,7 @@ impl<P: Finished> Play<(), View> for Finishing<P> {
 // A load of the count.
 pub(crate) struct Looking;
 
-impl Play<(), View> for Looking {
+impl Play<(), SeatView> for Looking {
     ghost use Rattle.reg_claim.specs.Steps.{LookStep};
 
     ghost then = { λ step m found m'. LookStep m found m' };
@@ -59,16 +59,16 @@ impl Play<(), View> for Looking {
 // A bitwise or of 1 into the count.
 pub(crate) struct Stopping;
 
-impl Play<(), View> for Stopping {
+impl Play<(), SeatView> for Stopping {
     ghost use Rattle.reg_claim.specs.Steps.{StopStep};
 
     ghost then = { λ step m found m'. StopStep m found m' };
 }
 
-// One part of the share goes to a new seat.
+// One part of the stake goes to a new seat.
 pub(crate) struct Parting;
 
-impl Split<View> for Parting {
+impl Split<SeatView> for Parting {
     ghost use Rattle.reg_claim.specs.Views.{with_less, newcomer};
 
     ghost left = { λ v. with_less v };
@@ -79,7 +79,7 @@ impl Split<View> for Parting {
 // Two seats become one.
 pub(crate) struct Joining;
 
-impl Join<View> for Joining {
+impl Join<SeatView> for Joining {
     ghost use Rattle.reg_claim.specs.Views.{joined_views, spent};
 
     ghost both = { λ v w. joined_views v w };

@@ -6,7 +6,7 @@ use Rattle.csv.specs.Machine.{ends_at_end, step}
 use Rattle.csv.specs.Reading.{default_config, records, strip_bom}
 use Rattle.csv.specs.declared.parser.State.{State}
 use Rattle.csv.specs.declared.parser.State.TheVariants as st
-use Rattle.reg_cuts.specs.Rows.{records_in, rows_in_text}
+use Rattle.reg_cuts.specs.Rows.{rows_read, rows_in_text}
 
 -- the state of csv's machine after these bytes
 unfoldable pub machine_after : State → List ℕ → State
@@ -33,7 +33,7 @@ text_of_parts parts = flat_map (λ part. part.now) parts
 -- law: from a state between two rows, whatever the bytes behind it
 abbrev pub EachSplitSplits : Type 0
 EachSplitSplits = (s : State) (a b : List ℕ) → ends_at_end s ≡ false → ends_at_end (machine_after s a) ≡ false
-    → records_in s (a ++ b) ≡ records_in s a ++ records default_config b
+    → rows_read s (a ++ b) ≡ rows_read s a ++ records default_config b
 
 -- law: of whole texts, with their byte order marks
 abbrev pub EachCutSplits : Type 0

@@ -11,11 +11,11 @@ use Rattle.csv.specs.declared.reader.Reader.{Reader}
 use Rattle.csv.specs.declared.reader.Trim.TheVariants as trim
 
 -- a row's fields, each a list of bytes
-abbrev pub Record : Type 0
-Record = List (List ℕ)
+abbrev pub TextRow : Type 0
+TextRow = List (List ℕ)
 
 -- the rows of a text as csv splits it; a byte order mark at the very start is skipped
-abbrev pub rows_in_text : List ℕ → List Record
+abbrev pub rows_in_text : List ℕ → List TextRow
 rows_in_text text = records default_config (strip_bom text)
 
 -- the bytes that a reader has left, if they are known
@@ -26,12 +26,12 @@ abbrev pub rest_of : Reader (Bor (List ℕ)) → List ℕ
 rest_of reader = unwrap_or (known_rest reader) []
 
 -- the rows in these bytes, if the reader is between two rows
-abbrev pub records_in : State → List ℕ → List Record
-records_in state bytes = records_from default_config (length bytes + 1) state bytes
+abbrev pub rows_read : State → List ℕ → List TextRow
+rows_read state bytes = records_from default_config (length bytes + 1) state bytes
 
 -- the rows that a reader has left
-abbrev pub rows_left : Reader (Bor (List ℕ)) → List Record
-rows_left reader = records_in (reader_state reader) (rest_of reader)
+abbrev pub rows_left : Reader (Bor (List ℕ)) → List TextRow
+rows_left reader = rows_read (reader_state reader) (rest_of reader)
 
 -- a reader of whole rows of any lengths with the defaults of csv, between two rows
 pub record IsBetweenRows (reader : Reader (Bor (List ℕ))) : Type 0 where

@@ -9,10 +9,10 @@ use lib.ListN.{get_elem?}
 use Rattle.atomic_table.specs.Seated.{TableId}
 use Rattle.crossbeam_deque.specs.Tasks.{Pushes, Takes, Forks}
 use Rattle.crossbeam_deque.proofs.Lists.{at_set, at_snoc}
-use Rattle.reg_counting.specs.Counting.{total, times, once}
+use Rattle.reg_facts.specs.Counting.{total, times, once}
 use Rattle.reg_tasks.specs.declared.naming.Naming.{Ghosts}
 use Rattle.reg_deques.specs.declared.ticket.Ticketed.{Ticketed}
-use Rattle.reg_deques.specs.declared.views.View.{View}
+use Rattle.reg_deques.specs.declared.views.DequeView.{DequeView}
 use Rattle.reg_deques.specs.Views.{view, fresh_view, blank, table_of, with_table, with_put, with_taken}
 use Rattle.reg_deques.specs.Deques.{IsViewOf}
 use Rattle.reg_deques.specs.Queues.{Queued, places_of, queued, queue_of, AreTicketed, IsDeque}
@@ -20,33 +20,34 @@ use Rattle.reg_deques.specs.Steps.{PutStep, TakesOwn, TakeStep, StealStep}
 use Rattle.reg_deques.proofs.Counts.{total_set, total_has, total_snoc, times_snoc, once_none, once_more, once_within}
 use Rattle.reg_deques.proofs.Counts.{once_past, drop_first}
 
-abbrev taken : ℕ → View → ℕ
+abbrev taken : ℕ → DequeView → ℕ
 taken p v = times p v.took
 
-known_set : (owner : ℕ) (put : List ℕ) (views : List View) (port : ℕ) (w : View) → IsViewOf owner put port w
-    → ((j : ℕ) (u : View) → j ≢ port → get_elem? views j ≡ some u → IsViewOf owner put j u)
-    → (j : ℕ) (u : View) → get_elem? (set views port w) j ≡ some u → IsViewOf owner put j u
+known_set : (owner : ℕ) (put : List ℕ) (views : List DequeView) (port : ℕ) (w : DequeView) → IsViewOf owner put port w
+    → ((j : ℕ) (u : DequeView) → j ≢ port → get_elem? views j ≡ some u → IsViewOf owner put j u)
+    → (j : ℕ) (u : DequeView) → get_elem? (set views port w) j ≡ some u → IsViewOf owner put j u
 known_set owner put views port w mine others j u e =
     ⊎_elim (λ (x : (j ≡ port) × (w ≡ u)).
-    subst (λ (y : ℕ × View). IsViewOf owner put y.0 y.1) (λ i. (sym x.0 i, x.1 i)) mine)
+    subst (λ (y : ℕ × DequeView). IsViewOf owner put y.0 y.1) (λ i. (sym x.0 i, x.1 i)) mine)
     (λ (x : (j ≢ port) × (get_elem? views j ≡ some u)). others j u x.0 x.1) (at_set views port j w u e)
 
 -- all views know the same table
-abbrev Same : List TableId → List View → Type 0
-Same table views = (port : ℕ) (v : View) → get_elem? views port ≡ some v → table_of v ≡ table
+abbrev Same : List TableId → List DequeView → Type 0
+Same table views = (port : ℕ) (v : DequeView) → get_elem? views port ≡ some v → table_of v ≡ table
 
-same_set : (table : List TableId) (views : List View) (port : ℕ) (w : View) → table_of w ≡ table → Same table views
+same_set : (table : List TableId) (views : List DequeView) (port : ℕ) (w : DequeView) → table_of w ≡ table
+    → Same table views
     → Same table (set views port w)
 same_set table views port w mine others j u e =
     ⊎_elim (λ (x : (j ≡ port) × (w ≡ u)). ap table_of (sym x.1) ∙ mine)
     (λ (x : (j ≢ port) × (get_elem? views j ≡ some u)). others j u x.1) (at_set views port j w u e)
 
-same_snoc : (table : List TableId) (views : List View) (w : View) → table_of w ≡ table → Same table views
+same_snoc : (table : List TableId) (views : List DequeView) (w : DequeView) → table_of w ≡ table → Same table views
     → Same table (views ++ w ∷ [])
 same_snoc table views w mine others j u e =
     ⊎_elim (λ x. others j u x) (λ (x : w ≡ u). ap table_of (sym x) ∙ mine) (at_snoc views w u j e)
 
-same_one : (table : List TableId) (v : View) → table_of v ≡ table → Same table (v ∷ [])
+same_one : (table : List TableId) (v : DequeView) → table_of v ≡ table → Same table (v ∷ [])
 same_one table v mine zero u e = ap table_of (sym (some-injective v u e)) ∙ mine
 same_one table v mine (suc port) u e = absurd (some-ne-none u (sym e))
 
@@ -70,7 +71,8 @@ owner_view table = record {
   reached = λ no. absurd (true≢false no);
 }
 
-first_known : (table : List TableId) (port : ℕ) (v : View) → get_elem? (view true [] [] [] table ∷ []) port ≡ some v
+first_known : (table : List TableId) (port : ℕ) (v : DequeView)
+    → get_elem? (view true [] [] [] table ∷ []) port ≡ some v
     → IsViewOf 0 [] port v
 first_known table zero v e = subst (IsViewOf 0 [] 0) (some-injective (view true [] [] [] table) v e) (owner_view table)
 first_known table (suc port) v e = absurd (some-ne-none v (sym e))
@@ -87,7 +89,8 @@ begins = record {
   alone = λ e. refl;
 }
 
-single : (views : List View) (port : ℕ) (v : View) → length views ≡ 1 → get_elem? views port ≡ some v → (views ≡ v ∷ [])
+single : (views : List DequeView) (port : ℕ) (v : DequeView) → length views ≡ 1 → get_elem? views port ≡ some v
+    → (views ≡ v ∷ [])
     × (port ≡ 0)
 single [] port v one at = absurd (omega arith)
 single (x ∷ []) zero v one at = (ap (λ y. y ∷ []) (some-injective x v at), refl)
@@ -100,7 +103,7 @@ none_left (t ∷ ts) zero e = absurd cc
 none_left (t ∷ ts) (suc k) e = absurd cc
 
 -- the owner of a new deque is told the table of tickets
-pub telling_keeps : (tasks : List Queued) (views : List View) (port : ℕ) (table : TableId) → IsDeque tasks views
+pub telling_keeps : (tasks : List Queued) (views : List DequeView) (port : ℕ) (table : TableId) → IsDeque tasks views
     → get_elem? views port ≡ some fresh_view
     → IsDeque tasks (set views port (with_table table fresh_view) ++ blank (table ∷ []) ∷ [])
 telling_keeps tasks views port table h at =
@@ -129,14 +132,14 @@ telling_keeps tasks views port table h at =
     rw (none, here.0, here.1) now
 
 -- the owner makes a pass
-pub splitting_keeps : (tasks : List Queued) (views : List View) (port : ℕ) (v : View) (table : TableId)
+pub splitting_keeps : (tasks : List Queued) (views : List DequeView) (port : ℕ) (v : DequeView) (table : TableId)
     → IsDeque tasks views → get_elem? views port ≡ some v → table_of v ≡ table ∷ []
     → IsDeque tasks (set views port v ++ blank (table_of v) ∷ [])
 splitting_keeps tasks views port v table h at told =
     let mine = h.order.known port v at in
     let told_is = h.same port v at in
-    let new : View = blank (table_of v) in
-    let vs : List View = set views port v in record {
+    let new : DequeView = blank (table_of v) in
+    let vs : List DequeView = set views port v in record {
       owner = h.owner;
       put = h.put;
       k = h.k;
@@ -160,14 +163,15 @@ set_length [] k x = refl
 set_length (y ∷ xs) zero x = refl
 set_length (y ∷ xs) (suc k) x = ap suc (set_length xs k x)
 
-pub putting_keeps : (tasks : List Queued) (views : List View) (port : ℕ) (v : View) (t : Queued) → IsDeque tasks views
+pub putting_keeps : (tasks : List Queued) (views : List DequeView) (port : ℕ) (v : DequeView) (t : Queued)
+    → IsDeque tasks views
     → get_elem? views port ≡ some v → v.owns ≡ true
     → t.position ≡ suc (length v.put) → t.table ∷ [] ≡ table_of v
     → IsDeque (tasks ++ t ∷ []) (set views port (with_put (t.place ∷ []) v))
 putting_keeps tasks views port v t h at owns position table =
     let place : ℕ = t.place in
     let put : List ℕ = h.put ++ place ∷ [] in
-    let w : View = with_put (place ∷ []) v in
+    let w : DequeView = with_put (place ∷ []) v in
     let mine = h.order.known port v at in
     let own = mine.owned owns in
     let ends : h.k + length tasks ≡ length h.put = (let a = length-map tasks (λ (q : Queued). q.place) in
@@ -202,11 +206,12 @@ putting_keeps tasks views port v t h at owns position table =
       alone = λ e. set_length views port w ∙ h.alone e;
     }
 
-counts_more : (views : List View) (port : ℕ) (v : View) (k : ℕ) (seen : List ℕ) → get_elem? views port ≡ some v
+counts_more : (views : List DequeView) (port : ℕ) (v : DequeView) (k : ℕ) (seen : List ℕ)
+    → get_elem? views port ≡ some v
     → ((p : ℕ) → total (taken p) views ≡ once k p)
     → (p : ℕ) → total (taken p) (set views port (with_taken (suc k) seen v)) ≡ once (suc k) p
 counts_more views port v k seen at h p =
-    let w : View = with_taken (suc k) seen v in
+    let w : DequeView = with_taken (suc k) seen v in
     let t = total_set (taken p) views port v w at in
     let c = h p in
     let s = times_snoc p (suc k) v.took in
@@ -214,17 +219,17 @@ counts_more views port v k seen at h p =
     omega arith
 
 -- no view has the position of the first task yet
-new_position : (k : ℕ) (views : List View) (port : ℕ) (v : View) → get_elem? views port ≡ some v
+new_position : (k : ℕ) (views : List DequeView) (port : ℕ) (v : DequeView) → get_elem? views port ≡ some v
     → ((p : ℕ) → total (taken p) views ≡ once k p) → times (suc k) v.took ≡ 0
 new_position k views port v at h = let t = total_has (taken (suc k)) views port v at in let c = h (suc k) in
     let o = once_past k in omega arith
 
-pub taking_keeps : (t : Queued) (rest : List Queued) (views : List View) (port : ℕ) (v : View)
+pub taking_keeps : (t : Queued) (rest : List Queued) (views : List DequeView) (port : ℕ) (v : DequeView)
     → IsDeque (t ∷ rest) views → get_elem? views port ≡ some v → v.owns ≡ true
-    → (w : View) × IsDeque rest (set views port w) × TakesOwn v t.place w
+    → (w : DequeView) × IsDeque rest (set views port w) × TakesOwn v t.place w
 taking_keeps t rest views port v h at owns =
     let first = drop_first h.put h.k t.place (places_of rest) h.order.holds in
-    let w : View = with_taken (suc h.k) v.seen v in
+    let w : DequeView = with_taken (suc h.k) v.seen v in
     let own = (h.order.known port v at).owned owns in (
       w,
       record {
@@ -251,12 +256,12 @@ taking_keeps t rest views port v h at owns =
       (h.k, new_position h.k views port v at h.order.took, refl, rw own.1 first.2),
     )
 
-pub stealing_keeps : (t : Queued) (rest : List Queued) (views : List View) (port : ℕ) (v : View)
+pub stealing_keeps : (t : Queued) (rest : List Queued) (views : List DequeView) (port : ℕ) (v : DequeView)
     → IsDeque (t ∷ rest) views → get_elem? views port ≡ some v → v.owns ≡ false
-    → (w : View) × IsDeque rest (set views port w) × StealStep v (t ∷ []) w
+    → (w : DequeView) × IsDeque rest (set views port w) × StealStep v (t ∷ []) w
 stealing_keeps t rest views port v h at owns =
     let first = drop_first h.put h.k t.place (places_of rest) h.order.holds in
-    let w : View = with_taken (suc h.k) h.put v in
+    let w : DequeView = with_taken (suc h.k) h.put v in
     let counts = counts_more views port v h.k h.put at h.order.took in (
       w,
       record {
@@ -297,19 +302,19 @@ stealing_keeps t rest views port v h at owns =
     )
 
 module _ {N : Type 0} {b : Ghosts N} where
-  abbrev Held : List (Ticketed N b) → List View → Type 0
+  abbrev Held : List (Ticketed N b) → List DequeView → Type 0
   Held items views = IsDeque (queue_of items) views
 
-  pub tells_table : (port : ℕ) (v : View) (table : TableId) → v ≡ fresh_view
+  pub tells_table : (port : ℕ) (v : DequeView) (table : TableId) → v ≡ fresh_view
       → Forks Held port v (with_table table v) (blank (table ∷ []))
   tells_table port v table is items views h at =
       rw is (telling_keeps (queue_of items) views port table h (at ∙ ap some is))
 
-  pub splits_deque : (port : ℕ) (v : View) (table : TableId) → table_of v ≡ table ∷ []
+  pub splits_deque : (port : ℕ) (v : DequeView) (table : TableId) → table_of v ≡ table ∷ []
       → Forks Held port v v (blank (table_of v))
   splits_deque port v table told items views h at = splitting_keeps (queue_of items) views port v table h at told
 
-  pub puts_task : (port : ℕ) (v : View) (t : Ticketed N b) → v.owns ≡ true
+  pub puts_task : (port : ℕ) (v : DequeView) (t : Ticketed N b) → v.owns ≡ true
       → length t.ticket.me.0.seen ≡ suc (length v.put) → t.ticket.table_id ∷ [] ≡ table_of v
       → Pushes Held port v (t ∷ []) (λ w. PutStep v (queue_of (t ∷ [])) w)
   puts_task port v t owns position table items views h at = (
@@ -319,20 +324,21 @@ module _ {N : Type 0} {b : Ghosts N} where
     refl,
   )
 
-  pub takes_task : (port : ℕ) (v : View) → v.owns ≡ true → Takes Held port v 1 (λ xs w. TakeStep v (queue_of xs) w)
+  pub takes_task : (port : ℕ) (v : DequeView) → v.owns ≡ true → Takes Held port v 1 (λ xs w. TakeStep v (queue_of xs) w)
   takes_task port v owns [] items views any few h at = absurd (omega arith)
   takes_task port v owns (x ∷ []) items views any few h at =
       taking_keeps (queued x) (queue_of items) views port v h at owns
   takes_task port v owns (x ∷ y ∷ xs) items views any few h at = absurd (omega arith)
 
-  pub steals_task : (port : ℕ) (v : View) → v.owns ≡ false → Takes Held port v 1 (λ xs w. StealStep v (queue_of xs) w)
+  pub steals_task : (port : ℕ) (v : DequeView) → v.owns ≡ false
+      → Takes Held port v 1 (λ xs w. StealStep v (queue_of xs) w)
   steals_task port v owns [] items views any few h at = absurd (omega arith)
   steals_task port v owns (x ∷ []) items views any few h at =
       stealing_keeps (queued x) (queue_of items) views port v h at owns
   steals_task port v owns (x ∷ y ∷ xs) items views any few h at = absurd (omega arith)
 
   -- what the owner's view keeps, whether it took a task or not
-  pub keeps_owner : (o : Option (Ticketed N b)) (v w : View)
+  pub keeps_owner : (o : Option (Ticketed N b)) (v w : DequeView)
       → MatchOption o ((w ≡ v) × ⊤) (λ x. TakeStep v (queue_of (x ∷ [])) w) → (w.owns ≡ v.owns)
       × (table_of w ≡ table_of v) × (w.put ≡ v.put)
   keeps_owner (Some x) v w h = (ap (λ u. u.owns) h.2, ap table_of h.2, ap (λ u. u.put) h.2)

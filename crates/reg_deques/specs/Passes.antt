@@ -4,7 +4,7 @@ use Rattle.std.specs.declared.alloc.Global.{Global}
 use Rattle.atomic_table.specs.Seated.{TableId}
 use Rattle.crossbeam_deque.specs.Handles.{worker_deque, worker_view, stealer_deque}
 use Rattle.reg_deques.specs.declared.views.TicketView.{TicketView}
-use Rattle.reg_deques.specs.declared.views.View.{View}
+use Rattle.reg_deques.specs.declared.views.DequeView.{DequeView}
 use Rattle.reg_deques.specs.declared.owner.Owner.{Owner}
 use Rattle.reg_deques.specs.declared.stealer.Stealer.{Stealer}
 use Rattle.reg_deques.specs.declared.pass.DequePass.{DequePass}
@@ -24,7 +24,7 @@ module _ {N : Type 0} {b : _} where
   deque_pass_id p = ((p.pass.rows, p.pass.heap), p.seat.table_id)
 
   -- what the owner put and took
-  abbrev pub owned : Owner N b → View
+  abbrev pub owned : Owner N b → DequeView
   owned o = worker_view o.deque
 
   -- what a pass at one deque says

@@ -3,7 +3,7 @@ use Rattle.std.specs.Prelude.{◌≡◌, ℕ, suc, List, [], ◌∷◌, map, len
 use mathlib.Core.Option.{some}
 use lib.ListN.{get_elem?}
 use Rattle.atomic_table.specs.Seated.{TableId}
-use Rattle.reg_deques.specs.declared.views.View.{View}
+use Rattle.reg_deques.specs.declared.views.DequeView.{DequeView}
 use Rattle.reg_deques.specs.declared.ticket.Ticketed.{Ticketed}
 use Rattle.reg_deques.specs.Views.{table_of}
 use Rattle.reg_deques.specs.Deques.{IsInOrder}
@@ -30,13 +30,13 @@ AreTicketed table k [] = Unit {0}
 AreTicketed table k (t ∷ ts) = (t.position ≡ suc k) × (t.table ∷ [] ≡ table) × AreTicketed table (suc k) ts
 
 -- the tasks in the deque, and the views of all who have one
-pub record IsDeque (tasks : List Queued) (views : List View) : Type 0 where
+pub record IsDeque (tasks : List Queued) (views : List DequeView) : Type 0 where
   pub owner : ℕ
   pub put : List ℕ
   pub k : ℕ
   pub order : IsInOrder owner put k (places_of tasks) views
   -- all know the same table of tickets. Until it is told, there is the owner alone
   pub table : List TableId
-  pub same : (port : ℕ) (v : View) → get_elem? views port ≡ some v → table_of v ≡ table
+  pub same : (port : ℕ) (v : DequeView) → get_elem? views port ≡ some v → table_of v ≡ table
   pub alone : table ≡ [] → length views ≡ 1
   pub ticketed : AreTicketed table k tasks

@@ -1,6 +1,6 @@
 -- What a contract says of a yard, its owners and its passes.
 use Rattle.std.specs.Prelude.{◌≡◌, ℕ, List, [], ◌∷◌, map, set, vec_len, slice_get, Some, All, true}
-use Rattle.reg_deques.specs.declared.views.View.{View}
+use Rattle.reg_deques.specs.declared.views.DequeView.{DequeView}
 use Rattle.reg_deques.specs.declared.views.TicketView.{TicketView}
 use Rattle.reg_deques.specs.declared.owner.Owner.{Owner}
 use Rattle.reg_deques.specs.declared.pass.Pass.{Pass}
@@ -11,7 +11,7 @@ use Rattle.reg_deques.specs.Steps.{Steals, Joins}
 use Rattle.reg_deques.specs.Passes.{DequeId, owner_id, stealer_id, deque_pass_id, owned, ticket_view_of}
 
 -- an owner who put and took nothing
-abbrev pub IsNew : View → Type 0
+abbrev pub IsNew : DequeView → Type 0
 IsNew v = v ≡ view true [] [] [] (table_of v)
 
 module _ {N : Type 0} {b : _} where
@@ -37,7 +37,7 @@ module _ {N : Type 0} {b : _} where
   views pass = map ticket_view_of pass.deque_passes.items
 
   -- what each owner put and took
-  abbrev pub each_owned : List (Owner N b) → List View
+  abbrev pub each_owned : List (Owner N b) → List DequeView
   each_owned owners = map owned owners
 
   abbrev pub IsPassOf : Yard N b → Pass N b → Type 0

@@ -51,5 +51,5 @@ mod yard;
 
 pub use owner::Owner;
 pub use pass::{DequePass, Pass};
-pub use views::{TicketView, View};
+pub use views::{DequeView, TicketView};
 pub use yard::Yard;

@@ -7,14 +7,14 @@ ghost use Rattle.reg_deques.specs.Tickets.{owner_of};
 
 use crate::protocol::{InOrder, Tickets};
 use crate::ticket::Ticketed;
-use crate::views::{TicketView, View};
+use crate::views::{DequeView, TicketView};
 use atomic_table::{Seat, Table};
 use crossbeam_deque::Worker;
 use reg_tasks::Naming;
 use std::alloc::Global;
 use std::sync::Arc;
 
-pub(crate) type Deque<N> = Worker<Ticketed<N>, Global, View, InOrder<N>>;
+pub(crate) type Deque<N> = Worker<Ticketed<N>, Global, DequeView, InOrder<N>>;
 
 pub(crate) type TicketTable = Table<(), TicketView, (), Tickets, Global>;
 

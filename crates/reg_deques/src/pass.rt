@@ -6,14 +6,14 @@ ghost use Rattle.reg_deques.specs.Views.{table_of};
 ghost use Rattle.reg_deques.specs.Tickets.{Covers};
 
 use crate::ticket::Ticketed;
-use crate::views::{TicketView, View};
+use crate::views::{DequeView, TicketView};
 use atomic_table::Seat;
 use reg_tasks::Naming;
 
 /// What a thief knows of one deque: its pass there, and its seat at the table of tickets.
 #[derive(Drop)]
 pub struct DequePass<N: Naming> {
-    pub(crate) pass: crossbeam_deque::Pass<Ticketed<N>, View>,
+    pub(crate) pass: crossbeam_deque::Pass<Ticketed<N>, DequeView>,
     pub(crate) seat: Seat<(), TicketView>,
     pub(crate) ghost light: { (pass.me.hand ≡ None) × (pass.me.spare ≡ None) },
     pub(crate) ghost guest: { (view_of pass).owns ≡ false },

@@ -4,7 +4,7 @@ ghost use Rattle.std.specs.Prelude.{ℕ, []};
 ghost use Rattle.atomic_table.specs.Seated.{TableId};
 
 use crate::ticket::Ticketed;
-use crate::views::{TicketView, View};
+use crate::views::{DequeView, TicketView};
 use atomic_table::{Join, Play, Split, TableRule};
 use crossbeam_deque::protocol::{Outcome, Protocol};
 use reg_tasks::Naming;
@@ -15,7 +15,7 @@ pub(crate) struct InOrder<N: Naming> {
     of: PhantomData<N>,
 }
 
-impl<N: Naming> Protocol<Ticketed<N>, View> for InOrder<N> {
+impl<N: Naming> Protocol<Ticketed<N>, DequeView> for InOrder<N> {
     ghost use Rattle.reg_deques.specs.Queues.{queue_of, IsDeque};
     ghost use Rattle.reg_deques.specs.Views.{fresh_view};
 
@@ -30,7 +30,7 @@ impl<N: Naming> Protocol<Ticketed<N>, View> for InOrder<N> {
 // The owner puts a task.
 pub(crate) struct Putting;
 
-impl<N: Naming> Outcome<Ticketed<N>, View> for Putting {
+impl<N: Naming> Outcome<Ticketed<N>, DequeView> for Putting {
     ghost use Rattle.reg_deques.specs.Queues.{queue_of};
     ghost use Rattle.reg_deques.specs.Steps.{PutStep};
 
@@ -40,7 +40,7 @@ impl<N: Naming> Outcome<Ticketed<N>, View> for Putting {
 // The owner takes the first task.
 pub(crate) struct Taking;
 
-impl<N: Naming> Outcome<Ticketed<N>, View> for Taking {
+impl<N: Naming> Outcome<Ticketed<N>, DequeView> for Taking {
     ghost use Rattle.reg_deques.specs.Queues.{queue_of};
     ghost use Rattle.reg_deques.specs.Steps.{TakeStep};
 
@@ -50,7 +50,7 @@ impl<N: Naming> Outcome<Ticketed<N>, View> for Taking {
 // Another worker takes the first task.
 pub(crate) struct Stealing;
 
-impl<N: Naming> Outcome<Ticketed<N>, View> for Stealing {
+impl<N: Naming> Outcome<Ticketed<N>, DequeView> for Stealing {
     ghost use Rattle.reg_deques.specs.Queues.{queue_of};
     ghost use Rattle.reg_deques.specs.Steps.{StealStep};
 
@@ -60,7 +60,7 @@ impl<N: Naming> Outcome<Ticketed<N>, View> for Stealing {
 // The owner makes a pass for another worker.
 pub(crate) struct Parting;
 
-impl Split<View> for Parting {
+impl Split<DequeView> for Parting {
     ghost use Rattle.reg_deques.specs.Views.{blank, table_of};
 
     ghost left = { λ v. v };
@@ -82,7 +82,7 @@ pub(crate) struct Telling<T: Ticketing> {
     of: PhantomData<T>,
 }
 
-impl<T: Ticketing> Split<View> for Telling<T> {
+impl<T: Ticketing> Split<DequeView> for Telling<T> {
     ghost use Rattle.std.specs.Prelude.{[], ◌∷◌};
     ghost use Rattle.reg_deques.specs.Views.{with_table, blank};
 

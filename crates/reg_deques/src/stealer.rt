@@ -6,7 +6,7 @@ ghost use Rattle.crossbeam_deque.specs.Handles.{stealer_flavor};
 use crate::owner::TicketTable;
 use crate::protocol::InOrder;
 use crate::ticket::Ticketed;
-use crate::views::View;
+use crate::views::DequeView;
 use reg_tasks::Naming;
 use std::alloc::Global;
 use std::sync::Arc;
@@ -14,7 +14,7 @@ use std::sync::Arc;
 /// Where thieves take from a deque: the stealer of `crossbeam_deque`, with the table of the deque's tickets.
 #[derive(Drop)]
 pub(crate) struct Stealer<N: Naming> {
-    pub(crate) stealer: crossbeam_deque::Stealer<Ticketed<N>, Global, View, InOrder<N>>,
+    pub(crate) stealer: crossbeam_deque::Stealer<Ticketed<N>, Global, DequeView, InOrder<N>>,
     pub(crate) table: Arc<TicketTable, Global>,
     pub(crate) ghost fifo: { stealer_flavor stealer ≡ 0 },
     pub(crate) ghost wide: { table.value.shared.table_id.words ≡ 1 },

@@ -1,6 +1,6 @@
 -- How a command ends, over plain variables.
 use Rattle.std.proofs.Common.{◌≡◌, ℕ, List, true, is_err, OnErr, Option, None, Some, IfSome, Result, Ok, Err}
-use Rattle.reg_book.specs.Day.{Day}
+use Rattle.reg_book.specs.Day.{DayValue}
 use Rattle.reg_cuts.specs.Rows.{rows_in_text}
 use Rattle.reg_text.specs.Reading.{IsReading}
 use Rattle.reg_front.specs.declared.command.Command.{Command}
@@ -15,7 +15,7 @@ of_failed (Ok x) failed p = absurd cc
 of_failed (Err e) failed p = p
 
 -- why the command could have a text to write
-write_fault : (command : Command) (day : Day) (text : List ℕ) (input : Option (List ℕ))
+write_fault : (command : Command) (day : DayValue) (text : List ℕ) (input : Option (List ℕ))
     → IfSome input (λ bytes. IsReading (rows_in_text bytes) day)
     → command_fault command day.book ≡ None → IsTextFor command day text
     → IfSome input (λ bytes. IsFault command bytes WriteFailed)
@@ -23,7 +23,7 @@ write_fault command day text None reading fine made = _
 write_fault command day text (Some bytes) reading fine made = (text, (day, reading, fine, made))
 
 -- the prefix of what was written is one of the text
-front_written : (command : Command) (day : Day) (text written : List ℕ) (input old new : Option (List ℕ))
+front_written : (command : Command) (day : DayValue) (text written : List ℕ) (input old new : Option (List ℕ))
     → IfSome input (λ bytes. IsReading (rows_in_text bytes) day) → command_fault command day.book ≡ None
     → IsTextFor command day text
     → written ≡ text → AppendsFrontOf written old new → WritesFront command input old new
@@ -32,7 +32,7 @@ front_written command day text written (Some bytes) old new reading fine made sa
     (text, (day, reading, fine, made), rw same at took)
 
 -- the writer has failed after it took a prefix of the day's text
-pub failed_write : (command : Command) (day : Day) (text written : List ℕ) (input rest old new : Stream)
+pub failed_write : (command : Command) (day : DayValue) (text written : List ℕ) (input rest old new : Stream)
     → IfSome input.bytes (λ bytes. IsReading (rows_in_text bytes) day) → IsReadWhole input rest
     → command_fault command day.book ≡ None → IsTextFor command day text
     → written ≡ text → FailsToWrite written old new → Fails command WriteFailed input rest old new

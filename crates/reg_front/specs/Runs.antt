@@ -3,7 +3,7 @@ use Rattle.std.specs.Prelude.{◌≡◌, ◌≤◌, ℕ, List, Option, Some, Non
 use Rattle.std.specs.Io.KnownBytes.{Appends}
 use Rattle.reg_plan.specs.Plans.{PlanValue, IsPlan}
 use Rattle.reg_book.specs.Book.{BookValue, directory_of}
-use Rattle.reg_book.specs.Day.{Day, log_of}
+use Rattle.reg_book.specs.Day.{DayValue, log_of}
 use Rattle.reg_book.specs.Chains.{book_after}
 use Rattle.reg_regions.specs.Outcomes.{may_work}
 use Rattle.reg_cuts.specs.Rows.{rows_in_text}
@@ -32,12 +32,12 @@ command_fault Figures book = None
 command_fault Totals book = None
 
 -- this is the text of the plan of the day's instructions
-abbrev pub IsPlanText : Day → List ℕ → Type 0
+abbrev pub IsPlanText : DayValue → List ℕ → Type 0
 IsPlanText day text = (plan : PlanValue) × IsPlan (directory_of day.book.accounts) day.batch.instructions plan
     × (text ≡ text_of (plan_rows plan))
 
 -- this is the text that the command writes for a day
-abbrev pub IsTextFor : Command → Day → List ℕ → Type 0
+abbrev pub IsTextFor : Command → DayValue → List ℕ → Type 0
 IsTextFor (Settle workers) day text = text ≡ report_of day
 IsTextFor Plan day text = IsPlanText day text
 IsTextFor (Statement account) day text = text ≡ text_of (statement_of day.book (log_of day) account)
@@ -46,13 +46,14 @@ IsTextFor Totals day text = text ≡ text_of (totals_rows (book_after day))
 
 -- the input is a day text, the command is not refused for that day, and this is the text that it writes
 abbrev pub IsText : Command → List ℕ → List ℕ → Type 0
-IsText command input text = (day : Day) × IsReading (rows_in_text input) day × (command_fault command day.book ≡ None)
+IsText command input text =
+    (day : DayValue) × IsReading (rows_in_text input) day × (command_fault command day.book ≡ None)
     × IsTextFor command day text
 
 -- the input is a day text, and the command is refused for that day for this reason
 abbrev pub IsRefused : Command → List ℕ → FrontFault → Type 0
 IsRefused command input fault =
-    (day : Day) × IsReading (rows_in_text input) day × (command_fault command day.book ≡ Some fault)
+    (day : DayValue) × IsReading (rows_in_text input) day × (command_fault command day.book ≡ Some fault)
 
 -- the command may answer this fault for this input; a lack of memory can occur with every input; a thread that can't be
 -- started is no fault; when an input is not read, the reader tells (`Reads`)

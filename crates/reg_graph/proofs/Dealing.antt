@@ -4,7 +4,7 @@ use Rattle.std.proofs.Common.{arith, refl, sym, ap, ◌∙◌}
 use Rattle.std.specs.Prelude.{slice_get, slice_set, replicate}
 use Rattle.std.proofs.lemmas.List.{append-nil, append_assoc}
 use Rattle.reg_plan.specs.Plans.{PlanValue}
-use Rattle.reg_book.specs.Day.{Day}
+use Rattle.reg_book.specs.Day.{DayValue}
 use Rattle.reg_schedules.specs.Docks.{ParcelValue, TaskValue, complete}
 use Rattle.reg_schedules.specs.World.{WorldValue, empty, opened_at, dock_at, docks_from, ready_from, before_some, dealt}
 use Rattle.reg_schedules.specs.World.{at_start}
@@ -16,7 +16,7 @@ pub deal-one : (worker next : ℕ) (task : TaskValue) (more : List TaskValue) (l
     → dealt next more (slice_set lists worker (tasks ++ task ∷ [])) ≡ dealt worker (task ∷ more) lists
 deal-one worker next task more lists tasks there e = rw (e, there) refl
 
-module _ (day : Day) (plan : PlanValue) where
+module _ (day : DayValue) (plan : PlanValue) where
   -- of n places those after the first k, and the next one
   docks-next : (n k j : ℕ) → j ≡ suc k → k < n → docks_from day plan (suc k) (n - k)
       ≡ dock_at day plan j ∷ docks_from day plan (suc j) (n - j)

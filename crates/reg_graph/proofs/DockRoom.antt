@@ -13,7 +13,7 @@ use Rattle.reg_rules.specs.declared.reply.LogRow.{LogRow}
 use Rattle.reg_rules.specs.State.{State}
 use Rattle.reg_rules.specs.Checks.{refusal}
 use Rattle.reg_rules.specs.Step.{step, step_by, row_of}
-use Rattle.reg_book.specs.Day.{Day, setting}
+use Rattle.reg_book.specs.Day.{DayValue, setting}
 use Rattle.reg_schedules.specs.Pool.{footprint_at, run_at}
 use Rattle.reg_tasks.specs.declared.naming.Naming.{Ghosts}
 use Rattle.reg_tasks.specs.declared.parcel.Parcel.{Parcel}
@@ -47,7 +47,7 @@ at-more (x ∷ xs) (suc j) y z e = by (at-more xs j y z e)
 
 module _ {N : Type 0} {b : Ghosts N} where
   -- what is read of a dock
-  pub room-at : (day : Day) (docks : List (Option (Vec (Parcel N b) Global))) (place : ℕ)
+  pub room-at : (day : DayValue) (docks : List (Option (Vec (Parcel N b) Global))) (place : ℕ)
       (dock : Option (Vec (Parcel N b) Global)) → 1 ≤ place → place - 1 < length docks
       → dock ≡ get_or docks (place - 1) dock → DocksHaveRoom day docks
       → IfSome dock (λ came. vec_capacity came ≡ length (footprint_at day place))
@@ -64,7 +64,7 @@ module _ {N : Type 0} {b : Ghosts N} where
       by (Some came) e = rooms (suc j) came (ap (slice_get docks) (sym back) ∙ e)
 
   -- the task of a dock has gone out
-  pub room-gone : (day : Day) (docks : List (Option (Vec (Parcel N b) Global))) (k : ℕ) → DocksHaveRoom day docks
+  pub room-gone : (day : DayValue) (docks : List (Option (Vec (Parcel N b) Global))) (k : ℕ) → DocksHaveRoom day docks
       → DocksHaveRoom day (slice_set docks k None)
   room-gone day docks k rooms zero came e = absurd cc
   room-gone day docks k rooms (suc j) came e = by (at-set docks k j None (Some came) e)
@@ -75,7 +75,7 @@ module _ {N : Type 0} {b : Ghosts N} where
       by (inr there) = rooms (suc j) came there
 
   -- a dock with room was put there
-  pub room-there : (day : Day) (docks : List (Option (Vec (Parcel N b) Global))) (place : ℕ)
+  pub room-there : (day : DayValue) (docks : List (Option (Vec (Parcel N b) Global))) (place : ℕ)
       (now : Vec (Parcel N b) Global) → 1 ≤ place
       → DocksHaveRoom day docks → vec_capacity now ≡ length (footprint_at day place)
       → DocksHaveRoom day (slice_set docks (place - 1) (Some now))
@@ -91,7 +91,7 @@ module _ {N : Type 0} {b : Ghosts N} where
       by (inr there) = rooms (suc j) came there
 
   -- the dock of the next place was added
-  pub room-more : (day : Day) (docks : List (Option (Vec (Parcel N b) Global))) (place : ℕ)
+  pub room-more : (day : DayValue) (docks : List (Option (Vec (Parcel N b) Global))) (place : ℕ)
       (dock : Option (Vec (Parcel N b) Global)) → length docks + 1 ≡ place
       → DocksHaveRoom day docks → IfSome dock (λ came. vec_capacity came ≡ length (footprint_at day place))
       → DocksHaveRoom day (docks ++ dock ∷ [])
@@ -107,7 +107,7 @@ module _ {N : Type 0} {b : Ghosts N} where
       by (inr there) = rooms (suc j) came there
 
 -- a run gives as many accounts as it takes
-run-many : (day : Day) (place : ℕ) (own : State) (made : State × LogRow) → run_at day place own ≡ Some made
+run-many : (day : DayValue) (place : ℕ) (own : State) (made : State × LogRow) → run_at day place own ≡ Some made
     → length made.0 ≡ length own
 run-many day zero own made e = absurd cc
 run-many day (suc k) own made e = by (slice_get day.batch.instructions k) e
@@ -128,7 +128,7 @@ run-many day (suc k) own made e = by (slice_get day.batch.instructions k) e
         ∙ of i (refusal (setting day) own i)
 
 module _ {N : Type 0} {b : Ghosts N} where
-  pub as-many : (day : Day) (place : ℕ) (own out : List (Parcel N b)) (row : LogRow)
+  pub as-many : (day : DayValue) (place : ℕ) (own out : List (Parcel N b)) (row : LogRow)
       → run_at day place (values_of own) ≡ Some (values_of out, row) → length out ≡ length own
   as-many day place own out row e = sym (length-map out _) ∙ run-many day place (values_of own) (values_of out, row) e
       ∙ length-map own _

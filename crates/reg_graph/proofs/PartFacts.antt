@@ -8,11 +8,11 @@ use Rattle.std.proofs.lemmas.Option.{slice_get-map, slice_get-get_or}
 use Rattle.reg_rules.specs.State.{State}
 use Rattle.reg_plan.specs.Plans.{PlanValue}
 use Rattle.reg_rules.specs.declared.reply.LogRow.{LogRow}
-use Rattle.reg_book.specs.Day.{Day}
+use Rattle.reg_book.specs.Day.{DayValue}
 use Rattle.reg_schedules.specs.Pool.{leads_on, run_at}
 use Rattle.reg_schedules.specs.declared.event.EventFault.TheVariants.{NothingToRun, NothingToDeliver}
 use Rattle.reg_schedules.specs.declared.event.EventFault.TheVariants as fault
-use Rattle.reg_schedules.proofs.WorldPossible.{runs-at}
+use Rattle.reg_schedules.proofs.lemmas.WorldPossible.{runs-at}
 use Rattle.reg_tasks.specs.declared.naming.Naming.{Ghosts}
 use Rattle.reg_tasks.specs.declared.parcel.Parcel.{Parcel}
 use Rattle.reg_schedules.specs.declared.event.EventFault.{EventFault}
@@ -103,7 +103,7 @@ set-back (z ∷ xs) zero x e = let same : z ≡ x = cc in ap (λ y. y ∷ xs) (s
 set-back (z ∷ xs) (suc k) x e = ap (λ zs. z ∷ zs) (set-back xs k x e)
 
 -- a task is run alike whatever the hand held before
-pub run-anew : (day : Day) (plan : PlanValue) (k : ℕ) (w : WorldValue) (h : HandValue) (task : TaskValue)
+pub run-anew : (day : DayValue) (plan : PlanValue) (k : ℕ) (w : WorldValue) (h : HandValue) (task : TaskValue)
     → run_by day plan k (record w { hands = slice_set w.hands k h }) (Holds task) ≡ run_by day plan k w (Holds task)
 run-anew day plan k w h task = by (run_at day task.place (map (λ p. p.value) task.parcels))
   where
@@ -115,7 +115,7 @@ run-anew day plan k w h task = by (run_at day task.place (map (λ p. p.value) ta
         (set-twice w.hands k h (Carries None (filter (goes_on plan) (left_by task.place made.0))))
 
 -- a task of a place can be run
-pub can-run : (day : Day) (plan : PlanValue) (k : ℕ) (w : WorldValue) (task : TaskValue) → 1 ≤ task.place
+pub can-run : (day : DayValue) (plan : PlanValue) (k : ℕ) (w : WorldValue) (task : TaskValue) → 1 ≤ task.place
     → task.place ≤ length day.batch.instructions → IsOk (run_by day plan k w (Holds task))
 can-run day plan k w task low high = let made = runs-at day task.place (map (λ p. p.value) task.parcels) low high in
     let ran = made.1 in rw ran refl
@@ -133,18 +133,18 @@ at-placed xs (suc k) low = ap (slice_get xs) (omega arith)
 
 -- ---- a delivery
 
-pub no-head : (day : Day) (plan : PlanValue) (k : ℕ) (w : WorldValue) (ps : List ParcelValue)
+pub no-head : (day : DayValue) (plan : PlanValue) (k : ℕ) (w : WorldValue) (ps : List ParcelValue)
     → first_head plan ps ≡ None → delivered_by day plan k w (Carries None ps) ≡ Err NothingToDeliver
 no-head day plan k w [] e = refl
 no-head day plan k w (p ∷ ps) e = rw e refl
 
-pub no-dock : (day : Day) (plan : PlanValue) (k : ℕ) (w : WorldValue) (ps : List ParcelValue) (place : ℕ)
+pub no-dock : (day : DayValue) (plan : PlanValue) (k : ℕ) (w : WorldValue) (ps : List ParcelValue) (place : ℕ)
     → first_head plan ps ≡ Some place → arrived w place ≡ None → delivered_by day plan k w (Carries None ps)
     ≡ Err NothingToDeliver
 no-dock day plan k w [] place e none = refl
 no-dock day plan k w (p ∷ ps) place e none = rw (e, none) refl
 
-pub goes-to : (day : Day) (plan : PlanValue) (k : ℕ) (w : WorldValue) (p : ParcelValue) (ps : List ParcelValue)
+pub goes-to : (day : DayValue) (plan : PlanValue) (k : ℕ) (w : WorldValue) (p : ParcelValue) (ps : List ParcelValue)
     (place : ℕ) (came : List ParcelValue) → first_head plan (p ∷ ps) ≡ Some place → arrived w place ≡ Some came
     → delivered_by day plan k w (Carries None (p ∷ ps))
     ≡ Ok (after_delivery k w ps place (came ++ p ∷ []) (complete day plan place (came ++ p ∷ [])))
@@ -180,7 +180,7 @@ module _ {N : Type 0} {b : Ghosts N} where
   first-is plan (q ∷ qs) place p rest e one others = ap (λ x. x ∷ qs) (sym one) ∙ ap (λ xs. p ∷ xs) (sym others)
 
 -- parcels are delivered alike whatever the hand held before
-pub deliver-anew : (day : Day) (plan : PlanValue) (k : ℕ) (w : WorldValue) (h : HandValue) (ps : List ParcelValue)
+pub deliver-anew : (day : DayValue) (plan : PlanValue) (k : ℕ) (w : WorldValue) (h : HandValue) (ps : List ParcelValue)
     → delivered_by day plan k (record w { hands = slice_set w.hands k h }) (Carries None ps)
     ≡ delivered_by day plan k w (Carries None ps)
 deliver-anew day plan k w h [] = refl
@@ -222,7 +222,7 @@ with-first plan (p ∷ ps) place Q e f = f p ps refl e
 
 -- ---- schedules with one more event
 
-pub after-more : (day : Day) (plan : PlanValue) (events : List Event) (start w x : WorldValue) (event : Event)
+pub after-more : (day : DayValue) (plan : PlanValue) (events : List Event) (start w x : WorldValue) (event : Event)
     → after_events day plan start events ≡ Some w → after_event day plan w event ≡ Ok x
     → after_events day plan start (events ++ event ∷ []) ≡ Some x
 after-more day plan [] start w x event e f = let is : start ≡ w = cc in
@@ -237,7 +237,7 @@ after-more day plan (first ∷ events) start w x event e f =
     by (Ok v) g rest = rest v g
     by (Err why) g rest = absurd cc
 
-pub reached-more : (day : Day) (plan : PlanValue) (w x : WorldValue) (event : Event)
+pub reached-more : (day : DayValue) (plan : PlanValue) (w x : WorldValue) (event : Event)
     → after_event day plan w event ≡ Ok x → IsReached day plan w → IsReached day plan x
 reached-more day plan w x event e r = record {
   workers = r.workers;

@@ -10,10 +10,10 @@ use Rattle.reg_tasks.specs.declared.task.Task.{Task}
 use Rattle.reg_schedules.specs.Docks.{ParcelValue, TaskValue}
 use Rattle.reg_schedules.specs.World.{HandValue, WorldValue, is_task, is_in_hand, is_in_dock, is_in_list_of}
 use Rattle.reg_schedules.specs.World.{is_in_hand_of, is_done}
-use Rattle.reg_counting.specs.Counting.{one_if, total}
+use Rattle.reg_facts.specs.Counting.{one_if, total}
 use Rattle.reg_schedules.specs.Schedules.{times_found}
 use Rattle.reg_tasks.specs.Tasks.{task_of}
-use Rattle.reg_schedules.proofs.WorldCounts.{in_list, in_hand_once}
+use Rattle.reg_schedules.proofs.lemmas.WorldCounts.{in_list, in_hand_once}
 use Rattle.reg_graph.proofs.PartFacts.{at-placed}
 
 -- one more without it

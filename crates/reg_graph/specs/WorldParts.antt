@@ -18,7 +18,7 @@ use Rattle.reg_schedules.specs.declared.event.Event.TheVariants.{Pop, Steal, Run
 use Rattle.reg_schedules.specs.declared.event.EventFault.{EventFault}
 use Rattle.reg_schedules.specs.declared.event.EventFault.TheVariants as fault
 use Rattle.reg_plan.specs.Plans.{PlanValue}
-use Rattle.reg_book.specs.Day.{Day}
+use Rattle.reg_book.specs.Day.{DayValue}
 use Rattle.reg_schedules.specs.Pool.{footprint_at}
 use Rattle.reg_schedules.specs.World.{at_place, head_of, arrived, opened_at, dealt, before_some, moved, with_hand}
 use Rattle.reg_schedules.specs.World.{with_list, HandValue, Holds, Carries, WorldValue}
@@ -47,11 +47,11 @@ after_stealing world worker from =
     (λ tasks. if worker == from then Err fault.OwnDeque else moved worker from world hand tasks))
 
 -- the batch has an instruction at this place
-abbrev pub IsPlace : Day → ℕ → Type 0
+abbrev pub IsPlace : DayValue → ℕ → Type 0
 IsPlace day place = (1 ≤ place) × (place ≤ length day.batch.instructions)
 
 -- if a worker holds a task, it is that of a place of the batch
-abbrev pub HeldIsOfBatch : Day → WorldValue → ℕ → Type 0
+abbrev pub HeldIsOfBatch : DayValue → WorldValue → ℕ → Type 0
 HeldIsOfBatch day world worker =
     (task : TaskValue) → slice_get world.hands worker ≡ Some (Holds task) → IsPlace day task.place
 
@@ -67,26 +67,26 @@ first_head plan [] = None
 first_head plan (p ∷ ps) = head_of plan p.after p.value.number
 
 -- the first of these parcels, if there is one, comes from a place of the batch
-abbrev pub FirstIsSent : Day → List ParcelValue → Type 0
+abbrev pub FirstIsSent : DayValue → List ParcelValue → Type 0
 FirstIsSent day parcels = (p : ParcelValue) (ps : List ParcelValue) → parcels ≡ p ∷ ps → IsPlace day p.after
 
 -- if it goes to a dock that waits, fewer parcels came there than the instruction of the dock touches accounts
-abbrev pub FirstHasRoom : Day → PlanValue → WorldValue → List ParcelValue → Type 0
+abbrev pub FirstHasRoom : DayValue → PlanValue → WorldValue → List ParcelValue → Type 0
 FirstHasRoom day plan world parcels = (place : ℕ) (came : List ParcelValue)
     → first_head plan parcels ≡ Some place → arrived world place ≡ Some came
     → length came < length (footprint_at day place)
 
 -- both are so of the parcels that a worker carries and may deliver
-abbrev pub NextIsSent : Day → WorldValue → ℕ → Type 0
+abbrev pub NextIsSent : DayValue → WorldValue → ℕ → Type 0
 NextIsSent day world worker =
     (parcels : List ParcelValue) → slice_get world.hands worker ≡ Some (Carries None parcels) → FirstIsSent day parcels
 
-abbrev pub NextHasRoom : Day → PlanValue → WorldValue → ℕ → Type 0
+abbrev pub NextHasRoom : DayValue → PlanValue → WorldValue → ℕ → Type 0
 NextHasRoom day plan world worker = (parcels : List ParcelValue)
     → slice_get world.hands worker ≡ Some (Carries None parcels) → FirstHasRoom day plan world parcels
 
 -- the task of a place, if it is complete from the first
-abbrev pub task_at_start : Day → PlanValue → ℕ → Option TaskValue
+abbrev pub task_at_start : DayValue → PlanValue → ℕ → Option TaskValue
 task_at_start day plan place = complete day plan place (opened_at day plan place)
 
 -- this task, if there is one, was dealt to a worker; here are the lists before and after, and the worker who is next
@@ -101,7 +101,7 @@ module _ {N : Type 0} {b : Ghosts N} where
   hand_of (parts.Carries ready parcels) = Carries (option_map task_of ready) (parcels_of parcels.items)
 
   -- the task of a place, if these parcels and one more are all that it awaits
-  abbrev pub task_with : Day → PlanValue → ℕ → List (Parcel N b) → Parcel N b → Option TaskValue
+  abbrev pub task_with : DayValue → PlanValue → ℕ → List (Parcel N b) → Parcel N b → Option TaskValue
   task_with day plan place came parcel = complete day plan place (parcels_of (came ++ parcel ∷ []))
 
   -- the docks
@@ -109,7 +109,7 @@ module _ {N : Type 0} {b : Ghosts N} where
   docks_of docks = map (option_map (λ came. parcels_of came.items)) docks
 
   -- each dock in which parcels wait has room for the accounts that its instruction touches, and for no more
-  abbrev pub DocksHaveRoom : Day → List (Option (Vec (Parcel N b) Global)) → Type 0
+  abbrev pub DocksHaveRoom : DayValue → List (Option (Vec (Parcel N b) Global)) → Type 0
   DocksHaveRoom day docks = (place : ℕ) (came : Vec (Parcel N b) Global) → at_place docks place ≡ Some (Some came)
       → vec_capacity came ≡ length (footprint_at day place)
 

@@ -3,7 +3,7 @@
 ghost use Rattle.std.specs.Prelude.{◌≡◌, ◌++◌, ◌≤◌, ◌<◌, Some, None, Ok, Err, [], ◌∷◌, length, slice_set, MatchResult};
 ghost use Rattle.std.specs.Prelude.{OnOk, OnErr, IfErr, IfSome, vec_len, vec_capacity};
 ghost use Rattle.std.specs.Option.{option_map, option_map_or};
-ghost use Rattle.reg_book.specs.Day.{Day};
+ghost use Rattle.reg_book.specs.Day.{DayValue};
 ghost use Rattle.reg_tasks.specs.Contexts.{the_day};
 ghost use Rattle.reg_schedules.specs.declared.event.EventFault.TheVariants.{NothingToDeliver};
 ghost use Rattle.reg_schedules.specs.Pool.{footprint_at};
@@ -38,10 +38,10 @@ fn take_dock<N: Naming>(
 ) -> Option<Vec<Parcel<N>>>
     ensures came { option_map (λ came. parcels_of came.items) result
         ≡ option_map_or (λ d. d) (at_place (docks_of docks.old.items) place) None }
-    ensures room { (day : Day) → DocksHaveRoom day docks.old.items
+    ensures room { (day : DayValue) → DocksHaveRoom day docks.old.items
         → IfSome result (λ came. vec_capacity came ≡ length (footprint_at day place)) }
     ensures left { docks_of docks.new.items ≡ with_place (docks_of docks.old.items) place None }
-    ensures rooms { (day : Day) → DocksHaveRoom day docks.old.items → DocksHaveRoom day docks.new.items }
+    ensures rooms { (day : DayValue) → DocksHaveRoom day docks.old.items → DocksHaveRoom day docks.new.items }
 {
     if place == 0 {
         return None;
@@ -59,7 +59,7 @@ fn put_dock<N: Naming>(docks: &mut Vec<Option<Vec<Parcel<N>>>>, place: u32, came
     requires within { place ≤ length docks.old.items }
     ensures there { docks_of docks.new.items
         ≡ with_place (docks_of docks.old.items) place (Some (parcels_of came.items)) }
-    ensures rooms { (day : Day) → DocksHaveRoom day docks.old.items
+    ensures rooms { (day : DayValue) → DocksHaveRoom day docks.old.items
         → vec_capacity came ≡ length (footprint_at day place) → DocksHaveRoom day docks.new.items }
 {
     docks[place as usize - 1] = Some(came);

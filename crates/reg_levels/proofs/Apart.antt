@@ -12,16 +12,16 @@ use Rattle.reg_plan.specs.Arrows.{touches_place}
 use Rattle.reg_plan.specs.Plans.{PlanValue, IsPlan, inward, level_at}
 use Rattle.reg_plan.specs.Orders.{first_order_fault}
 use Rattle.reg_plan.specs.Laws.{TailsAreLastTouchers, LevelsRiseAlongArrows}
-use Rattle.reg_book.specs.Day.{Day}
+use Rattle.reg_book.specs.Day.{DayValue}
 use Rattle.reg_schedules.specs.Pool.{directory, footprint_at, tail_of}
-use Rattle.reg_schedules.proofs.Members.{In, contains_from}
-use Rattle.reg_schedules.proofs.Known.{footprint_touches}
-use Rattle.reg_schedules.proofs.Tails as tail
-use Rattle.reg_schedules.proofs.Tails.{clash}
+use Rattle.reg_schedules.proofs.lemmas.Members.{In, contains_from}
+use Rattle.reg_schedules.proofs.lemmas.Known.{footprint_touches}
+use Rattle.reg_schedules.proofs.lemmas.Tails as tail
+use Rattle.reg_schedules.proofs.lemmas.Tails.{clash}
 use Rattle.reg_tasks.specs.Slots.{last_of, is_ready}
-use Rattle.reg_tasks.proofs.Slotting.{Name}
-use Rattle.reg_tasks.proofs.Placing.{stands_ready}
-use Rattle.reg_tasks.proofs.OrderSteps.{faultless_at, ready_at}
+use Rattle.reg_tasks.proofs.lemmas.Slotting.{Name}
+use Rattle.reg_tasks.proofs.lemmas.Placing.{stands_ready}
+use Rattle.reg_tasks.proofs.lemmas.OrderSteps.{faultless_at, ready_at}
 use Rattle.reg_levels.specs.Levels.{touched_by, StandsBetween, places_between, IsOneLevel}
 use Rattle.reg_levels.proofs.Between.{between_at, take_between, none_passes, size_take, last_untouched, last_append}
 
@@ -56,7 +56,7 @@ pub level_more : (plan : PlanValue) (order : List ℕ) (from to : ℕ) → IsOne
 level_more plan order from to level k le lt =
     level k (omega (arith, le)) lt ∙ sym (level (from + 1) (omega arith) (omega (arith, le, lt)))
 
-module _ (rise : LevelsRiseAlongArrows) (tails : TailsAreLastTouchers) (last : LastToucherIsLast) (day : Day)
+module _ (rise : LevelsRiseAlongArrows) (tails : TailsAreLastTouchers) (last : LastToucherIsLast) (day : DayValue)
     (plan : PlanValue) where
   abbrev On : ℕ → ℕ → Type 0
   On a place = touches_place (directory day) day.batch.instructions a place ≡ true

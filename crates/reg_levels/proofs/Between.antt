@@ -8,12 +8,12 @@ use Rattle.std.proofs.Math.Seq.{take-add}
 use Rattle.std.proofs.lemmas.List.Folds.{list_any-append}
 use Rattle.reg_base.specs.Footprint.{is_among}
 use Rattle.reg_plan.specs.Arrows.{touches_place}
-use Rattle.reg_book.specs.Day.{Day}
+use Rattle.reg_book.specs.Day.{DayValue}
 use Rattle.reg_schedules.specs.Pool.{directory, footprint_at}
-use Rattle.reg_schedules.proofs.Known.{footprint_touches}
+use Rattle.reg_schedules.proofs.lemmas.Known.{footprint_touches}
 use Rattle.reg_tasks.specs.Slots.{last_of, StandAfter, AreOpened, AreTaken}
-use Rattle.reg_tasks.proofs.Slotting.{Name}
-use Rattle.reg_tasks.proofs.Standing.{last_push}
+use Rattle.reg_tasks.proofs.lemmas.Slotting.{Name}
+use Rattle.reg_tasks.proofs.lemmas.Standing.{last_push}
 use Rattle.reg_levels.specs.Levels.{touched_by, StandsBetween, places_between}
 
 -- positions of an order
@@ -84,7 +84,7 @@ size_take [] (suc n) j lt = absurd (omega (arith, lt))
 size_take (x ∷ xs) (suc n) zero lt = omega arith
 size_take (x ∷ xs) (suc n) (suc j) lt = let more = size_take xs n j (omega (arith, lt)) in omega (arith, more)
 
-module _ (day : Day) where
+module _ (day : DayValue) where
   -- what the last of some instructions left, if none of those after them touches the account
   pub last_untouched : (a before : ℕ) (places : List ℕ) → touched_by day places a ≡ false
       → last_of day a before places ≡ before

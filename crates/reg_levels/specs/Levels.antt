@@ -7,7 +7,7 @@ use Rattle.reg_base.specs.Rising.{count_up}
 use Rattle.reg_base.specs.Touches.{is_touched}
 use Rattle.reg_plan.specs.Arrows.{touches_place}
 use Rattle.reg_plan.specs.Plans.{PlanValue, level_at}
-use Rattle.reg_book.specs.Day.{Day}
+use Rattle.reg_book.specs.Day.{DayValue}
 use Rattle.reg_schedules.specs.Pool.{directory}
 use Rattle.reg_tasks.specs.declared.naming.Naming.{Ghosts}
 use Rattle.reg_tasks.specs.declared.task.Task.{Task}
@@ -15,18 +15,18 @@ use Rattle.reg_tasks.specs.declared.outcome.Outcome.{Outcome}
 use Rattle.reg_tasks.specs.Slots.{last_of}
 
 -- whether the instruction at one of these places touches the account
-abbrev pub touched_by : Day → List ℕ → ℕ → Bool
+abbrev pub touched_by : DayValue → List ℕ → ℕ → Bool
 touched_by day places a = list_any (λ place. touches_place (directory day) day.batch.instructions a place) places
 
 -- while the instructions at some places run, after those at others are done: the slots of the accounts that they touch
 -- are empty, and in each other one stands what the last of those that are done left, or the opening value
-abbrev pub StandsBetween : Day → List ℕ → List ℕ → (ℕ → Option (ℕ × ℕ)) → Type 0
+abbrev pub StandsBetween : DayValue → List ℕ → List ℕ → (ℕ → Option (ℕ × ℕ)) → Type 0
 StandsBetween day done running standing = (a : ℕ) → is_touched (directory day) day.batch.instructions a ≡ true
     → standing a ≡ (if touched_by day running a then None else Some (a, last_of day a 0 done))
 
 -- if a day is named, that stands in them
-abbrev pub AreBetween : Option Day → Day → List ℕ → List ℕ → (ℕ → Option (ℕ × ℕ)) → Type 0
-AreBetween name day done running standing = (d : Day) → name ≡ Some d → StandsBetween day done running standing
+abbrev pub AreBetween : Option DayValue → DayValue → List ℕ → List ℕ → (ℕ → Option (ℕ × ℕ)) → Type 0
+AreBetween name day done running standing = (d : DayValue) → name ≡ Some d → StandsBetween day done running standing
 
 -- the places of an order from one index up to another one, counted from 0
 abbrev pub places_between : List ℕ → ℕ → ℕ → List ℕ

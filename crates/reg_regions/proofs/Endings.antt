@@ -13,7 +13,7 @@ use Rattle.reg_rules.specs.Step.{step}
 use Rattle.reg_rules.specs.Laws.{StepLaws, AgreeOn, IsReady}
 use Rattle.reg_base.specs.Directory.{DirectoryValue}
 use Rattle.reg_book.specs.Book.{BookValue, IsBookKept, directory_of}
-use Rattle.reg_book.specs.Day.{Day, IsDay, setting, closing_state, settled_day, replies_of, log_of}
+use Rattle.reg_book.specs.Day.{DayValue, IsDay, setting, closing_state, settled_day, replies_of, log_of}
 use Rattle.reg_book.specs.Settled.{committed}
 use Rattle.reg_book.specs.Fold.{rows_of, replies_in}
 use Rattle.reg_book.specs.Laws.{StaysReady, NumbersStay, ClosingIsABook, CommittedIsClosing}
@@ -31,7 +31,7 @@ use Rattle.reg_regions.proofs.Found.{distinct-permutation, account-permutation, 
 use Rattle.reg_regions.proofs.Marking.{once-contained, once-within}
 use Rattle.reg_regions.proofs.Replying.{length-put, put-right, same-got, IsTold}
 
-module _ (laws : StepLaws) (ready : StaysReady) (stay : NumbersStay) (regions : RegionsAreADay) (day : Day)
+module _ (laws : StepLaws) (ready : StaysReady) (stay : NumbersStay) (regions : RegionsAreADay) (day : DayValue)
     (kept : IsDay day) (swaps : List Swap) (after : State) (replies : List Placed)
     (within : All (IsSwapWithin (length day.book.accounts)) swaps)
     (dealt : AreDealt (setting day) day.batch (exchanged swaps day.book.accounts) after replies)
@@ -105,7 +105,7 @@ size-replies c s n [] = refl
 size-replies c s n (i ∷ is) = ap suc (size-replies c (step c s n i).0 (n + 1) is)
 
 -- put at their places, they are the replies of the day
-pub replies-are : (day : Day) (slots : List Reply) (replies : List Placed)
+pub replies-are : (day : DayValue) (slots : List Reply) (replies : List Placed)
     → length slots ≡ length day.batch.instructions → All (IsTold (reply_of day)) replies
     → All (IsPlaceUpTo (length slots)) (places_in replies)
     → ((place : ℕ) → 1 ≤ place → place ≤ length day.batch.instructions → Contains (places_in replies) place)
@@ -120,12 +120,12 @@ replies-are day slots replies many right within each =
     ∙ sym (slice_get-map (λ (row : LogRow). row.reply) (log_of day) k))
 
 -- what stays the same while the day is settled, made of its parts
-pub setting-is : (day : Day) (on : ℕ) (directory : DirectoryValue) → on ≡ day.batch.day
+pub setting-is : (day : DayValue) (on : ℕ) (directory : DirectoryValue) → on ≡ day.batch.day
     → directory ≡ directory_of day.book.accounts
     → ◌≡◌ {A = Setting} (record { rules = day.rules; day = on; directory = directory }) (setting day)
 setting-is day on directory same listed = λ i. record { rules = day.rules; day = same i; directory = listed i }
 
-module _ (laws : StepLaws) (ready : StaysReady) (stay : NumbersStay) (regions : RegionsAreADay) (day : Day)
+module _ (laws : StepLaws) (ready : StaysReady) (stay : NumbersStay) (regions : RegionsAreADay) (day : DayValue)
     (kept : IsDay day) (c : Setting) (old new : State) (replies : List Placed)
     (same : c ≡ setting day) (opened : old ≡ day.book.accounts)
     (turned : AreTurned c day.batch old new replies) where
@@ -159,7 +159,8 @@ module _ (laws : StepLaws) (ready : StaysReady) (stay : NumbersStay) (regions : 
       (turned-places slots many) each-told
 
 -- the book after the day
-pub book-after : ClosingIsABook → (day : Day) → IsDay day → (new : State) (directory : DirectoryValue) (next count : ℕ)
+pub book-after : ClosingIsABook → (day : DayValue) → IsDay day
+    → (new : State) (directory : DirectoryValue) (next count : ℕ)
     → new ≡ closing_state day → directory ≡ directory_of day.book.accounts → next ≡ day.book.next
     → count ≡ length day.batch.instructions → IsBookKept new directory (next + count)
 book-after closing day kept new directory next count is listed same many =
@@ -169,14 +170,14 @@ book-after closing day kept new directory next count is listed same many =
     (closing day kept)))
 
 -- is that which a commit of the settled day gives
-pub is-after : CommittedIsClosing → (day : Day) → IsDay day → (new : State) (next count : ℕ)
+pub is-after : CommittedIsClosing → (day : DayValue) → IsDay day → (new : State) (next count : ℕ)
     → new ≡ closing_state day → next ≡ day.book.next → count ≡ length day.batch.instructions
     → ◌≡◌ {A = BookValue} (record { accounts = new; next = next + count }) (committed day.book (settled_day day))
 is-after commits day kept new next count is same many =
     (λ i. record { accounts = is i; next = same i + many i }) ∙ sym (commits day kept.book kept.follows)
 
 -- the book before the day is ready for its first record number
-pub ready-day : StaysReady → (day : Day) → IsDay day → IsReady (day.batch.base + 1) day.book.accounts
+pub ready-day : StaysReady → (day : DayValue) → IsDay day → IsReady (day.batch.base + 1) day.book.accounts
 ready-day ready day kept =
     subst (λ n. IsReady n day.book.accounts) (add-zero (day.batch.base + 1)) (ready day kept 0 (omega arith))
 

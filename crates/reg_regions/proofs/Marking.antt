@@ -7,8 +7,8 @@ use Rattle.std.proofs.lemmas.Bool.{cases_eq, cases_lt, eq-eqb, ne_eqb, le-leb, l
 use Rattle.std.proofs.lemmas.Grind.{flat_map-append}
 use Rattle.std.proofs.lemmas.List.{get_or-set_other, get_or-set_same, take_more}
 use Rattle.std.proofs.lemmas.List.Elements.{Contains-get_or}
-use Rattle.reg_counting.specs.Counting.{times, once, one_if}
-use Rattle.reg_counting.proofs.Totals.{total-append}
+use Rattle.reg_facts.specs.Counting.{times, once, one_if}
+use Rattle.reg_facts.proofs.lemmas.Totals.{total-append}
 use Rattle.reg_regions.specs.declared.dealing.Deal.{Deal}
 use Rattle.reg_regions.specs.Homes.{AreMarked, set_mark, IsPlaceUpTo, dealt_places}
 use Rattle.reg_regions.proofs.Membership.{contains_first, contains_later}

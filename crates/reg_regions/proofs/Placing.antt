@@ -14,7 +14,7 @@ use Rattle.reg_base.specs.Directory.{DirectoryValue}
 use Rattle.reg_base.specs.Footprint.{footprint}
 use Rattle.reg_base.specs.Footprints.{footprints}
 use Rattle.reg_base.specs.Rising.{count_up}
-use Rattle.reg_counting.specs.Counting.{times, once, one_if}
+use Rattle.reg_facts.specs.Counting.{times, once, one_if}
 use Rattle.reg_rules.specs.State.{State, Setting}
 use Rattle.reg_book.specs.Indexes.{StandAt, AllStandAt, each_at, index_lists}
 use Rattle.reg_regions.specs.declared.dealing.Deal.{Deal}

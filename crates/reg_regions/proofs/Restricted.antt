@@ -15,7 +15,7 @@ use Rattle.reg_rules.specs.Step.{step}
 use Rattle.reg_rules.specs.Laws.{StepLaws, AgreeOn, after_step, reply_to}
 use Rattle.reg_book.specs.Book.{directory_of}
 use Rattle.reg_book.specs.Fold.{state_after, rows_of}
-use Rattle.reg_book.specs.Day.{Day, setting, state_at, closing_state}
+use Rattle.reg_book.specs.Day.{DayValue, setting, state_at, closing_state}
 use Rattle.reg_book.specs.Laws.{EachIsAStep}
 use Rattle.reg_regions.specs.Regions.{accounts_after, reply_for, accounts_after_all, replies_for, RiseAbove}
 use Rattle.reg_regions.specs.Regions.{up_to, Touches}
@@ -30,12 +30,12 @@ abbrev pub Same : List ℕ → State → State → Type 0
 Same own s t = (a : ℕ) → Contains own a → account s a ≡ account t a
 
 -- these are all places from here on whose instructions touch an account of these
-abbrev pub AreAlone : Day → List ℕ → ℕ → List ℕ → Type 0
+abbrev pub AreAlone : DayValue → List ℕ → ℕ → List ℕ → Type 0
 AreAlone day own low places =
     (place a : ℕ) → low < place → Contains own a → Touches day place a → Contains places place
 
 -- these instructions touch no account but these
-abbrev pub AreInside : Day → List ℕ → List ℕ → Type 0
+abbrev pub AreInside : DayValue → List ℕ → List ℕ → Type 0
 AreInside day own places = (place a : ℕ) → Contains places place → Touches day place a → Contains own a
 
 same-agree : (own : List ℕ) (s t : State) → Same own s t → AgreeOn own s t
@@ -55,7 +55,7 @@ not_true : (b : Bool) → (b ≡ true → ⊥) → b ≡ false
 not_true true h = absurd (h refl)
 not_true false h = refl
 
-module _ (laws : StepLaws) (steps : EachIsAStep) (day : Day) (own : List ℕ) where
+module _ (laws : StepLaws) (steps : EachIsAStep) (day : DayValue) (own : List ℕ) where
   -- an instruction that touches none of the accounts leaves them
   idle-one : (k : ℕ) → ((a : ℕ) → Contains own a → Touches day (suc k) a → ⊥)
       → Same own (state_at day k) (state_at day (suc k))

@@ -18,7 +18,7 @@ use Rattle.reg_account.specs.Account.{AccountValue}
 use Rattle.reg_rules.specs.State.{State, account, numbers}
 use Rattle.reg_rules.specs.Laws.{StepLaws}
 use Rattle.reg_book.specs.Book.{directory_of}
-use Rattle.reg_book.specs.Day.{Day, setting, closing_state}
+use Rattle.reg_book.specs.Day.{DayValue, setting, closing_state}
 use Rattle.reg_book.specs.Laws.{StaysReady}
 use Rattle.reg_base.specs.declared.instruction.Instruction.{Instruction}
 use Rattle.reg_base.specs.Touches.{touches}
@@ -88,13 +88,13 @@ covered-in (o ∷ openings) (s ∷ settled) place a by =
     ])
 
 -- each of these is a region of the day
-abbrev pub AreRegions : Day → List State → List Run → Type 0
+abbrev pub AreRegions : DayValue → List State → List Run → Type 0
 AreRegions day [] settled = Unit {0}
 AreRegions day (o ∷ openings) [] = Unit {0}
 AreRegions day (o ∷ openings) (s ∷ settled) =
     IsRegion day o (places_in s.replies) × AreRegions day openings settled
 
-module _ (day : Day) where
+module _ (day : DayValue) where
   -- an instruction that was run touches accounts of its region
   pub covered : (openings : List State) (settled : List Run)
       → AreRuns (setting day) day.batch openings settled → (place a : ℕ)
@@ -238,7 +238,7 @@ module _ (day : Day) where
       (answers law openings settled runs.1 are.1)
 
 -- what touches an account is a place
-touched-within : (day : Day) (place a : ℕ) → Touches day place a
+touched-within : (day : DayValue) (place a : ℕ) → Touches day place a
     → (1 ≤ place) × (place ≤ length day.batch.instructions)
 touched-within day zero a touched = absurd cc
 touched-within day (suc k) a touched =

@@ -4,7 +4,7 @@ use Rattle.std.specs.List.{flat_map}
 use Rattle.reg_base.specs.Batch.{BatchValue}
 use Rattle.reg_rules.specs.State.{State, Setting, numbers}
 use Rattle.reg_rules.specs.Laws.{AgreeOn}
-use Rattle.reg_book.specs.Day.{Day, IsDay, setting, closing_state}
+use Rattle.reg_book.specs.Day.{DayValue, IsDay, setting, closing_state}
 use Rattle.reg_regions.specs.declared.region.Placed.{Placed}
 use Rattle.reg_regions.specs.Laws.{reply_of}
 use Rattle.reg_regions.specs.Settling.{IsRun, places_in}
@@ -36,7 +36,7 @@ AreRuns c b (opening ∷ openings) (r ∷ runs) =
 
 -- what regions left is what the day leaves: no account is added, removed or moved, each is as after the day, and each
 -- reply is the day's
-pub record AreAsTheDay (day : Day) (openings : List State) (runs : List Run) : Type 0 where
+pub record AreAsTheDay (day : DayValue) (openings : List State) (runs : List Run) : Type 0 where
   pub same_numbers : numbers (all_afterwards runs) ≡ numbers (all_opening openings)
   pub accounts : AgreeOn (numbers day.book.accounts) (all_afterwards runs) (closing_state day)
   pub replies : All (λ p. Some p.reply ≡ reply_of day p.place) (all_replies runs)
@@ -44,7 +44,7 @@ pub record AreAsTheDay (day : Day) (openings : List State) (runs : List Run) : T
 -- law: if the accounts of a day's book are dealt out to regions, and the instruction at each place was carried out in
 -- one of them, these leave what the day leaves
 abbrev pub RegionsAreADay : Type 0
-RegionsAreADay = (day : Day) (openings : List State) (runs : List Run) → IsDay day
+RegionsAreADay = (day : DayValue) (openings : List State) (runs : List Run) → IsDay day
     → IsPermutation day.book.accounts (all_opening openings) → AreRuns (setting day) day.batch openings runs
     → ((place : ℕ) → 1 ≤ place → place ≤ length day.batch.instructions
     → Contains (places_in (all_replies runs)) place)

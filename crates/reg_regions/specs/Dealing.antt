@@ -1,7 +1,7 @@
 -- What comes of accounts that are dealt out to regions.
 use Rattle.std.specs.Prelude.{◌≡◌, ℕ, ◌-◌, List, [], ◌∷◌, All, length, slice_set}
 use Rattle.reg_base.specs.Batch.{BatchValue}
-use Rattle.reg_counting.specs.Counting.{times, once}
+use Rattle.reg_facts.specs.Counting.{times, once}
 use Rattle.reg_rules.specs.declared.reply.Reply.{Reply}
 use Rattle.reg_rules.specs.State.{State, Setting, numbers}
 use Rattle.reg_regions.specs.declared.dealing.Dealing.{Dealing}

@@ -5,7 +5,7 @@ use Rattle.std.specs.List.{flat_map}
 use Rattle.std.specs.Option.{option_map_or}
 use Rattle.reg_base.specs.Batch.{BatchValue}
 use Rattle.reg_base.specs.Footprint.{footprint}
-use Rattle.reg_counting.specs.Counting.{times, one_if}
+use Rattle.reg_facts.specs.Counting.{times, one_if}
 use Rattle.reg_rules.specs.State.{Setting}
 use Rattle.reg_book.specs.Indexes.{StandAt, index_lists}
 use Rattle.reg_regions.specs.declared.dealing.Deal.{Deal}

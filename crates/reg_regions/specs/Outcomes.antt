@@ -2,7 +2,7 @@
 use Rattle.std.specs.Prelude.{◌≡◌, ◌≢◌, ℕ, ◌+◌, Bool, true, false, nat_le, ◌&&◌, List, Option, Some, None}
 use Rattle.reg_base.specs.Batch.{BatchValue}
 use Rattle.reg_book.specs.Book.{BookValue}
-use Rattle.reg_counting.specs.Counting.{once}
+use Rattle.reg_facts.specs.Counting.{once}
 use Rattle.reg_regions.specs.declared.not_settled.RegionsFault.{RegionsFault}
 use Rattle.reg_regions.specs.declared.not_settled.RegionsFault.TheVariants.{Workers, WrongBase, NoMemory}
 use Rattle.reg_regions.specs.declared.stealing.shift.WorkShift.{WorkShift}

@@ -8,7 +8,7 @@ use Rattle.reg_rules.specs.State.{State, Setting, numbers}
 use Rattle.reg_rules.specs.Laws.{AgreeOn, after_step, reply_to}
 use Rattle.reg_plan.specs.Arrows.{touches_place}
 use Rattle.reg_book.specs.Book.{directory_of}
-use Rattle.reg_book.specs.Day.{Day}
+use Rattle.reg_book.specs.Day.{DayValue}
 
 -- the accounts after the instruction at this place of a batch, counted from 1; if there is none, they stay
 abbrev pub accounts_after : Setting → BatchValue → State → ℕ → State
@@ -40,12 +40,12 @@ abbrev pub up_to : ℕ → List ℕ → List ℕ
 up_to j places = filter (λ place. nat_le place j) places
 
 -- the instruction at this place of the day touches the account
-abbrev pub Touches : Day → ℕ → ℕ → Type 0
+abbrev pub Touches : DayValue → ℕ → ℕ → Type 0
 Touches day place a = touches_place (directory_of day.book.accounts) day.batch.instructions a place ≡ true
 
 -- accounts of the day's book, and the places of the instructions that touch some of them, in the order of the batch;
 -- these instructions touch no other account
-pub record IsRegion (day : Day) (opening : State) (places : List ℕ) : Type 0 where
+pub record IsRegion (day : DayValue) (opening : State) (places : List ℕ) : Type 0 where
   pub of_book : AgreeOn (numbers opening) opening day.book.accounts
   pub rising : RiseAbove 0 places
   pub inside : (place a : ℕ) → Contains places place → Touches day place a → Contains (numbers opening) a

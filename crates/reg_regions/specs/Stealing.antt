@@ -11,8 +11,8 @@ use Rattle.reg_account.specs.Account.{AccountValue}
 use Rattle.reg_rules.specs.State.{State, Setting, numbers}
 use Rattle.reg_rules.specs.Laws.{IsReady}
 use Rattle.reg_book.specs.Indexes.{index_lists}
-use Rattle.reg_claim.specs.declared.views.View.{View}
-use Rattle.reg_counting.specs.Counting.{total, times}
+use Rattle.reg_claim.specs.declared.views.SeatView.{SeatView}
+use Rattle.reg_facts.specs.Counting.{total, times}
 use Rattle.reg_regions.specs.declared.dealing.Deal.{Deal}
 use Rattle.reg_regions.specs.declared.region.Placed.{Placed}
 use Rattle.reg_regions.specs.declared.stealing.settled_list.SettledList.{SettledList}

@@ -1,7 +1,7 @@
 //! Whether regions have all places of a batch.
 
 ghost use Rattle.std.specs.Prelude.{◌≡◌, ◌++◌, [], ◌∷◌, ℕ, List, All, IfOk, IsTrue, length};
-ghost use Rattle.reg_counting.specs.Counting.{times, once};
+ghost use Rattle.reg_facts.specs.Counting.{times, once};
 ghost use Rattle.reg_regions.specs.Homes.{AreMarked, dealt_places};
 
 use crate::dealing::Deal;

@@ -10,7 +10,7 @@ ghost use Rattle.reg_rules.specs.State.{numbers};
 ghost use Rattle.reg_rules.specs.Laws.{IsReady};
 ghost use Rattle.reg_claim.specs.Views.{fresh};
 ghost use Rattle.reg_claim.specs.Seats.{known, seat_table, table_id, places};
-ghost use Rattle.reg_counting.specs.Counting.{times};
+ghost use Rattle.reg_facts.specs.Counting.{times};
 ghost use Rattle.reg_regions.specs.Dealing.{AreDealt};
 ghost use Rattle.reg_regions.specs.Homes.{AreAllHome, dealt_places};
 ghost use Rattle.reg_regions.specs.Settling.{places_in};

@@ -3,7 +3,7 @@
 ghost use Rattle.std.specs.Prelude.{◌≡◌, ◌+◌, ◌≤◌, ℕ, All, IfOk, IfSome, false, IsTrue, MatchOption, length};
 ghost use Rattle.reg_base.specs.Rising.{IsRising};
 ghost use Rattle.reg_base.specs.Rules.{AreRules};
-ghost use Rattle.reg_counting.specs.Counting.{times, once};
+ghost use Rattle.reg_facts.specs.Counting.{times, once};
 ghost use Rattle.reg_rules.specs.Laws.{IsReady};
 ghost use Rattle.reg_rules.specs.State.{State, numbers};
 ghost use Rattle.reg_regions.specs.Dealing.{IsPrepared, AreTurned};

@@ -10,7 +10,7 @@ use Rattle.reg_base.specs.declared.instruction.Instruction.{Instruction}
 use Rattle.reg_base.specs.declared.refusals.Refusal.TheVariants.{YearOutsidePeriod, EmissionsMissing}
 use Rattle.reg_base.specs.Acts.{change_of}
 use Rattle.reg_base.specs.Rules.{RulesValue, is_in_period}
-use Rattle.reg_base.proofs.RisesFrom.{rises_from}
+use Rattle.reg_base.proofs.lemmas.RisesFrom.{rises_from}
 use Rattle.reg_base.specs.declared.kinds.Retirement.TheVariants.{Surrendered, Deleted}
 use Rattle.reg_account.specs.declared.rows.RetirementRow.{RetirementRow}
 use Rattle.reg_account.specs.declared.years.Emission.{Emission}

@@ -6,7 +6,7 @@ use Rattle.std.specs.Option.{option_or}
 use Rattle.std.proofs.lemmas.List.{reverse-append}
 use Rattle.std.proofs.lemmas.List.Folds.{find-append}
 use Rattle.reg_base.specs.Rules.{is_year_of}
-use Rattle.reg_base.proofs.RisesFrom.{RisesFrom, rises_from}
+use Rattle.reg_base.proofs.lemmas.RisesFrom.{RisesFrom, rises_from}
 use Rattle.reg_account.specs.declared.years.Figure.{Figure}
 use Rattle.reg_account.specs.Years.{figure_years}
 use Rattle.reg_rules.specs.Checks.{LatestIsOfTheLatestYear, IsLatestDetermined, latest_determined}

@@ -6,7 +6,7 @@ use Rattle.std.proofs.lemmas.Bool.{eqb-true, eq-eqb, ne_eqb}
 use Rattle.std.proofs.lemmas.Option.{same_Some, none-some}
 use Rattle.std.proofs.lemmas.List.Sums.{sum_by-cons}
 use Rattle.reg_base.specs.declared.kinds.AllowanceKind.{AllowanceKind}
-use Rattle.reg_base.proofs.RisesFrom.{RisesFrom}
+use Rattle.reg_base.proofs.lemmas.RisesFrom.{RisesFrom}
 use Rattle.reg_base.specs.declared.kinds.Retirement.{Retirement}
 use Rattle.reg_account.specs.declared.rows.RetirementRow.{RetirementRow}
 use Rattle.reg_account.specs.Rows.{retirement_of, is_same_retirement, is_same_kind, amount_in, retired_in, row_numbers}

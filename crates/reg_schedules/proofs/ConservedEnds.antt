@@ -4,13 +4,13 @@ use Rattle.std.specs.Prelude.{unwrap_or}
 use Rattle.reg_account.specs.Account.{AccountValue}
 use Rattle.reg_rules.specs.State.{State, account}
 use Rattle.reg_rules.specs.Conservation.{number_of}
-use Rattle.reg_book.specs.Day.{Day, IsDay, closing_state, settled_day}
+use Rattle.reg_book.specs.Day.{DayValue, IsDay, closing_state, settled_day}
 use Rattle.reg_book.specs.Book.{BookValue}
 use Rattle.reg_book.specs.Laws.{CommittedIsClosing}
 use Rattle.reg_book.specs.Conservation.{FoldConserves}
 use Rattle.reg_schedules.specs.Conserved.{closing_book, IsConserved}
 
-module _ (committed : CommittedIsClosing) (conserves : FoldConserves) (day : Day) (is_day : IsDay day) where
+module _ (committed : CommittedIsClosing) (conserves : FoldConserves) (day : DayValue) (is_day : IsDay day) where
   same-closing : (closing : ℕ → Option AccountValue) (s : State)
       → ((a : ℕ) → closing a ≡ account (settled_day day).accounts a)
       → map (λ v. unwrap_or (closing v.number) v) s

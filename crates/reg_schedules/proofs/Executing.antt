@@ -16,16 +16,16 @@ use Rattle.reg_rules.specs.Laws.{StepLaws}
 use Rattle.reg_plan.specs.Arrows.{touches_place}
 use Rattle.reg_plan.specs.Plans.{PlanValue, IsPlan}
 use Rattle.reg_plan.specs.Laws.{TailsAreLastTouchers}
-use Rattle.reg_book.specs.Day.{Day, setting, state_at, value_at, row_at}
+use Rattle.reg_book.specs.Day.{DayValue, setting, state_at, value_at, row_at}
 use Rattle.reg_book.specs.Laws.{EachIsAStep, NumbersStay, ValueIsLastTouchers}
 use Rattle.reg_schedules.specs.Pool.{directory, footprint_at, run_at, tail_of, leads_on, Progress, at_first, needed}
 use Rattle.reg_schedules.specs.Pool.{removed, laid, with_closing, with_log_row, after_place, executed_on, executed}
-use Rattle.reg_schedules.proofs.Members.{among_push}
-use Rattle.reg_schedules.proofs.Tails as tails
-use Rattle.reg_schedules.proofs.Tails.{clash}
-use Rattle.reg_schedules.proofs.Known.{footprint_touches, touched_known, stays_known}
-use Rattle.reg_schedules.proofs.Needed.{all_needed}
-use Rattle.reg_schedules.proofs.Ran.{ran_right}
+use Rattle.reg_schedules.proofs.lemmas.Members.{among_push}
+use Rattle.reg_schedules.proofs.lemmas.Tails as tails
+use Rattle.reg_schedules.proofs.lemmas.Tails.{clash}
+use Rattle.reg_schedules.proofs.lemmas.Known.{footprint_touches, touched_known, stays_known}
+use Rattle.reg_schedules.proofs.lemmas.Needed.{all_needed}
+use Rattle.reg_schedules.proofs.lemmas.Ran.{ran_right}
 
 -- all that is known of steps, days and plans
 pub record Known : Type 0 where
@@ -45,7 +45,8 @@ has_come done place = eqb place 0 || is_among done place
 abbrev pub pooled : Bool → Bool → Option AccountValue → Option AccountValue
 pooled head tail value = cond head None (cond tail value None)
 
-module _ (k : Known) (day : Day) (plan : PlanValue) (made : IsPlan (directory day) day.batch.instructions plan) where
+module _ (k : Known) (day : DayValue) (plan : PlanValue)
+    (made : IsPlan (directory day) day.batch.instructions plan) where
   abbrev pub On : ℕ → ℕ → Type 0
   On a place = touches_place (directory day) day.batch.instructions a place ≡ true
 

@@ -6,7 +6,7 @@ use Rattle.reg_plan.specs.declared.order.OrderFault.{OrderFault}
 use Rattle.reg_plan.specs.Plans.{PlanValue}
 use Rattle.reg_plan.specs.Orders.{first_fault_after}
 use Rattle.reg_plan.specs.Laws.{IsAtPosition}
-use Rattle.reg_book.specs.Day.{Day}
+use Rattle.reg_book.specs.Day.{DayValue}
 use Rattle.reg_schedules.specs.Pool.{meaning_of}
 use Rattle.reg_schedules.specs.Laws.{IsPlanOf, UndefinedAtFirstFault, IsFirstUndefined}
 
@@ -18,7 +18,7 @@ is-undefined : {X : Type 0} (o : Option X) → is_none o ≡ true → o ≡ None
 is-undefined None e = refl
 is-undefined (Some x) e = absurd cc
 
-pub first-undefined : UndefinedAtFirstFault → (day : Day) (plan : PlanValue) (order : List ℕ) (fault : OrderFault)
+pub first-undefined : UndefinedAtFirstFault → (day : DayValue) (plan : PlanValue) (order : List ℕ) (fault : OrderFault)
     → IsPlanOf day plan → (position : ℕ)
     → IsAtPosition plan order fault position → IsFirstUndefined day plan order fault position
 first-undefined undefined day plan order fault made position at = record {

@@ -20,15 +20,15 @@ use Rattle.reg_plan.specs.Plans.{PlanValue, IsPlan, inward}
 use Rattle.reg_plan.specs.Orders.{IsLegalOrder, waits, fault_at, first_fault_after, first_order_fault}
 use Rattle.reg_plan.specs.Laws.{NoFaultIsALegalOrder}
 use Rattle.reg_rules.specs.Step.{step, row_of}
-use Rattle.reg_book.specs.Day.{Day, setting, value_at, row_at}
+use Rattle.reg_book.specs.Day.{DayValue, setting, value_at, row_at}
 use Rattle.reg_book.specs.Laws.{UntouchedStay, SettledAreTouched}
 use Rattle.reg_schedules.specs.Pool.{directory, footprint_at, run_at, tail_of, Progress, at_first, after_place, needed}
 use Rattle.reg_schedules.specs.Pool.{executed_on, executed, executed_all, meaning_of, IsSettledDay}
 use Rattle.reg_schedules.specs.Laws.{OrderDecides}
-use Rattle.reg_schedules.proofs.Members.{In, in_from, contains_from, any_in, Missing, search_of}
-use Rattle.reg_schedules.proofs.Tails as tails
-use Rattle.reg_schedules.proofs.Known.{footprint_touches}
-use Rattle.reg_schedules.proofs.Needed.{one_missing}
+use Rattle.reg_schedules.proofs.lemmas.Members.{In, in_from, contains_from, any_in, Missing, search_of}
+use Rattle.reg_schedules.proofs.lemmas.Tails as tails
+use Rattle.reg_schedules.proofs.lemmas.Known.{footprint_touches}
+use Rattle.reg_schedules.proofs.lemmas.Needed.{one_missing}
 use Rattle.reg_schedules.proofs.Executing.{Known, has_come, pooled, Follows, MayFollow, follows_at_first, makes_at}
 use Rattle.reg_schedules.proofs.Executing.{executed_is, follows_more}
 
@@ -40,7 +40,8 @@ not_true : (b : Bool) → not b ≡ true → b ≡ false
 not_true true e = absurd cc
 not_true false e = refl
 
-module _ (k : Known) (day : Day) (plan : PlanValue) (made : IsPlan (directory day) day.batch.instructions plan) where
+module _ (k : Known) (day : DayValue) (plan : PlanValue)
+    (made : IsPlan (directory day) day.batch.instructions plan) where
   abbrev Next : List ℕ → Progress → Type 0
   Next done p = Follows k day plan made done p
 

@@ -2,15 +2,15 @@
 use Rattle.std.proofs.Common.{◌≡◌, ℕ, ◌≤◌, List, [], ◌∷◌, length, Some, refl, subst}
 use Rattle.std.specs.Prelude.{Result, Ok, Err}
 use Rattle.reg_plan.specs.Plans.{PlanValue}
-use Rattle.reg_book.specs.Day.{Day}
+use Rattle.reg_book.specs.Day.{DayValue}
 use Rattle.reg_schedules.specs.declared.event.Event.{Event}
 use Rattle.reg_schedules.specs.declared.event.EventFault.{EventFault}
 use Rattle.reg_schedules.specs.World.{WorldValue, at_start, after_event, after_result, after_events, world_after}
 use Rattle.reg_schedules.proofs.WorldSteps.{Step, step-of}
-use Rattle.reg_schedules.proofs.WorldCounts.{Stands, step-stands}
+use Rattle.reg_schedules.proofs.lemmas.WorldCounts.{Stands, step-stands}
 use Rattle.reg_schedules.proofs.WorldStart.{start-stands}
 
-module _ (day : Day) (plan : PlanValue) where
+module _ (day : DayValue) (plan : PlanValue) where
   -- each event of a schedule is a step
   pub by-steps : (P : WorldValue → Type 0) → ((w x : WorldValue) → P w → Step day plan w x → P x)
       → (events : List Event) (w x : WorldValue) → P w → after_events day plan w events ≡ Some x → P x

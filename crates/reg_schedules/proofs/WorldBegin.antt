@@ -13,25 +13,26 @@ use Rattle.reg_rules.specs.State.{account}
 use Rattle.reg_rules.specs.Laws.{StepLaws}
 use Rattle.reg_plan.specs.Plans.{PlanValue, IsPlan}
 use Rattle.reg_plan.specs.Laws.{TailsAreLastTouchers}
-use Rattle.reg_book.specs.Day.{Day}
+use Rattle.reg_book.specs.Day.{DayValue}
 use Rattle.reg_schedules.specs.Pool.{directory, footprint_at, tail_of}
 use Rattle.reg_schedules.specs.Docks.{is_name, ParcelValue, TaskValue, awaited, complete}
 use Rattle.reg_schedules.specs.World.{empty, WorldValue, at_place, arrived, opening_of, known_of, opened_at, docks_from}
 use Rattle.reg_schedules.specs.World.{ready_from, before_some, pushed_to, dealt, at_start, is_in_dock}
-use Rattle.reg_counting.specs.Counting.{one_if, total}
-use Rattle.reg_schedules.proofs.Members.{all_among}
-use Rattle.reg_schedules.proofs.Known.{footprint_touches, footprint_distinct, touched_known}
-use Rattle.reg_schedules.proofs.Needed.{number_found}
-use Rattle.reg_schedules.proofs.Tails.{is_place, is_within}
-use Rattle.reg_counting.proofs.Totals.{total-replicate}
-use Rattle.reg_schedules.proofs.WorldSums.{get-within, at_within}
-use Rattle.reg_schedules.proofs.WorldCounts.{complete-place}
+use Rattle.reg_facts.specs.Counting.{one_if, total}
+use Rattle.reg_schedules.proofs.lemmas.Members.{all_among}
+use Rattle.reg_schedules.proofs.lemmas.Known.{footprint_touches, footprint_distinct, touched_known}
+use Rattle.reg_schedules.proofs.lemmas.Needed.{number_found}
+use Rattle.reg_schedules.proofs.lemmas.Tails.{is_place, is_within}
+use Rattle.reg_facts.proofs.lemmas.Totals.{total-replicate}
+use Rattle.reg_schedules.proofs.lemmas.WorldSums.{get-within, at_within}
+use Rattle.reg_schedules.proofs.lemmas.WorldCounts.{complete-place}
 use Rattle.reg_schedules.proofs.WorldStart.{next_worker, length-docks}
-use Rattle.reg_schedules.proofs.WorldFits.{Fits, IsTask, IsHand, IsDock, Awaits, On, all-set, all-get, all-append}
-use Rattle.reg_schedules.proofs.WorldFits.{complete_names}
+use Rattle.reg_schedules.proofs.lemmas.WorldFits.{Fits, IsTask, IsHand, IsDock, Awaits, On, all-set, all-get}
+use Rattle.reg_schedules.proofs.lemmas.WorldFits.{all-append}
+use Rattle.reg_schedules.proofs.lemmas.WorldFits.{complete_names}
 use Rattle.reg_schedules.proofs.WorldReach.{times, carried, sent, lying, come_in, count, count-once, name_differs}
 use Rattle.reg_schedules.proofs.WorldReach.{complete-has}
-use Rattle.reg_schedules.proofs.WorldSent.{Reaches}
+use Rattle.reg_schedules.proofs.lemmas.WorldSent.{Reaches}
 
 pub all-dealt : (P : TaskValue → Type 0) (worker : ℕ) (tasks : List TaskValue) (lists : List (List TaskValue))
     → worker < length lists → AllByRecursion P tasks → AllByRecursion (AllByRecursion P) lists
@@ -57,7 +58,7 @@ none-come zero (suc k) low = refl
 none-come (suc n) (suc zero) low = refl
 none-come (suc n) (suc (suc k)) low = none-come n (suc k) (omega arith)
 
-module _ (day : Day) (plan : PlanValue) where
+module _ (day : DayValue) (plan : PlanValue) where
   -- a dock waits if what lies there is not all
   abbrev pub opened_dock : ℕ → Option (List ParcelValue)
   opened_dock place = if is_some (complete day plan place (opened_at day plan place)) then None else Some
@@ -146,7 +147,7 @@ module _ (day : Day) (plan : PlanValue) where
           other true (Some v) f = rw f (omega (arith, rest, ap one_if (not-here v (same-name v f ∙ e))))
 
 module _ (laws : StepLaws) (sound : EachFootprintIsSound) (tails : TailsAreLastTouchers) (last : LastToucherIsLast)
-    (day : Day) (plan : PlanValue) (made : IsPlan (directory day) day.batch.instructions plan) where
+    (day : DayValue) (plan : PlanValue) (made : IsPlan (directory day) day.batch.instructions plan) where
   abbrev pub Start : ℕ → WorldValue
   Start workers = at_start day plan workers
 

@@ -16,7 +16,7 @@ use Rattle.reg_rules.specs.Laws.{StepLaws}
 use Rattle.reg_plan.specs.declared.arrow.Arrow.{Arrow}
 use Rattle.reg_plan.specs.Plans.{PlanValue, IsPlan, inward, outward}
 use Rattle.reg_plan.specs.Laws.{TailsAreLastTouchers}
-use Rattle.reg_book.specs.Day.{Day}
+use Rattle.reg_book.specs.Day.{DayValue}
 use Rattle.reg_schedules.specs.Pool.{directory, footprint_at, leads_on}
 use Rattle.reg_schedules.specs.declared.event.Event.{Event}
 use Rattle.reg_schedules.specs.declared.event.EventFault.{EventFault}
@@ -24,18 +24,18 @@ use Rattle.reg_schedules.specs.Docks.{ParcelValue, TaskValue, complete}
 use Rattle.reg_schedules.specs.World.{HandValue, Holds, Carries, empty, WorldValue, at_place, with_place, opened_at}
 use Rattle.reg_schedules.specs.World.{docks_from, ready_from, before_some, pushed_to, left_by, goes_on, after_delivery}
 use Rattle.reg_schedules.specs.World.{at_start, after_event, after_result, after_events, world_after}
-use Rattle.reg_counting.specs.Counting.{one_if, total}
-use Rattle.reg_schedules.proofs.Known.{footprint_distinct}
-use Rattle.reg_schedules.proofs.Tails.{clash}
-use Rattle.reg_counting.proofs.Totals.{total-set, total-append, total-replicate}
-use Rattle.reg_schedules.proofs.WorldSums.{place-within, get-within}
+use Rattle.reg_facts.specs.Counting.{one_if, total}
+use Rattle.reg_schedules.proofs.lemmas.Known.{footprint_distinct}
+use Rattle.reg_schedules.proofs.lemmas.Tails.{clash}
+use Rattle.reg_facts.proofs.lemmas.Totals.{total-set, total-append, total-replicate}
+use Rattle.reg_schedules.proofs.lemmas.WorldSums.{place-within, get-within}
 use Rattle.reg_schedules.proofs.WorldSteps.{Moves, Pushes, Runs, Step, moves, runs, delivers, pushes, step-of}
-use Rattle.reg_schedules.proofs.WorldCounts.{dock-of}
+use Rattle.reg_schedules.proofs.lemmas.WorldCounts.{dock-of}
 use Rattle.reg_schedules.proofs.WorldStart.{total-dealt}
-use Rattle.reg_schedules.proofs.WorldFits.{IsHand, all-get}
+use Rattle.reg_schedules.proofs.lemmas.WorldFits.{IsHand, all-get}
 use Rattle.reg_schedules.proofs.WorldReach.{count, count-once, count-missing}
-use Rattle.reg_schedules.proofs.WorldSent.{run-numbers, numbers-of, firsts, held-undone}
-use Rattle.reg_schedules.proofs.WorldEnds.{Whole, whole-step, whole-start}
+use Rattle.reg_schedules.proofs.lemmas.WorldSent.{run-numbers, numbers-of, firsts, held-undone}
+use Rattle.reg_schedules.proofs.lemmas.WorldEnds.{Whole, whole-step, whole-start}
 
 -- what is left to do: three events for a place in its dock or ready in a hand, two for one in a list, one for one in a
 -- hand, and one for each parcel that is not delivered
@@ -204,7 +204,7 @@ row-placed arrows rows row zero e = absurd cc
 row-placed arrows rows row (suc k) e = row-comes arrows 1 rows k row (suc k) (omega arith) e
 
 module _ (laws : StepLaws) (sound : EachFootprintIsSound) (tails : TailsAreLastTouchers) (last : LastToucherIsLast)
-    (day : Day) (plan : PlanValue) (made : IsPlan (directory day) day.batch.instructions plan) where
+    (day : DayValue) (plan : PlanValue) (made : IsPlan (directory day) day.batch.instructions plan) where
   abbrev pub Held : ℕ → WorldValue → Type 0
   Held workers w = Whole laws sound tails last day plan made workers w
 

@@ -14,13 +14,13 @@ use Rattle.reg_rules.specs.State.{State, Setting, account, numbers}
 use Rattle.reg_rules.specs.Step.{step}
 use Rattle.reg_plan.specs.Plans.{PlanValue, IsPlan}
 use Rattle.reg_book.specs.Fold.{rows_of}
-use Rattle.reg_book.specs.Day.{Day, value_at, row_at, log_of}
+use Rattle.reg_book.specs.Day.{DayValue, value_at, row_at, log_of}
 use Rattle.reg_schedules.specs.Pool.{directory}
 use Rattle.reg_schedules.specs.declared.event.Event.{Event}
 use Rattle.reg_schedules.specs.World.{WorldValue, at_place, is_over, world_after}
 use Rattle.reg_schedules.specs.Schedules.{HasRightValues, IsWorldSettled, ScheduleDecides}
-use Rattle.reg_schedules.proofs.Known.{found_among, stays_known, touched_account}
-use Rattle.reg_schedules.proofs.Ran.{found_by_number}
+use Rattle.reg_schedules.proofs.lemmas.Known.{found_among, stays_known, touched_account}
+use Rattle.reg_schedules.proofs.lemmas.Ran.{found_by_number}
 use Rattle.reg_schedules.proofs.Executing.{Known}
 use Rattle.reg_schedules.proofs.Orders.{among_last}
 use Rattle.reg_schedules.proofs.WorldOrder.{WholeOf, Ordered, ordered-after}
@@ -56,7 +56,8 @@ row-there rows place e = by (at_place rows place) e
     by (Some row) f = refl
     by None f = absurd cc
 
-module _ (k : Known) (day : Day) (plan : PlanValue) (made : IsPlan (directory day) day.batch.instructions plan) where
+module _ (k : Known) (day : DayValue) (plan : PlanValue)
+    (made : IsPlan (directory day) day.batch.instructions plan) where
   last-values : (order : List ℕ) (w : WorldValue) → Ordered k day plan made order w
       → AllByRecursion (λ v. value_at day v.number (length day.batch.instructions) ≡ Some v) w.closing
   last-values order w h = all w.closing (found_by_number w.closing h.once)

@@ -10,17 +10,17 @@ use Rattle.reg_plan.specs.declared.order.OrderFault.{OrderFault}
 use Rattle.reg_plan.specs.Plans.{PlanValue, IsPlan}
 use Rattle.reg_plan.specs.Orders.{IsLegalOrder, first_fault_after}
 use Rattle.reg_plan.specs.Laws.{NoFaultIsALegalOrder}
-use Rattle.reg_book.specs.Day.{Day}
+use Rattle.reg_book.specs.Day.{DayValue}
 use Rattle.reg_schedules.specs.declared.event.Event.{Event}
 use Rattle.reg_schedules.specs.declared.event.EventFault.{EventFault}
 use Rattle.reg_schedules.specs.Pool.{directory, Progress, meaning_of}
 use Rattle.reg_schedules.specs.World.{WorldValue, after_event, is_over}
-use Rattle.reg_counting.specs.Counting.{one_if, total}
+use Rattle.reg_facts.specs.Counting.{one_if, total}
 use Rattle.reg_schedules.proofs.Executing.{Known}
 use Rattle.reg_schedules.proofs.Orders.{undefined_is_fault, fault_is}
 use Rattle.reg_schedules.proofs.WorldSteps.{Step, step-of}
-use Rattle.reg_schedules.proofs.WorldEnds.{whole-step}
-use Rattle.reg_schedules.proofs.WorldPossible.{some-possible}
+use Rattle.reg_schedules.proofs.lemmas.WorldEnds.{whole-step}
+use Rattle.reg_schedules.proofs.lemmas.WorldPossible.{some-possible}
 use Rattle.reg_schedules.proofs.WorldBound.{left_to_do, step-uses}
 use Rattle.reg_schedules.proofs.WorldOrder.{WholeOf, Ordered, step-ordered}
 
@@ -30,7 +30,7 @@ all-ones [] all = refl
 all-ones (r ∷ rs) all = let both = and_parts (is_some r) (list_all is_some rs) all in
     omega (arith, ap one_if both.0, all-ones rs both.1)
 
-module _ (k : Known) (legal : NoFaultIsALegalOrder) (day : Day) (plan : PlanValue)
+module _ (k : Known) (legal : NoFaultIsALegalOrder) (day : DayValue) (plan : PlanValue)
     (made : IsPlan (directory day) day.batch.instructions plan) where
   no-fault : (order : List ℕ) (p : Progress) → meaning_of day plan order ≡ Some p
       → first_fault_after plan.arrows (length day.batch.instructions) [] order ≡ None

@@ -12,7 +12,7 @@ use Rattle.reg_account.specs.Account.{AccountValue}
 use Rattle.reg_rules.specs.declared.reply.LogRow.{LogRow}
 use Rattle.reg_rules.specs.State.{State, account, numbers}
 use Rattle.reg_plan.specs.Plans.{PlanValue, IsPlan, inward}
-use Rattle.reg_book.specs.Day.{Day, value_at}
+use Rattle.reg_book.specs.Day.{DayValue, value_at}
 use Rattle.reg_schedules.specs.declared.event.Event.{Event}
 use Rattle.reg_schedules.specs.Pool.{directory, footprint_at, run_at, tail_of, leads_on, Progress, at_first, and_more}
 use Rattle.reg_schedules.specs.Pool.{needed, with_closing, with_log_row, after_place, executed, executed_all}
@@ -20,24 +20,24 @@ use Rattle.reg_schedules.specs.Docks.{ParcelValue, TaskValue, names_needed, comp
 use Rattle.reg_schedules.specs.World.{Holds, WorldValue, at_place, with_place, left_by, goes_on, after_run}
 use Rattle.reg_schedules.specs.World.{after_delivery, at_start, is_in_dock, is_done, world_after}
 use Rattle.reg_schedules.specs.Schedules.{IsRight, AreRight, in_hand, world_row_in, IsEachParcel, IsMadeBy}
-use Rattle.reg_counting.specs.Counting.{one_if, total}
-use Rattle.reg_counting.proofs.Totals.{total-replicate}
-use Rattle.reg_schedules.proofs.Members.{all_among}
-use Rattle.reg_schedules.proofs.Known.{footprint_touches, footprint_distinct, found_among}
-use Rattle.reg_schedules.proofs.Needed.{number_found}
-use Rattle.reg_schedules.proofs.Ran.{results_right}
+use Rattle.reg_facts.specs.Counting.{one_if, total}
+use Rattle.reg_facts.proofs.lemmas.Totals.{total-replicate}
+use Rattle.reg_schedules.proofs.lemmas.Members.{all_among}
+use Rattle.reg_schedules.proofs.lemmas.Known.{footprint_touches, footprint_distinct, found_among}
+use Rattle.reg_schedules.proofs.lemmas.Needed.{number_found}
+use Rattle.reg_schedules.proofs.lemmas.Ran.{results_right}
 use Rattle.reg_schedules.proofs.Executing as orders
 use Rattle.reg_schedules.proofs.Executing.{Known, pooled, Follows, MayFollow, Makes, IsMade, follows_at_first, makes_at}
 use Rattle.reg_schedules.proofs.Executing.{executed_is, follows_more, among_same, among_other}
-use Rattle.reg_schedules.proofs.Tails.{clash, last_of_all}
-use Rattle.reg_schedules.proofs.WorldSums.{at-most-total, if-true, if-false, get-within, place-there, place-else}
-use Rattle.reg_schedules.proofs.WorldSums.{place-within}
+use Rattle.reg_schedules.proofs.lemmas.Tails.{clash, last_of_all}
+use Rattle.reg_schedules.proofs.lemmas.WorldSums.{at-most-total, if-true, if-false, get-within, place-there, place-else}
+use Rattle.reg_schedules.proofs.lemmas.WorldSums.{place-within}
 use Rattle.reg_schedules.proofs.WorldSteps.{Step, moves, runs, delivers, pushes}
-use Rattle.reg_schedules.proofs.WorldCounts.{dock-of, in_hand_once}
-use Rattle.reg_schedules.proofs.WorldFits.{names_are, IsTask, IsHand, On, all-get, all-append}
+use Rattle.reg_schedules.proofs.lemmas.WorldCounts.{dock-of, in_hand_once}
+use Rattle.reg_schedules.proofs.lemmas.WorldFits.{names_are, IsTask, IsHand, On, all-get, all-append}
 use Rattle.reg_schedules.proofs.WorldReach.{come_in, has_come}
-use Rattle.reg_schedules.proofs.WorldSent.{run-numbers, numbers-of, firsts, held-undone}
-use Rattle.reg_schedules.proofs.WorldEnds.{Whole, whole-step, whole-start}
+use Rattle.reg_schedules.proofs.lemmas.WorldSent.{run-numbers, numbers-of, firsts, held-undone}
+use Rattle.reg_schedules.proofs.lemmas.WorldEnds.{Whole, whole-step, whole-start}
 use Rattle.reg_schedules.proofs.WorldBound.{total-place, undone-row}
 use Rattle.reg_schedules.proofs.WorldValues.{all-kept, move-each, push-each, deliver-each, run-each, start-each}
 use Rattle.reg_schedules.proofs.Schedules.{by-steps}
@@ -145,12 +145,12 @@ row-done w place = by (at_place w.rows place)
     by (Some None) = refl
     by (Some (Some row)) = refl
 
-left-right : (day : Day) (place : ℕ) (vs : State) → AllByRecursion (λ v. value_at day v.number place ≡ Some v) vs
+left-right : (day : DayValue) (place : ℕ) (vs : State) → AllByRecursion (λ v. value_at day v.number place ≡ Some v) vs
     → AreRight day (left_by place vs)
 left-right day place [] all = tt
 left-right day place (v ∷ vs) all = (all.0, left-right day place vs all.1)
 
-executed-more : (day : Day) (plan : PlanValue) (xs : List ℕ) (o : Option Progress) (p q : Progress) (place : ℕ)
+executed-more : (day : DayValue) (plan : PlanValue) (xs : List ℕ) (o : Option Progress) (p q : Progress) (place : ℕ)
     → executed_all day plan o xs ≡ Some p → executed day plan p place ≡ Some q
     → executed_all day plan o (xs ++ place ∷ []) ≡ Some q
 executed-more day plan [] None p q place e f = absurd cc
@@ -159,7 +159,8 @@ executed-more day plan [] (Some r) p q place e f = let same : r ≡ p = cc in
     ap (λ o. executed_all day plan o []) (ap (λ s. executed day plan s place) same ∙ f)
 executed-more day plan (x ∷ xs) (Some r) p q place e f = executed-more day plan xs (executed day plan r x) p q place e f
 
-module _ (k : Known) (day : Day) (plan : PlanValue) (made : IsPlan (directory day) day.batch.instructions plan) where
+module _ (k : Known) (day : DayValue) (plan : PlanValue)
+    (made : IsPlan (directory day) day.batch.instructions plan) where
   abbrev pub WholeOf : ℕ → WorldValue → Type 0
   WholeOf workers w = Whole k.steps k.sound k.tails k.last day plan made workers w
 

@@ -11,23 +11,23 @@ use Rattle.reg_rules.specs.Laws.{StepLaws}
 use Rattle.reg_plan.specs.declared.arrow.Arrow.{Arrow}
 use Rattle.reg_plan.specs.Plans.{PlanValue, IsPlan, inward}
 use Rattle.reg_plan.specs.Laws.{TailsAreLastTouchers}
-use Rattle.reg_book.specs.Day.{Day}
+use Rattle.reg_book.specs.Day.{DayValue}
 use Rattle.reg_schedules.specs.Pool.{directory, footprint_at, tail_in, tail_of}
 use Rattle.reg_schedules.specs.Docks.{is_name, ParcelValue, TaskValue, names_needed, awaited}
 use Rattle.reg_schedules.specs.World.{HandValue, Holds, Carries, WorldValue, is_in_dock, is_done}
 use Rattle.reg_schedules.specs.Schedules.{in_dock, in_hand, times_named, has_come}
-use Rattle.reg_counting.specs.Counting.{one_if, total}
-use Rattle.reg_counting.proofs.Totals.{total-append}
-use Rattle.reg_schedules.proofs.Members.{all_among}
-use Rattle.reg_schedules.proofs.Known.{footprint_touches, footprint_distinct}
-use Rattle.reg_schedules.proofs.Tails.{clash, is_place, is_within}
-use Rattle.reg_schedules.proofs.WorldCounts.{in_list, in_hand_once}
-use Rattle.reg_schedules.proofs.WorldFits.{name_is, names_are, IsTask, IsHand, On, Awaits}
+use Rattle.reg_facts.specs.Counting.{one_if, total}
+use Rattle.reg_facts.proofs.lemmas.Totals.{total-append}
+use Rattle.reg_schedules.proofs.lemmas.Members.{all_among}
+use Rattle.reg_schedules.proofs.lemmas.Known.{footprint_touches, footprint_distinct}
+use Rattle.reg_schedules.proofs.lemmas.Tails.{clash, is_place, is_within}
+use Rattle.reg_schedules.proofs.lemmas.WorldCounts.{in_list, in_hand_once}
+use Rattle.reg_schedules.proofs.lemmas.WorldFits.{name_is, names_are, IsTask, IsHand, On, Awaits}
 use Rattle.reg_schedules.proofs.WorldReach.{times, carried, lying, sent, docked, count, count-once, name_same}
 use Rattle.reg_schedules.proofs.WorldReach.{name_differs}
 use Rattle.reg_schedules.proofs.WorldReach as reach
-use Rattle.reg_schedules.proofs.WorldSent.{one-head}
-use Rattle.reg_schedules.proofs.WorldEnds.{Whole}
+use Rattle.reg_schedules.proofs.lemmas.WorldSent.{one-head}
+use Rattle.reg_schedules.proofs.lemmas.WorldEnds.{Whole}
 
 -- ---- sums
 
@@ -96,7 +96,7 @@ times-needed arrows (b ∷ more) (p ∷ ps) a e = by (eqb b a) refl (times-neede
         omega (arith, one, ap one_if is, rest)
 
 module _ (laws : StepLaws) (sound : EachFootprintIsSound) (tails : TailsAreLastTouchers) (last : LastToucherIsLast)
-    (day : Day) (plan : PlanValue) (made : IsPlan (directory day) day.batch.instructions plan) where
+    (day : DayValue) (plan : PlanValue) (made : IsPlan (directory day) day.batch.instructions plan) where
   abbrev pub Touched : ℕ → ℕ → Type 0
   Touched a place = On tails last day plan made a place
 

@@ -7,25 +7,25 @@ use Rattle.std.proofs.lemmas.Bool.{eq-eqb, ne_eqb}
 use Rattle.reg_base.specs.Footprint.{is_among}
 use Rattle.reg_account.specs.Account.{AccountValue}
 use Rattle.reg_plan.specs.Plans.{PlanValue, IsPlan}
-use Rattle.reg_book.specs.Day.{Day, value_at}
+use Rattle.reg_book.specs.Day.{DayValue, value_at}
 use Rattle.reg_schedules.specs.Pool.{directory, tail_of}
 use Rattle.reg_schedules.specs.Docks.{is_name, ParcelValue, TaskValue}
 use Rattle.reg_schedules.specs.World.{HandValue, Holds, Carries, WorldValue, at_place, goes_on, is_in_dock, is_done}
 use Rattle.reg_schedules.specs.Schedules.{IsRight, AreRight, in_dock, in_hand, times_named, IsEachParcel}
 use Rattle.reg_schedules.specs.Schedules as world
-use Rattle.reg_counting.specs.Counting.{one_if, total}
-use Rattle.reg_schedules.proofs.Known.{stays_known, touched_known}
+use Rattle.reg_facts.specs.Counting.{one_if, total}
+use Rattle.reg_schedules.proofs.lemmas.Known.{stays_known, touched_known}
 use Rattle.reg_schedules.proofs.WorldParcels.{task-awaits, value-once}
 use Rattle.reg_schedules.proofs.Executing as orders
 use Rattle.reg_schedules.proofs.Executing.{Known, pooled}
-use Rattle.reg_schedules.proofs.WorldSums.{at-most-total, one-most, if-true, if-false, is-true}
-use Rattle.reg_schedules.proofs.WorldSent.{counted}
-use Rattle.reg_schedules.proofs.WorldCounts.{in_list, in_hand_once}
-use Rattle.reg_schedules.proofs.WorldFits.{name_is, IsTask, IsHand, On, Awaits, all-get, all-append, head_awaits}
+use Rattle.reg_schedules.proofs.lemmas.WorldSums.{at-most-total, one-most, if-true, if-false, is-true}
+use Rattle.reg_schedules.proofs.lemmas.WorldSent.{counted}
+use Rattle.reg_schedules.proofs.lemmas.WorldCounts.{in_list, in_hand_once}
+use Rattle.reg_schedules.proofs.lemmas.WorldFits.{name_is, IsTask, IsHand, On, Awaits, all-get, all-append, head_awaits}
 use Rattle.reg_schedules.proofs.WorldReach.{times, carried, sent, lying, docked, has_come, name_same}
-use Rattle.reg_schedules.proofs.WorldPossible.{head-of, waits-there}
+use Rattle.reg_schedules.proofs.lemmas.WorldPossible.{head-of, waits-there}
 use Rattle.reg_schedules.proofs.WorldValues.{all-before, all-behind}
-use Rattle.reg_schedules.proofs.Tails.{is_place, is_within}
+use Rattle.reg_schedules.proofs.lemmas.Tails.{is_place, is_within}
 use Rattle.reg_schedules.proofs.WorldOrder.{WholeOf, Ordered, come-in-order}
 
 -- what holds of the item at each index holds of all
@@ -42,7 +42,8 @@ times-there ps i p e = omega (
   at-most-total (λ q. one_if (is_name (name_is q) (name_is p))) ps i p e,
 )
 
-module _ (k : Known) (day : Day) (plan : PlanValue) (made : IsPlan (directory day) day.batch.instructions plan) where
+module _ (k : Known) (day : DayValue) (plan : PlanValue)
+    (made : IsPlan (directory day) day.batch.instructions plan) where
   abbrev Expects : ℕ → ParcelValue → Type 0
   Expects place p = Awaits k.tails k.last day plan made place p
 

@@ -10,14 +10,14 @@ use Rattle.reg_rules.specs.declared.reply.LogRow.{LogRow}
 use Rattle.reg_rules.specs.State.{State, numbers}
 use Rattle.reg_plan.specs.declared.arrow.Arrow.{Arrow}
 use Rattle.reg_plan.specs.Plans.{PlanValue, inward}
-use Rattle.reg_book.specs.Day.{Day}
+use Rattle.reg_book.specs.Day.{DayValue}
 use Rattle.reg_schedules.specs.Pool.{footprint_at, tail_of, tail_in, leads_on}
 use Rattle.reg_schedules.specs.Docks.{names_needed, is_name, ParcelValue, TaskValue, of_name, of_names, before_all}
 use Rattle.reg_schedules.specs.Docks.{awaited, complete}
 use Rattle.reg_schedules.specs.World.{HandValue, Holds, Carries, WorldValue, arrived, left_by, goes_on}
-use Rattle.reg_counting.specs.Counting.{one_if, total}
-use Rattle.reg_schedules.proofs.Tails.{clash}
-use Rattle.reg_schedules.proofs.WorldFits.{name_is, same_name}
+use Rattle.reg_facts.specs.Counting.{one_if, total}
+use Rattle.reg_schedules.proofs.lemmas.Tails.{clash}
+use Rattle.reg_schedules.proofs.lemmas.WorldFits.{name_is, same_name}
 
 -- ---- how often a name is among parcels
 
@@ -166,7 +166,7 @@ at-needed P arrows (b ∷ bs) a all e = by (eqb b a) refl e (at-needed P arrows 
     by true same f rest = subst (λ n. P (n, tail_in arrows n)) (eqb-true b a same) all.0
     by false other f rest = rest f
 
-pub complete-has : (day : Day) (plan : PlanValue) (place a : ℕ) (parcels : List ParcelValue) (t : TaskValue)
+pub complete-has : (day : DayValue) (plan : PlanValue) (place a : ℕ) (parcels : List ParcelValue) (t : TaskValue)
     → complete day plan place parcels ≡ Some t → is_among (footprint_at day place) a ≡ true
     → 1 ≤ times (a, tail_of plan place a) parcels
 complete-has day plan place a parcels t e among =

@@ -7,16 +7,16 @@ use Rattle.std.proofs.lemmas.Bool.{eq-eqb, eqb-true}
 use Rattle.std.proofs.lemmas.List.{length-set, length-replicate}
 use Rattle.reg_rules.specs.declared.reply.LogRow.{LogRow}
 use Rattle.reg_plan.specs.Plans.{PlanValue}
-use Rattle.reg_book.specs.Day.{Day}
+use Rattle.reg_book.specs.Day.{DayValue}
 use Rattle.reg_schedules.specs.Docks.{ParcelValue, TaskValue, complete}
 use Rattle.reg_schedules.specs.World.{empty, at_place, opened_at, docks_from, ready_from, before_some, pushed_to, dealt}
 use Rattle.reg_schedules.specs.World.{at_start}
-use Rattle.reg_counting.specs.Counting.{one_if, total}
+use Rattle.reg_facts.specs.Counting.{one_if, total}
 use Rattle.reg_schedules.specs.Schedules.{times_found}
-use Rattle.reg_schedules.proofs.Tails.{clash}
-use Rattle.reg_counting.proofs.Totals.{total-set, total-append, total-replicate}
-use Rattle.reg_schedules.proofs.WorldSums.{get-within}
-use Rattle.reg_schedules.proofs.WorldCounts.{in_list, in_hand_once, Stands, complete-place}
+use Rattle.reg_schedules.proofs.lemmas.Tails.{clash}
+use Rattle.reg_facts.proofs.lemmas.Totals.{total-set, total-append, total-replicate}
+use Rattle.reg_schedules.proofs.lemmas.WorldSums.{get-within}
+use Rattle.reg_schedules.proofs.lemmas.WorldCounts.{in_list, in_hand_once, Stands, complete-place}
 
 -- a deal gives each task to one list
 length-dealt : (worker : ℕ) (tasks : List TaskValue) (lists : List (List TaskValue))
@@ -46,7 +46,7 @@ total-dealt f worker (t ∷ ts) lists lt =
     (slice_set lists worker (l.0 ++ t ∷ [])) (rw long (next_worker worker (length lists) lt)) in
     rw more (omega (arith, next, total-set (total f) lists worker l.0 (l.0 ++ t ∷ []) l.1, total-append f l.0 (t ∷ [])))
 
-module _ (day : Day) (plan : PlanValue) where
+module _ (day : DayValue) (plan : PlanValue) where
   pub length-docks : (place more : ℕ) → length (docks_from day plan place more) ≡ more
   length-docks place zero = refl
   length-docks place (suc more) = omega (arith, length-docks (suc place) more)
@@ -108,7 +108,7 @@ module _ (day : Day) (plan : PlanValue) where
         apart (is_some (complete day plan place (opened_at day plan place))) place q (λ f. omega (arith, e, f)),
       )
 
-pub start-stands : (day : Day) (plan : PlanValue) (workers : ℕ) → 1 ≤ workers
+pub start-stands : (day : DayValue) (plan : PlanValue) (workers : ℕ) → 1 ≤ workers
     → Stands (length day.batch.instructions) workers (at_start day plan workers)
 start-stands day plan workers some = record {
   docks = length-docks day plan 1 n;

@@ -5,7 +5,7 @@ use Rattle.std.specs.Option.{option_map_or}
 use Rattle.reg_rules.specs.declared.reply.LogRow.{LogRow}
 use Rattle.reg_rules.specs.State.{State}
 use Rattle.reg_plan.specs.Plans.{PlanValue}
-use Rattle.reg_book.specs.Day.{Day}
+use Rattle.reg_book.specs.Day.{DayValue}
 use Rattle.reg_schedules.specs.Pool.{run_at}
 use Rattle.reg_schedules.specs.declared.event.Event.{Event}
 use Rattle.reg_schedules.specs.declared.event.Event.TheVariants.{Pop, Steal, Run, Deliver, Push}
@@ -28,7 +28,7 @@ pub record Pushes (w : WorldValue) (worker : ℕ) (task : TaskValue) (ps : List 
   pub hand : slice_get w.hands worker ≡ Some (Carries (Some task) ps)
   pub now : record w { lists = pushed_to worker task w.lists; hands = slice_set w.hands worker (Carries None ps) } ≡ x
 
-module _ (day : Day) (plan : PlanValue) where
+module _ (day : DayValue) (plan : PlanValue) where
   -- the task in a hand was run
   pub record Runs (w : WorldValue) (worker : ℕ) (task : TaskValue) (made : State × LogRow) (x : WorldValue) :
       Type 0 where

@@ -10,17 +10,17 @@ use Rattle.std.proofs.lemmas.Option.{slice_get_within}
 use Rattle.reg_rules.specs.declared.reply.LogRow.{LogRow}
 use Rattle.reg_rules.specs.State.{State, account}
 use Rattle.reg_plan.specs.Plans.{PlanValue}
-use Rattle.reg_book.specs.Day.{Day}
+use Rattle.reg_book.specs.Day.{DayValue}
 use Rattle.reg_schedules.specs.Pool.{footprint_at, tail_of}
 use Rattle.reg_schedules.specs.Docks.{ParcelValue, TaskValue, of_name, of_names, before_all, awaited, complete}
 use Rattle.reg_schedules.specs.World.{Holds, Carries, empty, WorldValue, at_place, with_place, opening_of, known_of}
 use Rattle.reg_schedules.specs.World.{opened_at, docks_from, ready_from, before_some, at_start, pushed_to, left_by}
 use Rattle.reg_schedules.specs.World.{goes_on, after_delivery}
 use Rattle.reg_schedules.specs.Schedules.{in_dock, in_hand, IsEachParcel}
-use Rattle.reg_schedules.proofs.WorldSums.{get-within}
+use Rattle.reg_schedules.proofs.lemmas.WorldSums.{get-within}
 use Rattle.reg_schedules.proofs.WorldSteps.{Moves, Pushes, Runs}
-use Rattle.reg_schedules.proofs.WorldCounts.{Stands}
-use Rattle.reg_schedules.proofs.WorldFits.{all-get, all-set, all-append}
+use Rattle.reg_schedules.proofs.lemmas.WorldCounts.{Stands}
+use Rattle.reg_schedules.proofs.lemmas.WorldFits.{all-get, all-set, all-append}
 use Rattle.reg_schedules.proofs.WorldBegin.{all-dealt, all-replicate}
 
 -- ---- lists
@@ -75,7 +75,8 @@ names-all P parcels ps (n ∷ more) all e =
     by (Some q) None f g h rest = absurd cc
     by None os f g h rest = absurd cc
 
-pub complete-all : (P : ParcelValue → Type 0) (day : Day) (plan : PlanValue) (place : ℕ) (parcels : List ParcelValue)
+pub complete-all : (P : ParcelValue → Type 0) (day : DayValue) (plan : PlanValue) (place : ℕ)
+    (parcels : List ParcelValue)
     (t : TaskValue) → AllByRecursion P parcels → complete day plan place parcels ≡ Some t → AllByRecursion P t.parcels
 complete-all P day plan place parcels t all e =
     by (eqb (length parcels) (length (awaited day plan place))) (of_names parcels (awaited day plan place)) refl e
@@ -124,7 +125,7 @@ module _ (P : ParcelValue → Type 0) where
             (all-behind P task.parcels ps hand);
       })
 
-  pub deliver-each : (day : Day) (plan : PlanValue) (w : WorldValue) (worker : ℕ) (p : ParcelValue)
+  pub deliver-each : (day : DayValue) (plan : PlanValue) (w : WorldValue) (worker : ℕ) (p : ParcelValue)
       (ps : List ParcelValue) (place : ℕ) (came : List ParcelValue) (o : Option TaskValue) → All w
       → slice_get w.hands worker ≡ Some (Carries None (p ∷ ps))
       → at_place w.docks place ≡ Some (Some came) → complete day plan place (came ++ p ∷ []) ≡ o
@@ -149,7 +150,7 @@ module _ (P : ParcelValue → Type 0) where
             (all-append P t.parcels ps task hand.1);
       }
 
-  pub run-each : (day : Day) (plan : PlanValue) (w x : WorldValue) (worker : ℕ) (task : TaskValue)
+  pub run-each : (day : DayValue) (plan : PlanValue) (w x : WorldValue) (worker : ℕ) (task : TaskValue)
       (out : State × LogRow) → All w → Each (left_by task.place out.0) → Runs day plan w worker task out x → All x
   run-each day plan w x worker task out r left ran = subst All ran.now (record {
     docks = r.docks;
@@ -161,7 +162,8 @@ module _ (P : ParcelValue → Type 0) where
 
   -- ---- the start
 
-  module _ (day : Day) (plan : PlanValue) (opening : (a : ℕ) (v : AccountValue) → account day.book.accounts a ≡ Some v
+  module _ (day : DayValue) (plan : PlanValue)
+      (opening : (a : ℕ) (v : AccountValue) → account day.book.accounts a ≡ Some v
       → P (record { value = v; after = 0 })) where
     opened-each : (accounts : List ℕ) → Each (known_of (map (opening_of day) accounts))
     opened-each [] = tt

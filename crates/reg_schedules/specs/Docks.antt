@@ -6,7 +6,7 @@ use Rattle.std.specs.List.{list_any}
 use Rattle.reg_account.specs.Account.{AccountValue}
 use Rattle.reg_plan.specs.declared.arrow.Arrow.{Arrow}
 use Rattle.reg_plan.specs.Plans.{PlanValue, inward}
-use Rattle.reg_book.specs.Day.{Day}
+use Rattle.reg_book.specs.Day.{DayValue}
 use Rattle.reg_schedules.specs.Pool.{footprint_at, tail_in}
 
 -- a parcel: an account as the instruction at a place left it, or, at place 0, as it was at first
@@ -33,7 +33,7 @@ names_needed arrows [] = []
 names_needed arrows (a ∷ more) = (a, tail_in arrows a) ∷ names_needed arrows more
 
 -- the names of the parcels that a place awaits
-abbrev pub awaited : Day → PlanValue → ℕ → List (ℕ × ℕ)
+abbrev pub awaited : DayValue → PlanValue → ℕ → List (ℕ × ℕ)
 awaited day plan place = names_needed (inward plan.arrows place) (footprint_at day place)
 
 -- the first of these parcels that has the name
@@ -51,20 +51,20 @@ of_names parcels [] = Some []
 of_names parcels (name ∷ more) = before_all (of_name parcels name) (of_names parcels more)
 
 -- the task of a place, if these parcels are those that it awaits, in any order
-abbrev pub complete : Day → PlanValue → ℕ → List ParcelValue → Option TaskValue
+abbrev pub complete : DayValue → PlanValue → ℕ → List ParcelValue → Option TaskValue
 complete day plan place parcels =
     if length parcels == length (awaited day plan place)
     then option_map (λ ps. record { place = place; parcels = ps }) (of_names parcels (awaited day plan place))
     else None
 
 -- the names of the parcels that a place still awaits after these came
-abbrev pub still_awaited : Day → PlanValue → ℕ → List ParcelValue → List (ℕ × ℕ)
+abbrev pub still_awaited : DayValue → PlanValue → ℕ → List ParcelValue → List (ℕ × ℕ)
 still_awaited day plan place came = filter (λ name. not (is_some (of_name came name))) (awaited day plan place)
 
 -- the parcel is not awaited, or has come already
-abbrev pub is_not_awaited : Day → PlanValue → ℕ → List ParcelValue → ParcelValue → Bool
+abbrev pub is_not_awaited : DayValue → PlanValue → ℕ → List ParcelValue → ParcelValue → Bool
 is_not_awaited day plan place came p = not (list_any (is_name (name_of p)) (still_awaited day plan place came))
 
 -- what has come after one parcel more, and the task of the place if that was the last
-abbrev pub received : Day → PlanValue → ℕ → List ParcelValue → ParcelValue → List ParcelValue × Option TaskValue
+abbrev pub received : DayValue → PlanValue → ℕ → List ParcelValue → ParcelValue → List ParcelValue × Option TaskValue
 received day plan place came p = let now = came ++ p ∷ [] in (now, complete day plan place now)

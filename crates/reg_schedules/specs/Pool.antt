@@ -14,19 +14,19 @@ use Rattle.reg_rules.specs.Step.{step, row_of}
 use Rattle.reg_plan.specs.declared.arrow.Arrow.{Arrow}
 use Rattle.reg_plan.specs.Plans.{PlanValue, inward, outward}
 use Rattle.reg_book.specs.Book.{directory_of}
-use Rattle.reg_book.specs.Day.{Day, setting, row_at, settled_day}
+use Rattle.reg_book.specs.Day.{DayValue, setting, row_at, settled_day}
 
 -- the kinds and holders of the day's accounts
-abbrev pub directory : Day → DirectoryValue
+abbrev pub directory : DayValue → DirectoryValue
 directory day = directory_of day.book.accounts
 
 -- the accounts that the instruction at this place touches; none if it is no place
-abbrev pub footprint_at : Day → ℕ → List ℕ
+abbrev pub footprint_at : DayValue → ℕ → List ℕ
 footprint_at day zero = []
 footprint_at day (suc k) = option_map_or (λ i. footprint (directory day) i.act) (slice_get day.batch.instructions k) []
 
 -- what the instruction at this place makes of its own values, and its row in the log; nothing if it is no place
-abbrev pub run_at : Day → ℕ → State → Option (State × LogRow)
+abbrev pub run_at : DayValue → ℕ → State → Option (State × LogRow)
 run_at day zero own = None
 run_at day (suc k) own =
     option_map (λ i. let one = step (setting day) own
@@ -57,7 +57,7 @@ pub record Progress : Type 0 where
   pub rows : ℕ → Option LogRow
 
 -- before the first instruction: the pool has the opening value of each touched account, under its number and 0
-abbrev pub at_first : Day → Progress
+abbrev pub at_first : DayValue → Progress
 at_first day = record {
   pool = λ a place. if (place == 0)
       && is_touched (directory day) day.batch.instructions a then account day.book.accounts a else None;
@@ -96,7 +96,7 @@ abbrev pub with_log_row : ℕ → LogRow → (ℕ → Option LogRow) → ℕ →
 with_log_row place row rows = λ other. if other == place then Some row else rows other
 
 -- after the instruction at this place has made these results and this row
-abbrev pub after_place : Day → PlanValue → Progress → ℕ → State × LogRow → Progress
+abbrev pub after_place : DayValue → PlanValue → Progress → ℕ → State × LogRow → Progress
 after_place day plan p place made = record {
   pool = laid plan place (footprint_at day place) made.0 (removed plan place (footprint_at day place) p.pool);
   closing = with_closing plan place (footprint_at day place) made.0 p.closing;
@@ -104,27 +104,27 @@ after_place day plan p place made = record {
 }
 
 -- executing the instruction at this place. It is undefined if a needed value is not in the pool, or if this is no place
-abbrev pub executed_on : Day → PlanValue → Progress → ℕ → Option State → Option Progress
+abbrev pub executed_on : DayValue → PlanValue → Progress → ℕ → Option State → Option Progress
 executed_on day plan p place None = None
 executed_on day plan p place (Some own) = option_map (after_place day plan p place) (run_at day place own)
 
 -- it is also undefined if the instruction was executed already
-abbrev pub executed : Day → PlanValue → Progress → ℕ → Option Progress
+abbrev pub executed : DayValue → PlanValue → Progress → ℕ → Option Progress
 executed day plan p place = if is_some (p.rows place) then None
     else executed_on day plan p place (needed plan p.pool place (footprint_at day place))
 
 -- executing the instructions at these places, one after another, as far as all are defined
-abbrev pub executed_all : Day → PlanValue → Option Progress → List ℕ → Option Progress
+abbrev pub executed_all : DayValue → PlanValue → Option Progress → List ℕ → Option Progress
 executed_all day plan None order = None
 executed_all day plan (Some p) [] = Some p
 executed_all day plan (Some p) (place ∷ order) = executed_all day plan (executed day plan p place) order
 
 -- what executing the instructions in this order gives, if it is defined
-abbrev pub meaning_of : Day → PlanValue → List ℕ → Option Progress
+abbrev pub meaning_of : DayValue → PlanValue → List ℕ → Option Progress
 meaning_of day plan order = executed_all day plan (Some (at_first day)) order
 
 -- all instructions are executed; their rows are those of the day, and the closing values are the settled accounts
-pub record IsSettledDay (day : Day) (p : Progress) : Type 0 where
+pub record IsSettledDay (day : DayValue) (p : Progress) : Type 0 where
   pub rows : (place : ℕ) → 1 ≤ place → place ≤ length day.batch.instructions
       → (is_some (p.rows place) ≡ true) × (p.rows place ≡ row_at day place)
   pub closing : (a : ℕ) → p.closing a ≡ account (settled_day day).accounts a

@@ -7,12 +7,12 @@ use Rattle.reg_base.specs.Footprint.{is_among}
 use Rattle.reg_base.specs.Touches.{is_touched}
 use Rattle.reg_rules.specs.declared.reply.LogRow.{LogRow}
 use Rattle.reg_rules.specs.State.{State, account, numbers}
-use Rattle.reg_counting.specs.Counting.{one_if, total}
+use Rattle.reg_facts.specs.Counting.{one_if, total}
 use Rattle.reg_schedules.specs.Pool.{directory, tail_of, Progress, meaning_of}
 use Rattle.reg_plan.specs.Arrows.{touches_place}
 use Rattle.reg_plan.specs.Plans.{PlanValue}
 use Rattle.reg_plan.specs.Orders.{IsLegalOrder}
-use Rattle.reg_book.specs.Day.{Day, value_at, row_at, log_of}
+use Rattle.reg_book.specs.Day.{DayValue, value_at, row_at, log_of}
 use Rattle.reg_schedules.specs.Laws.{IsPlanOf}
 use Rattle.reg_schedules.specs.declared.event.Event.{Event}
 use Rattle.reg_schedules.specs.declared.event.Event.TheVariants.{Run, Deliver, Push}
@@ -32,15 +32,15 @@ in_hand (Carries None parcels) = parcels
 in_hand (Carries (Some task) parcels) = task.parcels ++ parcels
 
 -- a parcel has the account's value after the first instructions, up to the one of its name
-abbrev pub IsRight : Day → ParcelValue → Type 0
+abbrev pub IsRight : DayValue → ParcelValue → Type 0
 IsRight day p = value_at day p.value.number p.after ≡ Some p.value
 
-abbrev pub AreRight : Day → List ParcelValue → Type 0
+abbrev pub AreRight : DayValue → List ParcelValue → Type 0
 AreRight day parcels = AllByRecursion (IsRight day) parcels
 
 -- each value and each row is the one that the instructions give one after another; the accounts that no instruction
 -- needs any more are as they are at the end
-pub record HasRightValues (day : Day) (world : WorldValue) : Type 0 where
+pub record HasRightValues (day : DayValue) (world : WorldValue) : Type 0 where
   pub docks : AllByRecursion (λ d. AreRight day (in_dock d)) world.docks
   pub lists : AllByRecursion (AllByRecursion (λ t. AreRight day t.parcels)) world.lists
   pub hands : AllByRecursion (λ h. AreRight day (in_hand h)) world.hands
@@ -48,24 +48,24 @@ pub record HasRightValues (day : Day) (world : WorldValue) : Type 0 where
   pub closing : AllByRecursion (λ v. value_at day v.number (length day.batch.instructions) ≡ Some v) world.closing
 
 -- these are the touched accounts as the last instruction left them, in any order
-pub record AreLastValues (day : Day) (accounts : State) : Type 0 where
+pub record AreLastValues (day : DayValue) (accounts : State) : Type 0 where
   pub once : IsDistinct nat_eq (numbers accounts)
   pub touched : (a : ℕ) → is_among (numbers accounts) a ≡ is_touched (directory day) day.batch.instructions a
   pub values : AllByRecursion (λ v. value_at day v.number (length day.batch.instructions) ≡ Some v) accounts
 
 -- all rows are there, in the order of the batch, and the accounts are those that some instruction touches, in any order
-pub record IsWorldSettled (day : Day) (world : WorldValue) : Type 0 where
+pub record IsWorldSettled (day : DayValue) (world : WorldValue) : Type 0 where
   pub rows : world.rows ≡ map Some (log_of day)
   pub accounts : AreLastValues day world.closing
 
 -- law: after every schedule each value is the one of its name and each row the one of its instruction; a world that is
 -- over has the settled day
-pub record ScheduleDecides (day : Day) (world : WorldValue) : Type 0 where
+pub record ScheduleDecides (day : DayValue) (world : WorldValue) : Type 0 where
   pub right : HasRightValues day world
   pub settled : is_over world ≡ true → IsWorldSettled day world
 
 abbrev pub EverySchedule : Type 0
-EverySchedule = (day : Day) (plan : PlanValue) (workers : ℕ) (events : List Event) (world : WorldValue)
+EverySchedule = (day : DayValue) (plan : PlanValue) (workers : ℕ) (events : List Event) (world : WorldValue)
     → IsPlanOf day plan → 1 ≤ workers → world_after day plan workers events ≡ Some world → ScheduleDecides day world
 
 -- how often a name stands among the parcels of the docks, the lists and the hands
@@ -90,7 +90,7 @@ pub record IsEachParcel (is_so : ParcelValue → Type 0) (world : WorldValue) : 
 
 -- this order of the places that are done has made what a world has: its rows, and the accounts that no instruction
 -- needs any more
-pub record IsMadeBy (day : Day) (plan : PlanValue) (order : List ℕ) (progress : Progress)
+pub record IsMadeBy (day : DayValue) (plan : PlanValue) (order : List ℕ) (progress : Progress)
     (world : WorldValue) : Type 0 where
   pub meaning : meaning_of day plan order ≡ Some progress
   pub done : (place : ℕ) → is_among order place ≡ is_done world place
@@ -100,7 +100,7 @@ pub record IsMadeBy (day : Day) (plan : PlanValue) (order : List ℕ) (progress 
 -- some order has made what a world has. Each parcel is in its pool under the parcel's name, and each value in its pool
 -- that a place needs lies in one dock, list or hand. It is the beginning of a legal order, or, if all is done, a legal
 -- order
-pub record CarriesOutAnOrder (day : Day) (plan : PlanValue) (world : WorldValue) : Type 0 where
+pub record CarriesOutAnOrder (day : DayValue) (plan : PlanValue) (world : WorldValue) : Type 0 where
   pub order : List ℕ
   pub progress : Progress
   pub made : IsMadeBy day plan order progress world
@@ -112,7 +112,7 @@ pub record CarriesOutAnOrder (day : Day) (plan : PlanValue) (world : WorldValue)
 
 -- law: so it is after every schedule
 abbrev pub EachScheduleIsAnOrder : Type 0
-EachScheduleIsAnOrder = (day : Day) (plan : PlanValue) (workers : ℕ) (events : List Event) (world : WorldValue)
+EachScheduleIsAnOrder = (day : DayValue) (plan : PlanValue) (workers : ℕ) (events : List Event) (world : WorldValue)
     → IsPlanOf day plan → 1 ≤ workers → world_after day plan workers events ≡ Some world
     → CarriesOutAnOrder day plan world
 
@@ -148,7 +148,7 @@ abbrev pub has_hand : WorldValue → ℕ → (HandValue → Bool) → Bool
 has_hand world worker is_so = option_map_or is_so (slice_get world.hands worker) false
 
 -- an arrow leads on from the parcel, the dock of its head waits, and the parcel is still awaited there
-pub record FindsDock (day : Day) (plan : PlanValue) (world : WorldValue) (p : ParcelValue) : Type 0 where
+pub record FindsDock (day : DayValue) (plan : PlanValue) (world : WorldValue) (p : ParcelValue) : Type 0 where
   pub place : ℕ
   pub came : List ParcelValue
   pub head : head_of plan p.after p.value.number ≡ Some place
@@ -157,7 +157,7 @@ pub record FindsDock (day : Day) (plan : PlanValue) (world : WorldValue) (p : Pa
 
 -- a worker can run exactly if a task is in its hand, deliver exactly if a parcel is, and push exactly if a task that
 -- became complete is; and the parcel that it would deliver finds its dock
-pub record HandsGoOn (day : Day) (plan : PlanValue) (world : WorldValue) : Type 0 where
+pub record HandsGoOn (day : DayValue) (plan : PlanValue) (world : WorldValue) : Type 0 where
   pub run : (worker : ℕ) → is_ok (after_event day plan world (Run worker)) ≡ has_hand world worker is_to_run
   pub deliver : (worker : ℕ) → is_ok (after_event day plan world (Deliver worker)) ≡ has_hand world worker is_to_deliver
   pub push : (worker : ℕ) → is_ok (after_event day plan world (Push worker)) ≡ has_hand world worker is_to_push
@@ -173,7 +173,7 @@ has_come world (suc k) = is_done world (suc k)
 -- all is done, some event is possible; no schedule has more events than three for each place and one for each arrow;
 -- whatever a worker has in hand, it can go on with it; no account is closing twice; and the value that a place needs of
 -- an account lies in one dock, list or hand from when it is made until the place is done
-pub record IsNothingLost (day : Day) (plan : PlanValue) (events : List Event) (world : WorldValue) : Type 0 where
+pub record IsNothingLost (day : DayValue) (plan : PlanValue) (events : List Event) (world : WorldValue) : Type 0 where
   pub once : (place : ℕ) → 1 ≤ place → place ≤ length day.batch.instructions → times_found world place ≡ 1
   pub over : HasNoTask world → is_over world ≡ true
   pub possible : is_over world ≡ false → (event : Event) × IsOk (after_event day plan world event)
@@ -185,12 +185,12 @@ pub record IsNothingLost (day : Day) (plan : PlanValue) (events : List Event) (w
       ≡ one_if (has_come world (tail_of plan place a) && not (is_done world place))
 
 abbrev pub NothingLost : Type 0
-NothingLost = (day : Day) (plan : PlanValue) (workers : ℕ) (events : List Event) (world : WorldValue)
+NothingLost = (day : DayValue) (plan : PlanValue) (workers : ℕ) (events : List Event) (world : WorldValue)
     → IsPlanOf day plan → 1 ≤ workers → world_after day plan workers events ≡ Some world
     → IsNothingLost day plan events world
 
 -- some schedule of one to eight workers leads to this world
-pub record IsReached (day : Day) (plan : PlanValue) (world : WorldValue) : Type 0 where
+pub record IsReached (day : DayValue) (plan : PlanValue) (world : WorldValue) : Type 0 where
   pub workers : ℕ
   pub some : 1 ≤ workers
   pub few : workers ≤ MOST_WORKERS

@@ -8,7 +8,7 @@ use Rattle.reg_account.specs.Account.{AccountValue}
 use Rattle.reg_rules.specs.declared.reply.LogRow.{LogRow}
 use Rattle.reg_rules.specs.State.{State, account}
 use Rattle.reg_plan.specs.Plans.{PlanValue, outward}
-use Rattle.reg_book.specs.Day.{Day}
+use Rattle.reg_book.specs.Day.{DayValue}
 use Rattle.reg_schedules.specs.Pool.{footprint_at, run_at, tail_of, leads_on}
 use Rattle.reg_schedules.specs.Docks.{ParcelValue, TaskValue, complete, received}
 use Rattle.reg_schedules.specs.declared.event.Event.{Event}
@@ -58,7 +58,7 @@ arrived world place = option_map_or (λ d. d) (at_place world.docks place) None
 -- ---- the start
 
 -- the opening value of an account
-abbrev pub opening_of : Day → ℕ → Option ParcelValue
+abbrev pub opening_of : DayValue → ℕ → Option ParcelValue
 opening_of day a = option_map (λ v. record { value = v; after = 0 }) (account day.book.accounts a)
 
 abbrev pub known_of : {X : Type 0} → List (Option X) → List X
@@ -67,17 +67,17 @@ known_of (None ∷ more) = known_of more
 known_of (Some x ∷ more) = x ∷ known_of more
 
 -- the opening values that lie in the dock of a place: those of the accounts of its footprint that no arrow leads to
-abbrev pub opened_at : Day → PlanValue → ℕ → List ParcelValue
+abbrev pub opened_at : DayValue → PlanValue → ℕ → List ParcelValue
 opened_at day plan place =
     known_of (map (opening_of day) (filter (λ a. tail_of plan place a == 0) (footprint_at day place)))
 
 -- the dock of a place: nothing is there if its task is complete from the first
-abbrev pub dock_at : Day → PlanValue → ℕ → Option (List ParcelValue)
+abbrev pub dock_at : DayValue → PlanValue → ℕ → Option (List ParcelValue)
 dock_at day plan place =
     if is_some (complete day plan place (opened_at day plan place)) then None else Some (opened_at day plan place)
 
 -- the docks of so many places from this one on, and the tasks that are complete from the first
-abbrev pub docks_from : Day → PlanValue → ℕ → ℕ → List (Option (List ParcelValue))
+abbrev pub docks_from : DayValue → PlanValue → ℕ → ℕ → List (Option (List ParcelValue))
 docks_from day plan place zero = []
 docks_from day plan place (suc more) = dock_at day plan place ∷ docks_from day plan (suc place) more
 
@@ -85,7 +85,7 @@ abbrev pub before_some : {A : Type 0} → Option A → List A → List A
 before_some None more = more
 before_some (Some x) more = x ∷ more
 
-abbrev pub ready_from : Day → PlanValue → ℕ → ℕ → List TaskValue
+abbrev pub ready_from : DayValue → PlanValue → ℕ → ℕ → List TaskValue
 ready_from day plan place zero = []
 ready_from day plan place (suc more) =
     before_some (complete day plan place (opened_at day plan place)) (ready_from day plan (suc place) more)
@@ -99,7 +99,7 @@ dealt worker [] lists = lists
 dealt worker (task ∷ tasks) lists =
     dealt (if suc worker == length lists then 0 else suc worker) tasks (pushed_to worker task lists)
 
-abbrev pub at_start : Day → PlanValue → ℕ → WorldValue
+abbrev pub at_start : DayValue → PlanValue → ℕ → WorldValue
 at_start day plan workers = let n = length day.batch.instructions in record {
   docks = docks_from day plan 1 n;
   lists = dealt 0 (ready_from day plan 1 n) (replicate workers []);
@@ -136,7 +136,7 @@ after_run plan worker world place made = record world {
   closing = world.closing ++ map (λ p. p.value) (filter (λ p. not (goes_on plan p)) (left_by place made.0));
 }
 
-abbrev pub run_by : Day → PlanValue → ℕ → WorldValue → HandValue → Result WorldValue EventFault
+abbrev pub run_by : DayValue → PlanValue → ℕ → WorldValue → HandValue → Result WorldValue EventFault
 run_by day plan worker world (Holds task) =
     option_map_or (λ made. Ok (after_run plan worker world task.place made))
     (run_at day task.place (map (λ p. p.value) task.parcels)) (Err fault.NothingToRun)
@@ -153,14 +153,14 @@ after_delivery worker world ps place came (Some task) = record world {
   hands = slice_set world.hands worker (Carries (Some task) ps);
 }
 
-abbrev pub delivered_to : Day → PlanValue → ℕ → WorldValue → ParcelValue → List ParcelValue → ℕ
+abbrev pub delivered_to : DayValue → PlanValue → ℕ → WorldValue → ParcelValue → List ParcelValue → ℕ
     → Option (List ParcelValue) → Result WorldValue EventFault
 delivered_to day plan worker world p ps place None = Err fault.NothingToDeliver
 delivered_to day plan worker world p ps place (Some came) = let now = received day plan place came p in
     Ok (after_delivery worker world ps place now.0 now.1)
 
 -- (there is always an arrow that leads on from a parcel in hand, and its head still waits)
-abbrev pub delivered_by : Day → PlanValue → ℕ → WorldValue → HandValue → Result WorldValue EventFault
+abbrev pub delivered_by : DayValue → PlanValue → ℕ → WorldValue → HandValue → Result WorldValue EventFault
 delivered_by day plan worker world (Carries None (p ∷ ps)) =
     option_map_or (λ place. delivered_to day plan worker world p ps place (arrived world place))
     (head_of plan p.after p.value.number) (Err fault.NothingToDeliver)
@@ -186,7 +186,7 @@ abbrev pub with_list : WorldValue → ℕ → (List TaskValue → Result WorldVa
 with_list world worker f = option_map_or f (slice_get world.lists worker) (Err fault.NoSuchWorker)
 
 -- the world after an event, or the first reason why it is not possible
-unfoldable pub after_event : Day → PlanValue → WorldValue → Event → Result WorldValue EventFault
+unfoldable pub after_event : DayValue → PlanValue → WorldValue → Event → Result WorldValue EventFault
 after_event day plan world (Pop worker) =
     with_hand world worker (λ hand. with_list world worker (moved worker worker world hand))
 after_event day plan world (Steal worker from) =
@@ -203,12 +203,12 @@ abbrev pub after_result : (WorldValue → Option WorldValue) → Result WorldVal
 after_result next (Ok world) = next world
 after_result next (Err why) = None
 
-abbrev pub after_events : Day → PlanValue → WorldValue → List Event → Option WorldValue
+abbrev pub after_events : DayValue → PlanValue → WorldValue → List Event → Option WorldValue
 after_events day plan world [] = Some world
 after_events day plan world (event ∷ events) =
     after_result (λ w. after_events day plan w events) (after_event day plan world event)
 
-abbrev pub world_after : Day → PlanValue → ℕ → List Event → Option WorldValue
+abbrev pub world_after : DayValue → PlanValue → ℕ → List Event → Option WorldValue
 world_after day plan workers events = after_events day plan (at_start day plan workers) events
 
 -- ---- where the places are

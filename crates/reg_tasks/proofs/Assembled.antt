@@ -9,7 +9,7 @@ use Rattle.std.proofs.lemmas.List.Sorted.{All-permutation, IsPermutation-sym, Is
 use Rattle.std.proofs.lemmas.List.Sorted.{length_permutation}
 use Rattle.std.proofs.lemmas.List.Elements.{All-from_recursion, recursion_from_All}
 use Rattle.reg_plan.specs.Plans.{PlanValue, inward}
-use Rattle.reg_book.specs.Day.{Day}
+use Rattle.reg_book.specs.Day.{DayValue}
 use Rattle.reg_schedules.specs.Pool.{footprint_at}
 use Rattle.reg_schedules.specs.Docks.{is_name, ParcelValue, TaskValue, of_name, before_all, of_names, awaited, complete}
 use Rattle.reg_tasks.specs.Names.{has_names}
@@ -17,9 +17,9 @@ use Rattle.reg_tasks.specs.Parcels.{names_of}
 use Rattle.reg_tasks.specs.Parcels.{parcels_of}
 use Rattle.reg_tasks.specs.declared.naming.Naming.{Ghosts}
 use Rattle.reg_tasks.specs.declared.parcel.Parcel.{Parcel}
-use Rattle.reg_schedules.proofs.Tails.{clash}
-use Rattle.reg_schedules.proofs.WorldFits.{name_is, names_are, same_name}
-use Rattle.reg_schedules.proofs.WorldSent.{firsts}
+use Rattle.reg_schedules.proofs.lemmas.Tails.{clash}
+use Rattle.reg_schedules.proofs.lemmas.WorldFits.{name_is, names_are, same_name}
+use Rattle.reg_schedules.proofs.lemmas.WorldSent.{firsts}
 
 -- a parcel with this name is there, and it is the first one that is found
 found : (ps : List ParcelValue) (q : ParcelValue) → AllByRecursion (λ p. name_is p ≡ name_is q → p ≡ q) ps
@@ -105,7 +105,7 @@ accounts-of [] = refl
 accounts-of (q ∷ qs) = ap (λ ns. q.value.number ∷ ns) (accounts-of qs)
 
 -- the task of a place is complete with parcels that it awaits, in any order
-pub complete-of : (day : Day) (plan : PlanValue) (place : ℕ) (ps qs : List ParcelValue) → IsPermutation ps qs
+pub complete-of : (day : DayValue) (plan : PlanValue) (place : ℕ) (ps qs : List ParcelValue) → IsPermutation ps qs
     → IsDistinct eqb (footprint_at day place) → names_are qs ≡ awaited day plan place
     → complete day plan place ps ≡ Some (record { place = place; parcels = qs })
 complete-of day plan place ps qs same apart names =
@@ -149,7 +149,7 @@ abbrev task_with : ℕ → List ParcelValue → TaskValue
 task_with place parcels = record { place = place; parcels = parcels }
 
 -- it is not complete without one of them, or with another
-pub incomplete : (day : Day) (plan : PlanValue) (place : ℕ) (ps : List ParcelValue)
+pub incomplete : (day : DayValue) (plan : PlanValue) (place : ℕ) (ps : List ParcelValue)
     → has_names (names_are ps) (awaited day plan place) ≡ false → complete day plan place ps ≡ None
 incomplete day plan place ps e = by (eqb (length ps) (length (awaited day plan place)))
     (ap (λ n. eqb n (length (awaited day plan place)) && list_all (λ w. list_any (λ n. is_name n w) (names_are ps))

@@ -10,18 +10,18 @@ use Rattle.reg_base.specs.Touches.{is_touched, last_toucher, LastToucherIsLast}
 use Rattle.reg_plan.specs.declared.arrow.Opening.{Opening}
 use Rattle.reg_plan.specs.Plans.{PlanValue, IsPlan}
 use Rattle.reg_plan.specs.Laws.{TailsAreLastTouchers}
-use Rattle.reg_book.specs.Day.{Day}
+use Rattle.reg_book.specs.Day.{DayValue}
 use Rattle.reg_schedules.specs.Pool.{directory, footprint_at}
-use Rattle.reg_schedules.proofs.Known.{footprint_touches}
-use Rattle.reg_schedules.proofs.Tails.{touched_from}
-use Rattle.reg_schedules.proofs.Members.{In}
+use Rattle.reg_schedules.proofs.lemmas.Known.{footprint_touches}
+use Rattle.reg_schedules.proofs.lemmas.Tails.{touched_from}
+use Rattle.reg_schedules.proofs.lemmas.Members.{In}
 use Rattle.reg_tasks.specs.Gathering.{AreLast, AreOutcomes, have_accounts, is_last, is_last_there, named_accounts}
 use Rattle.reg_tasks.specs.Slots.{name_of, standing_in, opened_accounts, have_slots, IsAtEnd}
 use Rattle.reg_tasks.specs.declared.naming.Naming.{Ghosts}
 use Rattle.reg_tasks.specs.declared.parcel.Parcel.{Parcel}
 use Rattle.reg_tasks.proofs.Rising.{Up, up_rising, up_distinct}
-use Rattle.reg_tasks.proofs.Slotting.{Name, number_of, stands_opened, stands_nowhere, unopened}
-use Rattle.reg_tasks.proofs.OrderSteps.{all_touched}
+use Rattle.reg_tasks.proofs.lemmas.Slotting.{Name, number_of, stands_opened, stands_nowhere, unopened}
+use Rattle.reg_tasks.proofs.lemmas.OrderSteps.{all_touched}
 use Rattle.reg_tasks.proofs.Collecting.{opened_touched, tested_accounts, the_last_is}
 
 -- slots, one by one
@@ -56,7 +56,8 @@ names_full want (o ∷ os) (n ∷ ns) e =
     ap (λ m. m ∷ ns) head ∙ ap (λ ms. want o.account ∷ ms) (names_full want os ns tail)
 
 -- what an instruction leaves has slots
-pub left_have_slots : (day : Day) (place : ℕ) → have_slots day (map (λ a. (a, place)) (footprint_at day place)) ≡ true
+pub left_have_slots : (day : DayValue) (place : ℕ)
+    → have_slots day (map (λ a. (a, place)) (footprint_at day place)) ≡ true
 left_have_slots day place =
     all (footprint_at day place)
     (λ a among. touched_from (directory day) day.batch.instructions a place (sym (footprint_touches day place a)
@@ -70,7 +71,7 @@ left_have_slots day place =
           (touched a (or_left (eqb a a) (is_among more a) (eq-eqb a a refl)))
           (all more (λ b e. touched b (or_right (eqb a b) (is_among more b) e)))
 
-module _ (tails : TailsAreLastTouchers) (last : LastToucherIsLast) (day : Day) (plan : PlanValue)
+module _ (tails : TailsAreLastTouchers) (last : LastToucherIsLast) (day : DayValue) (plan : PlanValue)
     (planned : ∥ IsPlan (directory day) day.batch.instructions plan ∥₁) where
   -- the name of what the last instruction that touches an account leaves
   abbrev pub last_at : ℕ → ℕ × ℕ

@@ -25,14 +25,14 @@ use Rattle.reg_account.specs.Account.{AccountValue}
 use Rattle.reg_base.specs.declared.instruction.Instruction.{Instruction}
 use Rattle.reg_rules.specs.State.{State, Setting}
 use Rattle.reg_rules.specs.Step.{step, row_of}
-use Rattle.reg_book.specs.Day.{Day, IsDay, setting, row_at, log_of, settled_day}
+use Rattle.reg_book.specs.Day.{DayValue, IsDay, setting, row_at, log_of, settled_day}
 use Rattle.reg_book.specs.Fold.{rows_of}
 use Rattle.reg_book.specs.Laws.{ValueIsLastTouchers, SettledAreTouched, SettledIsInOrder}
 use Rattle.reg_schedules.specs.Schedules.{AreLastValues}
 use Rattle.reg_schedules.specs.Pool.{directory, footprint_at, leads_on}
-use Rattle.reg_schedules.proofs.Members.{In}
-use Rattle.reg_schedules.proofs.Known.{footprint_touches}
-use Rattle.reg_schedules.proofs.Tails.{clash, touched_somewhere, last_of_all, not_last, last_touches}
+use Rattle.reg_schedules.proofs.lemmas.Members.{In}
+use Rattle.reg_schedules.proofs.lemmas.Known.{footprint_touches}
+use Rattle.reg_schedules.proofs.lemmas.Tails.{clash, touched_somewhere, last_of_all, not_last, last_touches}
 use Rattle.reg_tasks.specs.Gathering.{AreLast, AreOutcomes, AreWithin, named_accounts, places_of}
 use Rattle.reg_tasks.specs.Gathering.{row_replied, rows_in, replies_by_number, replies_from, counts_up, is_last}
 use Rattle.reg_tasks.specs.Gathering.{are_each, have_accounts, are_outcomes}
@@ -45,9 +45,9 @@ use Rattle.reg_tasks.specs.declared.parcel.Parcel.{Parcel}
 use Rattle.reg_tasks.specs.Parcels.{names_of, values_of}
 use Rattle.reg_tasks.proofs.Rising.{Up, all_in, all_from_in, in_permuted, in_before, up_distinct, up_rising, up_keys}
 use Rattle.reg_tasks.proofs.Rising.{keys_are, ascending}
-use Rattle.reg_tasks.proofs.Slotting.{Name, number_of, among_opening}
-use Rattle.reg_tasks.proofs.Gathering.{eqb_sym, size_rows, same_accounts, closing_values, accounts_are}
-use Rattle.reg_tasks.proofs.OrderSteps.{touched_opened, all_touched}
+use Rattle.reg_tasks.proofs.lemmas.Slotting.{Name, number_of, among_opening}
+use Rattle.reg_tasks.proofs.lemmas.Gathering.{eqb_sym, size_rows, same_accounts, closing_values, accounts_are}
+use Rattle.reg_tasks.proofs.lemmas.OrderSteps.{touched_opened, all_touched}
 
 -- ---- numbers that count up
 
@@ -141,7 +141,7 @@ tested_accounts (a ∷ more) (n ∷ names) e =
     and_from (eqb n.0 a) (have_accounts more names) (eq-eqb n.0 a head) (tested_accounts more names tail)
 
 -- the last names in another order
-pub last_permuted : (day : Day) (names others : List (ℕ × ℕ)) → IsPermutation names others → AreLast day names
+pub last_permuted : (day : DayValue) (names others : List (ℕ × ℕ)) → IsPermutation names others → AreLast day names
     → AreLast day others
 last_permuted day names others same is = record {
   once = IsDistinct-IsPermutation eqb eqb_sym (named_accounts names) (named_accounts others) accounts is.once;
@@ -156,13 +156,13 @@ last_permuted day names others same is = record {
   accounts = IsPermutation-map (λ (n : ℕ × ℕ). n.0) names others same
 
 -- what the tests say, and when they pass
-pub each_tested : (day : Day) (places : List ℕ) → are_each day places ≡ true
+pub each_tested : (day : DayValue) (places : List ℕ) → are_each day places ≡ true
     → places ≡ count_up 1 (length day.batch.instructions)
 each_tested day places e =
     let counted = and_parts (eqb (length places) (length day.batch.instructions)) (counts_up 1 places) e in
     counted_is 1 places counted.1 ∙ ap (count_up 1) (eqb-true (length places) (length day.batch.instructions) counted.0)
 
-pub tested_each : (day : Day) (places : List ℕ) → places ≡ count_up 1 (length day.batch.instructions)
+pub tested_each : (day : DayValue) (places : List ℕ) → places ≡ count_up 1 (length day.batch.instructions)
     → are_each day places ≡ true
 tested_each day places e =
     and_from (eqb (length places) (length day.batch.instructions)) (counts_up 1 places)
@@ -170,21 +170,21 @@ tested_each day places e =
     (ap length e ∙ size_count 1 (length day.batch.instructions)))
     (ap (counts_up 1) e ∙ counts 1 (length day.batch.instructions))
 
-pub outcomes_tested : (day : Day) (accounts places : List ℕ) (names : List (ℕ × ℕ))
+pub outcomes_tested : (day : DayValue) (accounts places : List ℕ) (names : List (ℕ × ℕ))
     → are_outcomes day accounts places names ≡ true
     → (places ≡ count_up 1 (length day.batch.instructions)) × (have_accounts accounts names ≡ true)
 outcomes_tested day accounts places names e =
     let both = and_parts (are_each day places) (have_accounts accounts names) e in
     (each_tested day places both.0, both.1)
 
-pub tested_outcomes : (day : Day) (accounts places : List ℕ) (names : List (ℕ × ℕ))
+pub tested_outcomes : (day : DayValue) (accounts places : List ℕ) (names : List (ℕ × ℕ))
     → places ≡ count_up 1 (length day.batch.instructions) → have_accounts accounts names ≡ true
     → are_outcomes day accounts places names ≡ true
 tested_outcomes day accounts places names e l =
     and_from (are_each day places) (have_accounts accounts names) (tested_each day places e) l
 
 -- replies of all places pass the test once they are sorted
-module _ {N : Type 0} {b : Ghosts N} (day : Day) where
+module _ {N : Type 0} {b : Ghosts N} (day : DayValue) where
   pub sorted_each : (done sorted : List (Done N b)) → IsPermutation done sorted
       → IsNonDecreasingBy (λ d. d.place) sorted
       → IsPermutation (count_up 1 (length day.batch.instructions)) (places_of done)
@@ -195,7 +195,7 @@ module _ {N : Type 0} {b : Ghosts N} (day : Day) where
       (IsPermutation-trans (count_up 1 n) (places_of done) (places_of sorted) each
       (IsPermutation-map (λ (d : Done N b). d.place) done sorted same)) rise
 
-module _ (tails : TailsAreLastTouchers) (last : LastToucherIsLast) (day : Day) (plan : PlanValue)
+module _ (tails : TailsAreLastTouchers) (last : LastToucherIsLast) (day : DayValue) (plan : PlanValue)
     (planned : ∥ IsPlan (directory day) day.batch.instructions plan ∥₁) where
   -- each touched account has an opening, and no other
   pub opened_touched : (a : ℕ) → is_among (opened_accounts plan.openings) a
@@ -303,7 +303,7 @@ module _ (tails : TailsAreLastTouchers) (last : LastToucherIsLast) (day : Day) (
         (accounts_sorted rising sorted_ls is rise_ls))
 
 -- each last parcel of a named day has the name of a last one
-module _ {N : Type 0} {b : Ghosts N} (day : Day) (named : b.day ≡ Some day) where
+module _ {N : Type 0} {b : Ghosts N} (day : DayValue) (named : b.day ≡ Some day) where
   pub each_last : (ls : List (LastParcel N b))
       → AllByRecursion (λ n. n.1
       ≡ last_toucher (directory day) day.batch.instructions n.0 (length day.batch.instructions))
@@ -338,7 +338,7 @@ module _ {N : Type 0} {b : Ghosts N} where
 
 -- ---- the rows
 
-rows_from : (day : Day) (rs : List LogRow) → (k : ℕ) → ((j : ℕ) → slice_get (log_of day) (k + j) ≡ slice_get rs j)
+rows_from : (day : DayValue) (rs : List LogRow) → (k : ℕ) → ((j : ℕ) → slice_get (log_of day) (k + j) ≡ slice_get rs j)
     → map (row_at day) (count_up (k + 1) (length rs)) ≡ map Some rs
 rows_from day [] k at = refl
 rows_from day (r ∷ rs) k at =
@@ -355,7 +355,7 @@ rows_from day (r ∷ rs) k at =
     shift : (j : ℕ) → k + 1 + j ≡ k + suc j
     shift j = omega arith
 
-all_rows : (day : Day) → map (row_at day) (count_up 1 (length day.batch.instructions)) ≡ map Some (log_of day)
+all_rows : (day : DayValue) → map (row_at day) (count_up 1 (length day.batch.instructions)) ≡ map Some (log_of day)
 all_rows day =
     ap (λ n. map (row_at day) (count_up 1 n))
     (sym (size_rows (setting day) day.book.accounts (day.batch.base + 1) day.batch.instructions))
@@ -378,7 +378,7 @@ take_whole [] = refl
 take_whole (x ∷ xs) = ap (λ ys. x ∷ ys) (take_whole xs)
 
 -- as many rows as there are instructions are the whole log
-pub first_whole : (day : Day) (rows : List LogRow) → rows ≡ take (length day.batch.instructions) (log_of day)
+pub first_whole : (day : DayValue) (rows : List LogRow) → rows ≡ take (length day.batch.instructions) (log_of day)
     → rows ≡ log_of day
 first_whole day rows e =
     e ∙ ap (λ n. take n (log_of day))
@@ -399,7 +399,7 @@ made_again c s n (i ∷ is) (suc k) reply e =
     ap (λ m. option_map (λ j. row_of c m j reply) (slice_get is k)) shift
     ∙ made_again c (step c s n i).0 (n + 1) is k reply e
 
-row_again : (day : Day) (place : ℕ) (reply : Reply) → option_map (λ (row : LogRow). row.reply) (row_at day place)
+row_again : (day : DayValue) (place : ℕ) (reply : Reply) → option_map (λ (row : LogRow). row.reply) (row_at day place)
     ≡ Some reply → row_replied day place reply ≡ row_at day place
 row_again day zero reply e = refl
 row_again day (suc k) reply e =
@@ -423,7 +423,7 @@ module _ {N : Type 0} {b : Ghosts N} where
   pub all_within : (count : ℕ) (done : List (Done N b)) → places_of done ≡ count_up 1 count → AreWithin count done
   all_within count done e = count_within 1 count count done e (omega arith) (omega arith)
 
-module _ {N : Type 0} {b : Ghosts N} (day : Day) (named : b.day ≡ Some day) where
+module _ {N : Type 0} {b : Ghosts N} (day : DayValue) (named : b.day ≡ Some day) where
   rows_right : (done : List (Done N b)) → rows_in day done ≡ map (row_at day) (places_of done)
   rows_right [] = refl
   rows_right (d ∷ done) = ap (λ o. o ∷ rows_in day done) (row_again day d.place d.reply (d.right day named))
@@ -437,7 +437,7 @@ module _ {N : Type 0} {b : Ghosts N} (day : Day) (named : b.day ≡ Some day) wh
 
 -- the values of the last parcels, by rising account, are the settled accounts
 module _ {N : Type 0} {b : Ghosts N} where
-  pub settled_from : SettledAreTouched → SettledIsInOrder → ValueIsLastTouchers → (day : Day) → IsDay day
+  pub settled_from : SettledAreTouched → SettledIsInOrder → ValueIsLastTouchers → (day : DayValue) → IsDay day
       → b.day ≡ Some day → (ps : List (Parcel N b)) → AreLast day (names_of ps)
       → (accounts : List ℕ) → IsRising accounts → named_accounts (names_of ps) ≡ accounts
       → values_of ps ≡ (settled_day day).accounts
@@ -445,7 +445,7 @@ module _ {N : Type 0} {b : Ghosts N} where
       let key : AccountValue → ℕ = λ v. v.number in
       let closing : AreLastValues day (values_of ps) =
       closing_values values ps (λ x f.
-      subst (λ (y : Day). AreLast y (names_of ps)) (same_Some day x (sym named ∙ f)) is) day named in
+      subst (λ (y : DayValue). AreLast y (names_of ps)) (same_Some day x (sym named ∙ f)) is) day named in
       let up : Up key (values_of ps) =
       up_rising key (values_of ps) (subst IsRising (sym e ∙ same_accounts ps) rising) in
       accounts_are settled day in_order is_day (values_of ps) (values_of ps) closing (IsPermutation-refl (values_of ps))
@@ -454,7 +454,7 @@ module _ {N : Type 0} {b : Ghosts N} where
 -- ---- rows without their places
 
 -- the row is the day's row of the place that its record number tells
-pub record IsLogged (day : Day) (row : LogRow) : Type 0 where
+pub record IsLogged (day : DayValue) (row : LogRow) : Type 0 where
   pub place : ℕ
   pub number : place + day.batch.base ≡ row.number
   pub at : row_at day place ≡ Some row
@@ -468,7 +468,7 @@ row_index c s n (i ∷ is) row (inr m) =
     let (k, at, number, lt) = row_index c (step c s n i).0 (n + 1) is row m in
     (suc k, at, omega (arith, number), omega (arith, lt))
 
-pub rows_logged : (d : Day) → (rows : List LogRow) → IsPermutation (log_of d) rows → (row : LogRow) → In row rows
+pub rows_logged : (d : DayValue) → (rows : List LogRow) → IsPermutation (log_of d) rows → (row : LogRow) → In row rows
     → IsLogged d row
 rows_logged d rows same row m =
     let (k, at, number, lt) = row_index (setting d) d.book.accounts (d.batch.base + 1) d.batch.instructions row

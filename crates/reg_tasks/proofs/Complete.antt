@@ -8,12 +8,12 @@ use Rattle.reg_base.specs.Footprint.{is_among}
 use Rattle.reg_base.specs.Touches.{last_toucher, LastToucherIsLast}
 use Rattle.reg_plan.specs.Plans.{PlanValue, IsPlan, inward}
 use Rattle.reg_plan.specs.Laws.{TailsAreLastTouchers}
-use Rattle.reg_book.specs.Day.{Day}
+use Rattle.reg_book.specs.Day.{DayValue}
 use Rattle.reg_schedules.specs.Pool.{directory, footprint_at}
 use Rattle.reg_schedules.specs.Docks.{names_needed}
 use Rattle.reg_tasks.specs.Names.{before_place, AreNeeded}
-use Rattle.reg_schedules.proofs.Known.{footprint_touches}
-use Rattle.reg_schedules.proofs.Tails.{Touches, tail_is_last}
+use Rattle.reg_schedules.proofs.lemmas.Known.{footprint_touches}
+use Rattle.reg_schedules.proofs.lemmas.Tails.{Touches, tail_is_last}
 
 or_here : (b c : Bool) → b ≡ true → (b || c) ≡ true
 or_here true c e = refl
@@ -23,7 +23,7 @@ or_later : (b c : Bool) → c ≡ true → (b || c) ≡ true
 or_later true c e = refl
 or_later false c e = e
 
-module _ (tails : TailsAreLastTouchers) (last : LastToucherIsLast) (day : Day) (plan : PlanValue) where
+module _ (tails : TailsAreLastTouchers) (last : LastToucherIsLast) (day : DayValue) (plan : PlanValue) where
   needed_of : IsPlan (directory day) day.batch.instructions plan → (place : ℕ) (accounts : List ℕ)
       → ((a : ℕ) → is_among accounts a ≡ true → Touches (directory day) day.batch.instructions a place)
       → names_needed (inward plan.arrows place) accounts ≡ before_place day place accounts
@@ -44,8 +44,8 @@ module _ (tails : TailsAreLastTouchers) (last : LastToucherIsLast) (day : Day) (
 
   pub complete_from : ∥ IsPlan (directory day) day.batch.instructions plan ∥₁ → (place : ℕ) (names : List (ℕ × ℕ))
       → 1 ≤ place → place ≤ length day.batch.instructions
-      → names ≡ names_needed (inward plan.arrows place) (footprint_at day place) → (d : Day) → day ≡ d
+      → names ≡ names_needed (inward plan.arrows place) (footprint_at day place) → (d : DayValue) → day ≡ d
       → AreNeeded d place names
   complete_from planned place names low high is d same =
-      subst (λ (x : Day). AreNeeded x place names) same
+      subst (λ (x : DayValue). AreNeeded x place names) same
       (record { low = low; high = high; names_are = is ∙ needed_before planned place })

@@ -10,7 +10,7 @@ use Rattle.reg_plan.specs.declared.arrow.Opening.{Opening}
 use Rattle.reg_tasks.specs.Openings.{first_in}
 use Rattle.reg_tasks.specs.Slots.{opened_accounts}
 use Rattle.reg_tasks.proofs.Rising.{Up, up_rising}
-use Rattle.reg_tasks.proofs.Slotting.{number_of, opening_at}
+use Rattle.reg_tasks.proofs.lemmas.Slotting.{number_of, opening_at}
 
 abbrev first_of : Opening → ℕ
 first_of opening = opening.first

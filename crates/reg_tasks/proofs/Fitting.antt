@@ -10,7 +10,7 @@ use Rattle.reg_account.specs.Account.{AccountValue}
 use Rattle.reg_rules.specs.State.{State, account, numbers}
 use Rattle.reg_rules.specs.Effect.{IsBehind}
 use Rattle.reg_book.specs.Book.{has_row_ahead}
-use Rattle.reg_book.specs.Day.{Day, IsDay, state_at, value_at}
+use Rattle.reg_book.specs.Day.{DayValue, IsDay, state_at, value_at}
 use Rattle.reg_book.specs.Laws.{StaysReady, ValueIsLastTouchers}
 use Rattle.reg_schedules.specs.Pool.{directory}
 use Rattle.reg_tasks.specs.Names.{before_place}
@@ -18,7 +18,7 @@ use Rattle.reg_tasks.specs.declared.naming.Naming.{Ghosts}
 use Rattle.reg_tasks.specs.declared.parcel.Parcel.{Parcel}
 use Rattle.reg_tasks.specs.Parcels.{names_of, values_of}
 use Rattle.reg_tasks.proofs.Rising.{all_in}
-use Rattle.reg_tasks.proofs.Gathering.{in_account, behind_not_ahead}
+use Rattle.reg_tasks.proofs.lemmas.Gathering.{in_account, behind_not_ahead}
 
 module _ {N : Type 0} {b : Ghosts N} where
   pub number_at : (ps : List (Parcel N b)) (k : ℕ) (p : Parcel N b) → k < length ps → p ≡ get_or ps k p
@@ -27,7 +27,7 @@ module _ {N : Type 0} {b : Ghosts N} where
   number_at (q ∷ ps) zero p lt e = ap (λ (x : Parcel N b). x.value.number) (sym e)
   number_at (q ∷ ps) (suc k) p lt e = number_at ps k p (omega arith) e
 
-  pub numbers_fit : (d : Day) (place : ℕ) (accounts : List ℕ) (ps : List (Parcel N b))
+  pub numbers_fit : (d : DayValue) (place : ℕ) (accounts : List ℕ) (ps : List (Parcel N b))
       → names_of ps ≡ before_place d place accounts → numbers (values_of ps) ≡ accounts
   numbers_fit d place [] [] e = refl
   numbers_fit d place [] (p ∷ ps) e = absurd cc
@@ -38,7 +38,7 @@ module _ {N : Type 0} {b : Ghosts N} where
       let tail : names_of ps ≡ before_place d place more = cc in
       ap (λ (n : ℕ × ℕ). n.0 ∷ numbers (values_of ps)) head ∙ ap (λ ns. a ∷ ns) (numbers_fit d place more ps tail)
 
-  pub rows_fit : ValueIsLastTouchers → StaysReady → (d : Day) → IsDay d → b.day ≡ Some d → (place : ℕ) → 1 ≤ place
+  pub rows_fit : ValueIsLastTouchers → StaysReady → (d : DayValue) → IsDay d → b.day ≡ Some d → (place : ℕ) → 1 ≤ place
       → place ≤ length d.batch.instructions
       → (accounts : List ℕ) (ps : List (Parcel N b)) → names_of ps ≡ before_place d place accounts
       → list_all (λ (v : AccountValue). not (has_row_ahead (d.batch.base + place) v)) (values_of ps) ≡ true

@@ -5,14 +5,14 @@ use Rattle.reg_base.specs.Footprint.{is_among}
 use Rattle.reg_base.specs.Touches.{is_touched, LastToucherIsLast}
 use Rattle.reg_plan.specs.Plans.{PlanValue, IsPlan}
 use Rattle.reg_plan.specs.Laws.{TailsAreLastTouchers}
-use Rattle.reg_book.specs.Day.{Day}
+use Rattle.reg_book.specs.Day.{DayValue}
 use Rattle.reg_schedules.specs.Pool.{directory, footprint_at}
-use Rattle.reg_schedules.proofs.Known.{footprint_touches}
-use Rattle.reg_schedules.proofs.Tails.{touched_from}
+use Rattle.reg_schedules.proofs.lemmas.Known.{footprint_touches}
+use Rattle.reg_schedules.proofs.lemmas.Tails.{touched_from}
 use Rattle.reg_tasks.specs.Gathering.{IsLastName, is_last}
 use Rattle.reg_tasks.proofs.Collecting.{is_the_last}
 
-module _ (tails : TailsAreLastTouchers) (last : LastToucherIsLast) (day : Day) (plan : PlanValue)
+module _ (tails : TailsAreLastTouchers) (last : LastToucherIsLast) (day : DayValue) (plan : PlanValue)
     (planned : ∥ IsPlan (directory day) day.batch.instructions plan ∥₁) where
   -- some instruction touches it
   pub last-touched : (a place : ℕ) → is_last day plan (a, place) ≡ true

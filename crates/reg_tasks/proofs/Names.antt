@@ -11,7 +11,7 @@ use Rattle.std.proofs.lemmas.Map.Keys.{apart_from_distinct}
 use Rattle.reg_plan.specs.declared.arrow.Arrow.{Arrow}
 use Rattle.reg_schedules.specs.Pool.{tail_in}
 use Rattle.reg_schedules.specs.Docks.{names_needed, is_name}
-use Rattle.reg_schedules.proofs.Needed.{length_needed}
+use Rattle.reg_schedules.proofs.lemmas.Needed.{length_needed}
 use Rattle.reg_tasks.specs.Names.{has_names, FindsFrom}
 use Rattle.reg_tasks.specs.declared.naming.Naming.{Ghosts}
 use Rattle.reg_tasks.specs.declared.parcel.Parcel.{Parcel}

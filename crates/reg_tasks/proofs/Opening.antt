@@ -6,9 +6,9 @@ use Rattle.std.proofs.lemmas.List.Elements.{All-from_recursion}
 use Rattle.reg_base.specs.Footprint.{EachFootprintIsSound}
 use Rattle.reg_base.specs.Touches.{is_touched}
 use Rattle.reg_schedules.specs.Pool.{directory, footprint_at}
-use Rattle.reg_schedules.proofs.Tails.{touched_from}
-use Rattle.reg_schedules.proofs.Known.{footprint_touches, touched_known}
-use Rattle.reg_schedules.proofs.Members.{all_among}
+use Rattle.reg_schedules.proofs.lemmas.Tails.{touched_from}
+use Rattle.reg_schedules.proofs.lemmas.Known.{footprint_touches, touched_known}
+use Rattle.reg_schedules.proofs.lemmas.Members.{all_among}
 use Rattle.reg_schedules.specs.Docks.{names_needed}
 use Rattle.std.specs.Prelude.{is_some}
 use Rattle.std.specs.Option.{option_copied}
@@ -17,9 +17,9 @@ use Rattle.reg_rules.specs.State.{account}
 use Rattle.reg_base.specs.Rules.{RulesValue}
 use Rattle.reg_base.specs.Batch.{BatchValue}
 use Rattle.reg_book.specs.Book.{BookValue}
-use Rattle.reg_book.specs.Day.{Day, value_at}
+use Rattle.reg_book.specs.Day.{DayValue, value_at}
 use Rattle.reg_tasks.specs.Names.{IsNamed, IsValue}
-use Rattle.reg_schedules.proofs.Needed.{number_found}
+use Rattle.reg_schedules.proofs.lemmas.Needed.{number_found}
 
 pub some_copied : {T : Type 0} (o : Option (Bor T)) (x : Option T) → option_copied o ≡ x → is_some x ≡ true → IsSome o
 some_copied None None e h = absurd cc
@@ -27,11 +27,11 @@ some_copied None (Some v) e h = absurd cc
 some_copied (Some r) x e h = refl
 
 -- the opening value of an account
-pub opened : (name : Option Day) (book : BookValue) (rules : RulesValue) (batch : BatchValue) (a : ℕ)
+pub opened : (name : Option DayValue) (book : BookValue) (rules : RulesValue) (batch : BatchValue) (a : ℕ)
     (value : AccountValue)
     → IsNamed name book rules batch → account book.accounts a ≡ Some value → IsValue name value 0
 opened name book rules batch a value named found = λ day e.
-    subst (λ (d : Day). value_at d value.number 0 ≡ Some value) (named day e)
+    subst (λ (d : DayValue). value_at d value.number 0 ≡ Some value) (named day e)
     (ap (account book.accounts) (number_found book.accounts a value found) ∙ found)
 
 -- an instruction to which no arrow leads needs opening values
@@ -44,14 +44,14 @@ no_arrows [] e = refl
 no_arrows (x ∷ xs) e = absurd (omega (arith, e))
 
 -- the accounts that an instruction touches are in the book
-pub all_known : EachFootprintIsSound → (day : Day) (place : ℕ)
+pub all_known : EachFootprintIsSound → (day : DayValue) (place : ℕ)
     → All (λ a. is_some (account day.book.accounts a) ≡ true) (footprint_at day place)
 all_known sound day place =
     All-from_recursion _ _ (all_among (λ a. is_some (account day.book.accounts a) ≡ true) (footprint_at day place)
     (λ a e. touched_known sound day place a (sym (footprint_touches day place a) ∙ e)))
 
 -- and some instruction touches each of them
-pub all_touched_at : (day : Day) (place : ℕ)
+pub all_touched_at : (day : DayValue) (place : ℕ)
     → All (λ a. is_touched (directory day) day.batch.instructions a ≡ true) (footprint_at day place)
 all_touched_at day place =
     All-from_recursion _ _ (all_among (λ a. is_touched (directory day) day.batch.instructions a ≡ true)

@@ -8,7 +8,7 @@ use Rattle.std.proofs.lemmas.Bool.{eqb-false, ne_eqb}
 use Rattle.std.proofs.lemmas.List.Kept.{AllPairs-from_increasing}
 use Rattle.std.proofs.lemmas.List.Sorted.{Contains-permutation, IsPermutation-sym}
 use Rattle.reg_base.specs.Rising.{IsRising}
-use Rattle.reg_schedules.proofs.Members.{In, in_from, contains_from}
+use Rattle.reg_schedules.proofs.lemmas.Members.{In, in_from, contains_from}
 
 -- each later element has a higher number
 abbrev pub Up : {X : Type 0} → (X → ℕ) → List X → Type 0

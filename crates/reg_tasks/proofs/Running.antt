@@ -19,14 +19,14 @@ use Rattle.reg_rules.specs.declared.reply.Reply.{Reply}
 use Rattle.reg_rules.specs.State.{State, account, numbers}
 use Rattle.reg_rules.specs.Step.{step, row_of}
 use Rattle.reg_rules.specs.Laws.{StepLaws}
-use Rattle.reg_book.specs.Day.{Day, setting, state_at, value_at}
+use Rattle.reg_book.specs.Day.{DayValue, setting, state_at, value_at}
 use Rattle.reg_book.specs.Laws.{EachIsAStep, ValueIsLastTouchers}
 use Rattle.reg_schedules.specs.Pool.{directory, footprint_at, run_at}
 use Rattle.reg_tasks.specs.Names.{before_place, AreNeeded, AreComplete, AreValues, IsValue}
 use Rattle.reg_tasks.specs.declared.naming.Naming.{Ghosts}
 use Rattle.reg_tasks.specs.declared.parcel.Parcel.{Parcel}
 use Rattle.reg_tasks.specs.Parcels.{values_of, afters_of, names_of}
-use Rattle.reg_schedules.proofs.Ran.{AgreeAt, IsRight, ran_right, results_right}
+use Rattle.reg_schedules.proofs.lemmas.Ran.{AgreeAt, IsRight, ran_right, results_right}
 
 -- an account without a row ahead has rows of lower numbers alone
 pub none_ahead : (n : ℕ) (rows : List RetirementRow) → list_any (λ (row : RetirementRow). leb n row.number) rows ≡ false
@@ -45,7 +45,7 @@ all_behind n (v ∷ vs) holds =
     (none_ahead n v.rows (not-true (has_row_ahead n v) both.0), all_behind n vs both.1)
 
 -- a step of the instruction at a place, and its row, are what running it gives
-pub ran_at : (day : Day) (place number : ℕ) (own results : State) (i : Instruction) (reply : Reply) (row : LogRow)
+pub ran_at : (day : DayValue) (place number : ℕ) (own results : State) (i : Instruction) (reply : Reply) (row : LogRow)
     → 1 ≤ place → slice_get day.batch.instructions (place - 1) ≡ Some i
     → number ≡ day.batch.base + place → (results, reply) ≡ step (setting day) own number i
     → row ≡ row_of (setting day) number i reply → run_at day place own ≡ Some (results, row)
@@ -62,7 +62,7 @@ ran_at day (suc k) number own results i reply row low at same one made =
     ∙ ap (λ (p : State × Reply). Some (p.0, row_of (setting day) (day.batch.base + suc k) i p.1)) stepped
     ∙ ap (λ (r : LogRow). Some (results, r)) rowed
 
-module _ {N : Type 0} {b : Ghosts N} (day : Day) (named : b.day ≡ Some day) (values : ValueIsLastTouchers)
+module _ {N : Type 0} {b : Ghosts N} (day : DayValue) (named : b.day ≡ Some day) (values : ValueIsLastTouchers)
     (place : ℕ) where
   -- parcels with the names that are needed have the values before the place
   pub own_agrees : (accounts : List ℕ) (ps : List (Parcel N b)) → names_of ps ≡ before_place day place accounts
@@ -127,15 +127,15 @@ module _ {N : Type 0} {b : Ghosts N} where
       ∙ ap (λ ns. (p.value.number, place) ∷ ns) (names_after ps place more)
 
   pub ran_named : StepLaws → EachIsAStep → ValueIsLastTouchers
-      → (D : Day) (place : ℕ) (ps : List (Parcel N b)) (results : State) (row : LogRow)
-      → ((d : Day) → b.day ≡ Some d → D ≡ d) → AreComplete b.day place (names_of ps)
+      → (D : DayValue) (place : ℕ) (ps : List (Parcel N b)) (results : State) (row : LogRow)
+      → ((d : DayValue) → b.day ≡ Some d → D ≡ d) → AreComplete b.day place (names_of ps)
       → run_at D place (values_of ps) ≡ Some (results, row)
-      → (d : Day) → b.day ≡ Some d → IsRight d place (values_of ps) results row
+      → (d : DayValue) → b.day ≡ Some d → IsRight d place (values_of ps) results row
   ran_named laws each vals D zero ps results row named complete ran d e = absurd (omega (arith, (complete d e).low))
   ran_named laws each vals D (suc n) ps results row named complete ran d e =
       let needed : AreNeeded d (suc n) (names_of ps) = complete d e in
       let run : run_at d (suc n) (values_of ps) ≡ Some (results, row) =
-      subst (λ (x : Day). run_at x (suc n) (values_of ps) ≡ Some (results, row)) (named d e) ran in
+      subst (λ (x : DayValue). run_at x (suc n) (values_of ps) ≡ Some (results, row)) (named d e) ran in
       let minus : suc n - 1 ≡ n = omega arith in
       let agree : AgreeAt (state_at d n) (footprint_at d (suc n)) (values_of ps) =
       subst (λ m. AgreeAt (state_at d m) (footprint_at d (suc n)) (values_of ps)) minus
@@ -145,13 +145,13 @@ module _ {N : Type 0} {b : Ghosts N} where
         | inr past ↦ absurd (omega (arith, past.0, needed.high))
       ]
 
-pub each_right : (name : Option Day) (place : ℕ) (own results : State) (row : LogRow) → EachFootprintIsSound
-    → ((d : Day) → name ≡ Some d → IsRight d place own results row)
-    → ((d : Day) → name ≡ Some d → numbers own ≡ footprint_at d place)
+pub each_right : (name : Option DayValue) (place : ℕ) (own results : State) (row : LogRow) → EachFootprintIsSound
+    → ((d : DayValue) → name ≡ Some d → IsRight d place own results row)
+    → ((d : DayValue) → name ≡ Some d → numbers own ≡ footprint_at d place)
     → AllByRecursion (λ v. IsValue name v place) results
 each_right name place own results row sound right touched =
     go results (λ d e. results_right d place own results row sound (right d e) (touched d e)) where
-      go : (vs : State) → ((d : Day) → name ≡ Some d → AllByRecursion (λ v. value_at d v.number place ≡ Some v) vs)
+      go : (vs : State) → ((d : DayValue) → name ≡ Some d → AllByRecursion (λ v. value_at d v.number place ≡ Some v) vs)
           → AllByRecursion (λ v. IsValue name v place) vs
       go [] all = tt
       go (v ∷ vs) all = ((λ d e. (all d e).0), go vs (λ d e. (all d e).1))

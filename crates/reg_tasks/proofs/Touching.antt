@@ -6,7 +6,7 @@ use Rattle.reg_base.specs.declared.instruction.Instruction.{Instruction}
 use Rattle.reg_base.specs.Directory.{DirectoryValue}
 use Rattle.reg_base.specs.Footprint.{footprint}
 use Rattle.reg_base.specs.Footprints.{footprints}
-use Rattle.reg_book.specs.Day.{Day}
+use Rattle.reg_book.specs.Day.{DayValue}
 use Rattle.reg_schedules.specs.Pool.{directory, footprint_at}
 
 kept_from : (d : DirectoryValue) (is : List Instruction) (k : ℕ)
@@ -15,7 +15,7 @@ kept_from d [] k = refl
 kept_from d (i ∷ is) zero = refl
 kept_from d (i ∷ is) (suc k) = kept_from d is k
 
-pub kept_at : (day : Day) (place : ℕ) → 1 ≤ place
+pub kept_at : (day : DayValue) (place : ℕ) → 1 ≤ place
     → get_or (footprints (directory day) day.batch.instructions) (place - 1) [] ≡ footprint_at day place
 kept_at day zero low = absurd (omega (arith, low))
 kept_at day (suc k) low =

@@ -15,7 +15,7 @@ use Rattle.reg_rules.specs.Effect.{IsBehind}
 use Rattle.reg_book.specs.Book.{BookValue, directory_of}
 use Rattle.reg_book.specs.Settled.{record_numbers}
 use Rattle.reg_tasks.specs.Gathering.{IsWhole, IsCommittable, are_counted}
-use Rattle.reg_schedules.proofs.Members.{In}
+use Rattle.reg_schedules.proofs.lemmas.Members.{In}
 use Rattle.reg_tasks.proofs.Rising.{Up, up_rising}
 
 -- rows that are counted

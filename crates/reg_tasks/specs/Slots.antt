@@ -8,7 +8,7 @@ use Rattle.reg_base.specs.Rising.{count_up}
 use Rattle.reg_base.specs.Touches.{is_touched, last_toucher}
 use Rattle.reg_plan.specs.declared.arrow.Opening.{Opening}
 use Rattle.reg_plan.specs.Arrows.{touches_place}
-use Rattle.reg_book.specs.Day.{Day}
+use Rattle.reg_book.specs.Day.{DayValue}
 use Rattle.reg_plan.specs.Plans.{PlanValue, inward}
 use Rattle.reg_plan.specs.Orders.{first_order_fault}
 use Rattle.reg_plan.specs.declared.order.OrderFault.{OrderFault}
@@ -38,14 +38,14 @@ module _ {N : Type 0} {b : Ghosts N} where
       if opening.account == a then option_map name_of slot else standing_in openings slots a
 
 -- the last of these places that touches the account, or the one before them if none does
-abbrev pub last_of : Day → ℕ → ℕ → List ℕ → ℕ
+abbrev pub last_of : DayValue → ℕ → ℕ → List ℕ → ℕ
 last_of day a before [] = before
 last_of day a before (place ∷ places) =
     last_of day a (if touches_place (directory day) day.batch.instructions a place then place else before) places
 
 -- after the instructions at these places, the slot of each touched account has the parcel that the last of them left,
 -- or the opening value
-abbrev pub StandAfter : Day → List ℕ → (ℕ → Option (ℕ × ℕ)) → Type 0
+abbrev pub StandAfter : DayValue → List ℕ → (ℕ → Option (ℕ × ℕ)) → Type 0
 StandAfter day places standing =
     (a : ℕ) → is_touched (directory day) day.batch.instructions a ≡ true → standing a ≡ Some (a, last_of day a 0 places)
 
@@ -60,7 +60,7 @@ LacksFor P Memory = Unit {0}
 LacksFor P Foreign = P
 
 -- a parcel of another context comes only if no day is named
-abbrev pub IsLack : Option Day → Lack → Type 0
+abbrev pub IsLack : Option DayValue → Lack → Type 0
 IsLack name = LacksFor (name ≡ None)
 
 -- whether this is the parcel of that name
@@ -73,17 +73,17 @@ abbrev pub is_there : (ℕ → Option (ℕ × ℕ)) → ℕ × ℕ → Bool
 is_there standing name = is_that name (standing name.0)
 
 -- whether the parcels that the instruction at this place needs are in the slots of the accounts that it touches
-abbrev pub is_ready : Day → PlanValue → ℕ → (ℕ → Option (ℕ × ℕ)) → Bool
+abbrev pub is_ready : DayValue → PlanValue → ℕ → (ℕ → Option (ℕ × ℕ)) → Bool
 is_ready day plan place standing =
     list_all (λ name. is_there standing name) (names_needed (inward plan.arrows place) (footprint_at day place))
 
 -- before the first instruction the opening value stands for each account that one touches
-abbrev pub AreOpened : Day → (ℕ → Option (ℕ × ℕ)) → Type 0
+abbrev pub AreOpened : DayValue → (ℕ → Option (ℕ × ℕ)) → Type 0
 AreOpened day standing =
     (a : ℕ) → standing a ≡ (if is_touched (directory day) day.batch.instructions a then Some (a, 0) else None)
 
 -- the slots of the accounts that the instruction at this place touches are empty now, the others as they were
-abbrev pub AreTaken : Day → ℕ → (ℕ → Option (ℕ × ℕ)) → (ℕ → Option (ℕ × ℕ)) → Type 0
+abbrev pub AreTaken : DayValue → ℕ → (ℕ → Option (ℕ × ℕ)) → (ℕ → Option (ℕ × ℕ)) → Type 0
 AreTaken day place before after = (a : ℕ) → after a ≡ (if is_among (footprint_at day place) a then None else before a)
 
 -- nothing in the slots has changed
@@ -95,27 +95,27 @@ abbrev pub AreLaid : List (ℕ × ℕ) → (ℕ → Option (ℕ × ℕ)) → (�
 AreLaid names before after = (a : ℕ) → after a ≡ laid_at names (before a) a
 
 -- whether some instruction touches each of the accounts
-abbrev pub have_slots : Day → List (ℕ × ℕ) → Bool
+abbrev pub have_slots : DayValue → List (ℕ × ℕ) → Bool
 have_slots day names = list_all (λ n. is_touched (directory day) day.batch.instructions n.0) names
 
 -- each place once, and what stands for each touched account is what its last instruction left
-pub record IsAtEnd (day : Day) (places : List ℕ) (standing : ℕ → Option (ℕ × ℕ)) : Type 0 where
+pub record IsAtEnd (day : DayValue) (places : List ℕ) (standing : ℕ → Option (ℕ × ℕ)) : Type 0 where
   pub each : IsPermutation (count_up 1 (length day.batch.instructions)) places
   pub last_left : (a : ℕ) → is_touched (directory day) day.batch.instructions a ≡ true
       → standing a ≡ Some (a, last_toucher (directory day) day.batch.instructions a (length day.batch.instructions))
 
 -- if a day is named, the parcels that the instruction at this place needs are there
-abbrev pub AreReady : Option Day → Day → PlanValue → ℕ → (ℕ → Option (ℕ × ℕ)) → Type 0
-AreReady name day plan place standing = (d : Day) → name ≡ Some d → is_ready day plan place standing ≡ true
+abbrev pub AreReady : Option DayValue → DayValue → PlanValue → ℕ → (ℕ → Option (ℕ × ℕ)) → Type 0
+AreReady name day plan place standing = (d : DayValue) → name ≡ Some d → is_ready day plan place standing ≡ true
 
 -- if a day is named, they have the parcels that it left, and the other slots are as they were
-abbrev pub IsLaidBack : Option Day → Day → ℕ → (ℕ → Option (ℕ × ℕ)) → (ℕ → Option (ℕ × ℕ)) → Type 0
-IsLaidBack name day place before after = (d : Day) → name ≡ Some d → (a : ℕ)
+abbrev pub IsLaidBack : Option DayValue → DayValue → ℕ → (ℕ → Option (ℕ × ℕ)) → (ℕ → Option (ℕ × ℕ)) → Type 0
+IsLaidBack name day place before after = (d : DayValue) → name ≡ Some d → (a : ℕ)
     → after a ≡ (if is_among (footprint_at day place) a then Some (a, place) else before a)
 
 -- if a day is named, this is what stands after the instructions at these places
-abbrev pub AreStanding : Option Day → Day → List ℕ → (ℕ → Option (ℕ × ℕ)) → Type 0
-AreStanding name day places standing = (d : Day) → name ≡ Some d → StandAfter day places standing
+abbrev pub AreStanding : Option DayValue → DayValue → List ℕ → (ℕ → Option (ℕ × ℕ)) → Type 0
+AreStanding name day places standing = (d : DayValue) → name ≡ Some d → StandAfter day places standing
 
 -- a fault of an order, as a reason why it was not run
 abbrev pub run_fault : OrderFault → RunFault

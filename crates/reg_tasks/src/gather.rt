@@ -9,7 +9,7 @@ ghost use Rattle.reg_base.specs.Rising.{is_rising_from};
 ghost use Rattle.reg_rules.specs.State.{numbers};
 ghost use Rattle.reg_base.specs.declared.limits.TheConstants.{MOST_RECORD};
 ghost use Rattle.reg_book.specs.Settled.{IsOfBook};
-ghost use Rattle.reg_book.specs.Day.{Day, log_of, settled_day};
+ghost use Rattle.reg_book.specs.Day.{DayValue, log_of, settled_day};
 ghost use Rattle.reg_tasks.specs.Contexts.{the_day};
 ghost use Rattle.reg_tasks.specs.Parcels.{names_of, values_of};
 ghost use Rattle.reg_tasks.specs.Gathering.{AreRows, AreFirstRows, AreClosing, AreNotAll, IsGathered, IsCommittable};
@@ -165,7 +165,7 @@ pub(crate) fn settle_log<N: Naming>(
     ensures settled { IfOk result (λ s. IfSome N.day (λ d. s ≡ settled_day d)) }
     ensures of_book { IfOk result (λ s. IsOfBook context.now.book.now s) }
     ensures lack { IfErr result
-        (LacksFor ((d : Day) → N.day ≡ Some d
+        (LacksFor ((d : DayValue) → N.day ≡ Some d
         → have_accounts (opened_accounts context.now.plan.openings) (names_of (parcels_in parcels.items)) ≡ false)) }
 {
     context.is_day();
@@ -191,7 +191,7 @@ fn settle_sorted<N: Naming>(
 ) -> Result<Settled, Lack>
     ensures settled { IfOk result (λ s. IfSome N.day (λ d. s ≡ settled_day d)) }
     ensures of_book { IfOk result (λ s. IsOfBook context.now.book.now s) }
-    ensures lack { IfErr result (LacksFor ((d : Day) → N.day ≡ Some d
+    ensures lack { IfErr result (LacksFor ((d : DayValue) → N.day ≡ Some d
         → are_outcomes (the_day context.now) (opened_accounts context.now.plan.openings)
         (places_of rows.items) (names_of (parcels_in parcels.items)) ≡ false)) }
 {

@@ -5,9 +5,9 @@ use std::marker::Brand;
 /// Which day values belong to, as plain data for proofs, or none. A name has no code.
 pub trait Naming {
     ghost use Rattle.std.specs.Prelude.{Option};
-    ghost use Rattle.reg_book.specs.Day.{Day};
+    ghost use Rattle.reg_book.specs.Day.{DayValue};
 
-    ghost day: { Option Day };
+    ghost day: { Option DayValue };
 }
 
 /// The name that a caller picks from its own arguments.

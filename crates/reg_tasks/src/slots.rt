@@ -29,7 +29,7 @@ pub struct Slots<'c, 'a, N: Naming> {
 
 impl<'c, 'a, N: Naming> Slots<'c, 'a, N> {
     ghost use Rattle.std.specs.Prelude.{ℕ, ◌≤◌, Some, None, true, false, IfOk, IfErr, IfSome, OnOk, OnErr};
-    ghost use Rattle.reg_book.specs.Day.{Day, settled_day};
+    ghost use Rattle.reg_book.specs.Day.{DayValue, settled_day};
     ghost use Rattle.reg_book.specs.Settled.{IsOfBook};
     ghost use Rattle.reg_tasks.specs.Contexts.{the_day};
     ghost use Rattle.reg_base.specs.Rising.{count_up};
@@ -159,7 +159,7 @@ impl<'c, 'a, N: Naming> Slots<'c, 'a, N> {
         ensures settled { IfOk result (λ s. IfSome N.day (λ d. s ≡ settled_day d)) }
         ensures of_book { IfOk result (λ s. IsOfBook self.entry.context.now.book.now s) }
         ensures lack { IfErr result
-            (LacksFor ((d : Day) → N.day ≡ Some d
+            (LacksFor ((d : DayValue) → N.day ≡ Some d
             → ¬ (IsAtEnd d (count_up 1 (length d.batch.instructions)) (stands self.entry)))) }
     {
         last_toucher_is_last();
@@ -178,7 +178,7 @@ impl<'c, 'a, N: Naming> Slots<'c, 'a, N> {
         ensures settled { IfOk result (λ s. IfSome N.day (λ d. s ≡ settled_day d)) }
         ensures of_book { IfOk result (λ s. IsOfBook self.entry.context.now.book.now s) }
         ensures lack { IfErr result
-            (LacksFor ((d : Day) → N.day ≡ Some d → ¬ (IsAtEnd d (places_of done.items) (stands self.entry)))) }
+            (LacksFor ((d : DayValue) → N.day ≡ Some d → ¬ (IsAtEnd d (places_of done.items) (stands self.entry)))) }
     {
         last_toucher_is_last();
         tails_are_last_touchers();

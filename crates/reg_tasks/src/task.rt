@@ -32,7 +32,7 @@ impl<N: Naming> Task<N> {
     ghost use Rattle.std.specs.Prelude.{MatchResult, IsPermutation};
     ghost use Rattle.reg_rules.specs.State.{account};
     ghost use Rattle.reg_plan.specs.Plans.{inward};
-    ghost use Rattle.reg_book.specs.Day.{Day};
+    ghost use Rattle.reg_book.specs.Day.{DayValue};
     ghost use Rattle.reg_tasks.specs.Contexts.{the_day};
     ghost use Rattle.reg_schedules.specs.Pool.{footprint_at, run_at};
     ghost use Rattle.reg_tasks.specs.Parcels.{values_of, afters_of, parcels_of};
@@ -162,7 +162,7 @@ impl<N: Naming> Task<N> {
     // instruction touches, and their surrenders and deletions have lower record numbers. If a day is named, it is.
     fn fits(&self, context: &Context<N>) -> bool
         ensures is_for { result ≡ true → IsFor (the_day context.now) self.now.place (values_of self.now.parcels.items) }
-        ensures named { (d : Day) → N.day ≡ Some d → result ≡ true }
+        ensures named { (d : DayValue) → N.day ≡ Some d → result ≡ true }
     {
         context.is_day();
         stays_ready();

@@ -1,7 +1,7 @@
 //! Running one instruction on what stands in the slots.
 
 ghost use Rattle.std.specs.Prelude.{◌≡◌, ◌≤◌, Some, false, length, IfOk, IfErr, OnOk};
-ghost use Rattle.reg_book.specs.Day.{Day};
+ghost use Rattle.reg_book.specs.Day.{DayValue};
 ghost use Rattle.reg_tasks.specs.Contexts.{the_day};
 ghost use Rattle.reg_tasks.specs.Names.{IsRowOfDay};
 ghost use Rattle.reg_tasks.specs.Slots.{IsLaidBack, LacksFor, is_ready};
@@ -35,7 +35,7 @@ pub fn run_at<N: Naming, G: Gate>(
     ensures laid { OnOk result
         (IsLaidBack N.day (the_day slots.old.context.now) place (stands slots.old) (stands slots.new)) }
     ensures lack { IfErr result
-        (LacksFor ((d : Day) → N.day ≡ Some d
+        (LacksFor ((d : DayValue) → N.day ≡ Some d
         → is_ready (the_day slots.old.context.now) slots.old.context.now.plan place (stands slots.old) ≡ false)) }
 {
     let task = slots.take(alloc, place)?;

@@ -7,10 +7,10 @@ use Rattle.csv.specs.Writing.{default_writer, row_text}
 use Rattle.csv.specs.declared.parser.State.{State}
 use Rattle.csv.specs.declared.parser.State.TheVariants as st
 use Rattle.csv.proofs.RoundTrip.{read-write}
-use Rattle.reg_cuts.specs.Rows.{Record}
+use Rattle.reg_cuts.specs.Rows.{TextRow}
 use Rattle.reg_cuts.specs.Parts.{machine_after}
-use Rattle.reg_cuts.proofs.RowsFacts.{record-advances}
-use Rattle.reg_cuts.proofs.Splits.{state-append}
+use Rattle.reg_cuts.proofs.lemmas.RowsFacts.{record-advances}
+use Rattle.reg_cuts.proofs.lemmas.Splits.{state-append}
 use Rattle.reg_text.specs.Report.{text_of}
 
 none-before : (a rest : List ℕ) → a ++ rest ≡ rest → a ≡ []
@@ -45,11 +45,11 @@ record-leaves s fields field (d ∷ a) c p e left =
       | inr h ↦ record-leaves t.0 (fields_after t.1 fields field) (field_after t.1 d field) a c p h.1 left
     ]
 
-row-state : (r : Record) → machine_after st.StartRecord (row_text default_writer r) ≡ st.StartRecord
+row-state : (r : TextRow) → machine_after st.StartRecord (row_text default_writer r) ≡ st.StartRecord
 row-state r = record-leaves st.StartRecord [] [] (row_text default_writer r) 0 _ (read-write r (0 ∷ [])) refl
 
 -- behind written rows csv stands between two rows
-pub rows-state : (rows : List Record) → machine_after st.StartRecord (text_of rows) ≡ st.StartRecord
+pub rows-state : (rows : List TextRow) → machine_after st.StartRecord (text_of rows) ≡ st.StartRecord
 unfolding machine_after
 rows-state [] = refl
 rows-state (r ∷ rows) = state-append st.StartRecord (row_text default_writer r) (text_of rows)

@@ -4,7 +4,7 @@ use Rattle.std.proofs.Common.{◌≡◌, ℕ, ◌+◌, ◌-◌, ◌<◌, ◌≤�
 use Rattle.std.proofs.Common.{None, Ok, refl, sym, ap, subst, ◌∙◌, arith, append_assoc, length-append}
 use Rattle.std.specs.Prelude.{nat_lt, ◌&&◌}
 use Rattle.std.proofs.lemmas.Bool.{lt-ltb, le-leb, leb-true}
-use Rattle.reg_text.proofs.Names.{MOST_INSTRUCTIONS, MOST_RECORD, Tag, Version, One, Two, Scope, Record, field, named}
+use Rattle.reg_text.proofs.Names.{MOST_INSTRUCTIONS, MOST_RECORD, Tag, Version, One, Two, Scope, TextRow, field, named}
 use Rattle.reg_text.proofs.Names.{all_tags, tag_word, stages, stage, may_follow, Said, row}
 use Rattle.reg_text.proofs.Names.{DraftValue, scope_of, with, has_space, next_draft, drafted, next_in, is_number_left}
 use Rattle.reg_text.specs.declared.cause.Cause.TheVariants as cause
@@ -54,11 +54,11 @@ count-with tag.Do e x = omega (arith, length-append e.instructions (x ∷ []))
 count-with tag.Format e x = omega arith
 count-with t e x = omega arith
 
-count-taken : (d e : DraftValue) (r : Record) → IsTaken d r e → length d.instructions ≤ length e.instructions
+count-taken : (d e : DraftValue) (r : TextRow) → IsTaken d r e → length d.instructions ≤ length e.instructions
 count-taken d e r k = subst (λ (x : DraftValue). length d.instructions ≤ length x.instructions) k.gives
     (count-with k.tag d k.says)
 
-count-drafted : (rows : List Record) (d e : DraftValue) → drafted d rows ≡ Ok e
+count-drafted : (rows : List TextRow) (d e : DraftValue) → drafted d rows ≡ Ok e
     → length d.instructions ≤ length e.instructions
 count-drafted [] d e eq = let same = ok_is d e eq in rw same (omega arith)
 count-drafted (r ∷ rows) d e eq =
@@ -66,7 +66,7 @@ count-drafted (r ∷ rows) d e eq =
     omega (arith, count-taken d x.0 r (taken d x.0 r x.1), count-drafted rows x.0 e x.2)
 
 -- a row that is taken behind an instruction of the part is taken behind the draft
-after-at : (t : Tag) (h d e o : DraftValue) (r : Record) (x : Said t) → HasHeading h d → HasHeading h e
+after-at : (t : Tag) (h d e o : DraftValue) (r : TextRow) (x : Said t) → HasHeading h d → HasHeading h e
     → 90 ≤ stage e.last → length d.instructions + length o.instructions ≤ MOST_INSTRUCTIONS
     → is_number_left (next_in d.heading.days) (length d.instructions + length o.instructions - 1) ≡ true
     → named cause.Tag tag_word all_tags (field r 0) ≡ Ok t → may_follow (scope_of e).version e.last t ≡ true
@@ -117,7 +117,7 @@ last-late tag.Format version last may begun = absurd (too-late version last tag.
 last-late t version last may begun = absurd (too-late version last t refl may begun)
 
 -- the rows behind the first instruction of a part
-rows-after : (rows : List Record) (h d e f : DraftValue) → HasHeading h d → HasHeading h e → 90 ≤ stage e.last
+rows-after : (rows : List TextRow) (h d e f : DraftValue) → HasHeading h d → HasHeading h e → 90 ≤ stage e.last
     → length d.instructions + length f.instructions ≤ MOST_INSTRUCTIONS
     → is_number_left (next_in d.heading.days) (length d.instructions + length f.instructions - 1) ≡ true
     → drafted e rows ≡ Ok f → drafted (after d e) rows ≡ Ok (after d f)
@@ -137,7 +137,7 @@ rows-after (r ∷ rows) h d e f k l begun few left eq =
     rw step (rows-after rows h d x.0 f k heading on few left x.2)
 
 -- the first instruction of a part that is taken behind a heading is taken behind what has the same heading
-seam-at : (t : Tag) (h d o : DraftValue) (r : Record) (x : Said t) → IsHeading h → HasHeading h d
+seam-at : (t : Tag) (h d o : DraftValue) (r : TextRow) (x : Said t) → IsHeading h → HasHeading h d
     → may_follow (scope_of d).version d.last tag.Do ≡ true
     → (nat_lt (length d.instructions) MOST_INSTRUCTIONS && is_number_left (next_in d.heading.days) (length
     d.instructions))
@@ -169,7 +169,7 @@ first-at t h o x is gives last = let other : Some t ≡ Some tag.Do =
     sym (last-with t h x) ∙ ap (λ (y : DraftValue). y.last) gives ∙ last in absurd cc
 
 -- the rows of a part that begins with an instruction, read behind the draft before it, give both drafts joined
-pub instructions-join : (h d e : DraftValue) (rows : List Record) → IsHeading h → HasHeading h d
+pub instructions-join : (h d e : DraftValue) (rows : List TextRow) → IsHeading h → HasHeading h d
     → InstructionsMayFollow d e → IsPart h rows None e → drafted d rows ≡ Ok (after d e)
 instructions-join h d e rows is same m p =
     let k = taken h p.after_first p.row p.takes_first in

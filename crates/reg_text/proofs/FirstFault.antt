@@ -4,7 +4,7 @@ use Rattle.std.proofs.Common.{◌++◌, length, take, get_or, Option, Some, None
 use Rattle.std.proofs.Common.{◌∙◌, arith, append_assoc}
 use Rattle.std.proofs.lemmas.List.{append-nil}
 use Rattle.reg_text.proofs.Names.{MOST_LAG, FIRST_DAY, FIRST_YEAR, Cause, Tag, Version, One, Two, SectionStandsAt}
-use Rattle.reg_text.proofs.Names.{stage, scope_of, Record, Said, row, DraftValue, nothing_read, Day, is_text_over}
+use Rattle.reg_text.proofs.Names.{stage, scope_of, TextRow, Said, row, DraftValue, nothing_read, DayValue, is_text_over}
 use Rattle.reg_text.proofs.Names.{day_said, IsDraft, IsReading, Begins, IsFirstFaulty, fault_of, with, in_order}
 use Rattle.reg_text.proofs.Names.{has_space, next_draft, drafted, at_row, at_end, after_rows, day_of_rows, IsCauseOf}
 use Rattle.reg_text.specs.declared.cause.Cause.TheVariants as cause
@@ -29,7 +29,7 @@ placed-fault true true x = refl
 placed-fault true false x = refl
 placed-fault false space x = refl
 
-row-fault : (t : Tag) (d : DraftValue) (r : Record) → fault_of (with_row t d r) ≡ first_cause (tagged_tests (Ok t) d r)
+row-fault : (t : Tag) (d : DraftValue) (r : TextRow) → fault_of (with_row t d r) ≡ first_cause (tagged_tests (Ok t) d r)
 unfolding with_row
 row-fault t d r =
     let c = row (scope_of d) t in
@@ -45,7 +45,7 @@ tag-once version last f =
     (λ t. only-test (may_follow version last t) cause.Tag t))
 
 -- the first cause of the table that applies to a row
-pub first-fault : (d : DraftValue) (r : Record) → fault_of (next_draft d r) ≡ first_cause (tests_of d r)
+pub first-fault : (d : DraftValue) (r : TextRow) → fault_of (next_draft d r) ≡ first_cause (tests_of d r)
 first-fault d r =
     let read = tag_after (scope_of d).version d.last (field r 0) in
     refused (is_text_over d.last) cause.End _ _ (λ h.
@@ -62,13 +62,13 @@ with-one : (t : Tag) (d : DraftValue) (x : Said t) → IsDraft d → MayFollow (
 with-one t d x h may fits order space more =
     let g = grows-with t d x h may fits order space in
     let begins = more g.draft in
-    let same = ap (λ (rows : List Record). rows ++ begins.0) g.rows
+    let same = ap (λ (rows : List TextRow). rows ++ begins.0) g.rows
     ∙ append_assoc (rows_so_far d) (row_text t x ∷ []) begins.0 in
-    (row_text t x ∷ begins.0, begins.1, subst (λ (text : List Record). IsReading text begins.1) same begins.2)
+    (row_text t x ∷ begins.0, begins.1, subst (λ (text : List TextRow). IsReading text begins.1) same begins.2)
 
 over-begins : (d : DraftValue) → IsDraft d → is_text_over d.last ≡ true → Begins (rows_so_far d)
 over-begins d h over = let c = closes d h.fits over in
-    ([], c.day, subst (λ (text : List Record). IsReading text c.day) (sym (append-nil (rows_so_far d))) c.reading)
+    ([], c.day, subst (λ (text : List TextRow). IsReading text c.day) (sym (append-nil (rows_so_far d))) c.reading)
 
 from-lags : (d : DraftValue) → IsDraft d → MayFollow (scope_of d).version d.last tag.End → Begins (rows_so_far d)
 from-lags d h may = with-one tag.End d tt h may tt refl refl (λ k. over-begins (with tag.End d tt) k refl)
@@ -130,7 +130,7 @@ begins-draft d h = begins-by d.last d refl h
 -- ---- where reading stops
 
 -- after k rows the reading stands at a draft, and then the row or the end of the rows is wrong
-record Stops (number : ℕ) (d : DraftValue) (rows : List Record) (row : ℕ) (c : Cause) : Type 0 where
+record Stops (number : ℕ) (d : DraftValue) (rows : List TextRow) (row : ℕ) (c : Cause) : Type 0 where
   count : ℕ
   at : row ≡ number + count
   within : count ≤ length rows
@@ -140,24 +140,24 @@ record Stops (number : ℕ) (d : DraftValue) (rows : List Record) (row : ℕ) (c
   stands : rows_so_far last_draft ≡ rows_so_far d ++ take count rows
   refused : count < length rows → next_draft last_draft (get_or rows count []) ≡ Err c
   -- whatever follows the faulty row, the fault stays
-  stays : count < length rows → (more : List Record) → after_rows number d (take (count + 1) rows ++ more)
+  stays : count < length rows → (more : List TextRow) → after_rows number d (take (count + 1) rows ++ more)
       ≡ Err (row, c)
   too_short : count ≡ length rows → c ≡ cause.End
 
-faulty_row : (number : ℕ) (read : Result DraftValue Cause) (more : DraftValue → Result Day (ℕ × Cause)) (row : ℕ)
+faulty_row : (number : ℕ) (read : Result DraftValue Cause) (more : DraftValue → Result DayValue (ℕ × Cause)) (row : ℕ)
     (c : Cause) → at_row number read more ≡ Err (row, c)
     → ((read ≡ Err c) × (row ≡ number)) ⊎ ((d : DraftValue) × (read ≡ Ok d) × (more d ≡ Err (row, c)))
 faulty_row number (Ok d) more row c e = inr (d, refl, e)
 faulty_row number (Err b) more row c e = let pair : ◌≡◌ {A = ℕ × Cause} (number, b) (row, c) = cc in
     inl (ap (λ (p : ℕ × Cause). Err p.1) pair, sym (ap (λ (p : ℕ × Cause). p.0) pair))
 
-fault_at_end : (number : ℕ) (o : Option Day) (row : ℕ) (c : Cause) → at_end number o ≡ Err (row, c)
+fault_at_end : (number : ℕ) (o : Option DayValue) (row : ℕ) (c : Cause) → at_end number o ≡ Err (row, c)
     → (row ≡ number) × (c ≡ cause.End)
 fault_at_end number (Some v) row c e = absurd cc
 fault_at_end number None row c e = let pair : ◌≡◌ {A = ℕ × Cause} (row, c) (number, cause.End) = cc in
     (ap (λ (p : ℕ × Cause). p.0) pair, ap (λ (p : ℕ × Cause). p.1) pair)
 
-stops : (rows : List Record) (number : ℕ) (d : DraftValue) (row : ℕ) (c : Cause) → IsDraft d
+stops : (rows : List TextRow) (number : ℕ) (d : DraftValue) (row : ℕ) (c : Cause) → IsDraft d
     → after_rows number d rows ≡ Err (row, c) → Stops number d rows row c
 stops [] number d row c h e =
     let a = fault_at_end number (day_said d) row c e in
@@ -200,7 +200,7 @@ stops (r ∷ rows) number d row c h e =
             fits = s.fits;
             made = rw later.1 s.made;
             refused = λ lt. s.refused (omega arith);
-            stands = s.stands ∙ ap (λ (x : List Record). x ++ take s.count rows) g.rows
+            stands = s.stands ∙ ap (λ (x : List TextRow). x ++ take s.count rows) g.rows
                 ∙ append_assoc (rows_so_far d) (r ∷ []) (take s.count rows);
             stays = λ lt more. let plus : suc s.count + 1 ≡ suc (s.count + 1) = omega arith in
                 rw (plus, later.1) (s.stays (omega arith) more);
@@ -210,10 +210,12 @@ stops (r ∷ rows) number d row c h e =
 
 -- ---- the law
 
-no_value : (rows : List Record) (v : Day) (row : ℕ) (c : Cause) → day_of_rows rows ≡ Err (row, c) → IsReading rows v → ⊥
+no_value : (rows : List TextRow) (v : DayValue) (row : ℕ) (c : Cause) → day_of_rows rows ≡ Err (row, c)
+    → IsReading rows v → ⊥
 no_value rows v row c e reading = let value = reading-to rows v reading in cc
 
-pub first-faulty : (rows : List Record) (row : ℕ) (c : Cause) → day_of_rows rows ≡ Err (row, c) → IsFirstFaulty rows row
+pub first-faulty : (rows : List TextRow) (row : ℕ) (c : Cause) → day_of_rows rows ≡ Err (row, c)
+    → IsFirstFaulty rows row
     × (row ≡ length rows + 1 → c ≡ cause.End)
 first-faulty rows row c e =
     let s = stops rows 1 nothing_read row c nothing-fits e in
@@ -235,7 +237,7 @@ first-faulty rows row c e =
     )
 
 -- the cause is the first of the table's that applies to the row after the rows before it
-pub cause-at : (rows : List Record) (row : ℕ) (c : Cause) → day_of_rows rows ≡ Err (row, c) → row ≤ length rows
+pub cause-at : (rows : List TextRow) (row : ℕ) (c : Cause) → day_of_rows rows ≡ Err (row, c) → row ≤ length rows
     → IsCauseOf rows row c
 cause-at rows row c e inside =
     let s = stops rows 1 nothing_read row c nothing-fits e in

@@ -1,6 +1,6 @@
 -- What has not come before a row that comes once, and what comes of a row that was read.
 use Rattle.std.proofs.Common.{◌≡◌, ℕ, Bool, true, false, List, [], Result, Ok, Err, refl}
-use Rattle.reg_text.proofs.Names.{Tag, Version, One, Two, Record, DraftValue, IsDraft, Said, row_read, scope_of}
+use Rattle.reg_text.proofs.Names.{Tag, Version, One, Two, TextRow, DraftValue, IsDraft, Said, row_read, scope_of}
 use Rattle.reg_text.proofs.Names.{is_once, tag_after, in_order, has_space, placed}
 use Rattle.reg_text.proofs.Names.{with, with_row, Cause}
 use Rattle.std.specs.Result.{IsErrAnd}
@@ -28,7 +28,7 @@ no-lags d f h tagged = none-before d tag.Lags f h tagged (once-lags (scope_of d)
 
 -- ---- what comes of a row
 
-pub row-unread : (t : Tag) (d : DraftValue) (r : Record) (c : Cause) → row_read (scope_of d) t r ≡ Err c
+pub row-unread : (t : Tag) (d : DraftValue) (r : TextRow) (c : Cause) → row_read (scope_of d) t r ≡ Err c
     → with_row t d r ≡ Err c
 unfolding with_row
 row-unread t d r c read = rw read refl
@@ -48,12 +48,12 @@ placed-ok true true x e = refl
 placed-ok true false x e = absurd cc
 placed-ok false space x e = absurd cc
 
-pub row-refused : (t : Tag) (d : DraftValue) (r : Record) (x : Said t) (c : Cause) → row_read (scope_of d) t r ≡ Ok x
+pub row-refused : (t : Tag) (d : DraftValue) (r : TextRow) (x : Said t) (c : Cause) → row_read (scope_of d) t r ≡ Ok x
     → ◌≡◌ {A = Verdict} (placed (in_order t d x) (has_space t d x) tt) (Err c) → with_row t d r ≡ Err c
 unfolding with_row
 row-refused t d r x c read why = rw read (placed-err (in_order t d x) (has_space t d x) (with t d x) c why)
 
-pub row-taken : (t : Tag) (d : DraftValue) (r : Record) (x : Said t) → row_read (scope_of d) t r ≡ Ok x
+pub row-taken : (t : Tag) (d : DraftValue) (r : TextRow) (x : Said t) → row_read (scope_of d) t r ≡ Ok x
     → ◌≡◌ {A = Verdict} (placed (in_order t d x) (has_space t d x) tt) (Ok tt) → with_row t d r ≡ Ok (with t d x)
 unfolding with_row
 row-taken t d r x read passes = rw read (placed-ok (in_order t d x) (has_space t d x) (with t d x) passes)

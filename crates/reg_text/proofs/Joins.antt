@@ -6,7 +6,7 @@ use Rattle.std.proofs.Common.{length-append}
 use Rattle.std.specs.Prelude.{option_map}
 use Rattle.std.proofs.lemmas.Bool.{cases_lt, lt-ltb}
 use Rattle.std.proofs.lemmas.List.{append-nil}
-use Rattle.reg_text.proofs.Names.{MOST_ACCOUNTS, AccountValue, AccountHead, Tag, Version, One, Two, Scope, Record}
+use Rattle.reg_text.proofs.Names.{MOST_ACCOUNTS, AccountValue, AccountHead, Tag, Version, One, Two, Scope, TextRow}
 use Rattle.reg_text.proofs.Names.{field, ◌>>=◌, test, option_to_list, named, all_tags, tag_word, stages, stage}
 use Rattle.reg_text.proofs.Names.{tag_stage, last_item, may_follow, tag_after, Said, row, is_above}
 use Rattle.reg_text.proofs.Names.{DraftValue, accounts_in, account_count, scope_of, is_text_over, with, in_order}
@@ -26,7 +26,7 @@ placed-passes false space x y e = absurd cc
 
 -- ---- a row that is taken
 
-pub record IsTaken (d : DraftValue) (r : Record) (e : DraftValue) : Type 0 where
+pub record IsTaken (d : DraftValue) (r : TextRow) (e : DraftValue) : Type 0 where
   pub tag : Tag
   pub says : Said tag
   pub goes : is_text_over d.last ≡ false
@@ -37,7 +37,7 @@ pub record IsTaken (d : DraftValue) (r : Record) (e : DraftValue) : Type 0 where
   pub space : has_space tag d says ≡ true
   pub gives : with tag d says ≡ e
 
-pub taken : (d e : DraftValue) (r : Record) → next_draft d r ≡ Ok e → IsTaken d r e
+pub taken : (d e : DraftValue) (r : TextRow) → next_draft d r ≡ Ok e → IsTaken d r e
 unfolding with_row
 taken d e r eq =
     let version = (scope_of d).version in
@@ -62,7 +62,7 @@ taken d e r eq =
       gives = p.2;
     }
 
-pub takes : (d e : DraftValue) (r : Record) → IsTaken d r e → next_draft d r ≡ Ok e
+pub takes : (d e : DraftValue) (r : TextRow) → IsTaken d r e → next_draft d r ≡ Ok e
 unfolding with_row
 takes d e r k = rw (k.goes, k.named_by, k.stands, k.reads, k.ordered, k.space) (ap (λ (x : DraftValue). Ok x) k.gives)
 
@@ -97,7 +97,7 @@ space-behind before tag.Account d x few space =
 space-behind before tag.Format d x few space = space
 space-behind before t d x few space = space
 
-row-behind : (before : List AccountValue) (d e : DraftValue) (r : Record) → IsTaken d r e
+row-behind : (before : List AccountValue) (d e : DraftValue) (r : TextRow) → IsTaken d r e
     → length before + account_count e ≤ MOST_ACCOUNTS → IsTaken (behind before d) r (behind before e)
 row-behind before d e r k few =
     let fewer : length before + account_count (with k.tag d k.says) ≤ MOST_ACCOUNTS =
@@ -114,17 +114,17 @@ row-behind before d e r k few =
       gives = with-behind before k.tag d k.says ∙ ap (behind before) k.gives;
     }
 
-count-taken : (d e : DraftValue) (r : Record) → IsTaken d r e → account_count d ≤ account_count e
+count-taken : (d e : DraftValue) (r : TextRow) → IsTaken d r e → account_count d ≤ account_count e
 count-taken d e r k = subst (λ (x : DraftValue). account_count d ≤ account_count x) k.gives (count-with k.tag d k.says)
 
-pub count-drafted : (rows : List Record) (d e : DraftValue) → drafted d rows ≡ Ok e → account_count d ≤ account_count e
+pub count-drafted : (rows : List TextRow) (d e : DraftValue) → drafted d rows ≡ Ok e → account_count d ≤ account_count e
 count-drafted [] d e eq = let same = ok_is d e eq in rw same (omega arith)
 count-drafted (r ∷ rows) d e eq =
     let x = bind_ok (next_draft d r) (λ y. drafted y rows) e eq in
     omega (arith, count-taken d x.0 r (taken d x.0 r x.1), count-drafted rows x.0 e x.2)
 
 -- the rows of a draft, behind other accounts
-pub rows-behind : (before : List AccountValue) (rows : List Record) (d e : DraftValue) → drafted d rows ≡ Ok e
+pub rows-behind : (before : List AccountValue) (rows : List TextRow) (d e : DraftValue) → drafted d rows ≡ Ok e
     → length before + account_count e ≤ MOST_ACCOUNTS → drafted (behind before d) rows ≡ Ok (behind before e)
 rows-behind before [] d e eq few = ap (λ (x : DraftValue). Ok (behind before x)) (ok_is d e eq)
 rows-behind before (r ∷ rows) d e eq few =
@@ -171,7 +171,7 @@ begun-with t d x may begun = elim (cases_lt (tag_stage t) 80) [
   | inr late ↦ late
 ]
 
-pub heading-kept : (h : DraftValue) (rows : List Record) (d e : DraftValue) → drafted d rows ≡ Ok e → 80 ≤ stage d.last
+pub heading-kept : (h : DraftValue) (rows : List TextRow) (d e : DraftValue) → drafted d rows ≡ Ok e → 80 ≤ stage d.last
     → HasHeading h d → HasHeading h e
 heading-kept h [] d e eq begun k = subst (HasHeading h) (ok_is d e eq) k
 heading-kept h (r ∷ rows) d e eq begun k =
@@ -192,7 +192,7 @@ pub same-scope : (h d : DraftValue) → HasHeading h d → scope_of h ≡ scope_
 same-scope h d k = rw k refl
 
 -- the row of an account that is taken behind a heading is taken behind what has the same heading
-seam-at : (t : Tag) (h d o : DraftValue) (r : Record) (x : Said t) (first : ℕ) → IsHeading h → HasHeading h d
+seam-at : (t : Tag) (h d o : DraftValue) (r : TextRow) (x : Said t) (first : ℕ) → IsHeading h → HasHeading h d
     → d.instructions ≡ [] → may_follow (scope_of d).version d.last tag.Account ≡ true
     → is_above (number_in d.head) first ≡ true → account_count d < MOST_ACCOUNTS
     → named cause.Tag tag_word all_tags (field r 0) ≡ Ok t → (row (scope_of h) t).read r ≡ Ok x → with t h x ≡ o
@@ -232,7 +232,7 @@ behind-joined : (h d e : DraftValue) (first : ℕ) → HasHeading h d → HasHea
 behind-joined h d e first k l = rw (k, l) refl
 
 -- the rows of a part that begins with an account, read behind the draft before it, give both drafts joined
-pub accounts-join : (h d e : DraftValue) (rows : List Record) (first : ℕ) → IsHeading h → HasHeading h d
+pub accounts-join : (h d e : DraftValue) (rows : List TextRow) (first : ℕ) → IsHeading h → HasHeading h d
     → AccountsMayFollow first d e → IsPart h rows (Some first) e → drafted d rows ≡ Ok (joined_drafts (Some first) d e)
 accounts-join h d e rows first is same m p =
     let k = taken h p.after_first p.row p.takes_first in

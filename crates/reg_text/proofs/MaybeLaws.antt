@@ -7,7 +7,7 @@ use Rattle.std.specs.List.{AllByRecursion}
 use Rattle.std.proofs.Math.Seq.{get_or-append_seam}
 use Rattle.std.proofs.lemmas.Bool.{and_parts, eqb-true, eq-eqb, ne_eqb}
 use Rattle.std.proofs.lemmas.List.{drop_all}
-use Rattle.reg_text.proofs.Names.{Cause, ◌>>=◌, Record, field, IsPlain, first_cause, fault_of, Codec, IsCodec}
+use Rattle.reg_text.proofs.Names.{Cause, ◌>>=◌, TextRow, field, IsPlain, first_cause, fault_of, Codec, IsCodec}
 use Rattle.reg_text.proofs.Names.{AreFields}
 use Rattle.reg_text.specs.Codecs.{maybe, maybe_spelled}
 use Rattle.reg_text.proofs.Binds.{bind_ok, ok_is}
@@ -17,14 +17,14 @@ use Rattle.reg_text.proofs.CodecLaws.{field-drop}
 use Rattle.reg_text.proofs.PairLaws.{either}
 
 -- the row ends here, or it has one more field where that is allowed
-ends : (allowed : Bool) (column : ℕ) (r : Record) → (eqb (length r) column || (allowed && eqb (length r) (suc column)))
+ends : (allowed : Bool) (column : ℕ) (r : TextRow) → (eqb (length r) column || (allowed && eqb (length r) (suc column)))
     ≡ true → (length r ≡ column) ⊎ ((allowed ≡ true) × (length r ≡ suc column))
 ends allowed column r e = elim (either (eqb (length r) column) (allowed && eqb (length r) (suc column)) e) [
   | inl here ↦ inl (eqb-true _ _ here)
   | inr more ↦ let both = and_parts allowed (eqb (length r) (suc column)) more in inr (both.0, eqb-true _ _ both.1)
 ]
 
-within-so : (allowed : Bool) (column : ℕ) (r : Record) → (length r ≡ column)
+within-so : (allowed : Bool) (column : ℕ) (r : TextRow) → (length r ≡ column)
     ⊎ ((allowed ≡ true) × (length r ≡ suc column)) → column ≤ length r
 within-so allowed column r (inl here) = omega arith
 within-so allowed column r (inr more) = omega (arith, more.1)
@@ -33,7 +33,7 @@ module _ {A : Type 0} (allowed : Bool) (c : Codec A) (h : IsCodec c) where
   abbrev Fit : Option A → Type 0
   Fit o = IfSome o (λ x. (allowed ≡ true) × c.Fits x)
 
-  spelled-so : (column : ℕ) (r : Record) (o : Option A) (here : Bool) → eqb (length r) column ≡ here
+  spelled-so : (column : ℕ) (r : TextRow) (o : Option A) (here : Bool) → eqb (length r) column ≡ here
       → (length r ≡ column) ⊎ ((allowed ≡ true) × (length r ≡ suc column))
       → cond here (Ok None) (c.read (field r column) >>= λ x. Ok (Some x)) ≡ Ok o → (drop column r ≡ maybe_spelled c o)
       × Fit o
@@ -48,7 +48,7 @@ module _ {A : Type 0} (allowed : Bool) (c : Codec A) (h : IsCodec c) where
       subst (λ (p : Option A). (drop column r ≡ maybe_spelled c p) × Fit p) (ok_is (Some x.0) o x.2)
       (field-drop r column (omega (arith, more.1)) ∙ cons s.0 rest, (more.0, s.1))
 
-  again-so : (before : Record) (o : Option A) → Fit o
+  again-so : (before : TextRow) (o : Option A) → Fit o
       → ((maybe allowed c).ends (length before) (before ++ maybe_spelled c o) ≡ true)
       × ((maybe allowed c).read (length before) (before ++ maybe_spelled c o) ≡ Ok o)
   again-so before None fits = let same =

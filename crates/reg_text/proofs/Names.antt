@@ -16,7 +16,7 @@ pub use Rattle.reg_account.specs.declared.years.Figure.{Figure}
 pub use Rattle.reg_rules.specs.Effect.{IsBehind}
 pub use Rattle.reg_rules.specs.declared.reply.LogRow.{LogRow}
 pub use Rattle.reg_book.specs.Book.{BookValue, first_fault, has_row_ahead, total_held, total_retired}
-pub use Rattle.reg_text.specs.Records.{Record, field}
+pub use Rattle.reg_text.specs.TextRows.{TextRow, field}
 pub use Rattle.reg_text.specs.Sections.{AreAtMost, FateIsOf, Fits, IsOfPeriods, IsOrdered, IsSection, Item, Section}
 pub use Rattle.reg_text.specs.Sections.{account_block, account_with, all_rows, each_row, follows, account_head}
 pub use Rattle.reg_text.specs.Sections.{is_space, item_rows, key, list_items, lists_of, most, section_rows}
@@ -58,7 +58,7 @@ pub use Rattle.reg_text.specs.Drafts.{DraftValue, account_count, accounts_in, wi
 pub use Rattle.reg_text.specs.Drafts.{behind_heading, heading_of, items_said, no_heading, nothing_read}
 pub use Rattle.reg_text.specs.Drafts.{only_heading, read_behind, scope_of, section_of, sections}
 pub use Rattle.reg_text.specs.Drafts.{sections_to, version_in}
-pub use Rattle.reg_book.specs.Day.{Day}
+pub use Rattle.reg_book.specs.Day.{DayValue}
 pub use Rattle.reg_text.specs.Day.{current_said, day_said, day_with, is_text_over}
 pub use Rattle.reg_text.specs.Reading.{Begins, CanBeSaid, IsFirstFaulty, IsPair, IsReading, IsVersionOf}
 pub use Rattle.reg_text.specs.Faults.{AnswersFault, after_rows, at_end, at_row, day_of_rows, drafted, has_space}
@@ -73,7 +73,7 @@ pub use Rattle.reg_text.specs.Causes.{test, ◌>>=◌}
 pub use Rattle.csv.specs.Reading.{ExplainsRead, ReadRecord, default_config, is_bom, is_flexible, records, records_next}
 pub use Rattle.csv.specs.Reading.{with_flexible, with_names_headers}
 unfoldable pub use Rattle.csv.specs.Reading.{Reached, records_from, strip_bom}
-pub use Rattle.reg_cuts.specs.Rows.{IsOfMemory, IsBetweenRows, known_rest, records_in, rest_of, rows_left, rows_in_text}
+pub use Rattle.reg_cuts.specs.Rows.{IsOfMemory, IsBetweenRows, known_rest, rows_read, rest_of, rows_left, rows_in_text}
 pub use Rattle.reg_text.specs.declared.reading.instruction_row.ActName.{ActName}
 pub use Rattle.reg_text.specs.declared.reading.instruction_row.ActName.TheVariants.{Transfer}
 pub use Rattle.reg_text.specs.Codecs.{AreFields, Codec, Fields, IsCodec, IsRow, Row, a_date, a_figure, a_no, a_period}

@@ -32,7 +32,7 @@ use Rattle.reg_rules.specs.Effect.{fate_of, new_row, assessed, listed_from, made
 use Rattle.reg_rules.specs.Step.{step, step_by}
 use Rattle.reg_book.specs.Book.{BookValue, IsBook}
 use Rattle.reg_book.specs.Fold.{state_after}
-use Rattle.reg_book.specs.Day.{Day, setting, log_of}
+use Rattle.reg_book.specs.Day.{DayValue, setting, log_of}
 use Rattle.reg_book.specs.Laws.{CommittedIsClosing}
 use Rattle.reg_book.specs.Chains.{book_after, IsChain, ChainLeavesABook}
 use Rattle.reg_text.specs.Sections.{FateIsOf, IsOfPeriods}
@@ -153,7 +153,7 @@ more-accounts count more (v ∷ vs) le all = (
 
 module _ (closing : CommittedIsClosing) (leaves : ChainLeavesABook) where
   -- the book that a day leaves is of its periods
-  periods-after : (day : Day) → CanBeSaid day
+  periods-after : (day : DayValue) → CanBeSaid day
       → AllByRecursion (IsOfPeriods (length day.rules.periods)) (book_after day).accounts
   periods-after day said =
       subst (λ (b : BookValue). AllByRecursion (IsOfPeriods (length day.rules.periods)) b.accounts)
@@ -162,7 +162,7 @@ module _ (closing : CommittedIsClosing) (leaves : ChainLeavesABook) where
       (day.batch.base + 1) day.book.accounts (take (length day.batch.instructions) day.batch.instructions)
       (recursion_from_All (IsOfPeriods (length day.rules.periods)) day.book.accounts said.periods))
 
-  can-go_on : (before day : Day) → CanBeSaid before → IsNextDay before day → CanBeSaid day
+  can-go_on : (before day : DayValue) → CanBeSaid before → IsNextDay before day → CanBeSaid day
   can-go_on before day said next =
       let left : IsBook (book_after before) = leaves before.book (before ∷ []) said.day.book (said.day, refl, tt) in
       let count = length day.rules.periods in
@@ -182,7 +182,8 @@ module _ (closing : CommittedIsClosing) (leaves : ChainLeavesABook) where
         pairs_rise = next.pairs_rise;
       }
 
-  chain-days : (before : Day) (days : List Day) → CanBeSaid before → GoOn before days → IsChain (book_after before) days
+  chain-days : (before : DayValue) (days : List DayValue) → CanBeSaid before → GoOn before days
+      → IsChain (book_after before) days
   chain-days before [] said on = tt
   chain-days before (day ∷ days) said on =
       let later = can-go_on before day said on.0 in
@@ -190,7 +191,7 @@ module _ (closing : CommittedIsClosing) (leaves : ChainLeavesABook) where
 
 -- ---- the account rows of a report
 
-report-parts : (day : Day) → StandInReport day (accounts_text (book_after day))
+report-parts : (day : DayValue) → StandInReport day (accounts_text (book_after day))
 report-parts day =
     let book = book_after day in
     let log = log_rows (log_of day) in
@@ -200,7 +201,7 @@ report-parts day =
     ∙ ap (λ (t : List ℕ). text_of log ++ t) (book-text-parts book)
     ∙ sym (append_assoc (text_of log) (book_line book) (accounts_text book)))
 
-copied-are : (day : Day) (blocks : List ℕ) → StandInReport day blocks → blocks ≡ accounts_text (book_after day)
+copied-are : (day : DayValue) (blocks : List ℕ) → StandInReport day blocks → blocks ≡ accounts_text (book_after day)
 copied-are day blocks stand =
     let book = book_after day in
     let before = text_of (log_rows (log_of day)) ++ book_line book in
@@ -209,7 +210,7 @@ copied-are day blocks stand =
     (sym stand ∙ report-parts day))
 
 -- so they are those of the book
-are-blocks : (day : Day) (book : BookValue) (blocks : List ℕ) → book ≡ book_after day → StandInReport day blocks
+are-blocks : (day : DayValue) (book : BookValue) (blocks : List ℕ) → book ≡ book_after day → StandInReport day blocks
     → IsBlocks book blocks
 are-blocks day book blocks is stand = (
   text_of (written_book book),
@@ -221,14 +222,16 @@ are-blocks day book blocks is stand = (
 -- ---- the texts
 
 module _ (again : BookIsReadAgain) where
-  read-text : (day : Day) (blocks text : List ℕ) → CanBeSaid day → IsBlocks day.book blocks → IsTextOf day blocks text
+  read-text : (day : DayValue) (blocks text : List ℕ) → CanBeSaid day → IsBlocks day.book blocks
+      → IsTextOf day blocks text
       → day_of_rows (rows_in_text text) ≡ Ok day
   read-text day blocks text said are of =
       ap (λ (t : List ℕ). day_of_rows (rows_in_text t)) of.made
       ∙ again.again of.version day of.front blocks of.back of.is_known said of.heading are of.closing
 
   module _ (closing : CommittedIsClosing) (leaves : ChainLeavesABook) where
-    read-days : (day : Day) (days : List Day) (blocks : List ℕ) (texts : List (List ℕ)) → CanBeSaid day → GoOn day days
+    read-days : (day : DayValue) (days : List DayValue) (blocks : List ℕ) (texts : List (List ℕ)) → CanBeSaid day
+        → GoOn day days
         → IsBlocks day.book blocks → AreTexts blocks (day ∷ days) texts
         → map (λ (text : List ℕ). day_of_rows (rows_in_text text)) texts ≡ map Ok (day ∷ days)
     read-days day days blocks [] said on are texts = absurd texts

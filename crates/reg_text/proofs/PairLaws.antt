@@ -8,7 +8,7 @@ use Rattle.std.proofs.lemmas.List.{length-drop}
 use mathlib.Core.Logic.{dite}
 use native.Mathlib.Decide.{ℕ_discrete}
 use Rattle.reg_base.specs.Rising.{count_up}
-use Rattle.reg_text.proofs.Names.{Record, first_cause, fault_of, Codec, IsCodec, AreFields, IsPlain}
+use Rattle.reg_text.proofs.Names.{TextRow, first_cause, fault_of, Codec, IsCodec, AreFields, IsPlain}
 use Rattle.reg_text.specs.Codecs.{pairs_spelled, pairs_read, pairs_tests, pairs}
 use Rattle.reg_text.proofs.Binds.{bind_ok, ok_is}
 use Rattle.reg_text.proofs.ListFacts.{cons}
@@ -19,13 +19,13 @@ either true b e = inl refl
 either false b e = inr e
 
 -- the row ends after so many pairs behind the column
-abbrev EndsAfter : ℕ → Record → ℕ → Type 0
+abbrev EndsAfter : ℕ → TextRow → ℕ → Type 0
 EndsAfter column r n = length r ≡ column + 2 * n
 
-abbrev ends_after : ℕ → Record → ℕ → Bool
+abbrev ends_after : ℕ → TextRow → ℕ → Bool
 ends_after column r n = length r == column + 2 * n
 
-ends-some : (from more column : ℕ) (r : Record) → list_any (ends_after column r) (count_up from more) ≡ true
+ends-some : (from more column : ℕ) (r : TextRow) → list_any (ends_after column r) (count_up from more) ≡ true
     → (n : ℕ) × (from ≤ n) × (n < from + more) × EndsAfter column r n
 ends-some from zero column r e = absurd cc
 ends-some from (suc more) column r e = ⊎_elim
@@ -39,7 +39,7 @@ either-of false true e = refl
 either-of false false (inl e) = e
 either-of false false (inr e) = e
 
-ends-so : (from more n column : ℕ) (r : Record) → from ≤ n → n < from + more → EndsAfter column r n
+ends-so : (from more n column : ℕ) (r : TextRow) → from ≤ n → n < from + more → EndsAfter column r n
     → list_any (ends_after column r) (count_up from more) ≡ true
 ends-so from zero n column r low high e = absurd (omega arith)
 ends-so from (suc more) n column r low high e = dite (ℕ_discrete from n)
@@ -51,7 +51,7 @@ module _ {A B : Type 0} (c : Codec A) (d : Codec B) (h : IsCodec c) (k : IsCodec
   abbrev EachFits : List (A × B) → Type 0
   EachFits = AllByRecursion (λ p. c.Fits p.0 × d.Fits p.1)
 
-  list-spelled : (n : ℕ) (fs : Record) (ps : List (A × B)) → length fs ≡ 2 * n → pairs_read c d fs ≡ Ok ps
+  list-spelled : (n : ℕ) (fs : TextRow) (ps : List (A × B)) → length fs ≡ 2 * n → pairs_read c d fs ≡ Ok ps
       → (fs ≡ pairs_spelled c d ps) × (length ps ≡ n) × EachFits ps
   list-spelled zero [] ps size read = subst (λ (z : List (A × B)). ([] ≡ pairs_spelled c d z) × (length z ≡ 0)
       × EachFits z) (ok_is [] ps read) (refl, refl, tt)
@@ -73,7 +73,7 @@ module _ {A B : Type 0} (c : Codec A) (d : Codec B) (h : IsCodec c) (k : IsCodec
   list-again [] fits = refl
   list-again (p ∷ ps) fits = rw (h.again p.0 fits.0.0, k.again p.1 fits.0.1, list-again ps fits.1) refl
 
-  list-fault : (fs : Record) → fault_of (pairs_read c d fs) ≡ first_cause (pairs_tests c d fs)
+  list-fault : (fs : TextRow) → fault_of (pairs_read c d fs) ≡ first_cause (pairs_tests c d fs)
   list-fault [] = refl
   list-fault (f ∷ []) = refl
   list-fault (f ∷ g ∷ fs) =

@@ -6,7 +6,7 @@ use Rattle.std.proofs.lemmas.List.{append-nil}
 use Rattle.std.specs.Result.{result_ok}
 use Rattle.std.specs.Borrow.{Bor}
 use Rattle.reg_cuts.specs.Parts.{IsCut, HasNoMark, EachCutSplits, CutsGoOn, text_of_parts}
-use Rattle.reg_text.proofs.Names.{AccountValue, AccountHead, option_to_list, DraftValue, Record, IsDraft, FitsSoFar}
+use Rattle.reg_text.proofs.Names.{AccountValue, AccountHead, option_to_list, DraftValue, TextRow, IsDraft, FitsSoFar}
 use Rattle.reg_text.proofs.Names.{nothing_read, behind_heading, only_heading, next_draft}
 use Rattle.reg_text.proofs.Names.{drafted, after_rows, at_end, day_of_rows}
 use Rattle.reg_text.proofs.Names.{day_said, is_text_over, rows_in_text}
@@ -22,7 +22,7 @@ use Rattle.reg_text.proofs.DoJoins.{instructions-join}
 
 -- ---- rows that are taken
 
-drafted-then : (xs ys : List Record) (d e f : DraftValue) → drafted d xs ≡ Ok e → drafted e ys ≡ Ok f
+drafted-then : (xs ys : List TextRow) (d e f : DraftValue) → drafted d xs ≡ Ok e → drafted e ys ≡ Ok f
     → drafted d (xs ++ ys) ≡ Ok f
 drafted-then [] ys d e f first second = rw (ok_is d e first) second
 drafted-then (r ∷ xs) ys d e f first second = let x = bind_ok (next_draft d r) (λ y. drafted y xs) e first in
@@ -35,7 +35,8 @@ found-one (Ok true) found here gone is on h = h
 found-one (Ok false) found here gone is on h = let same : found ≡ false = cc in absurd cc
 found-one (Err e) found here gone is on h = absurd cc
 
-pub one-taken : (d e : DraftValue) (r : Record) (rows others : List Record) → rows ≡ r ∷ others → next_draft d r ≡ Ok e
+pub one-taken : (d e : DraftValue) (r : TextRow) (rows others : List TextRow) → rows ≡ r ∷ others
+    → next_draft d r ≡ Ok e
     → drafted e others ≡ drafted d rows
 one-taken d e r rows others is step = rw (is, step) refl
 
@@ -51,7 +52,7 @@ heading-is d h = λ i. record {
 }
 
 -- what rows make of a draft is a draft
-drafts : (rows : List Record) (d e : DraftValue) → IsDraft d → drafted d rows ≡ Ok e → IsDraft e
+drafts : (rows : List TextRow) (d e : DraftValue) → IsDraft d → drafted d rows ≡ Ok e → IsDraft e
 drafts [] d e h eq = subst IsDraft (ok_is d e eq) h
 drafts (r ∷ rows) d e h eq =
     let x = bind_ok (next_draft d r) (λ y. drafted y rows) e eq in
@@ -61,7 +62,7 @@ pub so-far-fits : (h d : DraftValue) (text : List ℕ) → IsReadSoFar h text d 
 so-far-fits h d text s = drafts (rows_in_text text) nothing_read d nothing-fits s.read
 
 -- what a draft says is what its rows say
-after-drafted : (rows : List Record) (n : ℕ) (d e : DraftValue) → drafted d rows ≡ Ok e
+after-drafted : (rows : List TextRow) (n : ℕ) (d e : DraftValue) → drafted d rows ≡ Ok e
     → after_rows n d rows ≡ at_end (n + length rows) (day_said e)
 after-drafted [] n d e eq = let zero_more : n + 0 ≡ n = omega arith in rw (ok_is d e eq, zero_more) refl
 after-drafted (r ∷ rows) n d e eq =
@@ -83,7 +84,7 @@ heading-joined h d e (Some number) k = k
 heading-joined h d e None k = k
 
 -- the rows of a part, read behind the draft before it, give both drafts joined
-pub joins : (h d e : DraftValue) (rows : List Record) (first : Option ℕ) → IsHeading h → HasHeading h d
+pub joins : (h d e : DraftValue) (rows : List TextRow) (first : Option ℕ) → IsHeading h → HasHeading h d
     → MayJoin first d e → IsPart h rows first e → (drafted d rows ≡ Ok (joined_drafts first d e))
     × HasHeading h (joined_drafts first d e)
 joins h d e rows (Some number) is same m p =

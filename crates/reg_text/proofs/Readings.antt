@@ -8,9 +8,10 @@ use Rattle.std.specs.Prelude.{All, unwrap_or, if◌then◌else◌}
 use Rattle.std.proofs.lemmas.List.Elements.{All-from_recursion}
 use Rattle.std.specs.List.{AllByRecursion}
 use Rattle.reg_text.proofs.Names.{IsRising, IsWithin, IsSection, SectionStandsAt, Instruction, IsShared, Cause, Tag}
-use Rattle.reg_text.proofs.Names.{Version, One, Two, Record, stage, is_in_version, Said, row, option_to_list}
+use Rattle.reg_text.proofs.Names.{Version, One, Two, TextRow, stage, is_in_version, Said, row, option_to_list}
 use Rattle.reg_text.proofs.Names.{items_said, scope_of, version_in, current_said, current_rows, Fits, IsOfPeriods}
-use Rattle.reg_text.proofs.Names.{IsYearNo, IsVersionOf, DraftValue, accounts_in, with_block_over, nothing_read, Day}
+use Rattle.reg_text.proofs.Names.{IsYearNo, IsVersionOf, DraftValue, accounts_in, with_block_over, nothing_read}
+use Rattle.reg_text.proofs.Names.{DayValue}
 use Rattle.reg_text.proofs.Names.{day_with, is_text_over, day_said, day_text, IsUserNo, IsDayNo, IsInstruction}
 use Rattle.reg_text.proofs.Names.{AccountValue, IsAccount, IsBehind, IsPair, CanBeSaid, IsReading, FitsSoFar, IsDraft}
 use Rattle.reg_text.proofs.Names.{next_draft, at_row, at_end, after_rows}
@@ -188,7 +189,7 @@ says-a-day d h k =
 
 -- a draft that is over says a day, and stands for the day's rows
 pub record Closes (d : DraftValue) : Type 0 where
-  pub day : Day
+  pub day : DayValue
   pub said : day_said d ≡ Some day
   pub reading : IsReading (rows_so_far d) day
 
@@ -223,7 +224,7 @@ over-says d h over =
     d.heading.current d.heading.lags k.version
     k.day k.current k.lags last k.one_version k.one_day k.one_lags k.said ∙ all ∙ sym (said-by d k last)
 
-version-of : (version : Version) (v : Day) → (version ≡ One → length v.rules.periods ≡ 1) → IsVersionOf v version
+version-of : (version : Version) (v : DayValue) → (version ≡ One → length v.rules.periods ≡ 1) → IsVersionOf v version
 version-of One v one = one refl
 version-of Two v one = tt
 
@@ -265,36 +266,38 @@ current-or Two (Some m) n e = refl
 
 -- ---- from rows to the day
 
-taken_row : (number : ℕ) (read : Result DraftValue Cause) (more : DraftValue → Result Day (ℕ × Cause)) (v : Day)
+taken_row : (number : ℕ) (read : Result DraftValue Cause) (more : DraftValue → Result DayValue (ℕ × Cause))
+    (v : DayValue)
     → at_row number read more ≡ Ok v → (d : DraftValue) × (read ≡ Ok d) × (more d ≡ Ok v)
 taken_row number (Ok d) more v h = (d, refl, h)
 taken_row number (Err c) more v h = absurd cc
 
-said_at_end : (number : ℕ) (o : Option Day) (v : Day) → at_end number o ≡ Ok v → o ≡ Some v
+said_at_end : (number : ℕ) (o : Option DayValue) (v : DayValue) → at_end number o ≡ Ok v → o ≡ Some v
 said_at_end number (Some w) v e = cc
 said_at_end number None v e = absurd cc
 
-said_over : (last : Bool) (o : Option Day) (v : Day) → cond last o None ≡ Some v → last ≡ true
+said_over : (last : Bool) (o : Option DayValue) (v : DayValue) → cond last o None ≡ Some v → last ≡ true
 said_over true o v e = refl
 said_over false o v e = absurd cc
 
-pub said-of : (rows : List Record) (number : ℕ) (d : DraftValue) (v : Day) → IsDraft d → after_rows number d rows ≡ Ok v
+pub said-of : (rows : List TextRow) (number : ℕ) (d : DraftValue) (v : DayValue) → IsDraft d
+    → after_rows number d rows ≡ Ok v
     → IsReading (rows_so_far d ++ rows) v
 said-of [] number d v h e =
     let said = said_at_end number (day_said d) v e in
     let c = closes d h.fits (said_over (is_text_over d.last) _ v said) in
-    subst (λ (rows : List Record). IsReading rows v) (sym (append-nil (rows_so_far d)))
+    subst (λ (rows : List TextRow). IsReading rows v) (sym (append-nil (rows_so_far d)))
     (subst (IsReading (rows_so_far d)) (cc (c.said, said)) c.reading)
 said-of (r ∷ rows) number d v h e =
     let t = taken_row number (next_draft d r) (λ x. after_rows (number + 1) x rows) v e in
     let g = grows d t.0 r h t.1 in
-    subst (λ (all : List Record). IsReading all v) (ap (λ (x : List Record). x ++ rows) g.rows
+    subst (λ (all : List TextRow). IsReading all v) (ap (λ (x : List TextRow). x ++ rows) g.rows
     ∙ append_assoc (rows_so_far d) (r ∷ []) rows) (said-of rows (number + 1) t.0 v g.draft t.2)
 
 -- what the rows say is what they spell
-pub reading-from : (rows : List Record) (v : Day) → day_of_rows rows ≡ Ok v → IsReading rows v
+pub reading-from : (rows : List TextRow) (v : DayValue) → day_of_rows rows ≡ Ok v → IsReading rows v
 reading-from rows v e = said-of rows 1 nothing_read v nothing-fits e
 
 -- and what they spell is what they say
-pub reading-to : (rows : List Record) (v : Day) → IsReading rows v → day_of_rows rows ≡ Ok v
+pub reading-to : (rows : List TextRow) (v : DayValue) → IsReading rows v → day_of_rows rows ≡ Ok v
 reading-to rows v h = ap day_of_rows h.spelled ∙ text-taken h.version v h.is_known h.fits 1

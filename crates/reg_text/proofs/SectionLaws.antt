@@ -5,7 +5,7 @@ use Rattle.std.proofs.lemmas.Bool.{ltb-true, lt-ltb, le-leb}
 use Rattle.std.proofs.lemmas.List.{append-nil, length-map, map-append}
 use Rattle.std.specs.List.{AllByRecursion, flat_map}
 use Rattle.std.proofs.lemmas.Grind.{flat_map-append}
-use Rattle.reg_text.proofs.Names.{Tag, Version, Scope, Record, stages, tag_stage, last_item, is_above, Said, row}
+use Rattle.reg_text.proofs.Names.{Tag, Version, Scope, TextRow, stages, tag_stage, last_item, is_above, Said, row}
 use Rattle.reg_text.proofs.Names.{Section, item_rows, section_rows, all_rows, Key, key, follows, IsOrdered, most}
 use Rattle.reg_text.proofs.Names.{is_space, AreAtMost, IsSection, stands_at, has_to_come, SectionStandsAt}
 use Rattle.reg_text.specs.Grammar.{row_text}
@@ -20,7 +20,7 @@ no-rows (s ∷ ss) e = rw e.0 (no-rows ss e.1)
 
 pub rows-append : (a b : List Section) → all_rows (a ++ b) ≡ all_rows a ++ all_rows b
 rows-append [] b = refl
-rows-append (s ∷ a) b = ap (λ (t : List Record). section_rows s ++ t) (rows-append a b)
+rows-append (s ∷ a) b = ap (λ (t : List TextRow). section_rows s ++ t) (rows-append a b)
     ∙ sym (append_assoc (section_rows s) (all_rows a) (all_rows b))
 
 -- the rows with one more at the end of a section behind which nothing stands
@@ -36,10 +36,10 @@ pub push : (before : List Section) (t : Tag) (xs : List (Said t)) (x : Said t) (
 push [] t xs x behind e =
     let more = flat_map-append (item_rows (Some t)) xs (x ∷ []) in
     rw (no-rows behind e) (append-nil _ ∙ more
-    ∙ ap (λ (rows : List Record). rows ++ row_text t x ∷ [])
+    ∙ ap (λ (rows : List TextRow). rows ++ row_text t x ∷ [])
     (sym (append-nil (flat_map (item_rows (Some t)) xs))))
 push (b ∷ before) t xs x behind e =
-    ap (λ (rows : List Record). section_rows b ++ rows) (push before t xs x behind e)
+    ap (λ (rows : List TextRow). section_rows b ++ rows) (push before t xs x behind e)
     ∙ sym (append_assoc (section_rows b) (all_rows (before ++ shorter t xs behind)) (row_text t x ∷ []))
 
 -- ---- order and length

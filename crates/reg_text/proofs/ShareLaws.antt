@@ -5,7 +5,7 @@ use Rattle.std.specs.List.{AllByRecursion}
 use Rattle.std.specs.Prelude.{MatchResult}
 use Rattle.reg_base.specs.declared.limits.TheConstants.{MOST_SHARES}
 use Rattle.reg_base.specs.declared.shares.Share.{Share}
-use Rattle.reg_text.proofs.Names.{Cause, IsAccountNo, Record, field, a_no, any_number, IsCodec, AreFields, ◌>>=◌}
+use Rattle.reg_text.proofs.Names.{Cause, IsAccountNo, TextRow, field, a_no, any_number, IsCodec, AreFields, ◌>>=◌}
 use Rattle.reg_text.specs.Codecs.{pairs, pairs_read}
 use Rattle.reg_text.specs.Acts.{share_made, share_parts, share_fields, share_pair}
 use Rattle.reg_text.proofs.CodecLaws.{are_made, field-drop}
@@ -61,7 +61,7 @@ by-share (Ok x) (Ok y) (Err e) = refl
 by-share (Ok x) (Ok y) (Ok ps) = refl
 
 -- one share, and then the others
-pub read-share : (column : ℕ) (r : Record) → suc column < length r
+pub read-share : (column : ℕ) (r : TextRow) → suc column < length r
     → share_fields.read column r
     ≡ (share_pair.read column r >>= λ share. share_fields.read (suc (suc column)) r >>= λ shares. Ok (share ∷ shares))
 read-share column r h =
@@ -69,12 +69,12 @@ read-share column r h =
     (by-share (a_no.read (field r column)) (any_number.read (field r (suc column)))
     (pairs_read a_no any_number (drop (suc (suc column)) r)))
 
-pub first-fault : (column : ℕ) (r : Record) (e : Cause) → suc column < length r → share_pair.read column r ≡ Err e
+pub first-fault : (column : ℕ) (r : TextRow) (e : Cause) → suc column < length r → share_pair.read column r ≡ Err e
     → share_fields.read column r ≡ Err e
 first-fault column r e h first = rw (read-share column r h, first) refl
 
 -- what comes of the others after a share
-pub after-share : (column : ℕ) (r : Record) (share : Share) (rest all : List Share) (result : Result (Unit {0}) Cause)
+pub after-share : (column : ℕ) (r : TextRow) (share : Share) (rest all : List Share) (result : Result (Unit {0}) Cause)
     → suc column < length r → share_pair.read column r ≡ Ok share → all ≡ share ∷ rest
     → MatchResult result (λ u. share_fields.read (column + 2) r ≡ Ok rest) (λ e. share_fields.read (column + 2) r
     ≡ Err e)

@@ -4,7 +4,7 @@ use Rattle.std.specs.List.{flat_map}
 use Rattle.std.specs.Str.{bytes_eq}
 use Rattle.std.proofs.lemmas.List.{append-nil}
 use Rattle.std.proofs.lemmas.Slice.Eq.{bytes_eq-Decides}
-use Rattle.reg_text.proofs.Names.{Cause, Instruction, LogRow, Record, IsInstruction, IsShared, at_row, default_config}
+use Rattle.reg_text.proofs.Names.{Cause, Instruction, LogRow, TextRow, IsInstruction, IsShared, at_row, default_config}
 use Rattle.reg_text.proofs.Names.{field, log_row, log_rows, number, records, row, row_read, row_text, rows_in_text}
 use Rattle.reg_text.proofs.Names.{strip_bom, tag_word, text_of, widest}
 use Rattle.reg_text.specs.declared.cause.Cause.TheVariants as cause
@@ -24,17 +24,17 @@ taken : {A B : Type 0} (n : ℕ) (read : Result A Cause) (more : A → Result B 
 taken n (Ok x) more y e = (x, refl, e)
 taken n (Err c) more y e = absurd cc
 
-is-alone : (rows : List Record) (i j : Instruction) → if_alone rows i ≡ Ok j → (rows ≡ []) × (i ≡ j)
+is-alone : (rows : List TextRow) (i j : Instruction) → if_alone rows i ≡ Ok j → (rows ≡ []) × (i ≡ j)
 is-alone [] i j e = (refl, cc)
 is-alone (r ∷ rows) i j e = absurd cc
 
-one-row : (r s : Record) (rows : List Record) → r ≡ s → rows ≡ [] → r ∷ rows ≡ s ∷ []
+one-row : (r s : TextRow) (rows : List TextRow) → r ≡ s → rows ≡ [] → r ∷ rows ≡ s ∷ []
 one-row r s rows e f = cc
 
-read-of : (r : Record) (i j : Instruction) → instruction_in r ≡ Ok i → i ≡ j → instruction_in r ≡ Ok j
+read-of : (r : TextRow) (i j : Instruction) → instruction_in r ≡ Ok i → i ≡ j → instruction_in r ≡ Ok j
 read-of r i j e same = cc
 
-spelled : (rows : List Record) (i : Instruction) → instruction_of_rows rows ≡ Ok i
+spelled : (rows : List TextRow) (i : Instruction) → instruction_of_rows rows ≡ Ok i
     → (rows ≡ row_text tag.Do i ∷ []) × IsInstruction i × IsShared i.act
 spelled [] i e = absurd cc
 spelled (r ∷ rows) i e =
@@ -47,7 +47,7 @@ spelled (r ∷ rows) i e =
     let own : r ≡ row_text tag.Do i = s.0 ∙ ap (λ t. t ∷ (row widest tag.Do).spell i) tagged in
     (one-row r (row_text tag.Do i) rows own a.0, instruction-fits i s.1, instruction-shared i s.1)
 
-again : (rows : List Record) (i : Instruction) → rows ≡ row_text tag.Do i ∷ [] → IsInstruction i → IsShared i.act
+again : (rows : List TextRow) (i : Instruction) → rows ≡ row_text tag.Do i ∷ [] → IsInstruction i → IsShared i.act
     → instruction_of_rows rows ≡ Ok i
 again rows i is fits shared =
     let read = (each-row widest tag.Do).again (tag_word tag.Do) i (fit-instruction i fits shared) in

@@ -10,11 +10,11 @@ use Rattle.std.proofs.lemmas.List.{append-nil, map-append}
 use Rattle.reg_text.proofs.Names.{MOST_ACCOUNTS, MOST_ROWS, Instruction, IsShared, MOST_RECORD, IsUserNo, IsDayNo}
 use Rattle.reg_text.proofs.Names.{IsInstruction, IsRising, AccountValue, IsAccount, IsBehind, AreBelow, RetiredFits}
 use Rattle.reg_text.proofs.Names.{RetirementRow, ListsValue, row_numbers, no_lists, AccountHead, IsWithin, IsYearNo}
-use Rattle.reg_text.proofs.Names.{Fits, IsOfPeriods, Correction, Version, One, Two, Scope, widest, Tag, Record}
+use Rattle.reg_text.proofs.Names.{Fits, IsOfPeriods, Correction, Version, One, Two, Scope, widest, Tag, TextRow}
 use Rattle.reg_text.proofs.Names.{tag_word, last_item, option_to_list, Said, row, account_head, lists_of, account_with}
 use Rattle.reg_text.proofs.Names.{account_block, list_tags, each_row, section_rows, all_rows, key, follows, IsOrdered}
 use Rattle.reg_text.proofs.Names.{most, is_space, AreAtMost, stages, Section, IsSection, DraftValue, items_said}
-use Rattle.reg_text.proofs.Names.{accounts_in, account_count, no_heading, nothing_read, scope_of, Day}
+use Rattle.reg_text.proofs.Names.{accounts_in, account_count, no_heading, nothing_read, scope_of, DayValue}
 use Rattle.reg_text.proofs.Names.{lags_in, heading, saying, current_rows, day_text, current_said, IsPair, CanBeSaid}
 use Rattle.reg_text.proofs.Names.{IsVersionOf, with, in_order, has_space, with_row, next_in, next_draft, after_rows}
 use Rattle.reg_text.specs.declared.reading.tag.Tag.TheVariants as tag
@@ -31,10 +31,11 @@ use Rattle.reg_text.proofs.DraftSteps.{count-accounts, rows_then, lists_in, list
 use Rattle.reg_text.proofs.TagLaws.{MayFollow, tag-again, goes_on, later}
 
 -- whatever the number of the first row, these rows say this day after the draft
-abbrev pub Reach : DraftValue → List Record → Day → Type 0
+abbrev pub Reach : DraftValue → List TextRow → DayValue → Type 0
 Reach d rows v = (number : ℕ) → after_rows number d rows ≡ Ok v
 
-reach-row : (d e : DraftValue) (r : Record) (rows : List Record) (v : Day) → next_draft d r ≡ Ok e → Reach e rows v
+reach-row : (d e : DraftValue) (r : TextRow) (rows : List TextRow) (v : DayValue) → next_draft d r ≡ Ok e
+    → Reach e rows v
     → Reach d (r ∷ rows) v
 reach-row d e r rows v step more number = rw step (more (number + 1))
 
@@ -42,7 +43,7 @@ by_row : (t : Tag) (d : DraftValue) (x : Said t) → (row (scope_of d) t).Fits x
     → has_space t d x ≡ true → with_row t d (row_text t x) ≡ Ok (with t d x)
 unfolding with_row
 by_row t d x fits ordered space =
-    let again = ap (λ (fields : Record). (row (scope_of d) t).read (tag_word t ∷ fields))
+    let again = ap (λ (fields : TextRow). (row (scope_of d) t).read (tag_word t ∷ fields))
     (sym (same-spelling (scope_of d) t x)) ∙ (each-row (scope_of d) t).again (tag_word t) x fits in
     rw (again, ordered, space) refl
 
@@ -87,7 +88,8 @@ pub section-taken : (version : Version) (t : Tag) (state : Option Tag → List (
     → (Whole : List (Said t) → Type 0) → ((l : List (Said t)) → Whole l → IsOrdered (key t) l)
     → ((last : Option Tag) (xs : List (Said t)) (x : Said t) (others : List (Said t)) → Whole (xs ++ x ∷ others)
     → IsNext t (state last xs) x)
-    → (others : List (Said t)) (last : Option Tag) (xs : List (Said t)) (rest : List Record) (v : Day) → Stands last
+    → (others : List (Said t)) (last : Option Tag) (xs : List (Said t)) (rest : List TextRow) (v : DayValue)
+    → Stands last
     → Whole (xs ++ others)
     → ((after : Option Tag) → Stands after → Reach (state after (xs ++ others)) rest v)
     → Reach (state last xs) (section_rows (Some t, others) ++ rest) v
@@ -109,7 +111,7 @@ pub list-taken : (scope : Scope) (t : Tag) (state : Option Tag → List (Said t)
     → (Whole : List (Said t) → Type 0) → ((l : List (Said t)) → Whole l → IsSection scope (Some t, l))
     → ((last : Option Tag) (xs : List (Said t)) (x : Said t) (others : List (Said t)) → Whole (xs ++ x ∷ others)
     → has_space t (state last xs) x ≡ true)
-    → (others : List (Said t)) (last : Option Tag) (xs : List (Said t)) (rest : List Record) (v : Day)
+    → (others : List (Said t)) (last : Option Tag) (xs : List (Said t)) (rest : List TextRow) (v : DayValue)
     → MayFollow scope.version last t → Whole (xs ++ others)
     → ((after : Option Tag) → MayFollow scope.version after t → Reach (state after (xs ++ others)) rest v)
     → Reach (state last xs) (section_rows (Some t, others) ++ rest) v
@@ -212,8 +214,8 @@ AreTaken scope d ((None, xs) ∷ ss) next = ⊥
 AreTaken scope d ((Some t, xs) ∷ ss) next =
     IsTaken scope d t (first_of ss next) xs × AreTaken scope (saying t d xs) ss next
 
-all-taken : (scope : Scope) (d : DraftValue) (ss : List Section) (next : Tag) (last : Option Tag) (rest : List Record)
-    (v : Day) → AreTaken scope d ss next → MayFollow scope.version last (first_of ss next)
+all-taken : (scope : Scope) (d : DraftValue) (ss : List Section) (next : Tag) (last : Option Tag) (rest : List TextRow)
+    (v : DayValue) → AreTaken scope d ss next → MayFollow scope.version last (first_of ss next)
     → ((behind : Option Tag) → MayFollow scope.version behind next
     → Reach (record (saying_all d ss) { last = behind }) rest v)
     → Reach (record d { last = last }) (rows_then ss rest) v
@@ -247,7 +249,8 @@ no-corrections : (count : ℕ) (xs : List Correction) → AllByRecursion LaterFi
 no-corrections count [] fits of few = refl
 no-corrections count (c ∷ xs) fits of few = absurd (omega (arith, fits.0.later.low, of.0))
 
-corrections-taken : (version : Version) (d : DraftValue) (next : Tag) (a : AccountValue) (rest : List Record) (v : Day)
+corrections-taken : (version : Version) (d : DraftValue) (next : Tag) (a : AccountValue) (rest : List TextRow)
+    (v : DayValue)
     → (scope_of d).version ≡ version → ((w : Version) → (stages w next).from ≤ 80)
     → ((w : Version) → 81 ≤ (stages w next).to) → ArePeriodsOf (scope_of d) → Fits (scope_of d) None a
     → ((last : Option Tag) → MayFollow (scope_of d).version last next
@@ -281,7 +284,8 @@ corrections-taken Two d next a rest v is low high p h more =
       behind-correction Two last is may = later Two last tag.Correction next (low Two) (high Two) may
 
 -- behind the row of an account the rows of its lists are taken
-lists-taken : (d : DraftValue) (next : ℕ) (a : AccountValue) (rest : List Record) (v : Day) → next_in d.heading.days
+lists-taken : (d : DraftValue) (next : ℕ) (a : AccountValue) (rest : List TextRow) (v : DayValue)
+    → next_in d.heading.days
     ≡ Some next
     → ArePeriodsOf (scope_of d) → Fits (scope_of d) None a → IsBehind next a
     → ((last : Option Tag) → MayFollow (scope_of d).version last tag.Account
@@ -340,7 +344,7 @@ next-account accounts (Some h) l a others rises =
     ) at all
 
 pub blocks-taken : (d : DraftValue) (next : ℕ) (others : List AccountValue) (last : Option Tag)
-    (accounts : List AccountValue) (head : Option AccountHead) (l : ListsValue) (rest : List Record) (v : Day)
+    (accounts : List AccountValue) (head : Option AccountHead) (l : ListsValue) (rest : List TextRow) (v : DayValue)
     → next_in d.heading.days ≡ Some next → MayFollow (scope_of d).version last tag.Account
     → ArePeriodsOf (scope_of d) → AllByRecursion (Fits (scope_of d) None) others → AllByRecursion (IsBehind next) others
     → IsRising (map account_number ((accounts ++ map (account_with l) (option_to_list head)) ++ others))
@@ -360,13 +364,13 @@ blocks-taken d next (a ∷ others) last accounts head l rest v is may p fit behi
     let same : (all ++ a ∷ []) ++ others ≡ all ++ a ∷ others = append_assoc all (a ∷ []) others in
     let space : account_count now < MOST_ACCOUNTS =
     omega (arith, few, length-append all (a ∷ others), count-accounts accounts head l) in
-    let behind_it : List Record = flat_map account_block others ++ rest in
-    let lists : List Record = rows_then (lists_in (lists_of a) list_tags) behind_it in
+    let behind_it : List TextRow = flat_map account_block others ++ rest in
+    let lists : List TextRow = rows_then (lists_in (lists_of a) list_tags) behind_it in
     let split : flat_map account_block (a ∷ others) ++ rest ≡ row_text tag.Account (account_head a) ∷ lists =
     append_assoc (account_block a) (flat_map account_block others) rest
-    ∙ ap (λ (rs : List Record). row_text tag.Account (account_head a) ∷ rs)
+    ∙ ap (λ (rs : List TextRow). row_text tag.Account (account_head a) ∷ rs)
     (list-rows (lists_of a) list_tags behind_it) in
-    subst (λ (rs : List Record). Reach now rs v) (sym split)
+    subst (λ (rs : List TextRow). Reach now rs v) (sym split)
     (reach-row now (with tag.Account now (account_head a)) (row_text tag.Account (account_head a)) lists v
     (taken tag.Account now (account_head a) may (fit-account scope a fit.0.0)
     (next-account accounts head l a others rises) (lt-ltb _ _ space))
@@ -377,7 +381,8 @@ blocks-taken d next (a ∷ others) last accounts head l rest v is may p fit behi
 
 -- ---- the sections of a day
 
-surrender-section : (scope : Scope) (v : Day) → CanBeSaid v → IsSection scope (Some tag.Surrender, v.rules.surrender)
+surrender-section : (scope : Scope) (v : DayValue) → CanBeSaid v
+    → IsSection scope (Some tag.Surrender, v.rules.surrender)
 surrender-section scope v h =
     record {
       fits = all-weaker IsPair (row scope tag.Surrender).Fits (λ p is. ((tt, tt), is)) v.rules.surrender
@@ -385,7 +390,7 @@ surrender-section scope v h =
       listed = record { ordered = h.pairs_rise; few = tt };
     }
 
-admin-section : (scope : Scope) (v : Day) → CanBeSaid v → IsSection scope (Some tag.Admin, v.rules.admins)
+admin-section : (scope : Scope) (v : DayValue) → CanBeSaid v → IsSection scope (Some tag.Admin, v.rules.admins)
 admin-section scope v h = record {
   fits = recursion_from_All IsUserNo v.rules.admins h.day.rules.each_admin;
   listed = record {
@@ -394,14 +399,14 @@ admin-section scope v h = record {
   };
 }
 
-work-section : (scope : Scope) (v : Day) → CanBeSaid v → IsSection scope (Some tag.Work, v.rules.calendar)
+work-section : (scope : Scope) (v : DayValue) → CanBeSaid v → IsSection scope (Some tag.Work, v.rules.calendar)
 work-section scope v h = let days = h.day.rules.working_days in
     record {
       fits = recursion_from_All IsDayNo v.rules.calendar days.each_day;
       listed = record { ordered = subst IsRising (sym (map-id v.rules.calendar)) days.rising; few = tt };
     }
 
-do-section : (scope : Scope) (v : Day) → CanBeSaid v → IsSection scope (Some tag.Do, v.batch.instructions)
+do-section : (scope : Scope) (v : DayValue) → CanBeSaid v → IsSection scope (Some tag.Do, v.batch.instructions)
 do-section scope v h = record {
   fits = all-both IsInstruction (λ (i : Instruction). IsShared i.act) (row scope tag.Do).Fits fit-instruction
       v.batch.instructions (recursion_from_All IsInstruction v.batch.instructions h.day.batch.each)
@@ -415,13 +420,13 @@ both : (scope : Scope) (xs : List AccountValue) → AllByRecursion IsAccount xs
 both scope [] h k = tt
 both scope (a ∷ xs) h k = ((h.0, k.0), both scope xs h.1 k.1)
 
-accounts : (scope : Scope) (v : Day) → scope.periods ≡ length v.rules.periods → CanBeSaid v
+accounts : (scope : Scope) (v : DayValue) → scope.periods ≡ length v.rules.periods → CanBeSaid v
     → AllByRecursion (Fits scope None) v.book.accounts
 accounts scope v is h = both scope v.book.accounts
     (recursion_from_All IsAccount v.book.accounts h.day.book.within_limits)
     (rw is (recursion_from_All (IsOfPeriods (length v.rules.periods)) v.book.accounts h.periods))
 
-period-section : (scope : Scope) (v : Day) → CanBeSaid v → IsSection scope (Some tag.Period, v.rules.periods)
+period-section : (scope : Scope) (v : DayValue) → CanBeSaid v → IsSection scope (Some tag.Period, v.rules.periods)
 period-section scope v h =
     let periods = h.day.rules.fit.periods_fit in
     record {
@@ -437,7 +442,7 @@ abbrev with_periods : DraftValue → Option Tag → List (ℕ × ℕ) → DraftV
 with_periods d last periods = record d { last = last; heading = record d.heading { periods = periods } }
 
 -- in the first version one row of a period is taken, and in the second one or more
-periods-taken : (version : Version) (d : DraftValue) (periods : List (ℕ × ℕ)) (rest : List Record) (v : Day)
+periods-taken : (version : Version) (d : DraftValue) (periods : List (ℕ × ℕ)) (rest : List TextRow) (v : DayValue)
     → (scope_of d).version ≡ version → (version ≡ One → length periods ≡ 1) → 1 ≤ length periods
     → IsSection (scope_of d) (Some tag.Period, periods)
     → Reach (with_periods d (Some tag.Period) periods) rest v
@@ -469,7 +474,8 @@ periods-taken Two d (p ∷ ps) rest v is one some within more =
     (λ after e. subst (λ (l : Option Tag). Reach (state l (p ∷ ps)) rest v) (sym e) more))
 
 -- the row of the current period, where the version has one, and that of the lags
-lags-taken : (version : Version) (d : DraftValue) (current : ℕ) (lags : Said tag.Lags) (rest : List Record) (v : Day)
+lags-taken : (version : Version) (d : DraftValue) (current : ℕ) (lags : Said tag.Lags) (rest : List TextRow)
+    (v : DayValue)
     → (scope_of d).version ≡ version → d.heading.current ≡ [] → d.heading.lags ≡ [] → IsWithin 1 (length
     d.heading.periods) current
     → current < 2 ^ 64 → (row widest tag.Lags).Fits lags
@@ -497,7 +503,7 @@ lags-taken Two d current lags rest v is none no_lags fit small fits more =
     (taken tag.Lags then lags (rw is refl) fits refl refl) (rw (no_lags, none) more))
 
 -- the drafts on the way
-abbrev headed : Version → Day → DraftValue
+abbrev headed : Version → DayValue → DraftValue
 headed version v = record nothing_read {
   last = Some tag.Lags;
   heading = record no_heading {
@@ -510,14 +516,14 @@ headed version v = record nothing_read {
 }
 
 -- the lists behind the row of the lags
-abbrev lists_behind : Version → Day → List Section
+abbrev lists_behind : Version → DayValue → List Section
 lists_behind version v = drop 5 (heading version v)
 
-one-period : (version : Version) (v : Day) → IsVersionOf v version → version ≡ One → length (v.rules.periods) ≡ 1
+one-period : (version : Version) (v : DayValue) → IsVersionOf v version → version ≡ One → length (v.rules.periods) ≡ 1
 one-period One v known e = known
 one-period Two v known e = absurd cc
 
-head-taken : (version : Version) (v : Day) (rest : List Record) → IsVersionOf v version → CanBeSaid v
+head-taken : (version : Version) (v : DayValue) (rest : List TextRow) → IsVersionOf v version → CanBeSaid v
     → Reach (headed version v) rest v
     → Reach nothing_read (row_text tag.Format version ∷ row_text tag.Day (v.batch.day, v.book.next)
     ∷ section_rows (Some tag.Period, v.rules.periods)
@@ -532,10 +538,10 @@ head-taken version v rest known h more =
     let d1 = with tag.Format nothing_read version in
     let d2 = with tag.Day d1 day in
     let d3 = with_periods d2 (Some tag.Period) v.rules.periods in
-    let rows3 : List Record = section_rows (Some tag.Current, current_rows version v.rules.current)
+    let rows3 : List TextRow = section_rows (Some tag.Current, current_rows version v.rules.current)
     ++ row_text tag.Lags (lags_in v.rules) ∷ rest in
-    let rows2 : List Record = section_rows (Some tag.Period, v.rules.periods) ++ rows3 in
-    let rows1 : List Record = row_text tag.Day day ∷ rows2 in
+    let rows2 : List TextRow = section_rows (Some tag.Period, v.rules.periods) ++ rows3 in
+    let rows1 : List TextRow = row_text tag.Day day ∷ rows2 in
     reach-row nothing_read d1 (row_text tag.Format version) rows1 v
     (taken tag.Format nothing_read version refl tt refl refl)
     (reach-row d1 d2 (row_text tag.Day day) rows2 v
@@ -549,11 +555,11 @@ head-taken version v rest known h more =
     (omega (arith, h.day.rules.fit.current_fits.high, h.day.rules.fit.periods_fit.few)) fits more)))
 
 -- the instructions, each with a record number
-abbrev AreNumbered : Scope → Day → List (Said tag.Do) → Type 0
+abbrev AreNumbered : Scope → DayValue → List (Said tag.Do) → Type 0
 AreNumbered scope v l = IsSection scope (Some tag.Do, l) × (v.book.next + length l ≤ MOST_RECORD + 1)
 
 -- what was said of the current period
-said-again : (version : Version) (v : Day) → IsVersionOf v version → CanBeSaid v
+said-again : (version : Version) (v : DayValue) → IsVersionOf v version → CanBeSaid v
     → current_said version (current_rows version v.rules.current) ≡ Some v.rules.current
 said-again One v known h =
     let fit = h.day.rules.fit.current_fits in
@@ -561,7 +567,7 @@ said-again One v known h =
     ap (λ (n : ℕ). Some n) one
 said-again Two v known h = refl
 
-whole : (version : Version) (v : Day) (accounts : List AccountValue) (head : Option AccountHead) (l : ListsValue)
+whole : (version : Version) (v : DayValue) (accounts : List AccountValue) (head : Option AccountHead) (l : ListsValue)
     → IsVersionOf v version → CanBeSaid v → v.book.next - 1 ≡ v.batch.base
     → accounts ++ map (account_with l) (option_to_list head) ≡ v.book.accounts
     → Reach (record (saying_all (headed version v) (lists_behind version v)) {
@@ -574,7 +580,7 @@ whole : (version : Version) (v : Day) (accounts : List AccountValue) (head : Opt
 whole version v accounts head l known h base all number =
     rw (said-again version v known h, all) (ap (λ (n : ℕ). Ok (record v { batch = record v.batch { base = n } })) base)
 
-periods-of : (version : Version) (v : Day) → IsVersionOf v version → CanBeSaid v
+periods-of : (version : Version) (v : DayValue) → IsVersionOf v version → CanBeSaid v
     → ArePeriodsOf (scope_of (headed version v))
 periods-of version v known h = let periods = h.day.rules.fit.periods_fit in
     record {
@@ -584,7 +590,7 @@ periods-of version v known h = let periods = h.day.rules.fit.periods_fit in
           omega (arith, one);
     }
 
-pub text-taken : (version : Version) (v : Day) → IsVersionOf v version → CanBeSaid v
+pub text-taken : (version : Version) (v : DayValue) → IsVersionOf v version → CanBeSaid v
     → Reach nothing_read (day_text version v) v
 text-taken version v known h =
     let base : v.book.next - 1 ≡ v.batch.base = omega (arith, h.day.follows) in
@@ -592,9 +598,9 @@ text-taken version v known h =
     let scope = scope_of d0 in
     let lists = lists_behind version v in
     let d3 = saying_all d0 lists in
-    let rows5 : List Record = all_rows ((Some tag.End, tt ∷ []) ∷ []) in
-    let rows4 : List Record = section_rows (Some tag.Do, v.batch.instructions) ++ rows5 in
-    let rows3 : List Record = flat_map account_block v.book.accounts ++ rows4 in
+    let rows5 : List TextRow = all_rows ((Some tag.End, tt ∷ []) ∷ []) in
+    let rows4 : List TextRow = section_rows (Some tag.Do, v.batch.instructions) ++ rows5 in
+    let rows3 : List TextRow = flat_map account_block v.book.accounts ++ rows4 in
     head-taken version v (rows_then lists rows3) known h
     (all-taken scope d0 lists tag.Account (Some tag.Lags) rows3 v (
       plain _ tag.Surrender _ _ refl (λ last. refl) refl (omega arith) (omega arith) (surrender-section scope v h),

@@ -9,7 +9,7 @@ use Rattle.reg_rules.specs.declared.reply.LogRow.{LogRow}
 use Rattle.reg_rules.specs.Step.{held_now}
 use Rattle.reg_account.specs.Account.{AccountValue}
 use Rattle.reg_book.specs.Book.{BookValue, directory_of}
-use Rattle.reg_text.specs.Records.{Record}
+use Rattle.reg_text.specs.TextRows.{TextRow}
 use Rattle.reg_text.specs.Sections.{account_block}
 use Rattle.reg_text.specs.Spelling.{end_row}
 use Rattle.reg_text.specs.Log.{log_row}
@@ -25,7 +25,7 @@ use Rattle.reg_text.proofs.PlainFacts.{plain-decimal, plain-signed}
 use Rattle.reg_text.proofs.PlainRows.{IsWritten, Plain, plain-holding, plain-log_row, plain-totals_row, splits-again}
 use Rattle.reg_text.proofs.PlainRows.{written-item}
 
-are-written : (rows : List Record) → AllByRecursion IsWritten rows → AreWritten rows
+are-written : (rows : List TextRow) → AllByRecursion IsWritten rows → AreWritten rows
 are-written rows h = record { plain = all-weaker IsWritten Plain (λ r w. w.1) rows h; split = splits-again rows h }
 
 -- ---- rows of which several texts are made

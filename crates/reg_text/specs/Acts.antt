@@ -15,7 +15,7 @@ use Rattle.reg_text.specs.declared.reading.instruction_row.ActName.TheVariants.{
 use Rattle.reg_text.specs.declared.reading.instruction_row.ActName.TheVariants.{Trust, Untrust, SetStatus, Emissions}
 use Rattle.reg_text.specs.declared.reading.instruction_row.ActName.TheVariants.{Assess}
 use Rattle.reg_text.specs.Causes.{◌>>=◌}
-use Rattle.reg_text.specs.Records.{Record}
+use Rattle.reg_text.specs.TextRows.{TextRow}
 use Rattle.reg_text.specs.Words.{word_of, kind_word, kind_of, status_word, status_of}
 use Rattle.reg_text.specs.Codecs.{Codec, Fields, any_number, a_date, a_no, a_record, a_year, an_approver, a_word, last}
 use Rattle.reg_text.specs.Codecs.{◌▸◌, made, three_made, three_parts, four_made, four_parts, pairs, forms, Row}
@@ -191,7 +191,7 @@ act_fields = forms act_name (λ n. (form n).Parts) an_act_name (λ n. (form n).f
     (λ a. (said a).1)
 
 -- the fields that spell an act
-unfoldable pub act_text : Act → Record
+unfoldable pub act_text : Act → TextRow
 act_text a = (form (act_name a)).fields.spell (said a).1
 
 -- ---- the row of an instruction
@@ -209,8 +209,8 @@ abbrev pub instruction_row : Row Instruction
 instruction_row = named_row 4 an_act_name (row_with instruction_fields_of)
 
 -- what the fields after an act's name say, and whether a row with it has as many as it needs
-abbrev pub act_read : ActName → Record → Result Act Cause
+abbrev pub act_read : ActName → TextRow → Result Act Cause
 act_read n r = (form n).fields.read 5 r >>= λ p. Ok ((form n).make p)
 
-abbrev pub act_ends : ActName → Record → Bool
+abbrev pub act_ends : ActName → TextRow → Bool
 act_ends n r = (form n).fields.ends 5 r

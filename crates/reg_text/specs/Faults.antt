@@ -15,13 +15,13 @@ use Rattle.reg_text.specs.declared.reading.tag.Tag.{Tag}
 use Rattle.reg_text.specs.declared.reading.tag.Tag.TheVariants as tag
 use Rattle.reg_text.specs.Lasts.{last_item}
 use Rattle.reg_text.specs.Causes.{◌>>=◌, test}
-use Rattle.reg_text.specs.Records.{Record, field}
+use Rattle.reg_text.specs.TextRows.{TextRow, field}
 use Rattle.reg_text.specs.Tags.{tag_after}
 use Rattle.reg_text.specs.Grammar.{Said, row}
 use Rattle.reg_text.specs.Sections.{key, follows, most, is_space}
 use Rattle.reg_text.specs.Drafts.{DraftValue, items_said, draft_list, account_count, with_block_over, nothing_read}
 use Rattle.reg_text.specs.Drafts.{scope_of}
-use Rattle.reg_book.specs.Day.{Day}
+use Rattle.reg_book.specs.Day.{DayValue}
 use Rattle.reg_text.specs.Day.{is_text_over, day_said}
 
 -- ---- one row
@@ -84,16 +84,16 @@ abbrev pub adding : (t : Tag) → DraftValue → Said t → Result DraftValue Ca
 adding t d x = placed (in_order t d x) (has_space t d x) (with t d x)
 
 -- what a row with this tag adds
-unfoldable pub with_row : Tag → DraftValue → Record → Result DraftValue Cause
+unfoldable pub with_row : Tag → DraftValue → TextRow → Result DraftValue Cause
 with_row t d r = (row (scope_of d) t).read r >>= λ x. adding t d x
 
 -- what the rows say with one more row, or the first cause that applies to it
-abbrev pub next_draft : DraftValue → Record → Result DraftValue Cause
+abbrev pub next_draft : DraftValue → TextRow → Result DraftValue Cause
 next_draft d r = if is_text_over d.last then Err cause.End
     else (tag_after (scope_of d).version d.last (field r 0) >>= λ t. with_row t d r)
 
 -- what these rows, each of which is taken, make of a draft
-abbrev pub drafted : DraftValue → List Record → Result DraftValue Cause
+abbrev pub drafted : DraftValue → List TextRow → Result DraftValue Cause
 drafted d [] = Ok d
 drafted d (r ∷ rows) = next_draft d r >>= λ e. drafted e rows
 
@@ -105,17 +105,17 @@ at_row number (Ok x) more = more x
 at_row number (Err c) more = Err (number, c)
 
 -- the day after the last row, or that a row with this number must follow
-abbrev pub at_end : ℕ → Option Day → Result Day (ℕ × Cause)
+abbrev pub at_end : ℕ → Option DayValue → Result DayValue (ℕ × Cause)
 at_end number (Some day) = Ok day
 at_end number None = Err (number, cause.End)
 
 -- the day that these rows say after a draft, the first of them with this number
-abbrev pub after_rows : ℕ → DraftValue → List Record → Result Day (ℕ × Cause)
+abbrev pub after_rows : ℕ → DraftValue → List TextRow → Result DayValue (ℕ × Cause)
 after_rows number d [] = at_end number (day_said d)
 after_rows number d (r ∷ rows) = at_row number (next_draft d r) (λ e. after_rows (number + 1) e rows)
 
 -- the day that the rows of a text say, or the first faulty row and its cause
-abbrev pub day_of_rows : List Record → Result Day (ℕ × Cause)
+abbrev pub day_of_rows : List TextRow → Result DayValue (ℕ × Cause)
 day_of_rows rows = after_rows 1 nothing_read rows
 
 -- ---- what calls answer

@@ -30,7 +30,7 @@ use Rattle.reg_text.specs.declared.reading.heading_rows.Lags.{Lags}
 use Rattle.reg_text.specs.declared.reading.scope.Version.{Version}
 use Rattle.reg_text.specs.declared.reading.scope.Scope.{Scope}
 use Rattle.reg_text.specs.Scopes.{by_version, version_word, version_of, widest}
-use Rattle.reg_text.specs.Records.{Record}
+use Rattle.reg_text.specs.TextRows.{TextRow}
 use Rattle.reg_text.specs.Words.{kind_word, kind_of, account_kind_word, account_kind_of, status_word, status_of}
 use Rattle.reg_text.specs.Words.{right_word, right_of, retirement_word, retirement_named, yes_no_word, yes_no_of}
 use Rattle.reg_text.specs.FieldTests.{when}
@@ -388,9 +388,9 @@ abbrev pub tag_word : Tag → List ℕ
 tag_word t = (row_kind t).word
 
 -- the row that says this, whatever earlier rows decided
-abbrev pub row_text : (t : Tag) → Said t → Record
+abbrev pub row_text : (t : Tag) → Said t → TextRow
 row_text t x = tag_word t ∷ (row widest t).spell x
 
 -- what the fields of a row with this tag say
-abbrev pub row_read : Scope → (t : Tag) → Record → Result (Said t) Cause
+abbrev pub row_read : Scope → (t : Tag) → TextRow → Result (Said t) Cause
 row_read scope t r = (row scope t).read r

@@ -5,7 +5,7 @@ use Rattle.reg_base.specs.declared.limits.TheConstants.{MOST_ACCOUNTS, MOST_INST
 use Rattle.reg_account.specs.Lists.{no_lists}
 use Rattle.reg_cuts.specs.Parts.{IsCut}
 use Rattle.reg_cuts.specs.Rows.{rows_in_text}
-use Rattle.reg_text.specs.Records.{Record}
+use Rattle.reg_text.specs.TextRows.{TextRow}
 use Rattle.reg_text.specs.Lasts.{is_above}
 use Rattle.reg_text.specs.declared.reading.account_row.AccountHead.{AccountHead}
 use Rattle.reg_text.specs.declared.reading.tag.Tag.{Tag}
@@ -35,9 +35,9 @@ BeginsWith last head (Some number) = (last ≡ Some tag.Account) × (number_in h
 BeginsWith last head None = last ≡ Some tag.Do
 
 -- the rows of a part, read behind a heading, give this draft. The first row is this one
-pub record IsPart (h : DraftValue) (rows : List Record) (first : Option ℕ) (d : DraftValue) : Type 0 where
-  pub row : Record
-  pub others : List Record
+pub record IsPart (h : DraftValue) (rows : List TextRow) (first : Option ℕ) (d : DraftValue) : Type 0 where
+  pub row : TextRow
+  pub others : List TextRow
   pub after_first : DraftValue
   pub rows_are : rows ≡ row ∷ others
   pub takes_first : next_draft h row ≡ Ok after_first
@@ -75,7 +75,7 @@ MayJoin None d e = InstructionsMayFollow d e
 
 -- law: the rows of a part, read behind the draft before it, give both drafts joined, with the same heading
 abbrev pub PartsJoin : Type 0
-PartsJoin = (h d e : DraftValue) (rows : List Record) (first : Option ℕ) → IsHeading h → HasHeading h d
+PartsJoin = (h d e : DraftValue) (rows : List TextRow) (first : Option ℕ) → IsHeading h → HasHeading h d
     → MayJoin first d e → IsPart h rows first e
     → (drafted d rows ≡ Ok (joined_drafts first d e)) × HasHeading h (joined_drafts first d e)
 

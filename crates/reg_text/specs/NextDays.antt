@@ -5,36 +5,36 @@ use Rattle.reg_base.specs.Batch.{IsBatch}
 use Rattle.reg_base.specs.Rising.{IsRising}
 use Rattle.reg_base.specs.Rules.{AreRules}
 use Rattle.reg_book.specs.Book.{BookValue}
-use Rattle.reg_book.specs.Day.{Day, log_of}
+use Rattle.reg_book.specs.Day.{DayValue, log_of}
 use Rattle.reg_book.specs.Chains.{book_after, IsChain}
 use Rattle.reg_text.specs.Acts.{IsShared}
 use Rattle.reg_text.specs.Faults.{day_of_rows}
 use Rattle.reg_text.specs.Grammar.{pair_index}
 use Rattle.reg_text.specs.ReadAgain.{book_line, IsBlocks, IsHeadingText, IsClosingText}
 use Rattle.reg_text.specs.Reading.{CanBeSaid, IsPair, IsVersionOf}
-use Rattle.reg_text.specs.Records.{Record}
+use Rattle.reg_text.specs.TextRows.{TextRow}
 use Rattle.reg_text.specs.Report.{text_of, log_rows, totals_row, report_rows}
 use Rattle.reg_cuts.specs.Rows.{rows_in_text}
 use Rattle.reg_text.specs.Spelling.{end_row}
 use Rattle.reg_text.specs.declared.reading.scope.Version.{Version}
 
 -- the report of a day: its log, the book after it, the totals and the row end
-abbrev pub report_of : Day → List ℕ
+abbrev pub report_of : DayValue → List ℕ
 report_of day = text_of (report_rows (book_after day) (log_of day))
 
 -- its rows behind those of the accounts
-abbrev pub rows_behind : BookValue → List Record
+abbrev pub rows_behind : BookValue → List TextRow
 rows_behind book = totals_row book General ∷ totals_row book Aviation ∷ end_row ∷ []
 
 -- these bytes stand in the report of the day between its `book` row and its first `totals` row: they are its account
 -- rows
-abbrev pub StandInReport : Day → List ℕ → Type 0
+abbrev pub StandInReport : DayValue → List ℕ → Type 0
 StandInReport day blocks = report_of day
     ≡ text_of (log_rows (log_of day)) ++ book_line (book_after day) ++ blocks ++ text_of (rows_behind (book_after day))
 
 -- a text of the day, in a version of the format, with these account rows between its heading and its instructions,
 -- however these are spelled
-pub record IsTextOf (day : Day) (blocks text : List ℕ) : Type 0 where
+pub record IsTextOf (day : DayValue) (blocks text : List ℕ) : Type 0 where
   pub version : Version
   pub is_known : IsVersionOf day version
   pub front : List ℕ
@@ -45,7 +45,7 @@ pub record IsTextOf (day : Day) (blocks text : List ℕ) : Type 0 where
 
 -- texts of these days: that of the first has these account rows, and each later one those of the report of the day
 -- before
-abbrev pub AreTexts : List ℕ → List Day → List (List ℕ) → Type 0
+abbrev pub AreTexts : List ℕ → List DayValue → List (List ℕ) → Type 0
 AreTexts blocks [] [] = Unit {0}
 AreTexts blocks [] (text ∷ texts) = ⊥
 AreTexts blocks (day ∷ days) [] = ⊥
@@ -54,7 +54,7 @@ AreTexts blocks (day ∷ days) (text ∷ texts) =
 
 -- what is new in the text of the next day is within the limits: its rules, which have as many periods as those of the
 -- day before, or more, and its batch, which begins with the next record number
-pub record IsNextDay (before day : Day) : Type 0 where
+pub record IsNextDay (before day : DayValue) : Type 0 where
   pub book : day.book ≡ book_after before
   pub rules : AreRules day.rules
   pub batch : IsBatch day.batch
@@ -65,22 +65,22 @@ pub record IsNextDay (before day : Day) : Type 0 where
   pub pairs_rise : IsRising (map pair_index day.rules.surrender)
 
 -- each of these days is the next one after the day before it
-abbrev pub GoOn : Day → List Day → Type 0
+abbrev pub GoOn : DayValue → List DayValue → Type 0
 GoOn before [] = Unit {0}
 GoOn before (day ∷ days) = IsNextDay before day × GoOn day days
 
 -- law: the account rows of a report, in the text of the next day, are read as the book that the day left
 pub record ReportsAreReadOn : Type 0 where
   -- each report has account rows
-  pub has_accounts : (day : Day) → (blocks : List ℕ) × StandInReport day blocks
+  pub has_accounts : (day : DayValue) → (blocks : List ℕ) × StandInReport day blocks
   -- if a text can say a day, a text can say the next one, whatever is new in it
-  pub can_be_said : (before day : Day) → CanBeSaid before → IsNextDay before day → CanBeSaid day
+  pub can_be_said : (before day : DayValue) → CanBeSaid before → IsNextDay before day → CanBeSaid day
   -- it is read as this next day, whose book is the one that the day before left
-  pub next_day : (before day : Day) (blocks text : List ℕ) → CanBeSaid before → IsNextDay before day
+  pub next_day : (before day : DayValue) (blocks text : List ℕ) → CanBeSaid before → IsNextDay before day
       → StandInReport before blocks → IsTextOf day blocks text
       → day_of_rows (rows_in_text text) ≡ Ok day
   -- so the texts of days that go on are read as these days, and these are a chain
-  pub chain : (first : Day) (days : List Day) (blocks : List ℕ) (texts : List (List ℕ)) → CanBeSaid first
+  pub chain : (first : DayValue) (days : List DayValue) (blocks : List ℕ) (texts : List (List ℕ)) → CanBeSaid first
       → GoOn first days → IsBlocks first.book blocks → AreTexts blocks (first ∷ days) texts
       → (map (λ text. day_of_rows (rows_in_text text)) texts ≡ map Ok (first ∷ days))
       × IsChain first.book (first ∷ days)

@@ -4,26 +4,26 @@ use Rattle.std.specs.List.{flat_map}
 use Rattle.reg_base.specs.Rising.{count_up}
 use Rattle.reg_plan.specs.declared.arrow.Arrow.{Arrow}
 use Rattle.reg_plan.specs.Plans.{PlanValue, inward, level_at}
-use Rattle.reg_text.specs.Records.{Record}
+use Rattle.reg_text.specs.TextRows.{TextRow}
 use Rattle.reg_text.specs.Numbers.{number}
 use Rattle.reg_text.specs.Spelling.{end_row}
 
 -- task,PLACE,LEVEL
-abbrev pub task_row : ℕ → ℕ → Record
+abbrev pub task_row : ℕ → ℕ → TextRow
 task_row place level = codes "task" ∷ number place ∷ number level ∷ []
 
 -- arrow,FROM,TO,ACCOUNT
-abbrev pub arrow_row : Arrow → Record
+abbrev pub arrow_row : Arrow → TextRow
 arrow_row arrow = codes "arrow" ∷ number arrow.from ∷ number arrow.to ∷ number arrow.account ∷ []
 
 -- a place with its level, and the arrows that lead to it
-abbrev pub place_rows : PlanValue → ℕ → List Record
+abbrev pub place_rows : PlanValue → ℕ → List TextRow
 place_rows plan place = task_row place (level_at plan.levels place) ∷ map arrow_row (inward plan.arrows place)
 
 -- so many places, in order
-abbrev pub places_rows : PlanValue → ℕ → List Record
+abbrev pub places_rows : PlanValue → ℕ → List TextRow
 places_rows plan count = flat_map (place_rows plan) (count_up 1 count)
 
 -- all places of the plan, and the row end
-abbrev pub plan_rows : PlanValue → List Record
+abbrev pub plan_rows : PlanValue → List TextRow
 plan_rows plan = places_rows plan (length plan.levels) ++ end_row ∷ []

@@ -10,7 +10,7 @@ use Rattle.reg_account.specs.Lists.{ListsValue}
 use Rattle.reg_text.specs.declared.reading.account_row.AccountHead.{AccountHead}
 use Rattle.reg_text.specs.declared.reading.tag.Tag.{Tag}
 use Rattle.reg_text.specs.declared.reading.tag.Tag.TheVariants as tag
-use Rattle.reg_text.specs.Records.{Record}
+use Rattle.reg_text.specs.TextRows.{TextRow}
 use Rattle.reg_text.specs.Lasts.{is_above}
 use Rattle.reg_text.specs.declared.reading.scope.Scope.{Scope}
 use Rattle.reg_text.specs.Tags.{list_tags}
@@ -63,7 +63,7 @@ account_with l h = record {
 }
 
 -- a row with this tag for each of these
-abbrev pub each_row : (t : Tag) → List (Said t) → List Record
+abbrev pub each_row : (t : Tag) → List (Said t) → List TextRow
 each_row t xs = flat_map (λ x. row_text t x ∷ []) xs
 
 -- a list in a value: its items, and the value with these items in their place
@@ -86,7 +86,7 @@ abbrev pub list_items : (t : Tag) → ListsValue → List (Said t)
 list_items t l = (account_list t).items l
 
 -- the rows of an account: its own, and then those of its lists
-abbrev pub account_block : AccountValue → List Record
+abbrev pub account_block : AccountValue → List TextRow
 account_block a = row_text tag.Account (account_head a)
     ∷ flat_map (λ t. each_row t (list_items t (lists_of a))) list_tags
 
@@ -100,16 +100,16 @@ Item (Some t) = Said t
 abbrev pub Section : Type 0
 Section = (part : Option Tag) × List (Item part)
 
-abbrev pub item_rows : (part : Option Tag) → Item part → List Record
+abbrev pub item_rows : (part : Option Tag) → Item part → List TextRow
 item_rows None a = account_block a
 item_rows (Some t) x = row_text t x ∷ []
 
 -- its rows
-abbrev pub section_rows : Section → List Record
+abbrev pub section_rows : Section → List TextRow
 section_rows s = flat_map (item_rows s.0) s.1
 
 -- the rows of sections one after another
-abbrev pub all_rows : List Section → List Record
+abbrev pub all_rows : List Section → List TextRow
 all_rows [] = []
 all_rows (s ∷ ss) = section_rows s ++ all_rows ss
 

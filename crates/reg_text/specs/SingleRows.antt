@@ -10,7 +10,7 @@ use Rattle.reg_cuts.specs.Rows.{rows_in_text}
 use Rattle.reg_text.specs.declared.cause.Cause.{Cause}
 use Rattle.reg_text.specs.declared.cause.Cause.TheVariants as cause
 use Rattle.reg_text.specs.declared.reading.tag.Tag.TheVariants as tag
-use Rattle.reg_text.specs.Records.{Record, field}
+use Rattle.reg_text.specs.TextRows.{TextRow, field}
 use Rattle.reg_text.specs.Scopes.{widest}
 use Rattle.reg_text.specs.Acts.{IsShared}
 use Rattle.reg_text.specs.Grammar.{row_read, row_text, tag_word}
@@ -22,22 +22,22 @@ use Rattle.reg_text.specs.Report.{text_of, log_rows}
 -- ---- an instruction
 
 -- the instruction that a row says, whose tag is `do`
-abbrev pub instruction_in : Record → Result Instruction Cause
+abbrev pub instruction_in : TextRow → Result Instruction Cause
 instruction_in r = if bytes_eq (field r 0) (tag_word tag.Do) then row_read widest tag.Do r else Err cause.Tag
 
 -- an instruction behind whose row there are no others
-abbrev pub if_alone : List Record → Instruction → Result Instruction (ℕ × Cause)
+abbrev pub if_alone : List TextRow → Instruction → Result Instruction (ℕ × Cause)
 if_alone [] i = Ok i
 if_alone (r ∷ rows) i = Err (2, cause.End)
 
 -- the instruction that rows say, of which there is one, or the first faulty row and its cause
-abbrev pub instruction_of_rows : List Record → Result Instruction (ℕ × Cause)
+abbrev pub instruction_of_rows : List TextRow → Result Instruction (ℕ × Cause)
 instruction_of_rows [] = Err (1, cause.End)
 instruction_of_rows (r ∷ rows) = at_row 1 (instruction_in r) (if_alone rows)
 
 -- law: rows are read as an instruction exactly if they are its row, and it is within the limits of a day
 abbrev pub OneRowOfAnInstruction : Type 0
-OneRowOfAnInstruction = (rows : List Record) (i : Instruction) → (instruction_of_rows rows ≡ Ok i)
+OneRowOfAnInstruction = (rows : List TextRow) (i : Instruction) → (instruction_of_rows rows ≡ Ok i)
     ↔ ((rows ≡ row_text tag.Do i ∷ []) × IsInstruction i × IsShared i.act)
 
 -- ---- a row of a log

@@ -13,7 +13,7 @@ use Rattle.reg_rules.specs.Step.{held_now}
 use Rattle.reg_book.specs.Book.{BookValue, directory_of}
 use Rattle.reg_text.specs.declared.writing.statements.StatementFault.{StatementFault}
 use Rattle.reg_text.specs.declared.writing.statements.StatementFault.TheVariants.{UnknownAccount, NoMemory}
-use Rattle.reg_text.specs.Records.{Record}
+use Rattle.reg_text.specs.TextRows.{TextRow}
 use Rattle.reg_text.specs.Spelling.{end_row}
 use Rattle.reg_text.specs.Log.{holding_fields}
 use Rattle.reg_text.specs.Report.{log_rows}
@@ -44,20 +44,20 @@ abbrev pub closing_held : DirectoryValue → HeldNow → List LogRow → HeldNow
 closing_held directory opening rows = unwrap_or (last_told directory opening.account rows) opening
 
 -- opening,NO,GENERAL,AVIATION and closing,NO,GENERAL,AVIATION
-abbrev pub opening_row : HeldNow → Record
+abbrev pub opening_row : HeldNow → TextRow
 opening_row held = codes "opening" ∷ holding_fields held
 
-abbrev pub closing_row : HeldNow → Record
+abbrev pub closing_row : HeldNow → TextRow
 closing_row held = codes "closing" ∷ holding_fields held
 
 -- the statement of an account that held this before the day, and the row end
-abbrev pub statement_rows : DirectoryValue → HeldNow → List LogRow → List Record
+abbrev pub statement_rows : DirectoryValue → HeldNow → List LogRow → List TextRow
 statement_rows directory opening rows =
     opening_row opening ∷ log_rows (rows_about directory opening.account rows)
     ++ closing_row (closing_held directory opening rows) ∷ end_row ∷ []
 
 -- the statement of an account of the book before the day
-abbrev pub statement_of : BookValue → List LogRow → ℕ → List Record
+abbrev pub statement_of : BookValue → List LogRow → ℕ → List TextRow
 statement_of book rows a = statement_rows (directory_of book.accounts) (held_now book.accounts a) rows
 
 -- whether the account is in the book

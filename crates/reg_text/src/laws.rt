@@ -31,8 +31,8 @@ ghost use Rattle.reg_text.specs.Codecs.{later_factor};
 ghost use Rattle.reg_text.specs.Words.{named, kind_word, kind_of, account_kind_word, account_kind_of, status_word};
 ghost use Rattle.reg_text.specs.Words.{status_of, right_word, right_of, retirement_word, retirement_named, yes_no_word};
 ghost use Rattle.reg_text.specs.Words.{yes_no_of};
-ghost use Rattle.reg_text.specs.Records.{Record};
-ghost use Rattle.reg_book.specs.Day.{Day};
+ghost use Rattle.reg_text.specs.TextRows.{TextRow};
+ghost use Rattle.reg_book.specs.Day.{DayValue};
 ghost use Rattle.reg_text.specs.Reading.{IsReading, IsFirstFaulty};
 ghost use Rattle.reg_text.specs.Drafts.{DraftValue};
 ghost use Rattle.reg_text.specs.Joining.{PartsJoin};
@@ -99,20 +99,20 @@ pub fn one_row_of_an_instruction()
 
 /// Rows are read as a day exactly if they are the spelling of that day and the day is within the limits.
 pub fn reads_what_is_spelled()
-    ensures { (rows : List Record) (v : Day) → (day_of_rows rows ≡ Ok v) ↔ IsReading rows v }
+    ensures { (rows : List TextRow) (v : DayValue) → (day_of_rows rows ≡ Ok v) ↔ IsReading rows v }
 {}
 
 /// Rows spell at most one day.
 pub fn at_most_one_reading()
-    ensures { (rows : List Record) (v w : Day) → IsReading rows v → IsReading rows w → v ≡ w }
+    ensures { (rows : List TextRow) (v w : DayValue) → IsReading rows v → IsReading rows w → v ≡ w }
 {}
 
 /// A fault names the first row such that no day text begins with the rows up to it. If a day text begins with all the
 /// rows, but they are not a whole one, the fault names the number of rows plus 1, and the cause is `end`.
 pub fn names_the_first_faulty_row()
-    ensures first { (rows : List Record) (row : ℕ) (c : Cause) → day_of_rows rows ≡ Err (row, c)
+    ensures first { (rows : List TextRow) (row : ℕ) (c : Cause) → day_of_rows rows ≡ Err (row, c)
         → IsFirstFaulty rows row }
-    ensures end { (rows : List Record) (row : ℕ) (c : Cause) → day_of_rows rows ≡ Err (row, c) → row ≡ length rows + 1
+    ensures end { (rows : List TextRow) (row : ℕ) (c : Cause) → day_of_rows rows ≡ Err (row, c) → row ≡ length rows + 1
         → c ≡ cause.End }
 {}
 
@@ -120,9 +120,9 @@ pub fn names_the_first_faulty_row()
 /// the table of causes that applies to that draft and that row. After any draft, a row to which no cause applies is
 /// taken.
 pub fn names_the_first_cause()
-    ensures of_text { (rows : List Record) (row : ℕ) (c : Cause) → day_of_rows rows ≡ Err (row, c) → row ≤ length rows
+    ensures of_text { (rows : List TextRow) (row : ℕ) (c : Cause) → day_of_rows rows ≡ Err (row, c) → row ≤ length rows
         → IsCauseOf rows row c }
-    ensures of_row { (d : DraftValue) (r : Record) → fault_of (next_draft d r) ≡ first_cause (tests_of d r) }
+    ensures of_row { (d : DraftValue) (r : TextRow) → fault_of (next_draft d r) ≡ first_cause (tests_of d r) }
 {}
 
 /// A field that is refused is no number, no signed number or no date at all, or it is one and outside the limits, and

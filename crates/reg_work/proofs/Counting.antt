@@ -2,8 +2,8 @@
 use Rattle.std.proofs.Common.{arith, add-one, ◌≡◌, ℕ, ◌+◌, ◌==◌, List, [], ◌∷◌, ◌++◌, map, length, length-append}
 use Rattle.std.proofs.Common.{append-nil, append_assoc, refl, ap, sym, ◌∙◌}
 use Rattle.std.proofs.lemmas.List.{map-append, length-map, nil_from_length}
-use Rattle.reg_counting.specs.Counting.{times, one_if}
-use Rattle.reg_counting.proofs.Totals.{total-append}
+use Rattle.reg_facts.specs.Counting.{times, one_if}
+use Rattle.reg_facts.proofs.lemmas.Totals.{total-append}
 use Rattle.reg_work.specs.declared.shift.Shift.{Shift}
 use Rattle.reg_work.specs.Shifts.{times_in, places_ran, numbers_below}
 

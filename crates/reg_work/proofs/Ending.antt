@@ -4,7 +4,7 @@ use Rattle.std.proofs.Common.{inl, inr, ⊎_elim}
 use Rattle.std.proofs.lemmas.Bool.Decides.{nat_tests}
 use mathlib.Core.Logic.{dite}
 use native.Mathlib.Decide.{dec_le}
-use Rattle.reg_claim.specs.declared.views.View.{View}
+use Rattle.reg_claim.specs.declared.views.SeatView.{SeatView}
 use Rattle.reg_claim.specs.Views.{joined_views, is_odd}
 use Rattle.reg_work.specs.Ends.{sees_end, shows_end}
 
@@ -30,7 +30,7 @@ second-of true b e never = absurd (never refl)
 second-of false b e never = e
 
 -- if nobody was told to leave, the last seat sees that all places are finished
-pub all-finished : (n : ℕ) (v : View) (done : ℕ) (stopped : Bool) → sees_end n v ≡ true
+pub all-finished : (n : ℕ) (v : SeatView) (done : ℕ) (stopped : Bool) → sees_end n v ≡ true
     → (is_odd v.seen ≡ true → stopped ≡ true) → stopped ≡ false → v.seen / 2 ≤ done → done ≤ n → done ≡ n
 all-finished n v done stopped ends stops going seen most =
     let half : nat_le n (v.seen / 2)
@@ -40,7 +40,8 @@ all-finished n v done stopped ends stops going seen most =
     omega arith
 
 -- some worker was there, so the last seat sees the end
-pub was-there : (n left all : ℕ) (v : View) → left ≡ 0 → 0 < all → ((left ≡ all) × (v.seen ≡ 0)) ⊎ (sees_end n v ≡ true)
+pub was-there : (n left all : ℕ) (v : SeatView) → left ≡ 0 → 0 < all
+    → ((left ≡ all) × (v.seen ≡ 0)) ⊎ (sees_end n v ≡ true)
     → sees_end n v ≡ true
 was-there n left all v none some (inl same) = let e = same.0 in absurd (omega arith)
 was-there n left all v none some (inr ends) = ends

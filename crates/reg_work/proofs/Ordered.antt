@@ -6,10 +6,10 @@ use Rattle.std.proofs.lemmas.Option.{same_Some}
 use Rattle.std.proofs.lemmas.List.{map-append}
 use mathlib.Core.Logic.{dite}
 use native.Mathlib.Decide.{ℕ_discrete, dec_le}
-use Rattle.reg_counting.specs.Counting.{times, once, one_if}
-use Rattle.reg_claim.proofs.Numbers.{equal-one, apart-none, once-yes, once-past, once-zero}
+use Rattle.reg_facts.specs.Counting.{times, once, one_if}
+use Rattle.reg_claim.proofs.lemmas.Numbers.{equal-one, apart-none, once-yes, once-past, once-zero}
 use Rattle.reg_rules.specs.declared.reply.LogRow.{LogRow}
-use Rattle.reg_book.specs.Day.{Day, row_at, log_of}
+use Rattle.reg_book.specs.Day.{DayValue, row_at, log_of}
 use Rattle.reg_tasks.specs.declared.outcome.Ran.{Ran}
 use Rattle.reg_work.specs.declared.shift.Shift.{Shift}
 use Rattle.reg_work.specs.Shifts.{AreShifts, places_ran}
@@ -74,5 +74,5 @@ row-more log n rows now row items before at =
     next (r ∷ rs) (suc k) e = ap (λ xs. r ∷ xs) (next rs k e)
 
 -- the row of the next place, as a row of the log
-pub row-next : (d : Day) (n : ℕ) (row : LogRow) → row_at d (n + 1) ≡ Some row → slice_get (log_of d) n ≡ Some row
+pub row-next : (d : DayValue) (n : ℕ) (row : LogRow) → row_at d (n + 1) ≡ Some row → slice_get (log_of d) n ≡ Some row
 row-next d n row e = let one : suc n ≡ n + 1 = omega arith in ap (row_at d) one ∙ e

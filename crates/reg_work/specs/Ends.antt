@@ -1,6 +1,6 @@
 -- What a worker's seat shows of the end of the work.
 use Rattle.std.specs.Prelude.{ℕ, ◌/◌, Bool, ◌||◌, nat_le, Contains}
-use Rattle.reg_claim.specs.declared.views.View.{View}
+use Rattle.reg_claim.specs.declared.views.SeatView.{SeatView}
 use Rattle.reg_claim.specs.Views.{is_odd}
 
 -- this count shows that so many places are finished, or that the workers are to leave

@@ -1,6 +1,6 @@
 -- Shifts: which workers they are of, and how often a place stands in them.
 use Rattle.std.specs.Prelude.{◌≡◌, ℕ, zero, suc, List, [], ◌∷◌, ◌++◌, map}
-use Rattle.reg_counting.specs.Counting.{total, times, once}
+use Rattle.reg_facts.specs.Counting.{total, times, once}
 use Rattle.reg_tasks.specs.declared.outcome.Ran.{Ran}
 use Rattle.reg_work.specs.declared.shift.Shift.{Shift}
 

@@ -3,7 +3,7 @@
 ghost use Rattle.std.specs.Prelude.{◌≡◌, ℕ, ◌≤◌, [], ◌∷◌, ◌++◌, length, IfOk, IfSome, OnOk};
 ghost use Rattle.reg_book.specs.Day.{settled_day};
 ghost use Rattle.reg_book.specs.Settled.{IsOfBook};
-ghost use Rattle.reg_counting.specs.Counting.{times, once};
+ghost use Rattle.reg_facts.specs.Counting.{times, once};
 ghost use Rattle.reg_tasks.specs.Gathering.{AreFirstRows};
 ghost use Rattle.reg_work.specs.Shifts.{AreShifts, places_ran};
 

@@ -6,7 +6,7 @@ ghost use Rattle.reg_book.specs.Day.{day_of, settled_day};
 ghost use Rattle.reg_book.specs.Settled.{IsOfBook};
 ghost use Rattle.reg_claim.specs.Views.{fresh};
 ghost use Rattle.reg_claim.specs.Seats.{known, seat_table, table_id, places};
-ghost use Rattle.reg_counting.specs.Counting.{times, once};
+ghost use Rattle.reg_facts.specs.Counting.{times, once};
 ghost use Rattle.reg_tasks.specs.Gathering.{places_of};
 ghost use Rattle.reg_tasks.specs.Names.{IsNamed};
 ghost use Rattle.reg_deques.specs.Yards.{deques, deques_of_pass};
@@ -42,11 +42,11 @@ fn make_workers<N: Naming, I: SharedIds>(
     passes: Vec<Pass<N>>,
 ) -> Result<(Seat, Vec<Worker<N, I>>), Lack>
     requires table { (table_id table.now ≡ I.table) × (seat_table seat ≡ I.table) }
-    requires fresh { ((known seat).share ≡ 16) × ((known seat).finished ≡ []) × ((known seat).seen ≡ 0) }
+    requires fresh { ((known seat).stake ≡ 16) × ((known seat).finished ≡ []) × ((known seat).seen ≡ 0) }
     requires few { (vec_len passes ≤ 8) × (vec_len owners ≡ vec_len passes) }
     requires deques { All (λ p. deques_of_pass p ≡ I.deques) passes.items }
     ensures table { IfOk result (λ r. seat_table r.0 ≡ I.table) }
-    ensures share { IfOk result (λ r. (known r.0).share + vec_len r.1 ≡ 16) }
+    ensures share { IfOk result (λ r. (known r.0).stake + vec_len r.1 ≡ 16) }
     ensures fresh { IfOk result (λ r. ((known r.0).finished ≡ []) × ((known r.0).seen ≡ 0)) }
     ensures each { IfOk result (λ r. vec_len r.1 ≡ vec_len passes) }
     ensures passes { IfOk result (λ r. map (λ p. p.pass) r.1.items ≡ passes.items) }

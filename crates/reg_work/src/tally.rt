@@ -2,7 +2,7 @@
 
 ghost use Rattle.std.specs.Prelude.{◌≡◌, ℕ, ◌+◌, ◌<◌, ◌++◌, [], vec_len, IfOk, OnOk};
 ghost use Rattle.reg_claim.specs.Seats.{known, seat_table, table_id, places};
-ghost use Rattle.reg_counting.specs.Counting.{times, once};
+ghost use Rattle.reg_facts.specs.Counting.{times, once};
 ghost use Rattle.reg_tasks.specs.Gathering.{places_of};
 ghost use Rattle.reg_work.specs.Parts.{joined};
 ghost use Rattle.reg_work.specs.Shifts.{AreShifts, workers_of, times_in};
@@ -105,7 +105,7 @@ pub(crate) fn count_up<N: Naming, I: SharedIds>(
     ended_workers: Vec<EndedWorker<N, I>>,
 ) -> Result<Work<N>, Lack>
     requires table { (table_id table ≡ I.table) × (places table ≡ I.count) × (seat_table seat ≡ I.table) }
-    requires share { (known seat).share + vec_len ended_workers ≡ 16 }
+    requires share { (known seat).stake + vec_len ended_workers ≡ 16 }
     requires fresh { ((known seat).finished ≡ []) × ((known seat).seen ≡ 0) }
     requires some { 0 < vec_len ended_workers }
     requires workers { ended_numbers ended_workers.items ≡ numbers_below (vec_len ended_workers) }

@@ -5,7 +5,7 @@ use Rattle.std.specs.Prelude.{not, filter, is_some, Contains}
 use Rattle.std.specs.List.{list_any}
 use Rattle.std.proofs.lemmas.List.Elements.{Contains-append_right}
 use Rattle.reg_plan.specs.Plans.{PlanValue}
-use Rattle.reg_book.specs.Day.{Day}
+use Rattle.reg_book.specs.Day.{DayValue}
 use Rattle.reg_schedules.specs.Docks.{ParcelValue, is_name, name_of, awaited, of_name, still_awaited, is_not_awaited}
 use Rattle.reg_tasks.specs.declared.naming.Naming.{Ghosts}
 use Rattle.reg_tasks.specs.declared.parcel.Parcel.{Parcel}
@@ -53,7 +53,7 @@ fewer-of {X = X} keep less gone is (x ∷ xs) = by (keep x) (gone x) (less x) re
     by false c false e f rest = rest
     by false c true e f rest = absurd cc
 
-module _ (day : Day) (plan : PlanValue) (place : ℕ) where
+module _ (day : DayValue) (plan : PlanValue) (place : ℕ) where
   wanted : (came : List ParcelValue) (p : ParcelValue) → is_not_awaited day plan place came p ≡ false
       → list_any (is_name (name_of p)) (still_awaited day plan place came) ≡ true
   wanted came p e = by (list_any (is_name (name_of p)) (still_awaited day plan place came)) e

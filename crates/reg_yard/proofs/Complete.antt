@@ -6,17 +6,17 @@ use Rattle.std.specs.List.{list_any, list_all}
 use Rattle.std.proofs.lemmas.Bool.{eq-eqb, ne_eqb, and_from}
 use Rattle.std.proofs.lemmas.List.{length-map}
 use Rattle.reg_plan.specs.Plans.{PlanValue, inward}
-use Rattle.reg_book.specs.Day.{Day}
+use Rattle.reg_book.specs.Day.{DayValue}
 use Rattle.reg_schedules.specs.Pool.{footprint_at}
 use Rattle.reg_schedules.specs.Docks.{ParcelValue, is_name, of_name, awaited, complete, still_awaited}
-use Rattle.reg_schedules.proofs.Needed.{length_needed}
+use Rattle.reg_schedules.proofs.lemmas.Needed.{length_needed}
 use Rattle.reg_tasks.specs.declared.naming.Naming.{Ghosts}
 use Rattle.reg_tasks.specs.declared.parcel.Parcel.{Parcel}
 use Rattle.reg_tasks.specs.Names.{has_names}
 use Rattle.reg_tasks.specs.Parcels.{names_of, parcels_of}
 use Rattle.reg_yard.specs.Held.{FitInDock}
 
-module _ (day : Day) (plan : PlanValue) (place : ℕ) where
+module _ (day : DayValue) (plan : PlanValue) (place : ℕ) where
   -- as many are awaited as the place touches accounts
   many-awaited : length (awaited day plan place) ≡ length (footprint_at day place)
   many-awaited = length_needed (inward plan.arrows place) (footprint_at day place)
@@ -60,7 +60,7 @@ module _ {N : Type 0} {b : Ghosts N} where
       by false e few rest = absurd (omega (arith, few))
 
   -- with as many parcels as accounts all that are awaited are there
-  pub all-came : (day : Day) (plan : PlanValue) (place : ℕ) (ps : List (Parcel N b))
+  pub all-came : (day : DayValue) (plan : PlanValue) (place : ℕ) (ps : List (Parcel N b))
       → FitInDock day plan place (parcels_of ps) → length (footprint_at day place) ≤ length ps
       → has_names (names_of ps) (awaited day plan place) ≡ true
   all-came day plan place ps fit all =

@@ -12,8 +12,8 @@ use Rattle.reg_plan.specs.Arrows.{IsArrow}
 use Rattle.reg_plan.specs.Plans.{PlanValue, IsPlan, outward}
 use Rattle.reg_schedules.specs.Docks.{ParcelValue}
 use Rattle.reg_schedules.specs.World.{head_of}
-use Rattle.reg_schedules.proofs.Members.{In, contains_from, of_filter, Found, Missing, search_of}
-use Rattle.reg_schedules.proofs.Tails.{is_within}
+use Rattle.reg_schedules.proofs.lemmas.Members.{In, contains_from, of_filter, Found, Missing, search_of}
+use Rattle.reg_schedules.proofs.lemmas.Tails.{is_within}
 use Rattle.reg_tasks.specs.Openings.{first_at}
 use Rattle.reg_yard.specs.Parcels.{goes_to}
 

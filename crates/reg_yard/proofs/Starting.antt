@@ -7,7 +7,7 @@ use Rattle.std.specs.Slice.{IsItemAt}
 use Rattle.std.proofs.lemmas.Option.{slice_get_within, slice_get_read, slice_get-map}
 use Rattle.std.proofs.lemmas.List.{map-append, append-nil}
 use Rattle.reg_base.specs.Rising.{count_up}
-use Rattle.reg_book.specs.Day.{Day}
+use Rattle.reg_book.specs.Day.{DayValue}
 use Rattle.reg_schedules.specs.Docks.{TaskValue}
 use Rattle.reg_tasks.specs.declared.naming.Naming.{Ghosts}
 use Rattle.reg_tasks.specs.declared.task.Task.{Task}
@@ -16,7 +16,7 @@ use Rattle.reg_yard.specs.Docks.{dock_places}
 use Rattle.reg_yard.specs.declared.locked.LockedDock.{LockedDock}
 use Rattle.reg_yard.specs.AtOnce.{touches_none, task_without, task_at_once, tasks_from}
 
-module _ (day : Day) where
+module _ (day : DayValue) where
   -- no task more
   plain : (ts : List TaskValue) → ts ≡ ts ++ []
   plain [] = refl

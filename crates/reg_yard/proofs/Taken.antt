@@ -6,11 +6,11 @@ use Rattle.std.specs.Option.{option_map}
 use Rattle.std.specs.List.{list_any}
 use Rattle.std.specs.declared.vec.Vec.{Vec}
 use Rattle.reg_plan.specs.Plans.{PlanValue, inward}
-use Rattle.reg_book.specs.Day.{Day}
+use Rattle.reg_book.specs.Day.{DayValue}
 use Rattle.reg_schedules.specs.Laws.{IsPlanOf}
 use Rattle.reg_schedules.specs.Pool.{footprint_at}
 use Rattle.reg_schedules.specs.Docks.{ParcelValue, TaskValue, is_name, name_of, of_name, of_names, before_all, awaited}
-use Rattle.reg_schedules.proofs.Needed.{length_needed}
+use Rattle.reg_schedules.proofs.lemmas.Needed.{length_needed}
 use Rattle.reg_tasks.specs.declared.naming.Naming.{Ghosts}
 use Rattle.reg_tasks.specs.declared.parcel.Parcel.{Parcel}
 use Rattle.reg_tasks.specs.declared.task.Task.{Task}
@@ -21,10 +21,10 @@ use Rattle.reg_yard.specs.Laws.{ASingleParcelGivesTheTask}
 
 module _ {N : Type 0} {b : Ghosts N} where
   -- what a dock answers that has these parcels
-  pub taken-if : (name : Option Day) (goes : Option ℕ) (day : Day) (plan : PlanValue) (place : ℕ)
+  pub taken-if : (name : Option DayValue) (goes : Option ℕ) (day : DayValue) (plan : PlanValue) (place : ℕ)
       (waiting : Option (Vec (Parcel N b) Global)) (p : ParcelValue) (after : Option (List ParcelValue))
       (r : Result (Option (Task N b)) (Parcel N b))
-      → ((d : Day) → name ≡ Some d → day ≡ d) → ∥ IsPlanOf day plan ∥₁ → goes ≡ Some place
+      → ((d : DayValue) → name ≡ Some d → day ≡ d) → ∥ IsPlanOf day plan ∥₁ → goes ≡ Some place
       → FewWait day plan place waiting
       → is_err r ≡ is_refused day plan place (waiting_of waiting) p
       → IfOk r (λ task. (after, option_map task_of task) ≡ delivered day plan place (waiting_of waiting) p)

@@ -10,10 +10,10 @@ use mathlib.Core.Logic.{dite}
 use native.Mathlib.Decide.{ℕ_discrete}
 use Rattle.reg_plan.specs.declared.arrow.Arrow.{Arrow}
 use Rattle.reg_plan.specs.Plans.{PlanValue, inward}
-use Rattle.reg_book.specs.Day.{Day}
+use Rattle.reg_book.specs.Day.{DayValue}
 use Rattle.reg_schedules.specs.Pool.{footprint_at, tail_in}
 use Rattle.reg_schedules.specs.Docks.{ParcelValue, is_name, names_needed, awaited, of_name}
-use Rattle.reg_schedules.proofs.Needed.{length_needed}
+use Rattle.reg_schedules.proofs.lemmas.Needed.{length_needed}
 use Rattle.reg_yard.specs.Held.{FitInDock}
 
 flip : (m n : ℕ) → eqb m n ≡ eqb n m
@@ -85,7 +85,7 @@ still-any came n (x ∷ more) =
         λ i. (eqb-true n.0 x.0 parts.0 i, eqb-true n.1 x.1 parts.1 i)
 
 -- as many are awaited at most as the place touches accounts, if nothing came
-pub none-few : (day : Day) (plan : PlanValue) (place : ℕ) → FitInDock day plan place []
+pub none-few : (day : DayValue) (plan : PlanValue) (place : ℕ) → FitInDock day plan place []
 none-few day plan place =
     omega (
       arith,

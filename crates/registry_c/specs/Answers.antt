@@ -1,6 +1,6 @@
 -- What a call tells and writes. Its outcome is a text or a fault.
 use Rattle.std.specs.Prelude.{◌≡◌, ℕ, nat_le, List, ◌++◌, length, drop, Result, Ok, Err, ⊤, if◌then◌else◌}
-use Rattle.reg_book.specs.Day.{Day}
+use Rattle.reg_book.specs.Day.{DayValue}
 use Rattle.reg_cuts.specs.Rows.{rows_in_text}
 use Rattle.reg_text.specs.Faults.{day_of_rows}
 use Rattle.reg_text.specs.Reading.{IsReading}
@@ -48,9 +48,9 @@ room_after (Err fault) room = room
 -- a day, and the account is not in its book; the first faulty row and the first cause that applies to it; or that
 -- memory ran out, which can always be
 abbrev pub IsDue : Question → List ℕ → Result (List ℕ) Fault → Type 0
-IsDue question bytes (Ok text) = (day : Day) × IsReading (rows_in_text bytes) day × IsAnswer question day text
+IsDue question bytes (Ok text) = (day : DayValue) × IsReading (rows_in_text bytes) day × IsAnswer question day text
 IsDue question bytes (Err NoAccount) =
-    (day : Day) × IsReading (rows_in_text bytes) day × AsksForNobody question day.book
+    (day : DayValue) × IsReading (rows_in_text bytes) day × AsksForNobody question day.book
 IsDue question bytes (Err (Row row cause)) = day_of_rows (rows_in_text bytes) ≡ Err (row, cause)
 IsDue question bytes (Err NoMemory) = ⊤
 

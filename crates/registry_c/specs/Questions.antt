@@ -3,7 +3,7 @@ use Rattle.std.specs.Prelude.{◌≡◌, ℕ, List, false, true, ⊤}
 use Rattle.reg_plan.specs.Plans.{PlanValue, IsPlan}
 use Rattle.reg_book.specs.Book.{BookValue, directory_of}
 use Rattle.reg_book.specs.Chains.{book_after}
-use Rattle.reg_book.specs.Day.{Day, log_of}
+use Rattle.reg_book.specs.Day.{DayValue, log_of}
 use Rattle.reg_text.specs.Determined.{figures_rows}
 use Rattle.reg_text.specs.NextDays.{report_of}
 use Rattle.reg_text.specs.PlanText.{plan_rows}
@@ -16,12 +16,12 @@ use Rattle.registry_c.specs.declared.question.Question.{Question}
 use Rattle.registry_c.specs.declared.question.Question.TheVariants.{Figures, Log, Plan, Report, Statement, Totals}
 
 -- these bytes are the plan of the day's instructions
-abbrev pub ArePlanned : Day → List ℕ → Type 0
+abbrev pub ArePlanned : DayValue → List ℕ → Type 0
 ArePlanned day text = (plan : PlanValue) × IsPlan (directory_of day.book.accounts) day.batch.instructions plan
     × (text ≡ text_of (plan_rows plan))
 
 -- these bytes are the text that answers the question of this day; only an account of the book has a statement
-abbrev pub IsAnswer : Question → Day → List ℕ → Type 0
+abbrev pub IsAnswer : Question → DayValue → List ℕ → Type 0
 IsAnswer Report day text = text ≡ report_of day
 IsAnswer Log day text = text ≡ text_of (log_rows (log_of day))
 IsAnswer Plan day text = ArePlanned day text

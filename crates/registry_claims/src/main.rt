@@ -24,7 +24,7 @@ const THREADS: u32 = 8;
 fn claim(table: &ClaimTable, seat: &mut Seat, place: u32, mark: &AtomicU32)
     requires own { IsSeatOf table.now seat.old }
     requires place { (1 ≤ place) × (place ≤ places table.now) }
-    ensures same { (seat_table seat.new ≡ seat_table seat.old) × ((known seat.new).share ≡ (known seat.old).share) }
+    ensures same { (seat_table seat.new ≡ seat_table seat.old) × ((known seat.new).stake ≡ (known seat.old).stake) }
 {
     if table.claim(seat, place) {
         mark.fetch_add(1, Ordering::SeqCst);
@@ -35,9 +35,9 @@ fn claim(table: &ClaimTable, seat: &mut Seat, place: u32, mark: &AtomicU32)
 // Tries each place with both seats of a thread: the first one tries it first.
 fn claim_all(table: &ClaimTable, seat: Seat, marks: &[AtomicU32]) -> Seat
     requires own { IsSeatOf table.now seat }
-    requires share { (known seat).share ≡ 2 }
+    requires share { (known seat).stake ≡ 2 }
     requires marks { (length marks.now ≡ places table.now) × (places table.now < 2 ^ 32) }
-    ensures same { (seat_table result ≡ seat_table seat) × ((known result).share ≡ 2) }
+    ensures same { (seat_table result ≡ seat_table seat) × ((known result).stake ≡ 2) }
 {
     let (mut first, mut second) = table.split(seat);
     let mut place = 0;
@@ -58,10 +58,10 @@ fn in_threads<R: Threads + Sync>(
     threads: u32,
 ) -> Seat
     requires own { IsSeatOf table.now seat }
-    requires share { (known seat).share ≡ 2 * threads }
+    requires share { (known seat).stake ≡ 2 * threads }
     requires threads { 1 ≤ threads }
     requires marks { (length marks.now ≡ places table.now) × (places table.now < 2 ^ 32) }
-    ensures same { (seat_table result ≡ seat_table seat) × ((known result).share ≡ 2 * threads) }
+    ensures same { (seat_table result ≡ seat_table seat) × ((known result).stake ≡ 2 * threads) }
 {
     if threads == 1 {
         return claim_all(table, seat, marks);
@@ -73,10 +73,10 @@ fn in_threads<R: Threads + Sync>(
         rt,
         move || claim_all(table, pair, marks),
         move || -> Seat
-            requires seat { IsSync R.row × IsSeatOf table.now rest × ((known rest).share ≡ 2 * (threads - 1))
+            requires seat { IsSync R.row × IsSeatOf table.now rest × ((known rest).stake ≡ 2 * (threads - 1))
                 × (2 ≤ threads) }
             requires marks { (length marks.now ≡ places table.now) × (places table.now < 2 ^ 32) }
-            ensures { (seat_table result ≡ seat_table rest) × ((known result).share ≡ 2 * (threads - 1)) }
+            ensures { (seat_table result ≡ seat_table rest) × ((known result).stake ≡ 2 * (threads - 1)) }
         { in_threads(rt, table, rest, marks, threads - 1) },
     );
     table.join(pair, rest)

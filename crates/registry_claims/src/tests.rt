@@ -48,7 +48,7 @@ fn in_one_thread(rt: &impl Abort, alloc: Global) -> Seen {
 fn claim(table: &ClaimTable, mut seat: Seat) -> (Seat, bool)
     requires own { IsSeatOf table.now seat }
     requires within { places table.now ≡ 3 }
-    ensures same { (seat_table result.0 ≡ seat_table seat) × ((known result.0).share ≡ (known seat).share) }
+    ensures same { (seat_table result.0 ≡ seat_table seat) × ((known result.0).stake ≡ (known seat).stake) }
     ensures claimed { result.1 ≡ true → Contains (known result.0).claimed 2 }
     ensures unfinished { result.1 ≡ true → ¬ Contains (known result.0).finished 2 }
 {
@@ -60,7 +60,7 @@ fn finish(table: &ClaimTable, mut seat: Seat, first: bool) -> Seat
     requires own { IsSeatOf table.now seat }
     requires claimed { first ≡ true → Contains (known seat).claimed 2 }
     requires unfinished { first ≡ true → ¬ Contains (known seat).finished 2 }
-    ensures { (seat_table result ≡ seat_table seat) × ((known result).share ≡ (known seat).share) }
+    ensures { (seat_table result ≡ seat_table seat) × ((known result).stake ≡ (known seat).stake) }
 {
     if first {
         table.finish(&mut seat, 2);
@@ -70,7 +70,7 @@ fn finish(table: &ClaimTable, mut seat: Seat, first: bool) -> Seat
 
 fn look(table: &ClaimTable, mut seat: Seat, stop: bool) -> (Seat, Look)
     requires own { IsSeatOf table.now seat }
-    ensures same { (seat_table result.0 ≡ seat_table seat) × ((known result.0).share ≡ (known seat).share) }
+    ensures same { (seat_table result.0 ≡ seat_table seat) × ((known result.0).stake ≡ (known seat).stake) }
     ensures lists { ((known result.0).claimed ≡ (known seat).claimed)
         × ((known result.0).finished ≡ (known seat).finished) }
 {

@@ -6,7 +6,7 @@
 
 ghost use Rattle.std.specs.Prelude.{◌≡◌, IfSome, OnOk};
 ghost use Rattle.std.specs.Io.KnownBytes.{Appends};
-ghost use Rattle.reg_book.specs.Day.{Day};
+ghost use Rattle.reg_book.specs.Day.{DayValue};
 ghost use Rattle.reg_cuts.specs.Rows.{rows_in_text};
 ghost use Rattle.reg_text.specs.Inputs.{day_of_input};
 ghost use Rattle.reg_text.specs.NextDays.{report_of};
@@ -33,7 +33,7 @@ fn report_from_day(alloc: Global, mut day: DayInput) -> Option<Vec<u8>>
 
 /// The report of the day that this text describes. `None` if it is no day text, or if memory ran out.
 fn report_from_text(alloc: Global, text: &[u8]) -> Option<Vec<u8>>
-    ensures { IfSome result (λ report. (day : Day) × IsReading (rows_in_text text.now) day
+    ensures { IfSome result (λ report. (day : DayValue) × IsReading (rows_in_text text.now) day
         × (report.items ≡ report_of day)) }
 {
     let Ok(day) = read_day(alloc, text) else {
@@ -54,7 +54,7 @@ fn answer<R: Read, W: Write>(
     reader: &mut R,
     writer: &mut W,
 ) -> Result<(), Unanswered>
-    ensures { OnOk result (IfSome (R.remaining reader.old) (λ text. (day : Day) × IsReading (rows_in_text text) day
+    ensures { OnOk result (IfSome (R.remaining reader.old) (λ text. (day : DayValue) × IsReading (rows_in_text text) day
         × Appends (W.contents writer.old) (W.contents writer.new) (report_of day))) }
 {
     let mut text = Vec::new(alloc);

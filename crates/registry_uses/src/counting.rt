@@ -1,7 +1,7 @@
-//! A use of `reg_counting`.
+//! A use of `reg_facts`.
 
 ghost use Rattle.std.specs.Prelude.{◌≡◌};
-ghost use Rattle.reg_counting.specs.Counting.{times};
+ghost use Rattle.reg_facts.specs.Counting.{times};
 
 /// How often a number stands in a list.
 pub fn count(numbers: &[u32], wanted: u32) -> usize

@@ -88,10 +88,10 @@ pub(crate) fn make_workers<C: Cutting>(
     deques: Vec<Worker<ListRegion<C>>>,
 ) -> Result<ReadyWorkers<C>, NoMemory>
     requires table { (table_id table.now ≡ C.table) × (seat_table seat ≡ C.table) }
-    requires fresh { ((known seat).share ≡ 16) × ((known seat).finished ≡ []) }
+    requires fresh { ((known seat).stake ≡ 16) × ((known seat).finished ≡ []) }
     requires few { vec_len deques ≤ 8 }
     ensures table { IfOk result (λ made. seat_table made.seat ≡ C.table) }
-    ensures share { IfOk result (λ made. (known made.seat).share + vec_len deques ≡ 16) }
+    ensures share { IfOk result (λ made. (known made.seat).stake + vec_len deques ≡ 16) }
     ensures fresh { IfOk result (λ made. (known made.seat).finished ≡ []) }
     ensures numbers { IfOk result (λ made. map (λ w. w.number) made.workers.items ≡ first_numbers (vec_len deques)) }
 {

@@ -4,7 +4,7 @@ ghost use Rattle.std.specs.Prelude.{◌≡◌, ◌≤◌, ◌+◌, ◌++◌, ◌
 ghost use Rattle.std.specs.List.{flat_map};
 ghost use Rattle.std.specs.List.Sorted.{IsNonDecreasingBy};
 ghost use Rattle.reg_claim.specs.Seats.{known, seat_table, table_id, places};
-ghost use Rattle.reg_counting.specs.Counting.{times, once};
+ghost use Rattle.reg_facts.specs.Counting.{times, once};
 ghost use Rattle.reg_regions.specs.Settling.{places_in};
 ghost use Rattle.reg_regions.specs.Stealing.{numbers_of, settled_places, shift_workers, times_in_shifts};
 
@@ -40,7 +40,7 @@ pub(crate) fn count_up<C: Cutting>(
 ) -> Result<Done, NoMemory>
     requires count { count ≡ length C.openings }
     requires table { (table_id table ≡ C.table) × (places table ≡ length C.openings) × (seat_table seat ≡ C.table) }
-    requires share { (known seat).share + vec_len workers ≡ 16 }
+    requires share { (known seat).stake + vec_len workers ≡ 16 }
     requires fresh { (known seat).finished ≡ [] }
     ensures settled { IfOk result (λ done. done.settled.items ≡ flat_map (λ w. w.settled.items) workers.items) }
     ensures each { IfOk result

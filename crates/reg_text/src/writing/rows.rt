@@ -2,7 +2,7 @@
 
 ghost use Rattle.std.specs.Prelude.{◌≡◌, ◌+◌, ◌*◌, ◌<◌, ◌≤◌, ◌++◌, [], ◌∷◌, List, OnOk, map, length};
 ghost use Rattle.std.specs.List.{flat_map};
-ghost use Rattle.reg_text.specs.Records.{Record};
+ghost use Rattle.reg_text.specs.TextRows.{TextRow};
 ghost use Rattle.csv.specs.Writing.{default_writer, row_text as text_of_row};
 ghost use Rattle.reg_text.specs.declared.reading.tag.Tag.{Tag};
 ghost use Rattle.reg_text.specs.declared.writing.row.TheConstants.{MOST_FIELD};
@@ -18,7 +18,7 @@ use reg_base::NoMemory;
 
 /// A value that a text has rows for.
 pub(crate) trait Rows {
-    ghost rows: { Self → List Record };
+    ghost rows: { Self → List TextRow };
 
     /// Adds the rows of the value.
     fn put(&self, text: &mut Text, row: &mut RowText) -> Result<(), NoMemory>

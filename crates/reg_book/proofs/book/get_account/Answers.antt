@@ -1,6 +1,6 @@
 use Rattle.std.proofs.Common.{◌≡◌, rules, arith, sym, ◌∙◌, ap, Some}
 use Rattle.std.proofs.lemmas.Fn.{always_returns_same}
-use Rattle.reg_base.proofs.RisesFrom.{rises_from}
+use Rattle.reg_base.proofs.lemmas.RisesFrom.{rises_from}
 use Rattle.reg_rules.specs.State.{numbers}
 use Rattle.reg_book.proofs.Accounts.{searched_ok, searched_err}
 use Rattle.reg_book.proofs.book.get_account.Goals as goal

@@ -1,7 +1,7 @@
 use Rattle.std.proofs.Common.{List, ◌≡◌, ◌+◌, length, rules, arith, sym, ap, subst, ◌∙◌}
 use Rattle.reg_rules.specs.declared.reply.Reply.{Reply}
 use Rattle.reg_rules.specs.Laws.{IsReady}
-use Rattle.reg_book.specs.Day.{Day, IsDay, day_of}
+use Rattle.reg_book.specs.Day.{DayValue, IsDay, day_of}
 use Rattle.reg_book.proofs.Closings.{whole-after, kept-after_day, committed-after_day}
 use Rattle.reg_book.proofs.Folds.{size-replies_of}
 use Rattle.reg_book.proofs.Values.{ready-book}
@@ -9,7 +9,7 @@ use Rattle.reg_book.proofs.closing.settle_in_place.Goals as goal
 
 pub settle_all-requires-clause-ready : goal.settle_all-requires-clause-ready
 settle_all-requires-clause-ready c =
-    let day : Day = day_of c.args.book c.args.rules.now c.args.batch.now in
+    let day : DayValue = day_of c.args.book c.args.rules.now c.args.batch.now in
     let kept : IsDay day = record {
       book = c.into_parts-accounts.ensures.kept;
       rules = c.are_within_limits.ensures;
@@ -22,7 +22,7 @@ settle_all-requires-clause-ready c =
 
 pub from_sorted-requires : goal.from_sorted-requires
 from_sorted-requires c =
-    let day : Day = day_of c.args.book c.args.rules.now c.args.batch.now in
+    let day : DayValue = day_of c.args.book c.args.rules.now c.args.batch.now in
     let kept : IsDay day = record {
       book = c.into_parts-accounts.ensures.kept;
       rules = c.are_within_limits.ensures;
@@ -50,7 +50,7 @@ from_sorted-requires c =
 
 pub returns-clause-book : goal.returns-clause-book
 returns-clause-book c =
-    let day : Day = day_of c.args.book c.args.rules.now c.args.batch.now in
+    let day : DayValue = day_of c.args.book c.args.rules.now c.args.batch.now in
     let size : c.into_parts-accounts.result.0.len ≡ length c.into_parts-accounts.result.0.items = search rules in
     let closed = whole-after c.step_laws.ensures day c.day.result c.into_parts-accounts.result.1
     c.into_parts-accounts.result.0.items c.deref_mut.result.now c.settle_all.new.accounts

@@ -1,6 +1,6 @@
 use Rattle.std.proofs.Common.{◌≡◌, rules, arith}
 use Rattle.std.proofs.lemmas.Fn.{always_returns_same}
-use Rattle.reg_base.proofs.RisesFrom.{rises_from}
+use Rattle.reg_base.proofs.lemmas.RisesFrom.{rises_from}
 use Rattle.reg_rules.specs.State.{numbers}
 use Rattle.reg_book.proofs.Accounts.{number_found, searched_err}
 use Rattle.reg_book.proofs.indexes.search_index.Goals as goal

@@ -3,7 +3,7 @@ use Rattle.reg_book.specs.declared.totals.BothTotals.{BothTotals}
 use Rattle.reg_book.specs.Parts.{joined}
 use Rattle.reg_book.specs.Totals.{totals_of, both_added, BothTotalsFit}
 use Rattle.reg_book.proofs.Joined.{joined-at}
-use Rattle.reg_book.proofs.TotalFacts.{AddUpWith, add-none, add-list, have_space}
+use Rattle.reg_book.proofs.lemmas.TotalFacts.{AddUpWith, add-none, add-list, have_space}
 use Rattle.reg_book.proofs.parts.add_up_lists.Goals as goal
 
 pub loop-list-init : goal.loop-list-init

@@ -1,6 +1,6 @@
 use Rattle.std.proofs.Common.{drop}
 use Rattle.reg_book.specs.Parts.{joined}
-use Rattle.reg_book.proofs.TotalFacts.{AddUpWith}
+use Rattle.reg_book.proofs.lemmas.TotalFacts.{AddUpWith}
 use Rattle.reg_book.proofs.parts.add_up_lists.Given as goal
 
 -- what was added up, with what is left, is what all have

@@ -3,7 +3,7 @@ use Rattle.reg_rules.specs.declared.reply.Reply.{Reply}
 use Rattle.reg_rules.specs.State.{State, Setting, numbers}
 use Rattle.reg_rules.specs.Laws.{IsReady}
 use Rattle.reg_book.specs.Book.{directory_of}
-use Rattle.reg_book.specs.Day.{Day, IsDay, day_of}
+use Rattle.reg_book.specs.Day.{DayValue, IsDay, day_of}
 use Rattle.reg_book.specs.Fold.{touched_of}
 use Rattle.reg_book.specs.Indexes.{AllStandAt, index_lists}
 use Rattle.reg_book.specs.Settled.{IsSettled, IsOfBook}
@@ -60,7 +60,7 @@ make_log-requires c =
 
 pub new-requires : goal.new-requires
 new-requires c =
-    let day : Day = day_of c.args.book.now c.args.rules.now c.args.batch.now in
+    let day : DayValue = day_of c.args.book.now c.args.rules.now c.args.batch.now in
     let size : c.in_ok-accounts.field-0.accounts.len ≡ length c.in_ok-accounts.field-0.accounts.items = search rules in
     let setting : Setting = record {
       rules = c.args.rules.now;

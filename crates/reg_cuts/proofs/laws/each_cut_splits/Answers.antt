@@ -1,4 +1,4 @@
-use Rattle.reg_cuts.proofs.Splits.{rows-split}
+use Rattle.reg_cuts.proofs.lemmas.Splits.{rows-split}
 use Rattle.reg_cuts.proofs.laws.each_cut_splits.Goals as goal
 
 pub returns : goal.returns

@@ -1,5 +1,5 @@
 use Rattle.std.proofs.Common.{arith}
-use Rattle.reg_cuts.proofs.Splits.{no-mark}
+use Rattle.reg_cuts.proofs.lemmas.Splits.{no-mark}
 use Rattle.reg_cuts.proofs.parts.has_no_mark.Goals as goal
 
 pub returns : goal.returns

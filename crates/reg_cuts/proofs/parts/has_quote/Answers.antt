@@ -1,5 +1,5 @@
 use Rattle.std.proofs.Common.{◌∙◌}
-use Rattle.reg_cuts.proofs.Splits.{by-memchr}
+use Rattle.reg_cuts.proofs.lemmas.Splits.{by-memchr}
 use Rattle.reg_cuts.proofs.parts.has_quote.Goals as goal
 
 pub returns : goal.returns

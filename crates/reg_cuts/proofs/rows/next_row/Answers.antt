@@ -1,5 +1,5 @@
 use Rattle.csv.specs.Records.{fields_of}
-use Rattle.reg_cuts.proofs.RowsFacts.{row-or-none, why-failed}
+use Rattle.reg_cuts.proofs.lemmas.RowsFacts.{row-or-none, why-failed}
 use Rattle.reg_cuts.proofs.rows.next_row.Goals as goal
 
 pub returns-in-Ok-clause-between : goal.returns-in-Ok-clause-between

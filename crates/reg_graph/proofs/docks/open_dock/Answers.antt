@@ -3,8 +3,8 @@ use Rattle.std.proofs.lemmas.Bool.{eq-eqb, or_left, or_right}
 use Rattle.reg_base.specs.Footprint.{is_among}
 use Rattle.reg_book.specs.Day.{day_of}
 use Rattle.reg_schedules.specs.Pool.{directory, footprint_at}
-use Rattle.reg_schedules.proofs.Known.{footprint_touches}
-use Rattle.reg_schedules.proofs.Tails.{touched_from}
+use Rattle.reg_schedules.proofs.lemmas.Known.{footprint_touches}
+use Rattle.reg_schedules.proofs.lemmas.Tails.{touched_from}
 use Rattle.reg_graph.proofs.docks.open_dock.Goals as goal
 
 among-at : (ns : List ℕ) (k a : ℕ) → k < length ns → a ≡ get_or ns k a → is_among ns a ≡ true

@@ -2,7 +2,7 @@ use Rattle.std.proofs.Common.{◌≡◌, ◌+◌, length, rules, sym, subst, ◌
 use Rattle.reg_rules.specs.Laws.{IsReady}
 use Rattle.reg_rules.specs.State.{Setting}
 use Rattle.reg_book.specs.Day as book
-use Rattle.reg_book.specs.Day.{Day, IsDay, day_of, closing_state}
+use Rattle.reg_book.specs.Day.{DayValue, IsDay, day_of, closing_state}
 use Rattle.reg_regions.specs.Dealing.{AreTurned}
 use Rattle.reg_regions.specs.Lists.{joined_lists}
 use Rattle.reg_regions.proofs.Endings.{ready-day, setting-is, turned-accounts, turned-places, turned-replies}
@@ -11,7 +11,7 @@ use Rattle.reg_regions.proofs.closing.close_lists.Goals as goal
 
 pub settle_cut-requires-clause-ready : goal.settle_cut-requires-clause-ready
 settle_cut-requires-clause-ready g c κs within =
-    let day : Day = day_of c.args.parts c.args.rules.now c.args.batch.now in
+    let day : DayValue = day_of c.args.parts c.args.rules.now c.args.batch.now in
     let kept : IsDay day = record {
       book = c.into_lists-lists.ensures.kept;
       rules = c.are_within_limits.ensures;
@@ -23,7 +23,7 @@ settle_cut-requires-clause-ready g c κs within =
 
 pub put_replies-requires : goal.put_replies-requires
 put_replies-requires g c =
-    let day : Day = day_of c.args.parts c.args.rules.now c.args.batch.now in
+    let day : DayValue = day_of c.args.parts c.args.rules.now c.args.batch.now in
     let kept : IsDay day = record {
       book = c.into_lists-lists.ensures.kept;
       rules = c.are_within_limits.ensures;
@@ -47,7 +47,7 @@ put_replies-requires g c =
 
 pub of_lists-parts-requires : goal.of_lists-parts-requires
 of_lists-parts-requires g c =
-    let day : Day = day_of c.args.parts c.args.rules.now c.args.batch.now in
+    let day : DayValue = day_of c.args.parts c.args.rules.now c.args.batch.now in
     let kept : IsDay day = record {
       book = c.into_lists-lists.ensures.kept;
       rules = c.are_within_limits.ensures;
@@ -74,7 +74,7 @@ of_lists-parts-requires g c =
 
 pub returns-clause-parts : goal.returns-clause-parts
 returns-clause-parts g c =
-    let day : Day = day_of c.args.parts c.args.rules.now c.args.batch.now in
+    let day : DayValue = day_of c.args.parts c.args.rules.now c.args.batch.now in
     let kept : IsDay day = record {
       book = c.into_lists-lists.ensures.kept;
       rules = c.are_within_limits.ensures;
@@ -102,7 +102,7 @@ returns-clause-parts g c =
 
 pub returns-clause-replies : goal.returns-clause-replies
 returns-clause-replies g c =
-    let day : Day = day_of c.args.parts c.args.rules.now c.args.batch.now in
+    let day : DayValue = day_of c.args.parts c.args.rules.now c.args.batch.now in
     let kept : IsDay day = record {
       book = c.into_lists-lists.ensures.kept;
       rules = c.are_within_limits.ensures;

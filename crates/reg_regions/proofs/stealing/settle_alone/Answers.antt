@@ -1,7 +1,7 @@
 use Rattle.std.proofs.Common.{◌≡◌, length, sym, ap, ◌∙◌}
 use Rattle.std.proofs.lemmas.List.{length-map}
 use Rattle.reg_base.specs.Rising.{count_up}
-use Rattle.reg_counting.specs.Counting.{times}
+use Rattle.reg_facts.specs.Counting.{times}
 use Rattle.reg_regions.specs.Stealing.{numbers_of, settled_places, shift_workers, times_in_shifts}
 use Rattle.reg_regions.proofs.Listed.{dealt-lists, dealt-each, dealt-sizes, dealt-places}
 use Rattle.reg_regions.proofs.stealing.settle_alone.Goals as goal

@@ -3,7 +3,7 @@ use Rattle.std.specs.Prelude.{All}
 use Rattle.std.proofs.lemmas.List.{length-map}
 use Rattle.std.proofs.lemmas.List.Sorted.{All-permutation}
 use Rattle.reg_base.specs.Rising.{count_up}
-use Rattle.reg_counting.specs.Counting.{times}
+use Rattle.reg_facts.specs.Counting.{times}
 use Rattle.reg_regions.specs.Stealing.{IsSettledList, AreSettled, numbers_of, first_numbers}
 use Rattle.reg_regions.specs.Stealing.{shift_workers, times_in_shifts}
 use Rattle.reg_regions.proofs.Listed.{dealt-lists, dealt-each, dealt-sizes, dealt-places}

@@ -1,9 +1,9 @@
 use Rattle.reg_schedules.proofs.WorldBound.{events-bounded}
-use Rattle.reg_schedules.proofs.WorldEnds.{whole-after, no-task-over}
+use Rattle.reg_schedules.proofs.lemmas.WorldEnds.{whole-after, no-task-over}
 use Rattle.reg_schedules.proofs.Executing.{Known}
 use Rattle.reg_schedules.proofs.WorldOrder.{ordered-after}
 use Rattle.reg_schedules.proofs.WorldParcels.{value-once}
-use Rattle.reg_schedules.proofs.WorldPossible.{hands-go-on, some-possible}
+use Rattle.reg_schedules.proofs.lemmas.WorldPossible.{hands-go-on, some-possible}
 use Rattle.reg_schedules.proofs.laws.nothing_lost.Goals as goal
 
 pub returns : goal.returns

@@ -1,7 +1,7 @@
 use Rattle.std.proofs.Common.{◌≡◌, rules, ◌∙◌}
 use Rattle.reg_tasks.specs.Contexts.{the_day}
 use Rattle.reg_tasks.specs.Gathering.{gathered, IsGathered, IsWhole}
-use Rattle.reg_tasks.proofs.Gathering.{named_whole, named_settled, if_named, no_name}
+use Rattle.reg_tasks.proofs.lemmas.Gathering.{named_whole, named_settled, if_named, no_name}
 use Rattle.reg_tasks.proofs.gather.settle.Goals as goal
 
 pub returns-then-not-are_whole-clause-settled : goal.returns-then-not-are_whole-clause-settled

@@ -3,7 +3,7 @@ use Rattle.std.proofs.Props.{props}
 use mathlib.Core.Logic.{∥∥₁_elim}
 use Rattle.reg_base.specs.Rising.{IsRising}
 use Rattle.reg_plan.specs.Plans.{IsPlan}
-use Rattle.reg_book.specs.Day.{Day, IsDay, log_of}
+use Rattle.reg_book.specs.Day.{DayValue, IsDay, log_of}
 use Rattle.reg_schedules.specs.Pool.{directory}
 use Rattle.reg_tasks.specs.Gathering.{AreLast, have_accounts}
 use Rattle.reg_tasks.specs.LastParcels.{parcels_in}
@@ -26,10 +26,12 @@ settle-requires g c =
     record {
       gathered = record {
         rows_are = λ d e. first_whole d c.args.log.items
-            (subst (λ (x : Day). c.args.log.items ≡ take (length x.batch.instructions) (log_of d)) (context.named d e)
+            (subst (λ (x : DayValue). c.args.log.items ≡ take (length x.batch.instructions) (log_of d))
+            (context.named d e)
             (c.requires.log d e));
         accounts_are = λ d e.
-            let planned = subst (λ (x : Day). ∥ IsPlan (directory x) x.batch.instructions plan ∥₁) (context.named d e)
+            let planned = subst (λ (x : DayValue). ∥ IsPlan (directory x) x.batch.instructions plan ∥₁)
+            (context.named d e)
             context.planned in
             let is : AreLast d (names_of (parcels_in lasts)) =
             all_last c.tails_are_last_touchers.ensures c.last_toucher_is_last.ensures d plan planned rising

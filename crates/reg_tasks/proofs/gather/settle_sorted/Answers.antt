@@ -3,7 +3,7 @@ use Rattle.std.proofs.Props.{props}
 use mathlib.Core.Logic.{∥∥₁_elim}
 use Rattle.reg_base.specs.Rising.{IsRising, count_up}
 use Rattle.reg_plan.specs.Plans.{IsPlan}
-use Rattle.reg_book.specs.Day.{Day, IsDay}
+use Rattle.reg_book.specs.Day.{DayValue, IsDay}
 use Rattle.reg_schedules.specs.Pool.{directory}
 use Rattle.reg_tasks.specs.Contexts.{the_day}
 use Rattle.reg_tasks.specs.Gathering.{AreLast, are_outcomes, places_of, rows_in}
@@ -48,13 +48,14 @@ settle-requires g c =
     record {
       gathered = record {
         rows_are = λ d e. log_from d e c.args.rows.items
-            (subst (λ (x : Day). places_of c.args.rows.items ≡ count_up 1 (length x.batch.instructions))
+            (subst (λ (x : DayValue). places_of c.args.rows.items ≡ count_up 1 (length x.batch.instructions))
             (context.named d e) tested.0)
             c.in_ok-log.log.items
-            (subst (λ (x : Day). map Some c.in_ok-log.log.items ≡ rows_in x c.args.rows.items) (context.named d e)
+            (subst (λ (x : DayValue). map Some c.in_ok-log.log.items ≡ rows_in x c.args.rows.items) (context.named d e)
             c.in_ok-log.ensures);
         accounts_are = λ d e.
-            let planned = subst (λ (x : Day). ∥ IsPlan (directory x) x.batch.instructions plan ∥₁) (context.named d e)
+            let planned = subst (λ (x : DayValue). ∥ IsPlan (directory x) x.batch.instructions plan ∥₁)
+            (context.named d e)
             context.planned in
             let is : AreLast d names =
             all_last c.tails_are_last_touchers.ensures c.last_toucher_is_last.ensures d plan planned rising names

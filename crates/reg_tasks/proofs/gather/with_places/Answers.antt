@@ -2,8 +2,8 @@ use Rattle.std.proofs.Common.{◌≡◌, ◌+◌, ◌++◌, rules, arith, Some, 
 use Rattle.std.specs.List.{AllByRecursion}
 use Rattle.std.proofs.Props.{props}
 use mathlib.Core.Logic.{∥∥₁_elim, ∥∥₁_map}
-use Rattle.reg_book.specs.Day.{Day, row_at}
-use Rattle.reg_schedules.proofs.Members.{In}
+use Rattle.reg_book.specs.Day.{DayValue, row_at}
+use Rattle.reg_schedules.proofs.lemmas.Members.{In}
 use Rattle.reg_tasks.specs.Gathering.{replies_by_number, replies_from}
 use Rattle.reg_tasks.proofs.Rising.{all_from_in}
 use Rattle.reg_tasks.proofs.Collecting.{IsLogged, rows_logged, reply_more}
@@ -25,7 +25,7 @@ new-requires g c = λ d e.
     (c.loop-row.invariant.right d e) in
     ∥∥₁_elim left.0 (Prim.hlevel props) (λ is.
     let base : c.args.context.now.batch.now.base ≡ d.batch.base =
-    ap (λ (x : Day). x.batch.base) (c.args.context.now.named d e) in
+    ap (λ (x : DayValue). x.batch.base) (c.args.context.now.named d e) in
     let same : is.place ≡ c.in-Some-place_of.place = omega (arith, is.number, base, c.in-Some-place_of.ensures) in
     subst (λ q. row_at d q ≡ Some c.in-Some.row) same is.at)
 

@@ -1,6 +1,6 @@
 use Rattle.std.proofs.Common.{◌≡◌, rules}
 use Rattle.std.proofs.lemmas.Fn.{always_returns_same}
-use Rattle.reg_tasks.proofs.Slotting.{search_found, search_missed}
+use Rattle.reg_tasks.proofs.lemmas.Slotting.{search_found, search_missed}
 use Rattle.reg_tasks.proofs.likely.search_slot.Goals as goal
 
 pub returns-in-Ok : goal.returns-in-Ok

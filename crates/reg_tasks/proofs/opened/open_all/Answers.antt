@@ -1,7 +1,7 @@
 use Rattle.std.proofs.Common.{◌≡◌, ◌++◌, ◌∷◌, ◌+◌, [], Some, take, map, sym, ap, ◌∙◌, rules}
 use Rattle.std.proofs.lemmas.List.{take_more, map-append}
 use Rattle.reg_rules.specs.State.{account}
-use Rattle.reg_schedules.proofs.Needed.{number_found}
+use Rattle.reg_schedules.proofs.lemmas.Needed.{number_found}
 use Rattle.reg_tasks.specs.Parcels.{names_of}
 use Rattle.reg_tasks.proofs.opened.open_all.Goals as goal
 

@@ -5,7 +5,7 @@ use Rattle.reg_tasks.specs.Contexts.{the_day}
 use Rattle.reg_tasks.specs.Gathering.{places_of}
 use Rattle.reg_tasks.specs.Slots.{StandAfter}
 use Rattle.reg_tasks.specs.Standing.{stands}
-use Rattle.reg_tasks.proofs.OrderSteps.{faultless_at, within_at, is_ready_at, standing_more}
+use Rattle.reg_tasks.proofs.lemmas.OrderSteps.{faultless_at, within_at, is_ready_at, standing_more}
 use Rattle.reg_tasks.proofs.order.run_places.Goals as goal
 
 pub run_place-requires-clause-from_one : goal.run_place-requires-clause-from_one

@@ -1,7 +1,7 @@
 use Rattle.std.proofs.Common.{◌≡◌, get_or, eqb, cond, ap, sym, ◌∙◌}
 use Rattle.std.specs.Option.{option_map}
 use Rattle.reg_tasks.specs.Slots.{opened_accounts, name_of, standing_in}
-use Rattle.reg_tasks.proofs.Slotting.{number_of, stands_after, among_at}
+use Rattle.reg_tasks.proofs.lemmas.Slotting.{number_of, stands_after, among_at}
 use Rattle.reg_tasks.proofs.Rising.{up_rising}
 use Rattle.reg_tasks.proofs.slot.lay_parcel.Goals as goal
 

@@ -5,8 +5,8 @@ use Rattle.std.specs.Option.{option_map}
 use mathlib.Core.Logic.{∥∥₁_elim}
 use Rattle.reg_book.specs.Book.{directory_of}
 use Rattle.reg_tasks.specs.Slots.{name_of}
-use Rattle.reg_schedules.proofs.Needed.{number_found}
-use Rattle.reg_tasks.proofs.Slotting.{opening_touched, opened_more, unopened}
+use Rattle.reg_schedules.proofs.lemmas.Needed.{number_found}
+use Rattle.reg_tasks.proofs.lemmas.Slotting.{opening_touched, opened_more, unopened}
 use Rattle.reg_tasks.proofs.slot.open_slots.Goals as goal
 
 pub open_touched-requires : goal.open_touched-requires

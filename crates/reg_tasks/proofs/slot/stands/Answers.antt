@@ -1,7 +1,7 @@
 use Rattle.std.proofs.Common.{sym, ap, ◌∙◌}
 use Rattle.std.specs.Option.{option_map}
 use Rattle.reg_tasks.specs.Slots.{name_of, is_that}
-use Rattle.reg_tasks.proofs.Slotting.{number_of, stands_at, stands_nowhere}
+use Rattle.reg_tasks.proofs.lemmas.Slotting.{number_of, stands_at, stands_nowhere}
 use Rattle.reg_tasks.proofs.Rising.{up_rising}
 use Rattle.reg_tasks.proofs.slot.stands.Goals as goal
 

@@ -1,7 +1,7 @@
 use Rattle.std.proofs.Common.{eqb, cond, ap, sym, ◌∙◌}
 use Rattle.std.specs.Option.{option_map}
 use Rattle.reg_tasks.specs.Slots.{name_of, standing_in}
-use Rattle.reg_tasks.proofs.Slotting.{number_of, stands_at, stands_after, stands_nowhere, none_taken}
+use Rattle.reg_tasks.proofs.lemmas.Slotting.{number_of, stands_at, stands_after, stands_nowhere, none_taken}
 use Rattle.reg_tasks.proofs.Rising.{up_rising}
 use Rattle.reg_tasks.proofs.slot.take_parcel.Goals as goal
 

@@ -6,7 +6,7 @@ use Rattle.std.specs.List.{IsDistinct, list_all}
 use Rattle.std.proofs.lemmas.List.{drop_more, map-append}
 use Rattle.reg_tasks.specs.Parcels.{names_of}
 use Rattle.reg_tasks.specs.Slots.{name_of, standing_in}
-use Rattle.reg_tasks.proofs.Slotting.{taken_more, there_more, distinct_rest, left_more}
+use Rattle.reg_tasks.proofs.lemmas.Slotting.{taken_more, there_more, distinct_rest, left_more}
 use Rattle.reg_tasks.proofs.slot.take_parcels.Goals as goal
 
 pub loop-account-preserved : goal.loop-account-preserved

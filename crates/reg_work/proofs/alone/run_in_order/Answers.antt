@@ -1,5 +1,5 @@
 use Rattle.std.proofs.Common.{arith, refl, ap, ◌∙◌}
-use Rattle.reg_counting.specs.Counting.{times}
+use Rattle.reg_facts.specs.Counting.{times}
 use Rattle.reg_book.specs.Day.{log_of}
 use Rattle.reg_work.specs.Shifts.{places_ran}
 use Rattle.reg_work.proofs.Ordered.{once-none, one-ran, row-more, row-next}

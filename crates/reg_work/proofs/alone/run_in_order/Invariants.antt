@@ -1,5 +1,5 @@
 use Rattle.std.proofs.Common.{◌≡◌, ◌≤◌, ℕ}
-use Rattle.reg_counting.specs.Counting.{times, once}
+use Rattle.reg_facts.specs.Counting.{times, once}
 use Rattle.reg_tasks.specs.Gathering.{AreFirstRows}
 use Rattle.reg_work.specs.Shifts.{places_ran}
 use Rattle.reg_work.proofs.alone.run_in_order.Given as goal

@@ -1,5 +1,5 @@
 use Rattle.std.proofs.Common.{length, ap, ◌∙◌}
-use Rattle.reg_counting.specs.Counting.{once}
+use Rattle.reg_facts.specs.Counting.{once}
 use Rattle.reg_work.proofs.alone.settle_alone.Goals as goal
 
 pub returns-clause-shifts : goal.returns-clause-shifts

@@ -1,6 +1,6 @@
 use Rattle.std.proofs.Common.{arith, ◌≡◌, All, length, sym, ap, ◌∙◌, subst}
 use Rattle.std.proofs.lemmas.List.Elements.{All-tail}
-use Rattle.reg_claim.specs.declared.views.View.{View}
+use Rattle.reg_claim.specs.declared.views.SeatView.{SeatView}
 use Rattle.reg_deques.specs.Yards.{deques_of_pass}
 use Rattle.reg_work.proofs.Counting.{one-moved, all-moved}
 use Rattle.reg_work.proofs.stealing.make_workers.Goals as goal
@@ -12,7 +12,7 @@ loop-pass-preserved g c =
     let items = c.in-Some.ensures.steps.0 in
     let left = ap length items in
     let pushed = c.in_ok-push.ensures.len in
-    let part = ap (λ (v : View). v.share) first in
+    let part = ap (λ (v : SeatView). v.stake) first in
     let share = i.share in
     let whole = i.whole in
     let few = c.requires.few in
@@ -21,8 +21,8 @@ loop-pass-preserved g c =
       ends = record {};
       table = c.split-kept.ensures.same.0 ∙ i.table;
       share = omega arith;
-      idle = ap (λ (v : View). v.finished) first ∙ i.idle;
-      unseen = ap (λ (v : View). v.seen) first ∙ i.unseen;
+      idle = ap (λ (v : SeatView). v.finished) first ∙ i.idle;
+      unseen = ap (λ (v : SeatView). v.seen) first ∙ i.unseen;
       whole = omega arith;
       deques = All-tail (λ p. deques_of_pass p ≡ g.I.SharedIds.deques) c.in-Some.pass c.next.new.self.rest.items
           (subst (All (λ p. deques_of_pass p ≡ g.I.SharedIds.deques)) items i.deques);

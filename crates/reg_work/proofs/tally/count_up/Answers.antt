@@ -1,7 +1,7 @@
 use Rattle.std.proofs.Common.{arith, ◌≡◌, ◌++◌, ◌∷◌, [], append-nil, append_assoc, length, ap, sym, ◌∙◌, inr}
 use Rattle.std.proofs.lemmas.List.{nil_from_length}
-use Rattle.reg_counting.specs.Counting.{times, once}
-use Rattle.reg_claim.specs.declared.views.View.{View}
+use Rattle.reg_facts.specs.Counting.{times, once}
+use Rattle.reg_claim.specs.declared.views.SeatView.{SeatView}
 use Rattle.reg_claim.specs.Seats.{known}
 use Rattle.reg_work.specs.Parts.{joined}
 use Rattle.reg_work.specs.Shifts.{workers_of}
@@ -17,7 +17,7 @@ loop-ended_worker-preserved g c =
     let worker = c.in-Some.ended_worker.worker in
     let items = c.in-Some.ensures.steps.0 in
     let left = ap length items in
-    let part = ap (λ (v : View). v.share) view in
+    let part = ap (λ (v : SeatView). v.stake) view in
     let one = worker.one_share in
     let share = i.share in
     record {
@@ -28,12 +28,12 @@ loop-ended_worker-preserved g c =
       seen = inr (rw view (joined-sees g.I.SharedIds.count _ (known c.loop-ended_worker.rest)
           (known worker.seat) i.seen c.in-Some.ended_worker.over));
       times = λ p.
-          ap (λ (v : View). times p v.finished) view
+          ap (λ (v : SeatView). times p v.finished) view
           ∙ times-append p (known c.loop-ended_worker.rest).finished (known worker.seat).finished
           ∙ (let old = i.times p in let new = c.in_ok-add.ensures.times p in let same = ap (times p) worker.finished in
           omega arith);
       rows = λ p.
-          ap (λ (v : View). times p v.finished) view
+          ap (λ (v : SeatView). times p v.finished) view
           ∙ times-append p (known c.loop-ended_worker.rest).finished (known worker.seat).finished
           ∙ (let old = i.rows p in let new = times-mapped (λ d. d.place) p c.add.new.self.done.items
           c.loop-ended_worker.work.done.items worker.done.items c.in_ok-add.ensures.done in

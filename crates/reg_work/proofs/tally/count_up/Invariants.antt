@@ -1,5 +1,5 @@
 use Rattle.std.proofs.Common.{◌≡◌, ◌⊎◌, ◌+◌, ◌++◌, ℕ, true, length, vec_len}
-use Rattle.reg_counting.specs.Counting.{times}
+use Rattle.reg_facts.specs.Counting.{times}
 use Rattle.reg_claim.specs.Seats.{known, seat_table}
 use Rattle.reg_tasks.specs.Gathering.{places_of}
 use Rattle.reg_work.specs.Ends.{sees_end}
@@ -14,7 +14,7 @@ invariant-loop-ended_worker g l = record {
   can_go : (goal.iterator-loop-ended_worker g).can_next l.ended_worker-iterator;
   ends : (goal.iterator-loop-ended_worker g).is_finite l.ended_worker-iterator;
   table : seat_table l.rest ≡ g.I.SharedIds.table;
-  share : (known l.rest).share + length l.ended_worker-iterator.rest.items ≡ 16;
+  share : (known l.rest).stake + length l.ended_worker-iterator.rest.items ≡ 16;
   seen : ((length l.ended_worker-iterator.rest.items ≡ vec_len l.fn.ended_workers) × ((known l.rest).seen ≡ 0))
       ⊎ (sees_end g.I.SharedIds.count (known l.rest) ≡ true);
   rows : (p : ℕ) → times p (known l.rest).finished ≡ times p (places_of l.work.done.items);

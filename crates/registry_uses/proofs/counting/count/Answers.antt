@@ -1,6 +1,6 @@
 use Rattle.std.proofs.Common.{◌≡◌, ◌+◌, ℕ, Bool, true, false, cond, eqb, refl, rules, arith}
 use Rattle.std.proofs.lemmas.List.Recursion.{is_count_by}
-use Rattle.reg_counting.specs.Counting.{one_if, times}
+use Rattle.reg_facts.specs.Counting.{one_if, times}
 use Rattle.registry_uses.proofs.counting.count.Goals as goal
 
 one-more : (found : Bool) (n : ℕ) → one_if found + n ≡ cond found (1 + n) n

@@ -3,7 +3,7 @@ use Rattle.std.proofs.lemmas.List.{length-map}
 use Rattle.reg_account.specs.declared.rows.RetirementRow.{RetirementRow}
 use Rattle.std.specs.Prelude.{MatchOption}
 use Rattle.reg_base.specs.Rising.{IsRising}
-use Rattle.reg_account.specs.Lists.{RecordsValue}
+use Rattle.reg_account.specs.Lists.{HistoryValue}
 use Rattle.reg_account.specs.Rows.{retirement_of, amount_for, row_in, row_numbers, marked_reversed, with_mark}
 use Rattle.reg_account.proofs.RowFacts.{sums_marked, own_counted, own_counted_for}
 use Rattle.reg_account.proofs.Changes.{of_found, written_back}
@@ -19,7 +19,7 @@ uncount_row-requires-clause-counted c =
     ap (λ (rs : List RetirementRow). row_in rs c.args.number) (sym c.deref_mut.ensures.value)
     ∙ ap (row_in c.deref_mut.result.now) (sym named) ∙ c.mark_reversed-row.ensures.row in
     of_found (λ (r : RetirementRow). r.reversed ≡ false) (row_in rows c.args.number) row found
-    (subst (λ (v : RecordsValue).
+    (subst (λ (v : HistoryValue).
     MatchOption (row_in v.rows c.args.number) ⊥ (λ (r : RetirementRow). r.reversed ≡ false))
     (sym c.self.view_is) c.requires.stands)
 
@@ -33,12 +33,12 @@ uncount_row-requires-clause-enough c =
     ap (λ (rs : List RetirementRow). row_in rs c.args.number) (sym c.deref_mut.ensures.value)
     ∙ ap (row_in c.deref_mut.result.now) (sym named) ∙ c.mark_reversed-row.ensures.row in
     let stands = of_found (λ (r : RetirementRow). r.reversed ≡ false) (row_in rows c.args.number) row found
-    (subst (λ (v : RecordsValue).
+    (subst (λ (v : HistoryValue).
     MatchOption (row_in v.rows c.args.number) ⊥ (λ (r : RetirementRow). r.reversed ≡ false))
     (sym c.self.view_is) c.requires.stands) in
     subst (λ n. row.amount ≤ n) (sym (c.self.invariant.at (retirement_of row.fate) row.kind))
     (own_counted rows c.args.number row
-    (subst (λ (v : RecordsValue). IsRising (row_numbers v.rows)) (sym c.self.view_is) c.requires.rising) found
+    (subst (λ (v : HistoryValue). IsRising (row_numbers v.rows)) (sym c.self.view_is) c.requires.rising) found
     stands)
 
 pub uncount_row-requires-clause-enough_for : goal.uncount_row-requires-clause-enough_for
@@ -52,7 +52,7 @@ uncount_row-requires-clause-enough_for c period within =
     ∙ ap (row_in c.deref_mut.result.now) (sym named) ∙ c.mark_reversed-row.ensures.row in
     subst (λ n. amount_for period row ≤ n) (sym (c.self.invariant.for period within))
     (own_counted_for rows c.args.number row period
-    (subst (λ (v : RecordsValue). IsRising (row_numbers v.rows)) (sym c.self.view_is) c.requires.rising) found)
+    (subst (λ (v : HistoryValue). IsRising (row_numbers v.rows)) (sym c.self.view_is) c.requires.rising) found)
 
 pub invariant_of-self : goal.invariant_of-self
 invariant_of-self c =
@@ -73,6 +73,6 @@ invariant_of-self c =
     let back = written_back c.mark_reversed-row.new.rows (drop (length c.mark_reversed-row.new.rows) rows)
     c.self.inside.rows.len size in
     rw (back, marks) (sums_marked c.self.inside.sums c.uncount_row.new.sums rows number row
-    (subst (λ (v : RecordsValue). IsRising (row_numbers v.rows)) (sym c.self.view_is) c.requires.rising) found
+    (subst (λ (v : HistoryValue). IsRising (row_numbers v.rows)) (sym c.self.view_is) c.requires.rising) found
     c.self.invariant c.uncount_row.ensures.counted c.uncount_row.ensures.counted_for
     c.uncount_row.ensures.eight)

@@ -9,8 +9,8 @@ use Rattle.reg_schedules.specs.World.{Carries, with_place, after_delivery, deliv
 use Rattle.reg_tasks.specs.Parcels.{parcels_of}
 use Rattle.reg_tasks.specs.Tasks.{task_of}
 use Rattle.reg_graph.specs.WorldParts.{hand_of, docks_of, world_of, first_head}
-use Rattle.reg_schedules.proofs.WorldSums.{at_within, length-place}
-use Rattle.reg_schedules.proofs.WorldCounts.{dock-of}
+use Rattle.reg_schedules.proofs.lemmas.WorldSums.{at_within, length-place}
+use Rattle.reg_schedules.proofs.lemmas.WorldCounts.{dock-of}
 use Rattle.reg_graph.proofs.PartFacts.{goes-to, still-none, place-twice, first-is}
 use Rattle.reg_graph.proofs.parts.Parts.deliver_held.Goals as goal
 

@@ -13,7 +13,7 @@ use Rattle.reg_tasks.specs.Parcels.{values_of}
 use Rattle.reg_tasks.specs.Parcels.{parcels_of}
 use Rattle.reg_tasks.specs.Tasks.{task_of}
 use Rattle.reg_graph.specs.WorldParts.{hand_of, world_of}
-use Rattle.reg_tasks.proofs.Values.{values-are, same-parcels}
+use Rattle.reg_tasks.proofs.lemmas.Values.{values-are, same-parcels}
 use Rattle.reg_graph.proofs.PartFacts.{those-on, those-closing, placed}
 use Rattle.reg_graph.proofs.DockRoom.{as-many}
 use Rattle.reg_graph.proofs.parts.Parts.run_held.Goals as goal

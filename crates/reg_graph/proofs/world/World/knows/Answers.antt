@@ -5,9 +5,9 @@ use mathlib.Core.Logic.{∥∥₁_elim}
 use Rattle.reg_book.specs.Day.{day_of}
 use Rattle.reg_schedules.specs.World.{Holds, Carries}
 use Rattle.reg_graph.specs.WorldParts.{world_of}
-use Rattle.reg_schedules.proofs.WorldFits.{IsHand, all-get}
-use Rattle.reg_schedules.proofs.WorldEnds.{whole-after}
-use Rattle.reg_schedules.proofs.WorldRoom.{list-room, dock-room, sent-after}
+use Rattle.reg_schedules.proofs.lemmas.WorldFits.{IsHand, all-get}
+use Rattle.reg_schedules.proofs.lemmas.WorldEnds.{whole-after}
+use Rattle.reg_schedules.proofs.lemmas.WorldRoom.{list-room, dock-room, sent-after}
 use Rattle.reg_graph.proofs.PartFacts.{with-first}
 use Rattle.reg_graph.proofs.world.World.knows.Goals as goal
 

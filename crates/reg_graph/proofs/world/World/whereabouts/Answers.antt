@@ -2,11 +2,11 @@ use Rattle.std.proofs.Common.{◌≡◌, suc, ◌+◌, ◌-◌, ◌<◌, ◌≤�
 use Rattle.std.specs.Option.{option_map}
 use Rattle.std.proofs.lemmas.List.{length-map}
 use Rattle.reg_schedules.specs.World.{is_in_dock}
-use Rattle.reg_counting.specs.Counting.{total}
+use Rattle.reg_facts.specs.Counting.{total}
 use Rattle.reg_tasks.specs.Parcels.{parcels_of}
 use Rattle.reg_tasks.specs.Tasks.{task_of}
 use Rattle.reg_graph.specs.WorldParts.{hand_of, task_lists, world_of}
-use Rattle.reg_schedules.proofs.WorldCounts.{in_list, in_hand_once}
+use Rattle.reg_schedules.proofs.lemmas.WorldCounts.{in_list, in_hand_once}
 use Rattle.reg_graph.proofs.PartFacts.{view-at}
 use Rattle.reg_graph.proofs.WorldPlaces.{none-yet, none-at-all, dock-there, not-listed, is-listed, not-held, done-then}
 use Rattle.reg_graph.proofs.WorldPlaces.{in-list-there, in-hand-there}

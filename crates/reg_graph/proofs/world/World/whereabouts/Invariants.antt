@@ -1,7 +1,7 @@
 use Rattle.std.proofs.Common.{◌≡◌, take, map}
-use Rattle.reg_counting.specs.Counting.{total}
+use Rattle.reg_facts.specs.Counting.{total}
 use Rattle.reg_graph.specs.WorldParts.{hand_of, task_lists}
-use Rattle.reg_schedules.proofs.WorldCounts.{in_list, in_hand_once}
+use Rattle.reg_schedules.proofs.lemmas.WorldCounts.{in_list, in_hand_once}
 use Rattle.reg_graph.proofs.world.World.whereabouts.Given as goal
 
 -- no worker so far has a task of the place

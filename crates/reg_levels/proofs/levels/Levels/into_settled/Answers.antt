@@ -2,14 +2,14 @@ use Rattle.std.proofs.Common.{◌≡◌, take, length, sym, ap, subst, ◌∙◌
 use Rattle.std.proofs.lemmas.List.{take_all}
 use Rattle.std.proofs.Props.{props}
 use mathlib.Core.Logic.{∥∥₁_elim}
-use Rattle.reg_book.specs.Day.{Day}
+use Rattle.reg_book.specs.Day.{DayValue}
 use Rattle.reg_tasks.specs.Contexts.{the_day}
 use Rattle.reg_tasks.specs.Gathering.{places_of as places_done}
 use Rattle.reg_tasks.specs.Slots.{IsAtEnd}
 use Rattle.reg_tasks.specs.Standing.{stands}
-use Rattle.reg_tasks.proofs.Gathering.{no_name}
-use Rattle.reg_tasks.proofs.Placing.{lack_from, err_more}
-use Rattle.reg_tasks.proofs.OrderSteps.{ends_so}
+use Rattle.reg_tasks.proofs.lemmas.Gathering.{no_name}
+use Rattle.reg_tasks.proofs.lemmas.Placing.{lack_from, err_more}
+use Rattle.reg_tasks.proofs.lemmas.OrderSteps.{ends_so}
 use Rattle.reg_levels.specs.Levels.{StandsBetween}
 use Rattle.reg_levels.proofs.Between.{none_between, stands_after}
 use Rattle.reg_levels.proofs.levels.Levels.into_settled.Goals as goal
@@ -31,5 +31,5 @@ returns-clause-lack g c =
     (none_between order l.laid l.taken (omega (Rattle.std.proofs.Common.arith, c.requires, l.within)))
     (l.standing d e)))))
     (Prim.hlevel props) (λ ends. missing d e
-    (subst (λ (x : Day). IsAtEnd x (places_done l.done.items) standing) (context.named d e)
+    (subst (λ (x : DayValue). IsAtEnd x (places_done l.done.items) standing) (context.named d e)
     (subst (λ ps. IsAtEnd (the_day context) ps standing) (sym (l.rows ∙ all)) ends))))))

@@ -3,14 +3,14 @@ use Rattle.std.proofs.Common.{rules, sym, ap, subst, ◌∙◌}
 use Rattle.std.proofs.lemmas.List.{take_more, map-append}
 use Rattle.reg_base.specs.Footprint.{is_among}
 use Rattle.reg_plan.specs.Orders.{first_order_fault}
-use Rattle.reg_book.specs.Day.{Day}
+use Rattle.reg_book.specs.Day.{DayValue}
 use Rattle.reg_schedules.specs.Pool.{footprint_at}
 use Rattle.reg_tasks.specs.Contexts.{the_day}
 use Rattle.reg_tasks.specs.Gathering.{places_of as places_done}
 use Rattle.reg_tasks.specs.Parcels.{names_of}
 use Rattle.reg_tasks.specs.Slots.{laid_at}
 use Rattle.reg_tasks.specs.Standing.{stands}
-use Rattle.reg_tasks.proofs.Placing.{laid_left}
+use Rattle.reg_tasks.proofs.lemmas.Placing.{laid_left}
 use Rattle.reg_levels.specs.Levels.{StandsBetween, IsByLevel, IsOneLevel, places_between}
 use Rattle.reg_levels.proofs.Between.{between_first, laid_more}
 use Rattle.reg_levels.proofs.Apart.{untouched_after, level_more}
@@ -36,7 +36,7 @@ invariant_of-self-2 g c =
           let left : names_of c.args.outcome.parcels.items ≡ map (λ a. (a, x)) fs =
           c.args.outcome.left d e
           ∙ ap (λ p. map (λ a. (a, p)) (footprint_at d p)) c.requires.place
-          ∙ ap (λ (y : Day). map (λ a. (a, x)) (footprint_at y x)) (sym (context.named d e)) in
+          ∙ ap (λ (y : DayValue). map (λ a. (a, x)) (footprint_at y x)) (sym (context.named d e)) in
           let laid : (a : ℕ) → stands c.lay.new.self a ≡ cond (is_among fs a) (Some (a, x)) (stands l.slots a) =
           λ a. c.in-Ok.ensures.laid a ∙ ap (λ ns. laid_at ns (stands l.slots a) a) left
           ∙ laid_left x fs (stands l.slots a) a in

@@ -4,10 +4,10 @@ use Rattle.reg_plan.specs.Orders.{first_order_fault}
 use Rattle.reg_tasks.specs.Contexts.{the_day}
 use Rattle.reg_tasks.specs.Slots.{IsLack, AreTaken, is_ready}
 use Rattle.reg_tasks.specs.Standing.{stands}
-use Rattle.reg_schedules.proofs.Tails.{clash}
-use Rattle.reg_tasks.proofs.Gathering.{no_name}
-use Rattle.reg_tasks.proofs.Placing.{lack_from, err_from}
-use Rattle.reg_tasks.proofs.OrderSteps.{faultless_at, within_at}
+use Rattle.reg_schedules.proofs.lemmas.Tails.{clash}
+use Rattle.reg_tasks.proofs.lemmas.Gathering.{no_name}
+use Rattle.reg_tasks.proofs.lemmas.Placing.{lack_from, err_from}
+use Rattle.reg_tasks.proofs.lemmas.OrderSteps.{faultless_at, within_at}
 use Rattle.reg_levels.specs.Levels.{StandsBetween, IsByLevel, IsOneLevel, places_between}
 use Rattle.reg_levels.proofs.Between.{between_more, taken_more}
 use Rattle.reg_levels.proofs.Apart.{ready_next}

@@ -1,6 +1,6 @@
 use Rattle.std.proofs.Common.{arith, ◌≡◌, ◌+◌, ◌++◌, ◌∷◌, [], map, length, sym, ap, ◌∙◌}
 use Rattle.std.proofs.lemmas.List.{map-append}
-use Rattle.reg_claim.specs.declared.views.View.{View}
+use Rattle.reg_claim.specs.declared.views.SeatView.{SeatView}
 use Rattle.reg_regions.specs.Stealing.{first_numbers}
 use Rattle.reg_regions.proofs.Tallied.{numbers-next}
 use Rattle.reg_regions.proofs.stealing.deques.make_workers.Goals as goal
@@ -10,7 +10,7 @@ loop-deque-preserved g c =
     let i = c.loop-deque.invariant in
     let first = c.split-kept.ensures.first in
     let left = ap length c.in-Some.ensures.steps.0 in
-    let part = ap (λ (v : View). v.share) first in
+    let part = ap (λ (v : SeatView). v.stake) first in
     let share = i.share in
     let whole = i.whole in
     let few = c.requires.few in
@@ -21,7 +21,7 @@ loop-deque-preserved g c =
       ends = record {};
       table = c.split-kept.ensures.same.0 ∙ i.table;
       share = omega arith;
-      idle = ap (λ (v : View). v.finished) first ∙ i.idle;
+      idle = ap (λ (v : SeatView). v.finished) first ∙ i.idle;
       whole = omega arith;
       numbers = ap (map (λ w. w.number)) c.in_ok-push.ensures.items
           ∙ map-append (λ w. w.number) c.loop-deque.workers.items _

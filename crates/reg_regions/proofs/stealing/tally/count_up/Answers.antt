@@ -2,8 +2,8 @@ use Rattle.std.proofs.Common.{arith, ◌≡◌, ◌+◌, ◌++◌, ◌∷◌, []
 use Rattle.std.specs.List.{flat_map}
 use Rattle.std.proofs.lemmas.List.{map-append, nil_from_length}
 use Rattle.std.proofs.lemmas.Grind.{flat_map-append}
-use Rattle.reg_counting.specs.Counting.{times, once}
-use Rattle.reg_claim.specs.declared.views.View.{View}
+use Rattle.reg_facts.specs.Counting.{times, once}
+use Rattle.reg_claim.specs.declared.views.SeatView.{SeatView}
 use Rattle.reg_claim.specs.Seats.{known}
 use Rattle.reg_regions.specs.declared.stealing.settled_list.SettledList.{SettledList}
 use Rattle.reg_regions.specs.declared.stealing.shift.WorkShift.{WorkShift}
@@ -21,7 +21,7 @@ loop-worker-preserved g c =
     let left = c.next.new.self.rest.items in
     let items = c.in-Some.ensures.steps.0 in
     let fewer = ap length items in
-    let part = ap (λ (v : View). v.share) view in
+    let part = ap (λ (v : SeatView). v.stake) view in
     let one = worker.one_share in
     let share = i.share in
     let settled = c.loop-worker.settled.items in
@@ -34,7 +34,7 @@ loop-worker-preserved g c =
       ends = record {};
       table = c.join-rest.ensures.same ∙ i.table;
       share = omega arith;
-      numbers = ap (λ (v : View). v.finished) view
+      numbers = ap (λ (v : SeatView). v.finished) view
           ∙ ap (λ ns. ns ++ (known worker.seat).finished) i.numbers
           ∙ ap (λ ns. numbers_of settled ++ ns) (sym worker.finished)
           ∙ sym (map-append (λ (s : SettledList). s.number) settled own) ∙ ap numbers_of (sym grown);

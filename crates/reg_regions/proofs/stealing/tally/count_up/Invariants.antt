@@ -1,6 +1,6 @@
 use Rattle.std.proofs.Common.{◌≡◌, ◌+◌, ◌++◌, ℕ, map, length}
 use Rattle.std.specs.List.{flat_map}
-use Rattle.reg_counting.specs.Counting.{times}
+use Rattle.reg_facts.specs.Counting.{times}
 use Rattle.reg_claim.specs.Seats.{known, seat_table}
 use Rattle.reg_regions.specs.Stealing.{numbers_of, settled_places, shift_workers, times_in_shifts}
 use Rattle.reg_regions.proofs.stealing.tally.count_up.Given as goal
@@ -11,7 +11,7 @@ invariant-loop-worker g l = record {
   can_go : (goal.iterator-loop-worker g).can_next l.worker-iterator;
   ends : (goal.iterator-loop-worker g).is_finite l.worker-iterator;
   table : seat_table l.rest ≡ g.C.Cutting.table;
-  share : (known l.rest).share + length l.worker-iterator.rest.items ≡ 16;
+  share : (known l.rest).stake + length l.worker-iterator.rest.items ≡ 16;
   numbers : (known l.rest).finished ≡ numbers_of l.settled.items;
   settled : l.settled.items ++ flat_map (λ w. w.settled.items) l.worker-iterator.rest.items
       ≡ flat_map (λ w. w.settled.items) l.fn.workers.items;

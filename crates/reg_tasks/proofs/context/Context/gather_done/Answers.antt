@@ -4,15 +4,15 @@ use Rattle.std.proofs.Props.{props}
 use Rattle.std.proofs.lemmas.List.Sorted.{length_permutation}
 use mathlib.Core.Logic.{∥∥₁_elim}
 use Rattle.reg_base.specs.Rising.{IsRising}
-use Rattle.reg_book.specs.Day.{Day}
-use Rattle.reg_schedules.proofs.Tails.{clash}
+use Rattle.reg_book.specs.Day.{DayValue}
+use Rattle.reg_schedules.proofs.lemmas.Tails.{clash}
 use Rattle.reg_tasks.specs.Contexts.{the_day}
 use Rattle.reg_tasks.specs.Gathering.{AreOutcomes, are_outcomes, places_of}
 use Rattle.reg_tasks.specs.LastParcels.{parcels_in}
 use Rattle.reg_tasks.specs.Parcels.{names_of}
 use Rattle.reg_tasks.specs.Slots.{opened_accounts}
 use Rattle.reg_tasks.proofs.Names.{written_whole}
-use Rattle.reg_tasks.proofs.Placing.{err_more, lack_from}
+use Rattle.reg_tasks.proofs.lemmas.Placing.{err_more, lack_from}
 use Rattle.reg_tasks.proofs.Collecting.{outcomes_pass}
 use Rattle.reg_tasks.proofs.context.Context.gather_done.Goals as goal
 use Rattle.reg_tasks.proofs.context.Context.gather_done.Goals.{After-settle_sorted}
@@ -47,7 +47,7 @@ returns-clause-lack g c =
     err_more c.settle_sorted.result _ _ c.settle_sorted.ensures.lack (λ l lack. lack_from l lack (λ missing d e all.
     let here : AreOutcomes (the_day context) (places_of c.args.rows.items)
     (names_of (parcels_in c.args.parcels.items)) =
-    subst (λ (x : Day). AreOutcomes x (places_of c.args.rows.items) (names_of (parcels_in c.args.parcels.items)))
+    subst (λ (x : DayValue). AreOutcomes x (places_of c.args.rows.items) (names_of (parcels_in c.args.parcels.items)))
     (sym (context.named d e)) all in
     let pass : are_outcomes (the_day context) accounts (places_of c.sort_done.new.rows)
     (names_of (parcels_in c.sort_parcels.new.parcels)) ≡ true =

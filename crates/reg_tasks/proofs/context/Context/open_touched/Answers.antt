@@ -1,5 +1,5 @@
 use Rattle.reg_book.specs.Day.{day_of}
-use Rattle.reg_schedules.proofs.Known.{touched_account}
+use Rattle.reg_schedules.proofs.lemmas.Known.{touched_account}
 use Rattle.reg_tasks.proofs.context.Context.open_touched.Goals as goal
 
 pub open-requires : goal.open-requires

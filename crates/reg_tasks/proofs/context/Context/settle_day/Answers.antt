@@ -7,7 +7,7 @@ use Rattle.reg_book.specs.Settled.{IsOfBook, record_numbers}
 use Rattle.reg_book.specs.Day.{day_of, settled_day}
 use Rattle.reg_tasks.specs.Gathering.{gathered}
 use Rattle.reg_tasks.proofs.Names.{written_whole}
-use Rattle.reg_tasks.proofs.Gathering.{accounts_are, day_gathered}
+use Rattle.reg_tasks.proofs.lemmas.Gathering.{accounts_are, day_gathered}
 use Rattle.reg_tasks.proofs.context.Context.settle_day.Goals as goal
 use Rattle.reg_tasks.proofs.context.Context.settle_day.Goals.{After-base}
 use Rattle.reg_tasks.proofs.context.Context.settle_day.Given.{Over}

@@ -1,15 +1,15 @@
 use Rattle.std.proofs.Common.{◌≡◌, ℕ, List, length, map, true, false, sym, ap, subst, ◌∙◌, rules}
 use Rattle.std.specs.List.{list_all}
 use Rattle.reg_base.specs.Footprint.{is_among}
-use Rattle.reg_book.specs.Day.{Day}
+use Rattle.reg_book.specs.Day.{DayValue}
 use Rattle.reg_schedules.specs.Pool.{footprint_at}
-use Rattle.reg_schedules.proofs.Tails.{clash}
+use Rattle.reg_schedules.proofs.lemmas.Tails.{clash}
 use Rattle.reg_tasks.specs.Contexts.{the_day}
 use Rattle.reg_tasks.specs.Parcels.{names_of}
 use Rattle.reg_tasks.specs.Slots.{opened_accounts, standing_in, laid_at, have_slots}
 use Rattle.reg_tasks.proofs.Names.{written_whole}
 use Rattle.reg_tasks.proofs.AtEnd.{left_have_slots, slots_touched}
-use Rattle.reg_tasks.proofs.Gathering.{no_name}
+use Rattle.reg_tasks.proofs.lemmas.Gathering.{no_name}
 use Rattle.reg_tasks.proofs.slots.Slots.lay_for_row.Goals as goal
 
 pub returns-then-not-have_slots-clause-there : goal.returns-then-not-have_slots-clause-there
@@ -30,7 +30,7 @@ returns-then-not-have_slots-clause-named g c = no_name g.N.Naming.day (λ d e.
     let context = c.args.self.now.context.now in
     let left : List (ℕ × ℕ) = map (λ a. (a, c.args.outcome.place)) (footprint_at d c.args.outcome.place) in
     clash (ap (have_slots (the_day context)) (c.args.outcome.left d e)
-    ∙ subst (λ (x : Day). have_slots x left ≡ true) (sym (context.named d e))
+    ∙ subst (λ (x : DayValue). have_slots x left ≡ true) (sym (context.named d e))
     (left_have_slots d c.args.outcome.place))
     (returns-then-not-have_slots-clause-there g c))
 

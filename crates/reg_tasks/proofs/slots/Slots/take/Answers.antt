@@ -6,7 +6,7 @@ use Rattle.reg_schedules.specs.Docks.{names_needed}
 use Rattle.reg_tasks.specs.Contexts.{the_day}
 use Rattle.reg_tasks.specs.Parcels.{names_of}
 use Rattle.reg_tasks.specs.Slots.{standing_in, is_there}
-use Rattle.reg_tasks.proofs.Placing.{ready_stands, all_there, taken_needed}
+use Rattle.reg_tasks.proofs.lemmas.Placing.{ready_stands, all_there, taken_needed}
 use Rattle.reg_tasks.proofs.slots.Slots.take.Goals as goal
 
 pub of_needed-task-requires-clause-needed : goal.of_needed-task-requires-clause-needed

@@ -6,7 +6,7 @@ use Rattle.reg_account.specs.Account.{AccountValue}
 use Rattle.reg_rules.specs.State.{numbers}
 use Rattle.reg_rules.specs.Effect.{IsBehind}
 use Rattle.reg_book.specs.Book.{has_row_ahead}
-use Rattle.reg_book.specs.Day.{Day, IsDay, day_of}
+use Rattle.reg_book.specs.Day.{DayValue, IsDay, day_of}
 use Rattle.reg_schedules.specs.Pool.{footprint_at}
 use Rattle.reg_tasks.specs.Parcels.{values_of}
 use Rattle.reg_tasks.proofs.Running.{all_behind}
@@ -19,7 +19,7 @@ returns-then-not-are_of-clause-named g c = λ d e.
     let items = c.args.self.now.parcels.items in
     let fit = ap (λ ps. numbers (values_of ps)) c.deref.ensures.value
     ∙ numbers_fit d place (footprint_at d place) items (c.args.self.now.complete d e).names_are
-    ∙ ap (λ (x : Day). footprint_at x place) (sym (c.args.context.now.named d e))
+    ∙ ap (λ (x : DayValue). footprint_at x place) (sym (c.args.context.now.named d e))
     ∙ sym c.touched_at-touched.ensures.value in
     sym c.if-not-are_of.true ∙ c.are_of.ensures.1 fit
 
@@ -49,7 +49,7 @@ returns-clause-named g c = λ d e.
     let place = c.args.self.now.place in
     let items = c.args.self.now.parcels.items in
     let needed = c.args.self.now.complete d e in
-    let number = c.number_of.ensures ∙ ap (λ (x : Day). x.batch.base + place) named in
+    let number = c.number_of.ensures ∙ ap (λ (x : DayValue). x.batch.base + place) named in
     c.are_behind.ensures
     ∙ ap (λ ps. list_all (λ (v : AccountValue). not (has_row_ahead c.number_of.result v)) (values_of ps))
     c.deref-2.ensures.value

@@ -9,9 +9,9 @@ use Rattle.reg_schedules.specs.Docks.{names_needed}
 use Rattle.reg_tasks.specs.Names.{has_names}
 use Rattle.reg_tasks.specs.Parcels.{names_of, parcels_of}
 use Rattle.reg_tasks.proofs.Names.{written_whole}
-use Rattle.reg_schedules.proofs.Known.{footprint_distinct}
+use Rattle.reg_schedules.proofs.lemmas.Known.{footprint_distinct}
 use Rattle.reg_tasks.proofs.Complete.{complete_from}
-use Rattle.reg_schedules.proofs.WorldFits.{names_are}
+use Rattle.reg_schedules.proofs.lemmas.WorldFits.{names_are}
 use Rattle.reg_tasks.proofs.Assembled.{names-are, complete-of}
 use Rattle.reg_tasks.proofs.task.Task.of_unordered.Goals as goal
 

@@ -1,16 +1,16 @@
 use Rattle.std.proofs.Common.{◌≡◌, ap, sym, subst, ◌∙◌, length, take, drop, map, ◌++◌, rules, Some}
 use Rattle.std.specs.List.{AllByRecursion}
-use Rattle.reg_book.specs.Day.{Day, day_of}
+use Rattle.reg_book.specs.Day.{DayValue, day_of}
 use Rattle.reg_rules.specs.State.{State, numbers}
 use Rattle.reg_schedules.specs.Pool.{footprint_at, run_at}
 use Rattle.reg_tasks.specs.Names.{AreValues, AreNeeded, IsValue}
 use Rattle.reg_tasks.specs.Parcels.{values_of, names_of}
 use Rattle.reg_schedules.specs.World.{left_by}
 use Rattle.reg_tasks.specs.Parcels.{parcels_of}
-use Rattle.reg_tasks.proofs.Values.{left-of}
+use Rattle.reg_tasks.proofs.lemmas.Values.{left-of}
 use Rattle.reg_tasks.proofs.Names.{written_whole}
 use Rattle.reg_tasks.proofs.Running.{parcels_right, same_names, names_after, ran_named, each_right}
-use Rattle.reg_schedules.proofs.Ran.{IsRight}
+use Rattle.reg_schedules.proofs.lemmas.Ran.{IsRight}
 use Rattle.reg_tasks.proofs.task.Task.run.Goals as goal
 
 pub pack-parcels-requires-clause-right : goal.pack-parcels-requires-clause-right
@@ -26,7 +26,7 @@ pack-parcels-requires-clause-right g c =
 
 pub pack_after-parcels-requires-clause-right : goal.pack_after-parcels-requires-clause-right
 pack_after-parcels-requires-clause-right g c =
-    let right : (d : Day) → g.N.Naming.day ≡ Some d
+    let right : (d : DayValue) → g.N.Naming.day ≡ Some d
     → IsRight d c.args.self.place (values_of c.args.self.parcels.items) c.carry_out.new.own c.in-Ok-carry_out.row =
     ran_named c.step_laws.ensures c.each_is_a_step.ensures c.value_is_last_touchers.ensures
     (day_of c.args.context.now.book.now c.args.context.now.rules.now c.args.context.now.batch.now) c.args.self.place
@@ -34,10 +34,10 @@ pack_after-parcels-requires-clause-right g c =
     (ap (run_at (day_of c.args.context.now.book.now c.args.context.now.rules.now c.args.context.now.batch.now)
     c.args.self.place) (sym (c.deref_mut.ensures.value ∙ c.unpack-own.ensures.own))
     ∙ c.in-Ok-carry_out.ensures.ok) in
-    let touched : (d : Day) → g.N.Naming.day ≡ Some d → numbers (values_of c.args.self.parcels.items)
+    let touched : (d : DayValue) → g.N.Naming.day ≡ Some d → numbers (values_of c.args.self.parcels.items)
     ≡ footprint_at d c.args.self.place =
     λ d e. (c.fits.ensures.is_for c.if-not-fits.false).touched
-    ∙ ap (λ (x : Day). footprint_at x c.args.self.place) (c.args.context.now.named d e) in
+    ∙ ap (λ (x : DayValue). footprint_at x c.args.self.place) (c.args.context.now.named d e) in
     let size : c.unpack-own.result.0.len ≡ length c.unpack-own.result.0.items = search rules in
     let whole : take c.unpack-own.result.0.len
     (c.carry_out.new.own ++ drop (length c.carry_out.new.own) c.unpack-own.result.0.items) ≡ c.carry_out.new.own =
@@ -49,7 +49,7 @@ pack_after-parcels-requires-clause-right g c =
 
 pub new-requires-clause-row : goal.new-requires-clause-row
 new-requires-clause-row g c =
-    let right : (d : Day) → g.N.Naming.day ≡ Some d
+    let right : (d : DayValue) → g.N.Naming.day ≡ Some d
     → IsRight d c.args.self.place (values_of c.args.self.parcels.items) c.carry_out.new.own c.in-Ok-carry_out.row =
     ran_named c.step_laws.ensures c.each_is_a_step.ensures c.value_is_last_touchers.ensures
     (day_of c.args.context.now.book.now c.args.context.now.rules.now c.args.context.now.batch.now) c.args.self.place
@@ -61,7 +61,7 @@ new-requires-clause-row g c =
 
 pub new-requires-clause-left : goal.new-requires-clause-left
 new-requires-clause-left g c =
-    let right : (d : Day) → g.N.Naming.day ≡ Some d
+    let right : (d : DayValue) → g.N.Naming.day ≡ Some d
     → IsRight d c.args.self.place (values_of c.args.self.parcels.items) c.carry_out.new.own c.in-Ok-carry_out.row =
     ran_named c.step_laws.ensures c.each_is_a_step.ensures c.value_is_last_touchers.ensures
     (day_of c.args.context.now.book.now c.args.context.now.rules.now c.args.context.now.batch.now) c.args.self.place
@@ -69,10 +69,10 @@ new-requires-clause-left g c =
     (ap (run_at (day_of c.args.context.now.book.now c.args.context.now.rules.now c.args.context.now.batch.now)
     c.args.self.place) (sym (c.deref_mut.ensures.value ∙ c.unpack-own.ensures.own))
     ∙ c.in-Ok-carry_out.ensures.ok) in
-    let touched : (d : Day) → g.N.Naming.day ≡ Some d → numbers (values_of c.args.self.parcels.items)
+    let touched : (d : DayValue) → g.N.Naming.day ≡ Some d → numbers (values_of c.args.self.parcels.items)
     ≡ footprint_at d c.args.self.place =
     λ d e. (c.fits.ensures.is_for c.if-not-fits.false).touched
-    ∙ ap (λ (x : Day). footprint_at x c.args.self.place) (c.args.context.now.named d e) in
+    ∙ ap (λ (x : DayValue). footprint_at x c.args.self.place) (c.args.context.now.named d e) in
     let size : c.unpack-own.result.0.len ≡ length c.unpack-own.result.0.items = search rules in
     let whole : take c.unpack-own.result.0.len
     (c.carry_out.new.own ++ drop (length c.carry_out.new.own) c.unpack-own.result.0.items) ≡ c.carry_out.new.own =

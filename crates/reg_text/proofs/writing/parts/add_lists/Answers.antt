@@ -4,7 +4,7 @@ use Rattle.reg_base.specs.declared.directory.NoMemory.{NoMemory}
 use Rattle.reg_account.specs.Account.{AccountValue}
 use Rattle.reg_book.specs.declared.totals.BothTotals.{BothTotals}
 use Rattle.reg_book.specs.Parts.{joined}
-use Rattle.reg_book.proofs.TotalFacts.{AddUpWith, add-none, added-all}
+use Rattle.reg_book.proofs.lemmas.TotalFacts.{AddUpWith, add-none, added-all}
 use Rattle.reg_text.specs.declared.writing.pieces.Blocks.{Blocks}
 use Rattle.reg_text.specs.Pieces.{AreBlocksOfLists, text_of_pieces}
 use Rattle.reg_text.proofs.BlockFacts.{blocks_text}

@@ -1,5 +1,5 @@
 use Rattle.std.proofs.Common.{◌++◌}
-use Rattle.reg_book.proofs.TotalFacts.{AddUpWith}
+use Rattle.reg_book.proofs.lemmas.TotalFacts.{AddUpWith}
 use Rattle.reg_book.specs.Parts.{joined}
 use Rattle.reg_text.specs.declared.writing.pieces.Blocks.{Blocks}
 use Rattle.reg_text.specs.Pieces.{AreBlocksOfLists, text_of_pieces}

@@ -1,0 +1,2 @@
+-- The lemmas that crates above cite.
+pub mod Numbers

@@ -1,0 +1,3 @@
+-- The lemmas that crates above cite.
+pub mod RowsFacts
+pub mod Splits
