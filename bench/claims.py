@@ -3,9 +3,9 @@
 
 usage: claims.py [--repeat N]
 
-It starts crates/registry_claims/out/registry_claims, which `cd crates/registry_claims && rt run` builds. Each run makes
+It starts crates/test_claims/out/test_claims, which `cd crates/test_claims && rt run` builds. Each run makes
 a table of 16,384 places. Eight threads with two seats each try every place: 262,144 claims, of which 16,384 are the
-first of their place. Each output is compared with crates/registry_claims/stdout: each place claimed once, and all
+first of their place. Each output is compared with crates/test_claims/stdout: each place claimed once, and all
 finished. Prints the least and the middle of all repeats: processor time, and the time that passed.
 """
 
@@ -17,8 +17,8 @@ import sys
 import time
 from pathlib import Path
 
-CRATE = Path(__file__).resolve().parent.parent / "crates" / "registry_claims"
-PROGRAM = CRATE / "out" / "registry_claims"
+CRATE = Path(__file__).resolve().parent.parent / "crates" / "test_claims"
+PROGRAM = CRATE / "out" / "test_claims"
 
 
 def run(wanted: bytes) -> tuple[float, float]:

@@ -4,8 +4,8 @@
 usage: long.py days|orders|seams|limits|gigabyte [--program PROGRAM] [--workers WORKERS] [--refusals REFUSALS]
                [--minutes N] [--count N] [--seed N] [--jobs N] [--folder FOLDER]
 
-PROGRAM is out/registry, unless another is named. WORKERS and REFUSALS are the programs registry_workers and
-registry_refusals, which `cd crates/NAME && rt run` builds.
+PROGRAM is out/registry, unless another is named. WORKERS and REFUSALS are the programs bench_workers and
+test_refusals, which `cd crates/NAME && rt run` builds.
 
 days      draws days, of both versions and all acts, damaged ones among them, and some so large that they are read by
           several parts. Each is settled by one to eight workers on one, two and four processors in turn. Of each second
@@ -235,7 +235,7 @@ def seamed_wrongly(words: Words, text: bytes, seed: int) -> tuple[int, str]:
 
 
 def read_wrongly(refusals: Path, text: bytes) -> str:
-    """What is wrong with a text that registry_refusals reads by parts."""
+    """What is wrong with a text that test_refusals reads by parts."""
     calls = [f"read_day_by_parts:{parts}" for parts in [*WORKERS, EACH_ROW]]
     lines, status = answer_of(refusals, calls, text)
     wanted = [line for call in calls for line in (call, "begin", "end", "done", "right")]

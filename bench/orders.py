@@ -3,7 +3,7 @@
 
 usage: orders.py [--repeat N] [--samples N] [--seed N]
 
-It starts crates/registry_workers/out/registry_workers, which `cd crates/registry_workers && rt run` builds.
+It starts crates/bench_workers/out/bench_workers, which `cd crates/bench_workers && rt run` builds.
 
 Tries
   - batches of up to six instructions: every permutation of the places. As many must give the day that
@@ -31,7 +31,7 @@ from random import Random
 import days
 from days import Transfer
 
-PROGRAM = Path(__file__).resolve().parent.parent / "crates" / "registry_workers" / "out" / "registry_workers"
+PROGRAM = Path(__file__).resolve().parent.parent / "crates" / "bench_workers" / "out" / "bench_workers"
 
 
 def program(data: bytes, *words: str) -> tuple[list[str], float]:

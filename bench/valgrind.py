@@ -1,5 +1,5 @@
 #!/usr/bin/env -S python3 -B
-"""Runs the program, and the calls of registry_refusals, under valgrind's memcheck, helgrind and drd.
+"""Runs the program, and the calls of test_refusals, under valgrind's memcheck, helgrind and drd.
 
 usage: valgrind.py [--program PROGRAM] [--refusals REFUSALS] [--tool TOOL] [--jobs N] [--show]
 

@@ -3,7 +3,7 @@
 
 usage: workers.py [--repeat N] [--samples N] [--processors N] [--seed N]
 
-It starts crates/registry_workers/out/registry_workers, which `cd crates/registry_workers && rt run` builds.
+It starts crates/bench_workers/out/bench_workers, which `cd crates/bench_workers && rt run` builds.
 
 Tries
   - batches of one to sixty drawn transfers by one to eight workers, each batch ten times with one worker held up before
@@ -30,7 +30,7 @@ from random import Random
 import days
 from orders import draw_pairs
 
-PROGRAM = Path(__file__).resolve().parent.parent / "crates" / "registry_workers" / "out" / "registry_workers"
+PROGRAM = Path(__file__).resolve().parent.parent / "crates" / "bench_workers" / "out" / "bench_workers"
 WORKERS = range(1, 9)
 # No worker has this number, so none is held up.
 NOBODY = 9

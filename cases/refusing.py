@@ -406,7 +406,7 @@ class Case:
 
 
 class CallCase(Case):
-    """A call that `registry_refusals` makes."""
+    """A call that `test_refusals` makes."""
 
     def found(self, attempt: Attempt) -> Found:
         return self.program.run(attempt)

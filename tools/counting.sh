@@ -190,7 +190,7 @@ try_cases() {
 }
 
 # The program that makes each call that takes memory.
-refusals=crates/registry_refusals/out/registry_refusals
+refusals=crates/test_refusals/out/test_refusals
 
 # Refuses each allocation and each start of a thread, of every call and of this program. Then reads texts by parts that are cut
 # where something is in the way.
@@ -200,7 +200,7 @@ begin_refusals() {
 }
 
 # The program that settles a day by workers that steal, and looks at who executed what.
-workers=crates/registry_workers/out/registry_workers
+workers=crates/bench_workers/out/bench_workers
 
 # Settles the days of all cases by one to eight workers that are delayed at random.
 begin_workers() {
@@ -208,8 +208,8 @@ begin_workers() {
 }
 
 # The examples of whole programs over the crates.
-embed=crates/registry_embed/out/registry_embed
-one_by_one=crates/registry_one_by_one/out/registry_one_by_one
+embed=crates/example_embed/out/example_embed
+one_by_one=crates/example_one_by_one/out/example_one_by_one
 
 # Tries them on the example days, and on standard streams that fail.
 begin_embed() {

@@ -117,27 +117,27 @@ try_library_if_built() {
 try_refusals_if_built() {
   if [ ! -x "$program" ]; then
     refusals_left_out="the refusals, since there is no program"
-  elif try_rt registry_refusals "building the program" run; then
+  elif try_rt test_refusals "building the program" run; then
     begin_refusals "$program"
     finish_parts
   else
-    refusals_left_out="the refusals, since registry_refusals was not built"
+    refusals_left_out="the refusals, since test_refusals was not built"
   fi
 }
 
 # Builds the program that looks at who executed what, and tries it on the days of all cases.
 try_workers_if_built() {
-  if try_rt registry_workers "building the program" run; then
+  if try_rt bench_workers "building the program" run; then
     begin_workers
     finish_parts
   else
-    workers_left_out="workers that are delayed, since registry_workers was not built"
+    workers_left_out="workers that are delayed, since bench_workers was not built"
   fi
 }
 
 # Builds the examples of whole programs over the crates, and tries them.
 try_embed_if_built() {
-  if try_rt registry_embed "building the program" run && try_rt registry_one_by_one "building the program" run; then
+  if try_rt example_embed "building the program" run && try_rt example_one_by_one "building the program" run; then
     begin_embed
     finish_parts
   else
@@ -186,17 +186,17 @@ check_some() {
   elif [ -n "$left_out" ]; then
     try_library_if_built
   fi
-  if [[ " ${proved[*]-} " == *" registry_refusals "* ]]; then
+  if [[ " ${proved[*]-} " == *" test_refusals "* ]]; then
     try_refusals_if_built
   else
-    refusals_left_out="the refusals, since registry_refusals is not one of these crates, or was not proved"
+    refusals_left_out="the refusals, since test_refusals is not one of these crates, or was not proved"
   fi
-  if [[ " ${proved[*]-} " == *" registry_workers "* ]]; then
+  if [[ " ${proved[*]-} " == *" bench_workers "* ]]; then
     try_workers_if_built
   else
-    workers_left_out="workers that are delayed, since registry_workers is not one of these crates, or was not proved"
+    workers_left_out="workers that are delayed, since bench_workers is not one of these crates, or was not proved"
   fi
-  if [[ " ${proved[*]-} " == *" registry_embed "* || " ${proved[*]-} " == *" registry_one_by_one "* ]]; then
+  if [[ " ${proved[*]-} " == *" example_embed "* || " ${proved[*]-} " == *" example_one_by_one "* ]]; then
     try_embed_if_built
   else
     embed_left_out="the examples of programs, since none is one of these crates, or none was proved"

@@ -1,4 +1,4 @@
-"""Lanes: what each worker executed, in its order, as `registry_workers lanes WORKERS` writes it."""
+"""Lanes: what each worker executed, in its order, as `bench_workers lanes WORKERS` writes it."""
 import re
 from collections import deque
 from collections.abc import Iterable

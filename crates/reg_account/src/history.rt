@@ -19,7 +19,7 @@ use std::marker::Model;
 
 /// The correction factors of later periods of an account, its surrenders and deletions, its emissions and its
 /// determined figures, not yet tested. A contract sees them as plain data. Most accounts have none, so a history of
-/// anything take no memory.
+/// nothing takes no memory.
 #[derive(Debug, Drop)]
 pub(crate) struct History {
     alloc: Global,

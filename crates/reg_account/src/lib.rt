@@ -1,7 +1,7 @@
 //! One account: what it is, who represents it, which accounts it trusts, what it holds, what it has surrendered and
 //! deleted, its compliance, and how a settlement changes it.
 //!
-//! A use of it, proved in `registry_uses/src/account.rt`:
+//! A use of it, proved in `example_uses/src/account.rt`:
 //!
 //! ```rust
 //! ghost use Rattle.std.specs.Prelude.{◌≡◌, ◌+◌, ◌&&◌, nat_le, MatchBool};

@@ -1,7 +1,7 @@
 //! What a settlement day is made of: numbers within their limits, the working calendar, the rules,
 //! the directory of accounts, and the batch of due instructions with the accounts that each touches.
 //!
-//! A use of it, proved in `registry_uses/src/base.rt`:
+//! A use of it, proved in `example_uses/src/base.rt`:
 //!
 //! ```rust
 //! ghost use Rattle.std.specs.Prelude.{◌≡◌, ℕ, MatchResult};

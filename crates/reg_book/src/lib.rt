@@ -1,6 +1,6 @@
 //! The book of all accounts, and the plain settlement of a day, which executes the instructions one after another.
 //!
-//! A use of it, proved in `registry_uses/src/book.rt`:
+//! A use of it, proved in `example_uses/src/book.rt`:
 //!
 //! ```rust
 //! ghost use Rattle.std.specs.Prelude.{◌≡◌, IfOk, IfErr, OnOk, OnErr};
@@ -36,7 +36,7 @@
 //! }
 //! ```
 //!
-//! One instruction at a time, proved in `registry_uses/src/single.rt`:
+//! One instruction at a time, proved in `example_uses/src/single.rt`:
 //!
 //! ```rust
 //! ghost use Rattle.std.specs.Prelude.{◌≡◌, ◌+◌, IfOk, IfErr, OnOk, OnErr};

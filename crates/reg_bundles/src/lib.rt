@@ -1,6 +1,6 @@
 //! Bundles of instructions: those that touch a common account belong together, directly or over others.
 //!
-//! A use of it, proved in `registry_uses/src/bundles.rt`:
+//! A use of it, proved in `example_uses/src/bundles.rt`:
 //!
 //! ```rust
 //! ghost use Rattle.std.specs.Prelude.{◌≡◌, ◌<◌, length};

@@ -1,7 +1,7 @@
 //! The claim table of workers that steal: who claimed which place, how many places are finished, and whether the
 //! workers are told to leave.
 //!
-//! A use of it, proved in `registry_uses/src/claim.rt`:
+//! A use of it, proved in `example_uses/src/claim.rt`:
 //!
 //! ```rust
 //! ghost use Rattle.std.specs.Prelude.{◌≡◌, IfOk, true, false};

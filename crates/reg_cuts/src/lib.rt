@@ -1,7 +1,7 @@
 //! The rows of a csv text, and of parts of it: where a text may be cut so that the rows of its parts, one after
 //! another, are those of the whole.
 //!
-//! A use of it, proved in `registry_uses/src/cuts.rt`:
+//! A use of it, proved in `example_uses/src/cuts.rt`:
 //!
 //! ```rust
 //! ghost use Rattle.std.specs.Prelude.{◌≡◌, ◌++◌, true};

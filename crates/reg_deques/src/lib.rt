@@ -1,7 +1,7 @@
 //! Deques of ready tasks: one for each worker, who puts tasks behind and takes the first, while the others steal the
 //! first.
 //!
-//! A use of it, proved in `registry_uses/src/deques.rt`:
+//! A use of it, proved in `example_uses/src/deques.rt`:
 //!
 //! ```rust
 //! ghost use Rattle.std.specs.Prelude.{IfSome, ◌∷◌, []};

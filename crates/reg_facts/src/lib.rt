@@ -1,7 +1,7 @@
 //! Words for counting in lists, for definitions and proofs: the sum of a number over a list, how often a number stands
 //! in one. There is no code here.
 //!
-//! A use of it, proved in `registry_uses/src/counting.rt`:
+//! A use of it, proved in `example_uses/src/counting.rt`:
 //!
 //! ```rust
 //! ghost use Rattle.std.specs.Prelude.{◌≡◌};

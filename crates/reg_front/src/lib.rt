@@ -1,7 +1,7 @@
 //! The engine of the registry, from bytes to bytes: reads a day text, carries out a command on the day,
 //! and writes the command's text.
 //!
-//! A use of it, proved in `registry_uses/src/front.rt`:
+//! A use of it, proved in `example_uses/src/front.rt`:
 //!
 //! ```rust
 //! ghost use Rattle.std.specs.Prelude.{Some, OnOk};

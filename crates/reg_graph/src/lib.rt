@@ -1,7 +1,7 @@
 //! The workers' world: lists of tasks, docks in which parcels wait for each other, and the events that move them. All
 //! of `reg_tasks` is passed on.
 //!
-//! A use of it, proved in `registry_uses/src/graph.rt`:
+//! A use of it, proved in `example_uses/src/graph.rt`:
 //!
 //! ```rust
 //! ghost use Rattle.std.specs.Prelude.{◌≡◌, IfSome};

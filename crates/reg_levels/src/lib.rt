@@ -1,7 +1,7 @@
 //! A day's instructions level by level: those of one level touch no account in common, so they may run at the same
 //! time.
 //!
-//! A use of it, proved in `registry_uses/src/levels.rt`:
+//! A use of it, proved in `example_uses/src/levels.rt`:
 //!
 //! ```rust
 //! ghost use Rattle.std.specs.Prelude.{◌≡◌, IfSome};

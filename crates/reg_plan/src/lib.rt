@@ -1,7 +1,7 @@
 //! The plan of a batch: which instruction has to come before which other, account by account, and which orders
 //! of the instructions keep to that.
 //!
-//! A use of it, proved in `registry_uses/src/plan.rt`:
+//! A use of it, proved in `example_uses/src/plan.rt`:
 //!
 //! ```rust
 //! ghost use Rattle.std.specs.Prelude.{◌↔◌, IsTrue, IfOk};

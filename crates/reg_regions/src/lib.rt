@@ -1,6 +1,6 @@
 //! Regions of a day: accounts of their own, with the instructions that touch these alone.
 //!
-//! A use of it, proved in `registry_uses/src/regions.rt`:
+//! A use of it, proved in `example_uses/src/regions.rt`:
 //!
 //! ```rust
 //! ghost use Rattle.reg_regions.specs.Laws.{RegionEndsAsTheDay};

@@ -1,7 +1,7 @@
 //! The rules of the registry: which instructions are refused and why, what an accepted instruction does, and its
 //! row in the log.
 //!
-//! A use of it, proved in `registry_uses/src/rules.rt`:
+//! A use of it, proved in `example_uses/src/rules.rt`:
 //!
 //! ```rust
 //! ghost use Rattle.std.specs.Prelude.{◌≡◌, All, IfOk, OnOk, OnErr};

@@ -1,7 +1,7 @@
 //! What the orders and the workers' schedules of a day's instructions mean, as definitions, and what is true of all of
 //! them, as laws. There are no values here: a pool, docks, lists and hands are plain data.
 //!
-//! A use of it, proved in `registry_uses/src/schedules.rt`:
+//! A use of it, proved in `example_uses/src/schedules.rt`:
 //!
 //! ```rust
 //! ghost use Rattle.std.specs.Prelude.{◌≡◌, ℕ, List, Some};

@@ -1,7 +1,7 @@
 //! A day's instructions as tasks: each instruction is carried out on the values of its own accounts alone, in any order
 //! that keeps to the plan's arrows.
 //!
-//! A use of it, proved in `registry_uses/src/tasks.rt`:
+//! A use of it, proved in `example_uses/src/tasks.rt`:
 //!
 //! ```rust
 //! ghost use Rattle.std.specs.Prelude.{◌≡◌, ◌≤◌, true, length, IfSome, OnSome};

@@ -1,7 +1,7 @@
 //! Workers: the instructions of a day, run in threads: by workers that take them as soon as what they wait for is
 //! there, or level by level.
 //!
-//! A use of it, proved in `registry_uses/src/work.rt`:
+//! A use of it, proved in `example_uses/src/work.rt`:
 //!
 //! ```rust
 //! ghost use Rattle.std.specs.Prelude.{◌≡◌, ◌+◌, MatchResult};

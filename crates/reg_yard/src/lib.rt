@@ -1,7 +1,7 @@
 //! The docks of a day: one for each instruction, in which the values that it needs come together. The deques of the
 //! workers, which are their yard, come from `reg_deques`.
 //!
-//! A use of it, proved in `registry_uses/src/yard.rt`:
+//! A use of it, proved in `example_uses/src/yard.rt`:
 //!
 //! ```rust
 //! ghost use Rattle.std.specs.Prelude.{◌≡◌, Some, IfSome};

@@ -83,7 +83,7 @@ def add_words(parser: argparse.ArgumentParser) -> None:
         "--by-hand", metavar="FOLDER", help="the folder of the day in a folder of days: who changed something, and why"
     )
     parser.add_argument(
-        "--lanes", metavar="FILE", help="who executed what, as `registry_workers lanes WORKERS` writes it"
+        "--lanes", metavar="FILE", help="who executed what, as `bench_workers lanes WORKERS` writes it"
     )
 
 
