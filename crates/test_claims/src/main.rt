@@ -49,7 +49,7 @@ fn claim_all(table: &ClaimTable, seat: Seat, marks: &[AtomicU32]) -> Seat
     table.join(first, second)
 }
 
-// Starts a thread with two parts of the share, and goes on with the others.
+// Starts a thread with two parts of the stake, and goes on with the others.
 fn in_threads<R: Threads + Sync>(
     rt: &R,
     table: &ClaimTable,

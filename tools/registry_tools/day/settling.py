@@ -114,7 +114,7 @@ def find_library() -> Library | None:
         if not is_new(LIBRARY):
             return None
         os.environ["REGISTRY_LIBRARY"] = str(LIBRARY)
-    spec = importlib.util.spec_from_file_location("test_calls", CALLS)
+    spec = importlib.util.spec_from_file_location("registry_native", CALLS)
     assert spec and spec.loader
     calls = importlib.util.module_from_spec(spec)
     try:

@@ -3,7 +3,7 @@ use Rattle.reg_claim.specs.Seats.{known, seat_table}
 use Rattle.reg_deques.specs.Yards.{deques_of_pass}
 use Rattle.reg_work.proofs.stealing.make_workers.Given as goal
 
--- each worker that was made took one part of the share
+-- each worker that was made took one part of the stake
 abbrev pub invariant-loop-pass : goal.invariant-loop-pass
 invariant-loop-pass g l = record {
   can_go : (goal.iterator-loop-pass g).can_next l.pass-iterator;

@@ -3,7 +3,7 @@ use Rattle.reg_claim.specs.Seats.{known, seat_table}
 use Rattle.reg_regions.specs.Stealing.{first_numbers}
 use Rattle.reg_regions.proofs.stealing.deques.make_workers.Given as goal
 
--- each worker that was made took one part of the share
+-- each worker that was made took one part of the stake
 abbrev pub invariant-loop-deque : goal.invariant-loop-deque
 invariant-loop-deque g l = record {
   can_go : (goal.iterator-loop-deque g).can_next l.deque-iterator;
