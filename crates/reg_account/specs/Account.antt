@@ -137,10 +137,6 @@ with_emissions a new = record a { emissions = with_emission new a.emissions }
 abbrev pub with_determined : AccountValue → Figure → AccountValue
 with_determined a new = record a { figures = with_figure new a.figures }
 
--- what stays of the account where its lists have moved out
-abbrev pub vacated : AccountValue → AccountValue
-vacated a = record a { corrections = []; users = []; trusted = []; rows = []; emissions = []; figures = [] }
-
 -- the row can be the account's next one
 pub record CanRetire (a : AccountValue) (row : RetirementRow) : Type 0 where
   pub fresh : row.reversed ≡ false

@@ -48,7 +48,7 @@ impl Account {
     ghost use Rattle.reg_account.specs.Years.{emissions_in, figure_in, EmissionsFit, FiguresFit, FigureFits};
     ghost use Rattle.reg_account.specs.Account.{correction_of, held_by, retired_by, credited, debited, retired};
     ghost use Rattle.reg_account.specs.Account.{unretired, trusts, with_trusted, without_trusted, with_status};
-    ghost use Rattle.reg_account.specs.Account.{with_emissions, with_determined, vacated, CanTrust, CanRetire};
+    ghost use Rattle.reg_account.specs.Account.{with_emissions, with_determined, CanTrust, CanRetire};
     ghost use Rattle.reg_account.specs.Account.{CanUnretire, IsAccount};
     ghost use Rattle.reg_account.specs.Figure.{figure_of};
 
@@ -426,26 +426,6 @@ impl Account {
             lists: self.parts.lists.copy(alloc)?,
         };
         Ok(Account { parts })
-    }
-
-    /// Moves the account out, with all its lists. What stays has the same number, kind, holder, status, switches,
-    /// correction factor of period 1 and holdings, and nothing in its lists. Takes no memory.
-    pub fn vacate(&mut self) -> Account
-        ensures value { result ≡ self.old }
-        ensures left { self.new ≡ vacated self.old }
-    {
-        let moved = AccountParts {
-            number: self.parts.number,
-            kind: self.parts.kind,
-            holder: self.parts.holder,
-            status: self.parts.status,
-            outside: self.parts.outside,
-            waiver: self.parts.waiver,
-            correction: self.parts.correction,
-            held: self.parts.held,
-            lists: self.parts.lists.take(),
-        };
-        Account { parts: moved }
     }
 }
 

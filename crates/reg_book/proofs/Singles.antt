@@ -18,7 +18,7 @@ use Rattle.reg_rules.specs.Step.{step, row_of}
 use Rattle.reg_book.specs.Book.{BookValue, IsBook, IsBookKept, directory_of}
 use Rattle.reg_book.specs.Day.{IsDay, settled_day, log_of}
 use Rattle.reg_book.specs.Settled.{committed}
-use Rattle.reg_book.specs.Single.{setting_on, applied, row_applied, day_of_one}
+use Rattle.reg_book.specs.Single.{setting_on, applied, row_applied, day_of_one, IsApplied}
 use Rattle.reg_book.proofs.Closings.{kept-after_day, committed-after_day}
 use Rattle.reg_book.proofs.Directories.{length-numbers}
 use Rattle.reg_book.proofs.Folds.{numbers_more}
@@ -71,20 +71,20 @@ is_day book rules day i can = record {
 }
 
 -- what became of the accounts, and the log row, are those of the instruction
-pub record IsApplied (book : BookValue) (rules : RulesValue) (day : ℕ) (i : Instruction) (own : State)
+pub record HasStepped (book : BookValue) (rules : RulesValue) (day : ℕ) (i : Instruction) (own : State)
     (row : LogRow) : Type 0 where
   pub closed : own ≡ (applied book rules day i).accounts
   pub logged : row ≡ row_applied book rules day i
 
 -- it was carried out under the directory and the record number that stand in the book
-pub is-applied : (book : BookValue) (rules : RulesValue) (day n : ℕ) (d : DirectoryValue) (i : Instruction)
+pub has-stepped : (book : BookValue) (rules : RulesValue) (day n : ℕ) (d : DirectoryValue) (i : Instruction)
     (own : State) (reply : Reply) (row : LogRow)
     → d ≡ directory_of book.accounts → n ≡ book.next
     → ◌≡◌ {A = State × Reply} (own, reply)
     (step (record { rules = rules; day = day; directory = d }) book.accounts n i)
     → row ≡ record { number = n; day = day; instruction = i; reply = reply }
-    → IsApplied book rules day i own row
-is-applied book rules day n d i own reply row listed numbered stepped made =
+    → HasStepped book rules day i own row
+has-stepped book rules day n d i own reply row listed numbered stepped made =
     let c = setting_on book rules day in
     let all : ◌≡◌ {A = State × Reply} (own, reply) (step c book.accounts book.next i) =
     stepped ∙ ap (λ e. step (record { rules = rules; day = day; directory = e }) book.accounts n i) listed
@@ -95,7 +95,7 @@ is-applied book rules day n d i own reply row listed numbered stepped made =
           ∙ ap (λ (p : State × Reply). row_of c book.next i p.1) all;
     }
 
-pub book-of_one : (book : BookValue) (rules : RulesValue) (day : ℕ) (i : Instruction) (own : State)
+book-of_one : (book : BookValue) (rules : RulesValue) (day : ℕ) (i : Instruction) (own : State)
     → own ≡ (applied book rules day i).accounts
     → ◌≡◌ {A = BookValue} (record { accounts = own; next = book.next + 1 }) (applied book rules day i)
 book-of_one book rules day i own closed = λ k. record { accounts = closed k; next = book.next + 1 }
@@ -109,7 +109,7 @@ unrefused-of_one book rules day d i listed none =
     sym (ap (λ e. refusal (record { rules = rules; day = day; directory = e }) book.accounts i) listed) ∙ none
 
 -- its log row alone is the log of its day
-pub log-of_one : (book : BookValue) (rules : RulesValue) (day : ℕ) (i : Instruction) (row : LogRow) → IsBook book
+log-of_one : (book : BookValue) (rules : RulesValue) (day : ℕ) (i : Instruction) (row : LogRow) → IsBook book
     → row ≡ row_applied book rules day i → log_of (day_of_one book rules day i) ≡ row ∷ []
 log-of_one book rules day i row kept is =
     let c = setting_on book rules day in
@@ -127,9 +127,23 @@ module _ (laws : StepLaws) where
       (closed ∙ ap (λ n. (step c book.accounts n i).0) (sym (again book can.kept))) listed refl (omega arith)
 
   -- and that book is the one to which its day was committed
-  pub committed-after_one : (book : BookValue) (rules : RulesValue) (day : ℕ) (i : Instruction) → IsBook book
+  committed-after_one : (book : BookValue) (rules : RulesValue) (day : ℕ) (i : Instruction) → IsBook book
       → applied book rules day i ≡ committed book (settled_day (day_of_one book rules day i))
   committed-after_one book rules day i kept =
       let c = setting_on book rules day in
       committed-after_day laws (day_of_one book rules day i) (applied book rules day i).accounts book.next 1 kept
       (again book kept) (ap (λ n. (step c book.accounts n i).0) (sym (again book kept))) refl (omega arith)
+
+  -- so it is applied
+  pub applied-one : (book : BookValue) (rules : RulesValue) (day : ℕ) (i : Instruction) (own : State) (row : LogRow)
+      → IsBook book → book.next ≤ MOST_RECORD → HasStepped book rules day i own row
+      → IsApplied rules day i book (record { accounts = own; next = book.next + 1 }) row
+  applied-one book rules day i own row kept numbered done =
+      let after = book-of_one book rules day i own done.closed in
+      record {
+        numbered = numbered;
+        book = after;
+        row = done.logged;
+        settled = after ∙ committed-after_one book rules day i kept;
+        log = log-of_one book rules day i row kept done.logged;
+      }

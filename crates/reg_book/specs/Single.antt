@@ -10,7 +10,8 @@ use Rattle.reg_rules.specs.Step.{step, row_of}
 use Rattle.reg_book.specs.declared.apply.ApplyFault.{ApplyFault}
 use Rattle.reg_book.specs.declared.apply.ApplyFault.TheVariants.{NumbersSpent, NoMemory}
 use Rattle.reg_book.specs.Book.{BookValue, directory_of}
-use Rattle.reg_book.specs.Day.{DayValue, day_of}
+use Rattle.reg_book.specs.Settled.{committed}
+use Rattle.reg_book.specs.Day.{DayValue, day_of, settled_day, log_of}
 
 -- what is fixed on a settlement day on which this book is settled by these rules
 abbrev pub setting_on : BookValue → RulesValue → ℕ → Setting
@@ -37,3 +38,19 @@ abbrev pub IsApplyFault : BookValue → RulesValue → ℕ → Instruction → A
 IsApplyFault book rules day i NumbersSpent = book.next ≡ MOST_RECORD + 1
 IsApplyFault book rules day i NoMemory =
     (book.next ≤ MOST_RECORD) × (refusal (setting_on book rules day) book.accounts i ≡ None)
+
+-- the instruction is applied: a record number was left, and the new book and the log row are those after its step. They
+-- are also those of the day whose batch is this one instruction, if that is settled and committed
+pub record IsApplied (rules : RulesValue) (day : ℕ) (i : Instruction) (old new : BookValue)
+    (logged : LogRow) : Type 0 where
+  pub numbered : old.next ≤ MOST_RECORD
+  pub book : new ≡ applied old rules day i
+  pub row : logged ≡ row_applied old rules day i
+  pub settled : new ≡ committed old (settled_day (day_of_one old rules day i))
+  pub log : log_of (day_of_one old rules day i) ≡ logged ∷ []
+
+-- the instruction is not applied: the fault says why, and the book stays as it was
+pub record IsNotApplied (rules : RulesValue) (day : ℕ) (i : Instruction) (old new : BookValue)
+    (fault : ApplyFault) : Type 0 where
+  pub why : IsApplyFault old rules day i fault
+  pub unchanged : new ≡ old

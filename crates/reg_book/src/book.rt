@@ -1,8 +1,6 @@
 //! The book of all accounts.
 
 ghost use Rattle.std.specs.Prelude.{◌≡◌, ◌≢◌, ◌+◌, ◌-◌, ◌<◌, ◌≤◌, [], ◌∷◌, All, length, slice_index, MatchResult, IfOk};
-ghost use Rattle.std.specs.Prelude.{IfErr, OnOk, OnErr};
-ghost use Rattle.reg_base.specs.declared.limits.TheConstants.{MOST_RECORD};
 ghost use Rattle.std.specs.Option.{option_copied};
 ghost use Rattle.reg_base.specs.Rising.{IsRising};
 ghost use Rattle.reg_base.specs.declared.kinds.Retirement.TheVariants.{Surrendered, Deleted};
@@ -58,8 +56,7 @@ impl Model for Book {
 impl Book {
     ghost use Rattle.reg_book.specs.Book.{directory_of, IsBook, IsBookKept, total_held, total_retired};
     ghost use Rattle.reg_book.specs.Settled.{IsOfBook, committed, replaced};
-    ghost use Rattle.reg_book.specs.Day.{settled_day, log_of};
-    ghost use Rattle.reg_book.specs.Single.{applied, row_applied, day_of_one, IsApplyFault};
+    ghost use Rattle.reg_book.specs.Single.{IsApplied, IsNotApplied};
 
     /// The book of these accounts, with their directory and the next record number: what [`Book::into_parts`] took
     /// apart, or what a day made of it. The accounts stand by rising number. Takes no memory.
@@ -156,16 +153,9 @@ impl Book {
         day: Day,
         instruction: &Instruction,
     ) -> Result<LogRow, ApplyFault>
-        ensures book { OnOk result (self.new ≡ applied self.old rules.now day instruction.now) }
-        ensures row { IfOk result (λ row. (self.old.next ≤ MOST_RECORD)
-            × (row ≡ row_applied self.old rules.now day instruction.now)) }
-        ensures settled { OnOk result
-            (self.new ≡ committed self.old (settled_day (day_of_one self.old rules.now day instruction.now))) }
-        ensures log { IfOk result
-            (λ row. log_of (day_of_one self.old rules.now day instruction.now) ≡ row ∷ []) }
+        ensures answer { MatchResult result (IsApplied rules.now day instruction.now self.old self.new)
+            (IsNotApplied rules.now day instruction.now self.old self.new) }
         ensures directory { directory_of self.new.accounts ≡ directory_of self.old.accounts }
-        ensures fault { IfErr result (IsApplyFault self.old rules.now day instruction.now) }
-        ensures unchanged { OnErr result (self.new ≡ self.old) }
     {
         let next = self.next;
         let Some(number) = RecordNo::new(next) else {

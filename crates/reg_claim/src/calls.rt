@@ -1,10 +1,8 @@
 //! What a worker does with the table and its seat.
 
-ghost use Rattle.std.specs.Prelude.{◌≡◌, ◌+◌, ◌/◌, ◌≤◌, ◌<◌, ℕ, true, All, Contains, length, IfOk, MatchBool};
-ghost use Rattle.reg_facts.specs.Counting.{times, once};
-ghost use Rattle.reg_claim.specs.Views.{fresh, newcomer, with_claimed, with_finished, with_seen, with_less};
-ghost use Rattle.reg_claim.specs.Views.{joined_views, is_odd};
-ghost use Rattle.reg_claim.specs.Claims.{HasNoRepeat};
+ghost use Rattle.std.specs.Prelude.{◌≡◌, ◌+◌, ◌/◌, ◌≤◌, true, Contains, IfOk, MatchBool};
+ghost use Rattle.reg_claim.specs.Views.{fresh, newcomer, with_finished, with_seen, with_less, joined_views, is_odd};
+ghost use Rattle.reg_claim.specs.Answers.{GetsPlace, IsTallyOf};
 ghost use Rattle.reg_claim.specs.Steps.{SeesLater};
 ghost use Rattle.reg_claim.specs.Seats.{known, seat_table, places, IsSeatOf};
 
@@ -68,12 +66,9 @@ impl ClaimTable {
         requires place { 1 ≤ place }
         requires within { place ≤ places self.now }
         ensures same { seat_table seat.new ≡ seat_table seat.old }
-        ensures view { MatchBool result (known seat.new ≡ with_claimed place (known seat.old))
+        ensures answer { MatchBool result (GetsPlace place (known seat.old) (known seat.new))
             (known seat.new ≡ known seat.old) }
-        ensures first { result ≡ true → ¬ Contains (known seat.old).claimed place }
         ensures alone { (known seat.old).stake ≡ 16 → ¬ Contains (known seat.old).claimed place → result ≡ true }
-        ensures claimed { result ≡ true → Contains (known seat.new).claimed place }
-        ensures unfinished { result ≡ true → ¬ Contains (known seat.new).finished place }
     {
         let shared = &self.table.shared;
         let found = shared.swap::<Claiming>(&mut seat.seat, place as usize, 1);
@@ -140,13 +135,7 @@ impl ClaimTable {
     pub fn close(self, seat: Seat) -> Tally
         requires own { IsSeatOf self seat }
         requires last { (known seat).stake ≡ 16 }
-        ensures done { result.done ≡ length (known seat).finished }
-        ensures most { result.done ≤ places self }
-        ensures seen { (known seat).seen / 2 ≤ result.done }
-        ensures stopped { is_odd (known seat).seen ≡ true → result.stopped ≡ true }
-        ensures no_repeat { HasNoRepeat (known seat).finished }
-        ensures within { All (λ p. (1 ≤ p) × (p ≤ places self)) (known seat).finished }
-        ensures all { result.done ≡ places self → (p : ℕ) → times p (known seat).finished ≡ once (places self) p }
+        ensures { IsTallyOf (places self) (known seat) result }
     {
         let ClaimTable { table } = self;
         let Seat { seat } = seat;

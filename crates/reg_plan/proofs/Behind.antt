@@ -11,7 +11,8 @@ use Rattle.reg_base.specs.Footprints.{footprints}
 use Rattle.reg_plan.specs.declared.runs.Found.{Found}
 use Rattle.reg_plan.specs.declared.arrow.Touch.{Touch}
 use Rattle.reg_plan.specs.Touched.{AreFew}
-use Rattle.reg_plan.specs.TouchList.{touched_at, touches_of, touch_cmp, AreTouches}
+use Rattle.reg_plan.specs.TouchList.{touched_at, touches_of, touch_cmp}
+use Rattle.reg_plan.proofs.SortedTouches.{AreTouches}
 use Rattle.reg_plan.specs.Runs.{IsFound}
 use Rattle.reg_plan.proofs.Fewness.{few_both}
 

@@ -1,5 +1,6 @@
 pub mod Members
 pub mod Links
+pub mod SortedTouches
 pub mod Touchings
 pub mod Slices
 pub mod Raising

@@ -17,7 +17,8 @@ use Rattle.reg_plan.specs.declared.arrow.Opening.{Opening}
 use Rattle.reg_plan.specs.declared.arrow.Touch.{Touch}
 use Rattle.reg_plan.specs.Arrows.{same_arrow}
 use Rattle.reg_plan.specs.TouchList.{arrow_between, arrows_after, arrows_of, opening_at, openings_after, openings_of}
-use Rattle.reg_plan.specs.TouchList.{same_touch, touch_cmp}
+use Rattle.reg_plan.specs.TouchList.{touch_cmp}
+use Rattle.reg_plan.proofs.SortedTouches.{same_touch}
 use Rattle.reg_plan.proofs.Members.{In, of_member, of_each_member}
 
 abbrev pub touch : ℕ → ℕ → Touch

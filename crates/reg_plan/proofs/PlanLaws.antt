@@ -13,7 +13,8 @@ use Rattle.std.proofs.lemmas.List.Sorted.{ranks_by}
 use Rattle.reg_base.specs.Footprint.{EachFootprintIsSound}
 use Rattle.reg_plan.specs.declared.arrow.Arrow.{Arrow}
 use Rattle.reg_plan.specs.Arrows.{arrow_order}
-use Rattle.reg_plan.specs.TouchList.{touches_from, arrows_of, openings_of, touch_cmp, AreTouches, AreSorted}
+use Rattle.reg_plan.specs.TouchList.{arrows_of, openings_of, touch_cmp, AreSorted}
+use Rattle.reg_plan.proofs.SortedTouches.{touches_from, AreTouches}
 use Rattle.reg_base.specs.Footprints.{footprints}
 use Rattle.reg_plan.specs.Plans.{level_at, IsBetween}
 use Rattle.reg_plan.specs.Laws.{EachBatchHasAPlan}

@@ -15,7 +15,8 @@ use Rattle.reg_plan.specs.declared.arrow.Opening.{Opening}
 use Rattle.reg_plan.specs.declared.arrow.Touch.{Touch}
 use Rattle.reg_plan.specs.Arrows.{touches_place, IsArrow, IsOpening, AreArrows, same_arrow}
 use Rattle.reg_plan.specs.Plans.{AreOpenings, IsBetween}
-use Rattle.reg_plan.specs.TouchList.{touches_from, arrows_of, openings_of, same_touch, AreTouches, AreSorted}
+use Rattle.reg_plan.specs.TouchList.{arrows_of, openings_of, AreSorted}
+use Rattle.reg_plan.proofs.SortedTouches.{touches_from, same_touch, AreTouches}
 use Rattle.reg_base.specs.Footprints.{footprints}
 use Rattle.reg_plan.proofs.Members.{In, in_from, contains_from, in_moved, in_moved_back, of_each_member}
 use Rattle.reg_plan.proofs.Links.{touch, Rises, IsLink, IsFirst, links_of_are, each_link_of, openings_of_are}

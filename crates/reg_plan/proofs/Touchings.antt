@@ -9,7 +9,8 @@ use Rattle.reg_base.specs.Footprint.{footprint, is_among, EachFootprintIsSound}
 use Rattle.reg_base.specs.Touches.{touches_at}
 use Rattle.reg_plan.specs.declared.arrow.Touch.{Touch}
 use Rattle.reg_plan.specs.Arrows.{touches_place}
-use Rattle.reg_plan.specs.TouchList.{touched_at, touches_from, same_touch}
+use Rattle.reg_plan.specs.TouchList.{touched_at}
+use Rattle.reg_plan.proofs.SortedTouches.{touches_from, same_touch}
 use Rattle.reg_plan.proofs.Members.{In, of_each_member, in_front, in_back, in_either}
 use Rattle.reg_plan.proofs.Links.{touch}
 

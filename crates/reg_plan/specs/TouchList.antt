@@ -1,16 +1,13 @@
 -- How arrows and openings are found: from a list of accounts and the places that touch them, sorted by account and
 -- place. Private functions are stated in these.
-use Rattle.std.specs.Prelude.{ℕ, ◌+◌, Bool, ◌&&◌, ◌==◌, List, [], ◌∷◌, ◌++◌, map, if◌then◌else◌}
+use Rattle.std.specs.Prelude.{ℕ, ◌+◌, ◌==◌, List, [], ◌∷◌, ◌++◌, map, if◌then◌else◌}
 use Rattle.std.specs.List.Sorted.{IsPermutation, IsSorted}
 use Rattle.std.specs.Ordering.{ordering_then, nat_cmp}
 use Rattle.std.specs.declared.cmp.Ordering.{Ordering}
-use Rattle.reg_base.specs.declared.instruction.Instruction.{Instruction}
-use Rattle.reg_base.specs.Directory.{DirectoryValue}
 use Rattle.reg_plan.specs.declared.arrow.Arrow.{Arrow}
 use Rattle.reg_plan.specs.declared.arrow.Opening.{Opening}
 use Rattle.reg_plan.specs.declared.arrow.Touch.{Touch}
 use Rattle.reg_plan.specs.Arrows.{arrow_order}
-use Rattle.reg_base.specs.Footprints.{footprints}
 
 -- the instruction at this place touches these accounts
 abbrev pub touched_at : ℕ → List ℕ → List Touch
@@ -21,17 +18,9 @@ abbrev pub touches_of : ℕ → List (List ℕ) → List Touch
 touches_of place [] = []
 touches_of place (accounts ∷ lists) = touched_at place accounts ++ touches_of (place + 1) lists
 
--- the touches of these instructions, the first of which stands at this place
-abbrev pub touches_from : DirectoryValue → ℕ → List Instruction → List Touch
-touches_from directory place is = touches_of place (footprints directory is)
-
 -- by account, and then by place
 abbrev pub touch_cmp : Touch → Touch → Ordering
 touch_cmp x y = ordering_then (nat_cmp x.account y.account) (nat_cmp x.place y.place)
-
--- the two touches are one
-abbrev pub same_touch : Touch → Touch → Bool
-same_touch x y = (x.account == y.account) && (x.place == y.place)
 
 abbrev pub arrow_between : Touch → Touch → Arrow
 arrow_between x y = record { to = y.place; from = x.place; account = y.account }
@@ -58,11 +47,6 @@ openings_after before (x ∷ xs) =
 abbrev pub openings_of : List Touch → List Opening
 openings_of [] = []
 openings_of (x ∷ xs) = opening_at x ∷ openings_after x xs
-
--- these are the touches of the accounts of each instruction, sorted by account and place
-pub record AreTouches (lists : List (List ℕ)) (touches : List Touch) : Type 0 where
-  pub each : IsPermutation (touches_of 1 lists) touches
-  pub sorted : IsSorted touch_cmp touches
 
 -- these are the arrows of touches, sorted by head, tail and account
 pub record AreSorted (touches : List Touch) (arrows : List Arrow) : Type 0 where

@@ -8,7 +8,7 @@ use reg_base::{Batch, NoMemory, Rules};
 use reg_book::{ClosedDay, ClosedParts, Parts, SettleFault, settle_in_place, settle_plain};
 use reg_regions::{FreePlaces, settle_regions};
 use reg_tasks::{Context, Unnamed, run_order};
-use reg_text::{DayInput, read_day};
+use reg_text::{DayInput, DayParts, read_day};
 use reg_work::{FreeGate, settle_waves, settle_with};
 use std::alloc::Global;
 use std::io::Write;
@@ -171,26 +171,16 @@ fn closed_in_place(alloc: Global, day: DayInput) -> Ended {
     how_ended(settle_in_place(alloc, book, &rules, &batch))
 }
 
-// A day whose accounts are in one list.
-#[derive(Drop)]
-struct ListedDay {
-    parts: Parts,
-    rules: Rules,
-    batch: Batch,
-}
-
-impl ListedDay {
-    // The day of a text.
-    fn of(alloc: Global, text: &[u8]) -> Result<ListedDay, Stop> {
-        let DayInput { book, rules, batch } = day_of(alloc, text)?;
-        match Parts::of_book(alloc, book) {
-            Ok(parts) => Ok(ListedDay {
-                parts,
-                rules,
-                batch,
-            }),
-            Err(NoMemory) => Err(Stop::Short),
-        }
+// The day of a text, with its accounts in one list.
+fn listed_day_of(alloc: Global, text: &[u8]) -> Result<DayParts, Stop> {
+    let DayInput { rules, book, batch } = day_of(alloc, text)?;
+    match Parts::of_book(alloc, book) {
+        Ok(parts) => Ok(DayParts {
+            rules,
+            parts,
+            batch,
+        }),
+        Err(NoMemory) => Err(Stop::Short),
     }
 }
 
@@ -223,10 +213,10 @@ fn joined(alloc: Global, closed: ClosedParts) -> Result<ClosedDay, NoMemory> {
 fn closed_by_regions<R: Threads + Sync>(
     rt: &R,
     alloc: Global,
-    day: ListedDay,
+    day: DayParts,
     workers: u32,
 ) -> Ended {
-    let ListedDay {
+    let DayParts {
         parts,
         rules,
         batch,
@@ -250,7 +240,7 @@ pub(crate) fn try_regions<R: Threads + Sync, W: Write>(
     writer: &mut W,
 ) -> Result<(), Stop> {
     let wanted = closed_in_place(alloc, day_of(alloc, text)?);
-    let (first, second) = (ListedDay::of(alloc, text)?, ListedDay::of(alloc, text)?);
-    let call = |day: ListedDay| closed_by_regions(rt, alloc, day, workers);
+    let (first, second) = (listed_day_of(alloc, text)?, listed_day_of(alloc, text)?);
+    let call = |day: DayParts| closed_by_regions(rt, alloc, day, workers);
     try_using_up(first, second, call, wanted, writer)
 }

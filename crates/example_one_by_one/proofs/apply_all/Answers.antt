@@ -14,7 +14,8 @@ loop-instruction-preserved c =
           c.loop-instruction.book c.apply.new.self c.instructions-instructions.result.now
           c.loop-instruction.instruction-index c.instruction-item.result c.in-Ok.row c.loop-instruction.rows.items
           c.push.new.self.items _ within c.instruction-item.is c.loop-instruction.invariant.listed
-          c.in-Ok.ensures.book c.in-Ok.ensures.row.1 c.in-Ok-push.ensures.items c.loop-instruction.invariant.so_far;
+          c.in-Ok.ensures.answer.book c.in-Ok.ensures.answer.row c.in-Ok-push.ensures.items
+          c.loop-instruction.invariant.so_far;
     }
 
 pub returns : goal.returns

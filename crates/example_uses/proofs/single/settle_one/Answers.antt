@@ -19,6 +19,6 @@ pub returns-clause-refused : goal.returns-clause-refused
 returns-clause-refused c =
     let setting = setting_on c.args.book.now c.args.rules.now c.args.day in
     let accounts = c.args.book.now.accounts in
-    c.refusal.ensures ∙ ap (λ (r : LogRow). refusal_in r.reply) c.in_ok-row.ensures.row.1
+    c.refusal.ensures ∙ ap (λ (r : LogRow). refusal_in r.reply) c.in_ok-row.ensures.answer.row
     ∙ replied setting accounts c.args.book.now.next c.args.instruction.now
     (refusal setting accounts c.args.instruction.now)

@@ -13,23 +13,17 @@ free-requires c k h = absurd (omega (arith, c.close_with-closed.ensures.counts.1
 pub overflow_cast-done : goal.overflow_cast-done
 overflow_cast-done c = let h = (told (goal.at.overflow_cast-done c).After-word-found).small in search rules
 
-pub returns-clause-done : goal.returns-clause-done
-returns-clause-done c = (told (goal.at.returns-clause-done c).After-word-found).done
-
-pub returns-clause-most : goal.returns-clause-most
-returns-clause-most c = (let h = (told (goal.at.returns-clause-most c).After-word-found).most in omega arith)
-
-pub returns-clause-seen : goal.returns-clause-seen
-returns-clause-seen c = (let h = (told (goal.at.returns-clause-seen c).After-word-found).seen in omega arith)
-
-pub returns-clause-stopped : goal.returns-clause-stopped
-returns-clause-stopped c = (told (goal.at.returns-clause-stopped c).After-word-found).stopped
-
-pub returns-clause-no_repeat : goal.returns-clause-no_repeat
-returns-clause-no_repeat c = (told (goal.at.returns-clause-no_repeat c).After-word-found).no_repeat
-
-pub returns-clause-within : goal.returns-clause-within
-returns-clause-within c = (told (goal.at.returns-clause-within c).After-word-found).within
-
-pub returns-clause-all : goal.returns-clause-all
-returns-clause-all c = (told (goal.at.returns-clause-all c).After-word-found).all
+pub returns : goal.returns
+returns c =
+    let told = told (goal.at.returns c).After-word-found in
+    let most = told.most in
+    let seen = told.seen in
+    record {
+      done = told.done;
+      most = most;
+      seen = omega arith;
+      stopped = told.stopped;
+      no_repeat = told.no_repeat;
+      within = told.within;
+      all = told.all;
+    }

@@ -3,7 +3,8 @@ use Rattle.std.specs.Prelude.{All}
 use Rattle.std.specs.List.Sorted.{IsNonDecreasingBy}
 use Rattle.std.proofs.lemmas.List.{length-map}
 use Rattle.reg_plan.specs.declared.arrow.Arrow.{Arrow}
-use Rattle.reg_plan.specs.TouchList.{AreTouches, AreSorted, openings_of}
+use Rattle.reg_plan.specs.TouchList.{AreSorted, openings_of}
+use Rattle.reg_plan.proofs.SortedTouches.{AreTouches}
 use Rattle.reg_plan.specs.Plans.{outward, IsBetween, AreLevels}
 use Rattle.reg_base.specs.Footprints.{footprints}
 use Rattle.reg_plan.proofs.Behind.{are_touches}
