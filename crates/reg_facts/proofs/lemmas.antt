@@ -3,7 +3,7 @@
 pub mod Lists
 -- The elements of a list, one by one from its head.
 pub mod Members
--- How two numbers compare.
+-- How two numbers compare, and that no test is both true and false.
 pub mod Numbers
 -- How often numbers stand in a list.
 pub mod Times

@@ -1,4 +1,3 @@
-pub mod Members
 pub mod Links
 pub mod Touchings
 pub mod Slices

@@ -1,9 +1,11 @@
 -- Lists: what holds of each element (of two lists behind each other, of what a filter keeps), a list without repeats, a
 -- list seen through a function, swaps, and a slice that was written as a whole.
 use Rattle.std.proofs.Common.{◌≡◌, ℕ, zero, suc, ◌<◌, Bool, true, false, List, [], ◌∷◌, ◌++◌, map, length, get_or, set}
-use Rattle.std.proofs.Common.{take, drop, Some, refl, sym, ap, ◌∙◌, inl, inr, arith, add-one, append-nil}
+use Rattle.std.proofs.Common.{take, drop, Option, Some, None, refl, sym, ap, ◌∙◌, inl, inr, arith, append-nil}
 use Rattle.std.specs.Prelude.{filter, slice_get}
-use Rattle.std.specs.List.{AllByRecursion, IsDistinct, swap}
+use Rattle.std.specs.List.{AllByRecursion, IsDistinct, list_all, swap}
+use Rattle.std.specs.Option.{option_map_or, option_to_list}
+use Rattle.std.proofs.Math.Bool.{and-true}
 use Rattle.std.proofs.lemmas.Bool.{cond_both, cases_eq}
 use Rattle.std.proofs.lemmas.List.{same_lists, map-set, get_or-map, drop_all, take_all}
 use Rattle.std.proofs.lemmas.List.Edits.{length-swap, swapped_from_swap}
@@ -60,6 +62,11 @@ distinct-filter e p (x ∷ xs) d =
     let more = distinct-filter e p xs d.1 in
     cond_both (p x) (x ∷ filter p xs) (filter p xs) (IsDistinct e)
     (λ _. (all-filter (λ y. e x y ≡ false) p xs d.0, more)) (λ _. more)
+
+-- what a test says of an option, as a list of one element or none
+pub list_all-option : {X : Type 0} (p : X → Bool) (o : Option X) → list_all p (option_to_list o) ≡ option_map_or p o true
+list_all-option p None = refl
+list_all-option p (Some x) = and-true (p x)
 
 -- ---- elements by their index
 

@@ -1,10 +1,13 @@
--- Numbers: how two compare.
-use Rattle.std.proofs.Common.{◌≡◌, ℕ, ◌<◌, ◌≤◌, ◌⊎◌, inl, inr, false, sym, arith, tests}
+-- Numbers and tests: how two numbers compare, and that no test is both true and false.
+use Rattle.std.proofs.Common.{◌≡◌, ℕ, ◌<◌, ◌≤◌, ◌⊎◌, inl, inr, Bool, true, false, sym, arith, tests}
 use Rattle.std.specs.Cmp.{ranked}
 use Rattle.std.specs.Ordering.{nat_cmp, ordering_index, is_le}
 use Rattle.std.specs.declared.cmp.Ordering.TheVariants.{Less, Greater}
 use mathlib.Core.Logic.{dite}
 use native.Mathlib.Decide.{dec_le}
+
+pub clash : {b : Bool} → b ≡ true → b ≡ false → ⊥
+clash p q = absurd cc
 
 pub below_of : (x a : ℕ) → nat_cmp x a ≡ Less → x < a
 below_of x a e = ranked x a Less (sym e)
