@@ -27,7 +27,8 @@ same_touch-sym : (x y : Touch) → same_touch x y ≡ same_touch y x
 same_touch-sym x y = λ i. (nat_eq_equiv.symm x.account y.account i) && (nat_eq_equiv.symm x.place y.place i)
 
 same_arrow-sym : (x y : Arrow) → same_arrow x y ≡ same_arrow y x
-same_arrow-sym x y = λ i. (nat_eq_equiv.symm x.account y.account i) && ((nat_eq_equiv.symm x.from y.from i) && (nat_eq_equiv.symm x.to y.to i))
+same_arrow-sym x y = λ i. (nat_eq_equiv.symm x.account y.account i)
+    && ((nat_eq_equiv.symm x.from y.from i) && (nat_eq_equiv.symm x.to y.to i))
 
 -- a place that touches an account is one of the batch
 pub place_within : (d : DirectoryValue) (is : List Instruction) (a place : ℕ) → touches_place d is a place ≡ true
@@ -66,7 +67,8 @@ module _ (sound : EachFootprintIsSound) (d : DirectoryValue) (is : List Instruct
     tail = touched (touch w.account w.from) h.tail;
     head = touched (touch w.account w.to) h.head;
     none_between = λ place after before.
-        false_from_ne_true (touches_place d is w.account place) (λ e. elim (h.apart place (is_there w.account place e)) [
+        false_from_ne_true (touches_place d is w.account place)
+        (λ e. elim (h.apart place (is_there w.account place e)) [
           | inl early ↦ omega arith
           | inr late ↦ omega arith
         ]);

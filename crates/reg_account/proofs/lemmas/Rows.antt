@@ -15,8 +15,8 @@ below_higher next after [] le below = tt
 below_higher next after (n ∷ ns) le below = (omega (arith, le, below.0), below_higher next after ns le below.1)
 
 -- rows of which none is ahead have lower numbers
-pub none_ahead : (next : ℕ) (rows : List RetirementRow) → list_any (λ (r : RetirementRow). leb next r.number) rows ≡ false
-    → AreBelow next (row_numbers rows)
+pub none_ahead : (next : ℕ) (rows : List RetirementRow)
+    → list_any (λ (r : RetirementRow). leb next r.number) rows ≡ false → AreBelow next (row_numbers rows)
 none_ahead next [] none = tt
 none_ahead next (r ∷ rs) none =
     let both = or_parts (leb next r.number) (list_any (λ (x : RetirementRow). leb next x.number) rs) none in

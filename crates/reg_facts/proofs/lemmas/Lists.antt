@@ -64,7 +64,8 @@ distinct-filter e p (x ∷ xs) d =
     (λ _. (all-filter (λ y. e x y ≡ false) p xs d.0, more)) (λ _. more)
 
 -- what a test says of an option, as a list of one element or none
-pub list_all-option : {X : Type 0} (p : X → Bool) (o : Option X) → list_all p (option_to_list o) ≡ option_map_or p o true
+pub list_all-option : {X : Type 0} (p : X → Bool) (o : Option X)
+    → list_all p (option_to_list o) ≡ option_map_or p o true
 list_all-option p None = refl
 list_all-option p (Some x) = and-true (p x)
 
