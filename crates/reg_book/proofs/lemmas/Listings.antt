@@ -24,7 +24,8 @@ pub find_listing : (a : ℕ) (xs : State)
     → fin.find nat_cmp a (map entry_of xs) ≡ option_map listing (account xs a)
 find_listing a [] = refl
 find_listing a (v ∷ vs) =
-    let same : eq_by_cmp nat_cmp a v.number ≡ eqb v.number a = unsigned_tied a v.number ∙ nat_eq_equiv.symm a v.number in
+    let same : eq_by_cmp nat_cmp a v.number ≡ eqb v.number a =
+    unsigned_tied a v.number ∙ nat_eq_equiv.symm a v.number in
     rw same (find_by (eqb v.number a) v (fin.find nat_cmp a (map entry_of vs)) (account vs a) (find_listing a vs))
 
 -- what the directory says of a number is what its account is

@@ -11,7 +11,8 @@ length-rows_of c s n [] = refl
 length-rows_of c s n (i ∷ is) = ap suc (length-rows_of c (step c s n i).0 (n + 1) is)
 
 -- there is a reply to each instruction
-pub length-replies_of : (c : Setting) (s : State) (n : ℕ) (is : List Instruction) → length (replies_in (rows_of c s n is))
+pub length-replies_of : (c : Setting) (s : State) (n : ℕ) (is : List Instruction)
+    → length (replies_in (rows_of c s n is))
     ≡ length is
 length-replies_of c s n [] = refl
 length-replies_of c s n (i ∷ is) = ap suc (length-replies_of c (step c s n i).0 (n + 1) is)

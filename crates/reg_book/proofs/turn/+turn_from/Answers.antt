@@ -26,7 +26,8 @@ turn_from-reply-requires t c =
             (omega (arith, first.within, length-numbers s)) c.requires.distinct c.swap.ensures.after,
         (
           behind-swap c.args.number s c.swap.new.self c.args.count index
-              (omega (arith, first.behind, first.within, length-numbers s)) (omega (arith, first.within, length-numbers s))
+              (omega (arith, first.behind, first.within, length-numbers s))
+              (omega (arith, first.within, length-numbers s))
               c.requires.behind c.swap.ensures.after,
           subst (λ ps. AreIndexesLeft (c.args.count + 1) (numbers c.swap.new.self) ps wanted) (sym c.rename.ensures)
               (left-more c.args.count (numbers s) (numbers c.swap.new.self) wanted index c.in-Some.later.now moved
