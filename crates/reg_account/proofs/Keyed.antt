@@ -1,16 +1,17 @@
 -- Lists that rise by a number of their items: the item with a number, a search by it, and an item put in its place.
 use Rattle.std.proofs.Common.{◌≡◌, ◌≢◌, ℕ, zero, suc, ◌+◌, ◌<◌, ◌≤◌, Bool, true, false, cond, eqb, ltb, List, [], ◌∷◌}
 use Rattle.std.proofs.Common.{◌++◌, map, filter, length, get_or, set, take, drop, Some, None, Err, refl, sym, ap, subst}
-use Rattle.std.proofs.Common.{◌∙◌, inl, inr, arith, tests, add-one}
+use Rattle.std.proofs.Common.{◌∙◌, inl, inr, arith, add-one}
 use Rattle.std.specs.Prelude.{find, not, Option}
 use Rattle.std.specs.List.{insert, remove, HoldsAt, AllByRecursion}
 use Rattle.std.specs.Cmp.{ranked}
-use Rattle.std.specs.Ordering.{nat_cmp, ordering_index}
-use Rattle.std.specs.declared.cmp.Ordering.TheVariants.{Less, Equal, Greater}
+use Rattle.std.specs.Ordering.{nat_cmp}
+use Rattle.std.specs.declared.cmp.Ordering.TheVariants.{Equal}
 use Rattle.std.specs.List.Sorted.{IsBinarySearchResult}
 use Rattle.std.proofs.lemmas.Bool.{eq-eqb, eqb-true, eqb-false, ne_eqb, cases_lt, lt-ltb, ltb-true, le-ltb}
 use Rattle.std.proofs.lemmas.List.{length-append}
 use Rattle.std.proofs.lemmas.Option.{none-some}
+use Rattle.reg_facts.proofs.lemmas.Numbers.{ordering-higher, below_of, above_of}
 use Rattle.reg_base.specs.Rising.{IsRising}
 use Rattle.reg_base.proofs.lemmas.RisesFrom.{RisesFrom, rises_from}
 
@@ -27,15 +28,6 @@ is_rising low [] rises k lt = absurd (omega arith)
 is_rising low (x ∷ xs) rises zero lt = let h = first_low (suc x) xs rises.1 (omega arith) in omega (arith, h)
 is_rising low (x ∷ xs) rises (suc k) lt =
     rw add-one (let h = is_rising (suc x) xs rises.1 k (omega arith) in rw add-one at h)
-
-pub ordering-higher : (x a b : ℕ) → a ≤ b → ordering_index (nat_cmp a x) ≤ ordering_index (nat_cmp b x)
-ordering-higher x a b le = grind (arith, tests)
-
-below_of : (x a : ℕ) → nat_cmp x a ≡ Less → x < a
-below_of x a e = ranked x a Less (sym e)
-
-above_of : (x a : ℕ) → nat_cmp x a ≡ Greater → a < x
-above_of x a e = ranked x a Greater (sym e)
 
 module _ {X : Type 0} (key : X → ℕ) where
   -- no number is below the lowest

@@ -1,3 +1,4 @@
+pub mod lemmas
 pub mod Keyed
 pub mod RowFacts
 pub mod PeriodSums

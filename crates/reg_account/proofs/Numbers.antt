@@ -10,7 +10,8 @@ use Rattle.reg_account.specs.declared.rows.RetirementRow.{RetirementRow}
 use Rattle.reg_account.specs.Rows.{is_same_kind, is_same_retirement, retirement_of, amount_in}
 use Rattle.reg_account.specs.Account.{amount_of, with_amount, unretired_row}
 use Rattle.reg_account.specs.Laws.{counted, of_kind, NumberLaws}
-use Rattle.reg_account.proofs.RowFacts.{retired_pushed, retired_marked}
+use Rattle.reg_account.proofs.lemmas.Rows.{retired_pushed}
+use Rattle.reg_account.proofs.RowFacts.{retired_marked}
 use Rattle.reg_account.proofs.Changes.{unretired_found}
 
 raised : (h : Holdings) (own kind : AllowanceKind) (n : ℕ) → amount_of (with_amount h own (amount_of h own + n)) kind

@@ -9,7 +9,8 @@ use Rattle.std.specs.declared.cmp.Ordering.TheVariants.{Equal}
 use Rattle.std.proofs.lemmas.Bool.{eq-eqb, eqb-true, ne_eqb}
 use Rattle.std.proofs.lemmas.Option.{same_Some, none-some}
 use Rattle.std.proofs.lemmas.List.{length-map}
-use Rattle.std.proofs.lemmas.List.Sums.{sum_by-append, sum_by-cons, sum_by_push}
+use Rattle.std.proofs.lemmas.List.Sums.{sum_by-cons, sum_by_push}
+use Rattle.reg_facts.proofs.lemmas.Lists.{all-push}
 use Rattle.reg_base.specs.declared.limits.TheConstants.{MOST_RETIRED, MOST_ROWS, MOST_PERIODS}
 use Rattle.reg_base.specs.declared.kinds.AllowanceKind.{AllowanceKind}
 use Rattle.reg_base.specs.declared.kinds.AllowanceKind.TheVariants.{General, Aviation}
@@ -25,6 +26,7 @@ use Rattle.reg_account.specs.Rows.{is_same_kind, is_same_retirement, retirement_
 use Rattle.reg_account.specs.Rows.{amount_for, surrendered_in, row_numbers, row_in, marked_reversed, with_mark}
 use Rattle.reg_account.specs.Rows.{AreBelow, RowFits, RowIsInRange, RowsFit, RetiredFits}
 use Rattle.reg_account.specs.Sums.{sum_at, sum_for, SumsAgree}
+use Rattle.reg_account.proofs.lemmas.Rows.{nothing_from, retired_pushed}
 use Rattle.reg_account.proofs.Keyed.{low_key, from_zero, is_rising, number_found}
 
 -- the number at an index, read from the list of numbers
@@ -98,15 +100,6 @@ rows_fit_marked rows n fit = record {
   in_range = range_marked n rows fit.in_range;
 }
 
--- a reversed row adds nothing
-nothing_from : (way : Retirement) (kind : AllowanceKind) (x : RetirementRow)
-    → amount_in way kind (record x { reversed = true }) ≡ 0
-nothing_from way kind x = go (is_same_retirement (retirement_of x.fate) way) (is_same_kind x.kind kind) where
-  go : (a b : Bool) → cond (a && (b && false)) x.amount 0 ≡ 0
-  go true true = refl
-  go true false = refl
-  go false b = refl
-
 same_way : (way : Retirement) → is_same_retirement way way ≡ true
 same_way Surrendered = refl
 same_way Deleted = refl
@@ -170,26 +163,11 @@ pub surrendered_marked : (xs : List RetirementRow) (n : ℕ) (row : RetirementRo
 surrendered_marked xs n row period rises found =
     sum_marked (amount_for period) (nothing_for period) 0 xs n row (from_zero _ rises) found
 
--- a row that is added adds to the sums
-pub retired_pushed : (way : Retirement) (kind : AllowanceKind) (xs : List RetirementRow) (row : RetirementRow)
-    → retired_in way kind (xs ++ row ∷ []) ≡ retired_in way kind xs + amount_in way kind row
-retired_pushed way kind xs row =
-    let e = sum_by-append (amount_in way kind) xs (row ∷ []) in
-    let h : retired_in way kind (row ∷ []) ≡ amount_in way kind row + retired_in way kind [] =
-    sum_by-cons (amount_in way kind) row [] in
-    let z : retired_in way kind [] ≡ 0 = refl in
-    omega (arith, e, h, z)
-
 rises_pushed : (low : ℕ) (xs : List RetirementRow) (row : RetirementRow) → RisesFrom low (row_numbers xs)
     → AreBelow row.number (row_numbers xs) → low ≤ row.number → RisesFrom low (row_numbers (xs ++ row ∷ []))
 rises_pushed low [] row rises below le = (le, tt)
 rises_pushed low (x ∷ xs) row rises below le =
     (rises.0, rises_pushed (suc x.number) xs row rises.1 below.1 (omega (arith, below.0)))
-
-each_pushed : (P : RetirementRow → Type 0) (xs : List RetirementRow) (row : RetirementRow) → AllByRecursion P xs → P row
-    → AllByRecursion P (xs ++ row ∷ [])
-each_pushed P [] row all own = (own, tt)
-each_pushed P (x ∷ xs) row all own = (all.0, each_pushed P xs row all.1 own)
 
 -- the sums after a row was marked
 pub sums_marked : (s t : Sums) (rows : List RetirementRow) (n : ℕ) (row : RetirementRow) → IsRising (row_numbers rows)
@@ -288,8 +266,8 @@ pub rows_fit_pushed : (rows : List RetirementRow) (row : RetirementRow) → Rows
 rows_fit_pushed rows row fit later room own ranged = record {
   few = let l = length-append rows (row ∷ []) in omega (arith, l, room);
   rise = is_rising 0 _ (rises_pushed 0 rows row (from_zero _ fit.rise) later (omega arith));
-  each = each_pushed RowFits rows row fit.each own;
-  in_range = each_pushed RowIsInRange rows row fit.in_range ranged;
+  each = all-push RowFits rows row fit.each own;
+  in_range = all-push RowIsInRange rows row fit.in_range ranged;
 }
 
 -- the sums after a row was added

@@ -1,43 +1,19 @@
 -- A footprint has each account once, and only those that the directory has.
-use Rattle.std.proofs.Common.{◌≡◌, ℕ, ◌+◌, ◌<◌, ◌≤◌, Bool, true, false, cond, ◌&&◌, ◌||◌, eqb, List, [], ◌∷◌, ◌++◌, map}
+use Rattle.std.proofs.Common.{◌≡◌, ℕ, ◌+◌, ◌<◌, ◌≤◌, Bool, true, false, cond, ◌||◌, eqb, List, [], ◌∷◌, ◌++◌, map}
 use Rattle.std.proofs.Common.{length, get_or, take, refl, sym, ap, ◌∙◌, arith}
 use Rattle.std.specs.Prelude.{filter, not}
 use Rattle.std.specs.List.{IsDistinct, AllByRecursion, list_all}
-use Rattle.std.proofs.lemmas.Bool.{cond_both, eqb-true, eqb-false, eq-eqb, ne_eqb, not-true}
+use Rattle.std.proofs.lemmas.Bool.{cond_both, eqb-true, eqb-false, eq-eqb, ne_eqb, not-true, and_parts}
 use Rattle.std.proofs.lemmas.List.{append-nil, length-map, length-take, map-append, take_more}
 use Rattle.std.specs.Option.{option_to_list}
 use Rattle.std.proofs.lemmas.List.Folds.{list_all-append}
 use Rattle.std.proofs.lemmas.List.Elements.{All-from_recursion}
+use Rattle.reg_facts.proofs.lemmas.Lists.{all-filter, all-kept, distinct-filter}
 use Rattle.reg_base.specs.Directory.{DirectoryValue, is_known}
 use Rattle.reg_base.specs.Footprint.{each_once, is_among, footprint, all_known, IsSound}
 use Rattle.reg_base.specs.declared.act.Act.{Act}
 use Rattle.reg_base.specs.declared.shares.Share.{Share}
 use Rattle.reg_base.specs.Acts.{first, shares, parties, also_known}
-
--- what holds of each element holds of each that a filter keeps
-all-filter : {X : Type 0} (P : X → Type 0) (p : X → Bool) (xs : List X) → AllByRecursion P xs
-    → AllByRecursion P (filter p xs)
-all-filter P p [] all = tt
-all-filter P p (x ∷ xs) all =
-    let more = all-filter P p xs all.1 in
-    cond_both (p x) (x ∷ filter p xs) (filter p xs) (AllByRecursion P) (λ _. (all.0, more)) (λ _. more)
-
--- a filter keeps what passes
-all-kept : {X : Type 0} (P : X → Type 0) (p : X → Bool) → ((x : X) → p x ≡ true → P x) → (xs : List X)
-    → AllByRecursion P (filter p xs)
-all-kept P p holds [] = tt
-all-kept P p holds (x ∷ xs) =
-    let more = all-kept P p holds xs in
-    cond_both (p x) (x ∷ filter p xs) (filter p xs) (AllByRecursion P) (λ passes. (holds x passes, more)) (λ _. more)
-
-distinct-filter : {X : Type 0} (e : X → X → Bool) (p : X → Bool) (xs : List X) → IsDistinct e xs
-    → IsDistinct e (filter p xs)
-unfolding IsDistinct
-distinct-filter e p [] d = tt
-distinct-filter e p (x ∷ xs) d =
-    let more = distinct-filter e p xs d.1 in
-    cond_both (p x) (x ∷ filter p xs) (filter p xs) (IsDistinct e)
-    (λ _. (all-filter (λ y. e x y ≡ false) p xs d.0, more)) (λ _. more)
 
 another : (x y : ℕ) → not (eqb y x) ≡ true → eqb x y ≡ false
 another x y h = ne_eqb x y (λ same. eqb-false y x (not-true (eqb y x) h) (sym same))
@@ -61,14 +37,10 @@ all-each_once : (P : ℕ → Type 0) (xs : List ℕ) → AllByRecursion P xs →
 all-each_once P [] all = tt
 all-each_once P (x ∷ xs) all = (all.0, all-filter P (λ y. not (eqb y x)) (each_once xs) (all-each_once P xs all.1))
 
-both : (a b : Bool) → (a && b) ≡ true → (a ≡ true) × (b ≡ true)
-both true b h = (refl, h)
-both false b h = absurd (cc)
-
 all-passed : (p : ℕ → Bool) (xs : List ℕ) → list_all p xs ≡ true → AllByRecursion (λ x. p x ≡ true) xs
 all-passed p [] h = tt
 all-passed p (x ∷ xs) h =
-    let passed = both (p x) (list_all p xs) h in
+    let passed = and_parts (p x) (list_all p xs) h in
     (passed.0, all-passed p xs passed.1)
 
 -- each account that an act touches has to be known, so the directory has it
@@ -76,7 +48,7 @@ known-parties : (d : DirectoryValue) (act : Act) → all_known d act ≡ true
     → AllByRecursion (λ a. is_known d a ≡ true) (parties act)
 known-parties d act h =
     all-passed (is_known d) (parties act)
-    (both (list_all (is_known d) (parties act)) (list_all (is_known d) (option_to_list (also_known act)))
+    (and_parts (list_all (is_known d) (parties act)) (list_all (is_known d) (option_to_list (also_known act)))
     (sym (list_all-append (is_known d) (parties act) (option_to_list (also_known act))) ∙ h)).0
 
 known-footprint : (d : DirectoryValue) (act : Act) → AllByRecursion (λ a. is_known d a ≡ true) (footprint d act)

@@ -1,12 +1,12 @@
 -- The period of a year: periods rise, so at most one has it.
 use Rattle.std.proofs.Common.{◌≡◌, ℕ, zero, suc, ◌+◌, ◌-◌, ◌<◌, ◌≤◌, Bool, true, false, cond, eqb, List, [], ◌∷◌}
 use Rattle.std.proofs.Common.{length, get_or, refl, ap, sym, ◌∙◌, arith, add-one, Option, Some, None}
-use Rattle.std.specs.Prelude.{find, map, slice_get, MatchOption}
+use Rattle.std.specs.Prelude.{find, slice_get, MatchOption}
 use Rattle.std.specs.List.{AllByRecursion, position_from}
 use Rattle.std.proofs.lemmas.Bool.{eq-eqb}
 use Rattle.std.proofs.lemmas.Bool.Decides.{nat_tests}
-use Rattle.reg_base.specs.Periods.{ArePeriods, PeriodsRise, first_years, is_within}
-use Rattle.reg_base.specs.Rules.{RulesValue, PeriodOfIsTheOnlyOne, NoPeriodHas, IsOnlyPeriod, period_of, period_with}
+use Rattle.reg_base.specs.Periods.{PeriodsRise, first_years, is_within}
+use Rattle.reg_base.specs.Rules.{PeriodOfIsTheOnlyOne, NoPeriodHas, IsOnlyPeriod, period_of}
 
 -- the periods rise, and the first begins at this year or later
 abbrev pub PeriodsFrom : ℕ → List (ℕ × ℕ) → Type 0

@@ -7,6 +7,7 @@ use Rattle.std.specs.Ordering.{nat_cmp, ordering_index}
 use Rattle.std.specs.declared.cmp.Ordering.TheVariants.{Less, Equal, Greater}
 use Rattle.std.specs.List.{HoldsAt}
 use Rattle.std.specs.List.Sorted.{IsBinarySearchResult}
+use Rattle.reg_facts.proofs.lemmas.Numbers.{ordering-higher, below_of, above_of}
 use Rattle.reg_base.proofs.lemmas.RisesFrom.{RisesFrom}
 use Rattle.reg_account.specs.Account.{AccountValue}
 use Rattle.reg_rules.specs.State.{State, account, numbers}
@@ -47,15 +48,6 @@ ascending low (v ∷ vs) rises (suc i) zero d le lt = absurd (omega arith)
 ascending low (v ∷ vs) rises (suc i) (suc j) d le lt =
     ascending (suc v.number) vs rises.1 i j d (omega arith) (omega arith)
 
-higher : (x a b : ℕ) → a ≤ b → ordering_index (nat_cmp a x) ≤ ordering_index (nat_cmp b x)
-higher x a b le = grind (arith, tests)
-
-below_of : (x a : ℕ) → nat_cmp x a ≡ Less → x < a
-below_of x a e = ranked x a Less (sym e)
-
-above_of : (x a : ℕ) → nat_cmp x a ≡ Greater → a < x
-above_of x a e = ranked x a Greater (sym e)
-
 -- what a binary search by number says of an account
 pub searched_ok : (xs : State) (a p : ℕ) (d : AccountValue) → RisesFrom 0 (numbers xs) → p < length xs
     → HoldsAt (λ y. nat_cmp y.number a ≡ Equal) xs p → account xs a ≡ Some (get_or xs p d)
@@ -69,7 +61,7 @@ number_found xs a p d found = ranked (get_or xs p d).number a Equal (sym (found 
 pub searched_err : (xs : State) (a i : ℕ) → RisesFrom 0 (numbers xs)
     → IsBinarySearchResult (λ y. nat_cmp y.number a) xs (Err i) → account xs a ≡ None
 searched_err xs a i rises searched =
-    let parted = searched (λ p q d le lt. higher a (get_or xs p d).number (get_or xs q d).number
+    let parted = searched (λ p q d le lt. ordering-higher a (get_or xs p d).number (get_or xs q d).number
     (ascending 0 xs rises p q d le lt)) in
     account_none xs a (λ p d lt e. ⊎_elim
     (λ before. let h = below_of (get_or xs p d).number a (parted.0 p d (omega arith) before) in

@@ -22,7 +22,8 @@ use Rattle.reg_book.specs.Conservation.{created, deleted, undeleted, FoldConserv
 use Rattle.reg_book.specs.Chains.{book_after, book_after_days, book_at, IsChain, IsChainByHand, MayBecome}
 use Rattle.reg_book.specs.Chains.{instructions_in, log_of_days, created_in, deleted_in, undeleted_in, ChainLeavesABook}
 use Rattle.reg_book.specs.Chains.{ChainKeepsAccounts, ChainLaws}
-use Rattle.reg_book.proofs.Folds.{size-rows_of, count-rows_of}
+use Rattle.reg_book.proofs.lemmas.Logs.{length-rows_of}
+use Rattle.reg_book.proofs.Folds.{count-rows_of}
 use Rattle.reg_book.proofs.Overlays.{kept_after}
 
 -- so many numbers, and then more
@@ -50,7 +51,7 @@ day-numbers day kept =
     count-rows_of (setting day) day.book.accounts (day.batch.base + 1) day.batch.instructions
     ∙ ap (λ n. count_up n (length (log_of day))) kept.follows
     ∙ ap (λ n. count_up day.book.next n)
-    (size-rows_of (setting day) day.book.accounts (day.batch.base + 1) day.batch.instructions)
+    (length-rows_of (setting day) day.book.accounts (day.batch.base + 1) day.batch.instructions)
 
 -- the first days of a chain are one
 pub some-days : (book : BookValue) (days : List DayValue) (j : ℕ) → IsChainByHand book days
@@ -208,7 +209,7 @@ module _ (closing : CommittedIsClosing) where
       let is = day.batch.instructions in
       let settled = settled_day day in
       let size : length (log_of day) ≡ length is =
-      size-rows_of (setting day) day.book.accounts (day.batch.base + 1) is in
+      length-rows_of (setting day) day.book.accounts (day.batch.base + 1) is in
       let fits = of_book day kept in
       let after = day.batch.base + length (log_of day) + 1 in
       (kept_after day.book.accounts (book_after day).accounts settled.accounts _ day.book.next after

@@ -2,20 +2,20 @@
 use Rattle.std.proofs.Common.{◌≡◌, ℕ, ◌+◌, ◌++◌, length, take, drop, sym, ap, subst, ◌∙◌, arith}
 use Rattle.std.specs.Prelude.{All}
 use Rattle.std.proofs.lemmas.List.Elements.{recursion_from_All}
+use Rattle.reg_facts.proofs.lemmas.Lists.{written_whole}
 use Rattle.reg_base.specs.Directory.{DirectoryValue}
 use Rattle.reg_base.specs.Instructions.{IsInstruction}
 use Rattle.reg_base.specs.Rising.{IsRising}
 use Rattle.reg_rules.specs.Effect.{IsBehind}
 use Rattle.reg_rules.specs.State.{State, Setting, numbers}
 use Rattle.reg_rules.specs.Laws.{StepLaws}
+use Rattle.reg_rules.proofs.lemmas.Accounts.{length-numbers}
 use Rattle.reg_book.specs.Book.{BookValue, IsBook, IsBookKept, directory_of}
 use Rattle.reg_book.specs.Fold.{state_after}
 use Rattle.reg_book.specs.Settled.{committed}
 use Rattle.reg_book.specs.Day.{DayValue, IsDay, setting, settled_day}
 use Rattle.reg_book.proofs.Commits.{committed-closing}
 use Rattle.reg_book.proofs.Days.{closing-all, directory-fold}
-use Rattle.reg_book.proofs.Directories.{length-numbers}
-use Rattle.reg_book.proofs.Lookups.{written_whole}
 use Rattle.reg_book.proofs.Folds.{numbers-fold}
 use Rattle.reg_book.proofs.Values.{numbered-day, ready-fold, ready-book}
 

@@ -7,14 +7,16 @@ use Rattle.reg_base.specs.declared.instruction.Instruction.{Instruction}
 use Rattle.reg_account.specs.Account.{AccountValue}
 use Rattle.reg_rules.specs.State.{State, Setting, account, numbers}
 use Rattle.reg_rules.specs.Laws.{StepLaws}
+use Rattle.reg_rules.proofs.lemmas.Accounts.{account-map, found_in}
 use Rattle.reg_book.specs.Book.{overlay}
 use Rattle.reg_base.specs.Touches.{is_touched}
 use Rattle.reg_book.specs.Fold.{state_after, touched_of}
 use Rattle.reg_book.specs.Laws.{CommittedIsClosing, SettledAreTouched}
 use Rattle.reg_book.specs.Day.{setting, closing_state, log_of}
+use Rattle.reg_book.proofs.lemmas.Listings.{listing}
+use Rattle.reg_book.proofs.lemmas.Logs.{length-rows_of}
 use Rattle.reg_book.proofs.Days.{touched-account, untouched-account, listing-fold, closing-all}
-use Rattle.reg_book.proofs.Directories.{listing, found_in}
-use Rattle.reg_book.proofs.Folds.{numbers-fold, others-fold, size-rows_of}
+use Rattle.reg_book.proofs.Folds.{numbers-fold, others-fold}
 use Rattle.reg_book.proofs.Lookups.{account-filter, rising-distinct}
 use Rattle.reg_book.proofs.Overlays.{numbers-overlay, placed_number}
 use Rattle.reg_book.proofs.Turns.{same-state}
@@ -35,19 +37,6 @@ at_number : (others : State) (a : ℕ) (o : Option AccountValue) → ((v : Accou
     → option_map (λ v. unwrap_or (account others v.number) v) o ≡ option_map (unwrap_or (account others a)) o
 at_number others a None named = refl
 at_number others a (Some v) named = ap (λ n. option_map (unwrap_or (account others n)) (Some v)) (named v refl)
-
--- a change that keeps each number is a change of what the numbers lead to
-account-map : (f : AccountValue → AccountValue) → ((v : AccountValue) → (f v).number ≡ v.number) → (s : State) (a : ℕ)
-    → account (map f s) a ≡ option_map f (account s a)
-account-map f keeps [] a = refl
-account-map f keeps (v ∷ vs) a =
-    ap (λ n. cond (eqb n a) (Some (f v)) (account (map f vs) a)) (keeps v)
-    ∙ go (eqb v.number a) (account-map f keeps vs a)
-  where
-    go : (b : Bool) → account (map f vs) a ≡ option_map f (account vs a) → cond b (Some (f v)) (account (map f vs) a)
-        ≡ option_map f (cond b (Some v) (account vs a))
-    go true more = refl
-    go false more = more
 
 pub account-overlay : (s others : State) (a : ℕ)
     → account (overlay s others) a ≡ option_map (unwrap_or (account others a)) (account s a)
@@ -79,7 +68,7 @@ module _ (laws : StepLaws) where
 
   pub committed-closing : CommittedIsClosing
   committed-closing day kept begins =
-      let size = size-rows_of (setting day) day.book.accounts (day.batch.base + 1) day.batch.instructions in
+      let size = length-rows_of (setting day) day.book.accounts (day.batch.base + 1) day.batch.instructions in
       let counted : day.batch.base + length (log_of day) + 1 ≡ day.book.next + length day.batch.instructions =
       omega (arith, size, begins) in
       let laid : overlay day.book.accounts

@@ -8,6 +8,7 @@ use Rattle.std.specs.List.{IsDistinct, AllByRecursion}
 use Rattle.std.proofs.lemmas.Bool.{cond_both, eq-eqb}
 use Rattle.std.proofs.lemmas.List.{take_all}
 use Rattle.std.proofs.lemmas.List.Kept.{IsStrictlyIncreasing-filter}
+use Rattle.reg_facts.proofs.lemmas.Lists.{written_whole}
 use Rattle.reg_base.specs.declared.instruction.Instruction.{Instruction}
 use Rattle.reg_base.specs.Directory.{DirectoryValue}
 use Rattle.reg_base.specs.Rising.{IsRising}
@@ -20,15 +21,17 @@ use Rattle.reg_rules.specs.Effect.{IsBehind}
 use Rattle.reg_rules.specs.Laws.{Constants, constants_of, StepLaws, IsReady}
 use Rattle.reg_rules.specs.declared.reply.LogRow.{LogRow}
 use Rattle.reg_rules.specs.declared.reply.Reply.{Reply}
+use Rattle.reg_rules.proofs.lemmas.Accounts.{found-by_number, length-numbers}
 use Rattle.reg_book.specs.Book.{IsBook, directory_of}
 use Rattle.reg_base.specs.Touches.{is_touched}
 use Rattle.reg_book.specs.Fold.{state_after, rows_of, replies_in, rows_from, touched_of}
 use Rattle.reg_book.specs.Settled.{SettledValue, IsSettled, IsOfBook}
 use Rattle.reg_book.specs.Laws.{LogIsMadeAgain}
 use Rattle.reg_book.specs.Day.{DayValue, IsDay, setting, log_of, rows_replied, closing_state, settled_day}
-use Rattle.reg_book.proofs.Directories.{listing, length-numbers, get-directory_of}
-use Rattle.reg_book.proofs.Lookups.{account-filter, numbers-filter, rising-distinct, written_whole}
-use Rattle.reg_book.proofs.Folds.{size-rows_of, count-rows_of, rows-again, numbers-fold, others-fold, fold-local}
+use Rattle.reg_book.proofs.lemmas.Listings.{listing, get-directory_of}
+use Rattle.reg_book.proofs.lemmas.Logs.{length-rows_of}
+use Rattle.reg_book.proofs.Lookups.{account-filter, numbers-filter, rising-distinct}
+use Rattle.reg_book.proofs.Folds.{count-rows_of, rows-again, numbers-fold, others-fold, fold-local}
 use Rattle.reg_book.proofs.Folds.{rows-local}
 use Rattle.reg_book.proofs.Turns.{same-state}
 use Rattle.reg_book.proofs.Values.{numbered-day, ready-fold, ready-book}
@@ -107,22 +110,6 @@ listing_by : (o : Option AccountValue) → option_map (λ (k : Constants). (k.ki
     ≡ option_map listing o
 listing_by None = refl
 listing_by (Some v) = refl
-
--- each account is found by its number
-found_behind : (v : AccountValue) (vs ws : State) → AllByRecursion (λ n. eqb v.number n ≡ false) (numbers ws)
-    → AllByRecursion (λ w. account vs w.number ≡ Some w) ws
-    → AllByRecursion (λ w. account (v ∷ vs) w.number ≡ Some w) ws
-found_behind v vs [] others found = tt
-found_behind v vs (w ∷ ws) others found =
-    (ap (λ b. cond b (Some v) (account vs w.number)) others.0 ∙ found.0, found_behind v vs ws others.1 found.1)
-
-found-by_number : (s : State) → IsDistinct eqb (numbers s) → AllByRecursion (λ v. account s v.number ≡ Some v) s
-unfolding IsDistinct
-found-by_number [] distinct = tt
-found-by_number (v ∷ vs) distinct = (
-  ap (λ b. cond b (Some v) (account vs v.number)) (eq-eqb v.number v.number refl),
-  found_behind v vs vs distinct.0 (found-by_number vs distinct.1),
-)
 
 module _ (laws : StepLaws) where
   -- no instruction changes what the directory says of an account
@@ -221,7 +208,7 @@ module _ (laws : StepLaws) where
     numbered = λ some. omega (
       arith,
       fits.numbered,
-      size-rows_of (setting day) day.book.accounts (day.batch.base + 1) day.batch.instructions,
+      length-rows_of (setting day) day.book.accounts (day.batch.base + 1) day.batch.instructions,
     );
   }
 
@@ -232,7 +219,7 @@ module _ (laws : StepLaws) where
       (day.batch.base + 1) is kept.rules kept.batch.settlement_day (numbered-day day kept)
       (recursion_from_All IsInstruction is kept.batch.each) (ready-book laws day kept) in
       let last : day.batch.base + 1 + length is ≡ day.batch.base + length (log_of day) + 1 =
-      omega (arith, size-rows_of (setting day) day.book.accounts (day.batch.base + 1) is) in
+      omega (arith, length-rows_of (setting day) day.book.accounts (day.batch.base + 1) is) in
       record {
         listed = subst (λ (s : State).
             AllByRecursion (λ v. fin.get (directory_of day.book.accounts) v.number ≡ Some (v.kind, v.holder))

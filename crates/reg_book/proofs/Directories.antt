@@ -24,19 +24,15 @@ use Rattle.reg_account.specs.Account.{AccountValue, IsAccount}
 use Rattle.std.proofs.lemmas.Option.{same_Some, none-some}
 use Rattle.reg_base.specs.Rising.{IsRising}
 use Rattle.reg_base.proofs.lemmas.RisesFrom.{RisesFrom, rises_from}
+use Rattle.reg_account.proofs.lemmas.Rows.{none_ahead}
 use Rattle.reg_rules.specs.State.{State, account, numbers}
+use Rattle.reg_rules.proofs.lemmas.Accounts.{length-numbers, found-among, found_in}
+use Rattle.reg_rules.proofs.lemmas.Accounts.{account-permutation}
 use Rattle.reg_book.specs.declared.draft.BookFault.{BookFault}
 use Rattle.reg_book.specs.declared.draft.BookFault.TheVariants.{Repeated, RowAhead, Full}
 use Rattle.reg_rules.specs.Effect.{IsBehind}
 use Rattle.reg_book.specs.Book.{BookValue, entry_of, directory_of, IsNext, IsBookDraft, has_row_ahead, first_fault}
-
--- the kind and the holder of an account
-abbrev pub listing : AccountValue → AccountKind × ℕ
-listing v = (v.kind, v.holder)
-
-pub length-numbers : (xs : State) → length (numbers xs) ≡ length xs
-length-numbers [] = refl
-length-numbers (v ∷ vs) = ap suc (length-numbers vs)
+use Rattle.reg_book.proofs.lemmas.Listings.{listing, find_listing, get-directory_of, known-among}
 
 -- the numbers of the entries of accounts are theirs
 pub entry-numbers : (xs : State) → entry_numbers (map entry_of xs) ≡ numbers xs
@@ -47,79 +43,6 @@ entry-numbers (v ∷ vs) = ap (λ (ns : List ℕ). v.number ∷ ns) (entry-numbe
 pub number_at : (xs : State) (k : ℕ) (d : AccountValue) → k < length xs
     → get_or (numbers xs) k 0 ≡ (get_or xs k d).number
 number_at xs k d lt = get_or-map (λ (o : AccountValue). o.number) xs k d 0 lt
-
-pub eqb-sym : (x y : ℕ) → eqb x y ≡ eqb y x
-eqb-sym x y = nat_eq_equiv.symm x y
-
-find_by : (b : Bool) (v : AccountValue) (rest : Option (AccountKind × ℕ)) (found : Option AccountValue)
-    → rest ≡ option_map listing found → cond b (Some (listing v)) rest ≡ option_map listing (cond b (Some v) found)
-find_by true v rest found e = refl
-find_by false v rest found e = e
-
-find_listing : (a : ℕ) (xs : State) → fin.find nat_cmp a (map entry_of xs) ≡ option_map listing (account xs a)
-find_listing a [] = refl
-find_listing a (v ∷ vs) =
-    let same : eq_by_cmp nat_cmp a v.number ≡ eqb v.number a = unsigned_tied a v.number ∙ eqb-sym a v.number in
-    rw same (find_by (eqb v.number a) v (fin.find nat_cmp a (map entry_of vs)) (account vs a) (find_listing a vs))
-
--- what the directory says of a number is what its account is
-pub get-directory_of : (xs : State) (a : ℕ) → fin.get (directory_of xs) a ≡ option_map listing (account xs a)
-get-directory_of xs a = fin.get-from_entries nat_cmp_total (map entry_of xs) a ∙ find_listing a xs
-
-found_by : (b : Bool) (w : AccountValue) (ws : State) (a : ℕ) (v : AccountValue) → eqb w.number a ≡ b
-    → (account ws a ≡ Some v → Contains ws v × (v.number ≡ a)) → cond b (Some w) (account ws a) ≡ Some v
-    → Contains (w ∷ ws) v × (v.number ≡ a)
-found_by true w ws a v same later found =
-    let is : w ≡ v = cc in
-    ((0, omega arith, is), ap (λ (o : AccountValue). o.number) (sym is) ∙ eqb-true w.number a same)
-found_by false w ws a v other later found =
-    let (there, number) = later found in
-    let (k, lt, is) = there in
-    ((suc k, omega arith, is), number)
-
--- an account that is found is among the accounts, and has the number
-pub found_in : (xs : State) (a : ℕ) (v : AccountValue) → account xs a ≡ Some v → Contains xs v × (v.number ≡ a)
-found_in [] a v e = absurd cc
-found_in (w ∷ ws) a v e = found_by (eqb w.number a) w ws a v refl (found_in ws a v) e
-
--- an account with a number of its own is the account of that number
-pub is_found : (xs : State) (a : ℕ) (v : AccountValue) → IsDistinct eqb (numbers xs) → Contains xs v → v.number ≡ a
-    → account xs a ≡ Some v
-is_found [] a v distinct (k, lt, is) e = absurd (omega arith)
-is_found (w ∷ ws) a v distinct (zero, lt, is) e =
-    let same : eqb w.number a ≡ true = eq-eqb w.number a (ap (λ (o : AccountValue). o.number) is ∙ e) in
-    rw same (ap (λ (o : AccountValue). Some o) is)
-is_found (w ∷ ws) a v distinct (suc k, lt, is) e =
-    let number_k : get_or (numbers ws) k a ≡ a = get_or-map (λ (o : AccountValue). o.number) ws k v a (omega arith)
-    ∙ ap (λ (o : AccountValue). o.number) is ∙ e in
-    let apart : eqb w.number (get_or (numbers ws) k a)
-    ≡ false = apart_from_distinct eqb (numbers (w ∷ ws)) 0 (suc k) a distinct (omega arith)
-    (omega (arith, length-numbers ws)) in
-    let other : eqb w.number a ≡ false = ap (λ n. eqb w.number n) (sym number_k) ∙ apart in
-    rw other (is_found ws a v (IsDistinct-tail eqb w.number (numbers ws) distinct) (k, omega arith, is) e)
-
-none_or_some : (o : Option AccountValue) → (o ≡ None) ⊎ ((v : AccountValue) × (o ≡ Some v))
-none_or_some None = inl refl
-none_or_some (Some v) = inr (v, refl)
-
--- accounts in another order are found as before
-pub account-permutation : (xs ys : State) → IsDistinct eqb (numbers xs) → IsPermutation xs ys → (a : ℕ)
-    → account xs a ≡ account ys a
-account-permutation xs ys distinct same a =
-    let distinct_ys = IsDistinct-IsPermutation eqb eqb-sym (numbers xs) (numbers ys)
-    (IsPermutation-map (λ (o : AccountValue). o.number) xs ys same) distinct in
-    elim (none_or_some (account xs a)) [
-      | inr found ↦
-          let (there, number) = found_in xs a found.0 found.1 in
-          found.1 ∙ sym (is_found ys a found.0 distinct_ys (Contains-permutation xs ys found.0 same there) number)
-      | inl none ↦ elim (none_or_some (account ys a)) [
-        | inl none_there ↦ none ∙ sym none_there
-        | inr found ↦
-            let (there, number) = found_in ys a found.0 found.1 in
-            is_found xs a found.0 distinct (Contains-permutation ys xs found.0 (IsPermutation-sym xs ys same) there)
-            number ∙ sym found.1
-      ]
-    ]
 
 -- the directory of accounts in another order is the same
 pub directory_of-permutation : (xs ys : State) → IsDistinct eqb (numbers xs) → IsPermutation xs ys
@@ -144,23 +67,6 @@ known_by xs a (Some v) e h =
 
 pub known : (xs : State) (a : ℕ) → is_some (fin.get (directory_of xs) a) ≡ true → Contains (numbers xs) a
 known xs a h = known_by xs a (account xs a) refl (ap is_some (sym (get-directory_of xs a)) ∙ h)
-
-some_by : (b : Bool) (w : AccountValue) (o : Option AccountValue) → is_some (cond b (Some w) o) ≡ (b || is_some o)
-some_by true w o = refl
-some_by false w o = refl
-
--- an account is found exactly where its number stands in the list
-pub found-among : (xs : State) (a : ℕ) → is_some (account xs a) ≡ is_among (numbers xs) a
-found-among [] a = refl
-found-among (w ∷ ws) a = some_by (eqb w.number a) w (account ws a) ∙ ap (λ b. eqb w.number a || b) (found-among ws a)
-
-listed_by : (o : Option AccountValue) → is_some (option_map listing o) ≡ is_some o
-listed_by None = refl
-listed_by (Some v) = refl
-
--- and the directory knows a number exactly where an account has it
-pub known-among : (xs : State) (a : ℕ) → is_some (fin.get (directory_of xs) a) ≡ is_among (numbers xs) a
-known-among xs a = ap is_some (get-directory_of xs a) ∙ listed_by (account xs a) ∙ found-among xs a
 
 pub none-absent : (xs : State) (a : ℕ) → is_among (numbers xs) a ≡ false → account xs a ≡ None
 none-absent xs a absent = by (account xs a) (found-among xs a ∙ absent)
@@ -204,7 +110,7 @@ distinct_push xs v distinct absent =
   where
     list_any_same : (ns : List ℕ) → list_any (eqb v.number) ns ≡ is_among ns v.number
     list_any_same [] = refl
-    list_any_same (n ∷ ns) = ap (λ b. b || list_any (eqb v.number) ns) (eqb-sym v.number n)
+    list_any_same (n ∷ ns) = ap (λ b. b || list_any (eqb v.number) ns) (nat_eq_equiv.symm v.number n)
         ∙ ap (λ b. eqb n v.number || b) (list_any_same ns)
 
 -- a draft of no account
@@ -267,14 +173,6 @@ ahead_of_none next [] at = refl
 ahead_of_none next (r ∷ rs) at =
     let index : length (r ∷ rs) - 1 ≡ length rs = omega arith in
     absurd (none-some (last_of r rs) (at ∙ ap (slice_get (r ∷ rs)) index ∙ last_get r rs))
-
--- the numbers of an account without a row ahead are below the next one
-none_ahead : (next : ℕ) (rows : List RetirementRow) → list_any (λ (r : RetirementRow). leb next r.number) rows ≡ false
-    → AreBelow next (row_numbers rows)
-none_ahead next [] none = tt
-none_ahead next (r ∷ rs) none =
-    let both = or_parts (leb next r.number) (list_any (λ (x : RetirementRow). leb next x.number) rs) none in
-    (leb-false next r.number both.0, none_ahead next rs both.1)
 
 -- the faults in their order
 abbrev pub fault_by : Bool → Bool → Bool → Option BookFault

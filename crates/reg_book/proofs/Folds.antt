@@ -3,8 +3,11 @@ use Rattle.std.proofs.Common.{◌≡◌, ℕ, zero, suc, ◌+◌, ◌-◌, ◌<�
 use Rattle.std.proofs.Common.{refl, sym, ap, ◌∙◌, arith}
 use Rattle.std.specs.List.{AllByRecursion}
 use Rattle.std.proofs.lemmas.List.{drop_more, append_assoc, get_or-map}
+use Rattle.std.proofs.lemmas.Bool.{or_parts, or_left, or_right}
 use Rattle.reg_base.specs.declared.instruction.Instruction.{Instruction}
 use Rattle.reg_base.specs.Footprint.{footprint, is_among}
+use Rattle.reg_base.proofs.lemmas.Among.{all_among, not_contained}
+use Rattle.reg_base.proofs.lemmas.Rising.{get_or-count_up}
 use Rattle.reg_rules.specs.declared.reply.Reply.{Reply}
 use Rattle.reg_rules.specs.declared.reply.LogRow.{LogRow}
 use Rattle.reg_rules.specs.State.{State, Setting, account, numbers}
@@ -12,26 +15,15 @@ use Rattle.reg_rules.specs.Step.{step, row_of}
 use Rattle.reg_rules.specs.Laws.{StepLaws}
 use Rattle.reg_base.specs.Touches.{is_touched}
 use Rattle.reg_book.specs.Fold.{state_after, rows_of, replies_in, rows_from}
-use Rattle.reg_book.proofs.Lookups.{all_among, not_contained, or_true_left, or_true_right, or_cases}
 use Rattle.reg_base.specs.Rising.{count_up}
 use Rattle.reg_book.specs.Settled.{record_numbers}
 use Rattle.reg_book.proofs.StepFacts.{reply-local, after-local}
-
-pub size-rows_of : (c : Setting) (s : State) (n : ℕ) (is : List Instruction) → length (rows_of c s n is) ≡ length is
-size-rows_of c s n [] = refl
-size-rows_of c s n (i ∷ is) = ap suc (size-rows_of c (step c s n i).0 (n + 1) is)
 
 -- and its record numbers count up
 pub count-rows_of : (c : Setting) (s : State) (n : ℕ) (is : List Instruction)
     → record_numbers (rows_of c s n is) ≡ count_up n (length (rows_of c s n is))
 count-rows_of c s n [] = refl
 count-rows_of c s n (i ∷ is) = ap (λ ns. n ∷ ns) (count-rows_of c (step c s n i).0 (n + 1) is)
-
--- a number at an index, counting up
-counted-at : (first more k : ℕ) → k < more → get_or (count_up first more) k 0 ≡ first + k
-counted-at first zero k lt = absurd (omega arith)
-counted-at first (suc more) zero lt = omega arith
-counted-at first (suc more) (suc k) lt = let later = counted-at (first + 1) more k (omega arith) in omega (arith, later)
 
 -- so the last of them is the base and their count
 pub last-number : (rows : List LogRow) (row : LogRow) (base : ℕ)
@@ -41,7 +33,7 @@ last-number rows row base counted some is =
     let at : (get_or rows (length rows - 1) row).number ≡ base + 1 + (length rows - 1) =
     sym (get_or-map (λ (r : LogRow). r.number) rows (length rows - 1) row 0 (omega (arith, some)))
     ∙ ap (λ ns. get_or ns (length rows - 1) 0) counted
-    ∙ counted-at (base + 1) (length rows) (length rows - 1) (omega (arith, some)) in
+    ∙ get_or-count_up (base + 1) (length rows) (length rows - 1) (omega (arith, some)) in
     let same : row.number ≡ (get_or rows (length rows - 1) row).number = ap (λ (r : LogRow). r.number) is in
     omega (arith, at, same, some)
 
@@ -53,7 +45,7 @@ agree_first : (c : Setting) (i : Instruction) (is : List Instruction) (s t : Sta
     → AllByRecursion (λ a. account s a ≡ account t a) (footprint c.directory i.act)
 agree_first c i is s t agree =
     all_among (λ a. account s a ≡ account t a) (footprint c.directory i.act)
-    (λ a h. agree a (or_true_left (is_among (footprint c.directory i.act) a) (is_touched c.directory is a) h))
+    (λ a h. agree a (or_left (is_among (footprint c.directory i.act) a) (is_touched c.directory is a) h))
 
 module _ (laws : StepLaws) where
   -- no account comes, goes or moves
@@ -67,7 +59,7 @@ module _ (laws : StepLaws) where
       → is_touched c.directory is a ≡ false → account (state_after c s n is) a ≡ account s a
   others-fold c s n [] a none = refl
   others-fold c s n (i ∷ is) a none =
-      let apart = or_cases (is_among (footprint c.directory i.act) a) (is_touched c.directory is a) none in
+      let apart = or_parts (is_among (footprint c.directory i.act) a) (is_touched c.directory is a) none in
       others-fold c (step c s n i).0 (n + 1) is a apart.1
       ∙ laws.others_stay c s n i a (not_contained (footprint c.directory i.act) a apart.0)
 
@@ -75,7 +67,7 @@ module _ (laws : StepLaws) where
       → AgreeOnTouched c (i ∷ is) s t → AgreeOnTouched c is (step c s n i).0 (step c t n i).0
   agree_later c n i is s t agree a h =
       after-local laws c s t n i (agree_first c i is s t agree) a
-      (agree a (or_true_right (is_among (footprint c.directory i.act) a) (is_touched c.directory is a) h))
+      (agree a (or_right (is_among (footprint c.directory i.act) a) (is_touched c.directory is a) h))
 
   -- then the log rows are the same
   pub rows-local : (c : Setting) (s t : State) (n : ℕ) (is : List Instruction) → AgreeOnTouched c is s t
@@ -99,12 +91,6 @@ module _ (laws : StepLaws) where
       → ◌≡◌ {A = State × Reply} (t, reply) (step c s number i) → numbers t ≡ numbers s
   numbers_more c s t number i reply stepped =
       ap (λ (r : State × Reply). numbers r.0) stepped ∙ laws.numbers_stay c s number i
-
--- there is a reply to each instruction
-pub size-replies_of : (c : Setting) (s : State) (n : ℕ) (is : List Instruction) → length (replies_in (rows_of c s n is))
-    ≡ length is
-size-replies_of c s n [] = refl
-size-replies_of c s n (i ∷ is) = ap suc (size-replies_of c (step c s n i).0 (n + 1) is)
 
 -- log rows are made again of the instructions and the replies
 pub rows-again : (c : Setting) (s : State) (n : ℕ) (is : List Instruction)

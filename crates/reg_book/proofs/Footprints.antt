@@ -7,15 +7,17 @@ use Rattle.std.specs.List.{list_all}
 use Rattle.std.proofs.lemmas.Bool.{eqb-true}
 use Rattle.std.proofs.lemmas.List.{get_or_default}
 use Rattle.std.proofs.lemmas.List.Folds.{list_all-append, list_all_at, list_all_more}
+use Rattle.reg_facts.proofs.lemmas.Lists.{list_all-option}
 use Rattle.reg_base.specs.declared.act.Act.{Act}
 use Rattle.reg_base.specs.Acts.{parties, also_known}
 use Rattle.reg_base.specs.Directory.{DirectoryValue, is_known}
 use Rattle.reg_base.specs.Footprint.{footprint, all_known, each_once}
+use Rattle.reg_base.proofs.lemmas.Among.{is_among-contained}
 use Rattle.reg_account.specs.Account.{AccountValue}
 use Rattle.reg_rules.specs.State.{State, account, numbers}
+use Rattle.reg_rules.proofs.lemmas.Accounts.{length-numbers}
 use Rattle.reg_book.specs.Book.{directory_of}
-use Rattle.reg_book.proofs.Directories.{listing, get-directory_of, known-among, length-numbers}
-use Rattle.reg_book.proofs.Lookups.{is_among-contained}
+use Rattle.reg_book.proofs.lemmas.Listings.{listing, get-directory_of, known-among}
 use Rattle.reg_book.proofs.Standing.{StandsAt}
 
 -- an account that stands somewhere is known, and one that is not there is not
@@ -72,13 +74,6 @@ all-each_once p (x ∷ xs) = by (p x) refl (all-each_once p xs)
 
 -- a footprint is all parties if they are all known, and empty if one is not
 -- all that must be known are the parties, and the other account if there is one
-in_two : (p : ℕ → Bool) (o : Option ℕ) → list_all p (option_to_list o) ≡ option_map_or p o true
-in_two p None = refl
-in_two p (Some a) = by (p a) where
-  by : (b : Bool) → (b && true) ≡ b
-  by true = refl
-  by false = refl
-
 pub known-in_two : (d : DirectoryValue) (act : Act)
     → all_known d act ≡ (list_all (is_known d) (each_once (parties act))
     && option_map_or (is_known d) (also_known act) true)
@@ -86,7 +81,7 @@ known-in_two d act =
     list_all-append (is_known d) (parties act) (option_to_list (also_known act))
     ∙ ap (λ b. b && list_all (is_known d) (option_to_list (also_known act)))
     (sym (all-each_once (is_known d) (parties act)))
-    ∙ ap (λ b. list_all (is_known d) (each_once (parties act)) && b) (in_two (is_known d) (also_known act))
+    ∙ ap (λ b. list_all (is_known d) (each_once (parties act)) && b) (list_all-option (is_known d) (also_known act))
 
 pub footprint-known : (d : DirectoryValue) (act : Act) → option_map_or (is_known d) (also_known act) true ≡ true
     → list_all (is_known d) (each_once (parties act)) ≡ true → each_once (parties act) ≡ footprint d act

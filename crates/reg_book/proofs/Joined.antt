@@ -8,6 +8,7 @@ use Rattle.std.proofs.lemmas.List.Folds.{find-append}
 use Rattle.std.proofs.lemmas.List.{map-append}
 use Rattle.reg_base.specs.Rising.{IsRising}
 use Rattle.reg_base.proofs.lemmas.RisesFrom.{rises_from}
+use Rattle.reg_base.proofs.lemmas.Rising.{rising-tail, rising-right, rising-left}
 use Rattle.reg_account.specs.Account.{AccountValue}
 use Rattle.reg_rules.specs.State.{State, account, numbers}
 use Rattle.reg_book.specs.Parts.{joined}
@@ -17,18 +18,6 @@ use Rattle.reg_book.proofs.Accounts.{account_none, ascending}
 pub joined-at : (lists : List (Vec AccountValue Global)) (i : ℕ) (d : Vec AccountValue Global) → i < length lists
     → joined (drop i lists) ≡ (get_or lists i d).items ++ joined (drop (i + 1) lists)
 joined-at lists i d lt = ap joined (drop_more lists i d lt)
-
-rising-tail : (x : ℕ) (xs : List ℕ) → IsRising (x ∷ xs) → IsRising xs
-rising-tail x xs rising k lt = rw add-one (let h = rising (suc k) (omega arith) in rw add-one at h)
-
-rising-right : (xs ys : List ℕ) → IsRising (xs ++ ys) → IsRising ys
-rising-right [] ys rising = rising
-rising-right (x ∷ xs) ys rising = rising-right xs ys (rising-tail x (xs ++ ys) rising)
-
-rising-left : (xs ys : List ℕ) → IsRising (xs ++ ys) → IsRising xs
-rising-left xs ys rising k lt =
-    let h = rising k (omega (arith, length-append xs ys)) in
-    rw (get_or_append_left xs ys 0 k (omega arith), get_or_append_left xs ys 0 (k + 1) lt) at h
 
 -- if accounts rise, those of the first list do, and those behind it
 pub first_rise : (xs ys : State) → IsRising (numbers (xs ++ ys)) → IsRising (numbers xs)

@@ -2,24 +2,25 @@
 use Rattle.std.proofs.Common.{◌≡◌, ℕ, zero, suc, ◌<◌, Bool, true, false, cond, eqb, ◌||◌, List, [], ◌∷◌, ◌++◌, length}
 use Rattle.std.proofs.Common.{map, get_or, set, take, drop, replicate, refl, sym, ap, subst, ◌∙◌, arith}
 use Rattle.std.specs.List.{AllByRecursion}
-use Rattle.std.proofs.lemmas.Bool.{ne_eqb, eq-eqb}
+use Rattle.std.proofs.lemmas.Bool.{ne_eqb, eq-eqb, or_right}
 use Rattle.std.proofs.lemmas.List.{append-nil, append_assoc}
 use Rattle.std.proofs.lemmas.List.Folds.{list_any-append}
 use Rattle.arrayvec.specs.ArrayVec.{ArrayVec}
+use Rattle.reg_facts.proofs.lemmas.Lists.{written_whole}
 use Rattle.reg_base.specs.declared.instruction.Instruction.{Instruction}
 use Rattle.reg_base.specs.Directory.{DirectoryValue}
 use Rattle.reg_base.specs.Footprint.{footprint, is_among}
 use Rattle.reg_base.specs.Rising.{IsRising}
+use Rattle.reg_base.proofs.lemmas.Among.{among_push}
 use Rattle.reg_base.proofs.lemmas.RisesFrom.{RisesFrom, rises_from}
 use Rattle.reg_account.specs.Account.{AccountValue}
 use Rattle.reg_rules.specs.State.{State, numbers}
 use Rattle.reg_base.specs.Touches.{is_touched}
+use Rattle.reg_rules.proofs.lemmas.Accounts.{length-numbers}
 use Rattle.reg_book.specs.Fold.{touched_of}
 use Rattle.reg_base.specs.Footprints.{footprints}
 use Rattle.reg_book.specs.Indexes.{AllStandAt, each_at, index_lists}
 use Rattle.reg_book.specs.Marks.{marked_at, all_marked_at, picked}
-use Rattle.reg_book.proofs.Directories.{length-numbers}
-use Rattle.reg_book.proofs.Lookups.{written_whole}
 
 -- the marks of the accounts, with each account whose number is in the list marked too
 abbrev marks_after : List Bool → State → List ℕ → List Bool
@@ -43,14 +44,6 @@ lacks_above low a (v ∷ vs) rises lt = (
   lacks_above (suc v.number) a vs rises.1 (omega (arith, rises.0)),
 )
 
--- one number more in the list
-among_push : (ns : List ℕ) (a n : ℕ) → is_among (ns ++ a ∷ []) n ≡ (is_among ns n || eqb a n)
-among_push ns a n = list_any-append (λ m. eqb m n) ns (a ∷ []) ∙ ap (λ b. is_among ns n || b) (or_false (eqb a n))
-  where
-    or_false : (b : Bool) → (b || false) ≡ b
-    or_false true = refl
-    or_false false = refl
-
 or_assoc : (a b c : Bool) → (a || (b || c)) ≡ ((a || b) || c)
 or_assoc true b c = refl
 or_assoc false b c = refl
@@ -58,10 +51,6 @@ or_assoc false b c = refl
 or_no : (b c : Bool) → c ≡ false → (b || c) ≡ b
 or_no true c e = refl
 or_no false c e = e
-
-or_yes : (b c : Bool) → c ≡ true → (b || c) ≡ true
-or_yes true c e = refl
-or_yes false c e = e
 
 head_mark : (m : Bool) (ns : List ℕ) (a n : ℕ) → (m || is_among (ns ++ a ∷ []) n) ≡ ((m || is_among ns n) || eqb a n)
 head_mark m ns a n = ap (λ b. m || b) (among_push ns a n) ∙ or_assoc m (is_among ns n) (eqb a n)
@@ -82,7 +71,7 @@ marked_present low ms [] ns p a rises size lt at = absurd (omega arith)
 marked_present low [] (v ∷ vs) ns p a rises size lt at = absurd (omega arith)
 marked_present low (m ∷ ms) (v ∷ vs) ns zero a rises size lt at =
     ap (λ b. b ∷ marks_after ms vs (ns ++ a ∷ [])) (head_mark m ns a v.number
-    ∙ or_yes (m || is_among ns v.number) (eqb a v.number) (eq-eqb a v.number (sym at)))
+    ∙ or_right (m || is_among ns v.number) (eqb a v.number) (eq-eqb a v.number (sym at)))
     ∙ ap (λ bs. true ∷ bs) (marked_absent ms vs ns a
     (subst (Lacks vs) at (lacks_above (suc v.number) v.number vs rises.1 (omega arith))))
 marked_present low (m ∷ ms) (v ∷ vs) ns (suc p) a rises size lt at =

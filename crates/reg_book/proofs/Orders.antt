@@ -8,19 +8,18 @@ use Rattle.std.proofs.lemmas.Bool.{cases_lt}
 use Rattle.std.proofs.lemmas.List.Sorted.{IsPermutation-map, IsNonDecreasingBy-from_sort, All-permutation}
 use Rattle.std.proofs.lemmas.List.{get_or-map}
 use Rattle.std.proofs.lemmas.Map.Keys.{IsDistinct-IsPermutation, IsStrictlyIncreasing-from_distinct}
+use Rattle.std.specs.Cmp.{nat_eq_equiv}
 use Rattle.reg_base.specs.Rising.{IsRising}
 use Rattle.reg_base.specs.Directory.{DirectoryValue}
 use Rattle.reg_account.specs.Account.{AccountValue, IsAccount}
 use Rattle.reg_rules.specs.State.{State, numbers}
 use Rattle.reg_rules.specs.Effect.{IsBehind}
+use Rattle.reg_rules.proofs.lemmas.Accounts.{length-numbers}
 use Rattle.reg_book.specs.Book.{IsBookKept, IsBookDraft}
-use Rattle.reg_book.proofs.Directories.{eqb-sym, length-numbers, number_at, directory_of-permutation}
+use Rattle.reg_book.proofs.Directories.{number_at, directory_of-permutation}
 
 pub le_of : (x y : ℕ) → is_le (nat_cmp x y) ≡ true → x ≤ y
 le_of x y e = grind (arith, tests, e)
-
-pub lt_of : (x y : ℕ) → is_le (nat_cmp x y) ≡ false → y < x
-lt_of x y e = grind (arith, tests, e)
 
 -- a number that is not above the one before it
 pub no_rise : (xs : State) (next : ℕ) (v w : AccountValue) (x y : ℕ) → 1 ≤ next → next < length xs
@@ -69,7 +68,7 @@ sorted_numbers (v ∷ vs) sorted i j d le lt =
 pub sorted_rise : (xs ys : State) → IsDistinct eqb (numbers xs) → IsPermutation xs ys
     → IsSortedByKey (λ (v : AccountValue). v.number) nat_cmp ys → IsRising (numbers ys)
 sorted_rise xs ys distinct same sorted =
-    let distinct_ys = IsDistinct-IsPermutation eqb eqb-sym (numbers xs) (numbers ys)
+    let distinct_ys = IsDistinct-IsPermutation eqb nat_eq_equiv.symm (numbers xs) (numbers ys)
     (IsPermutation-map (λ (o : AccountValue). o.number) xs ys same) distinct in
     IsStrictlyIncreasing-from_distinct (numbers ys) (sorted_numbers ys sorted) distinct_ys
 

@@ -6,6 +6,7 @@ use Rattle.std.specs.Prelude.{All, unwrap_or, option_map, slice_set}
 use Rattle.std.specs.List.{AllByRecursion}
 use Rattle.std.specs.FinMap as fin
 use Rattle.std.proofs.lemmas.List.Elements.{All-contains, All-from_recursion, recursion_from_All}
+use Rattle.std.specs.Cmp.{nat_eq_equiv}
 use Rattle.reg_base.specs.Directory.{DirectoryValue}
 use Rattle.std.proofs.lemmas.Bool.{eq-eqb, ne_eqb, eqb-false, cases_lt}
 use Rattle.std.proofs.Math.Seq.{get_or-append_seam}
@@ -17,13 +18,16 @@ use Rattle.reg_base.specs.Rising.{IsRising}
 use Rattle.reg_base.proofs.lemmas.RisesFrom.{RisesFrom, rises_from}
 use Rattle.reg_account.specs.Rows.{row_numbers, AreBelow}
 use Rattle.reg_account.specs.Account.{AccountValue, IsAccount}
+use Rattle.reg_account.proofs.lemmas.Rows.{below_higher}
 use Rattle.reg_rules.specs.Effect.{IsBehind}
 use Rattle.reg_rules.specs.State.{State, account, numbers}
+use Rattle.reg_rules.proofs.lemmas.Accounts.{length-numbers, found_in}
 use Rattle.reg_book.specs.Book.{overlay, entry_of, directory_of, IsNext, IsBookKept, AreHigher}
 use Rattle.reg_book.specs.Settled.{SettledValue}
 use Rattle.reg_base.specs.declared.limits.TheConstants.{MOST_RECORD}
+use Rattle.reg_book.proofs.lemmas.Listings.{listing, get-directory_of}
 use Rattle.reg_book.proofs.Accounts.{low_number, account_at, ascending}
-use Rattle.reg_book.proofs.Directories.{found_in, eqb-sym, listing, get-directory_of, number_at, length-numbers}
+use Rattle.reg_book.proofs.Directories.{number_at}
 
 -- accounts of other numbers stay
 over_others : (xs : State) (w : AccountValue)
@@ -55,7 +59,7 @@ pub none_stays : (xs : State) (w : AccountValue) → account xs w.number ≡ Non
 none_stays [] w none = refl
 none_stays (v ∷ vs) w none =
     let (differs, later) = none_later (eqb v.number w.number) v (account vs w.number) none in
-    let other : eqb w.number v.number ≡ false = eqb-sym w.number v.number ∙ differs in
+    let other : eqb w.number v.number ≡ false = nat_eq_equiv.symm w.number v.number ∙ differs in
     rw other (ap (λ (ys : State). v ∷ ys) (none_stays vs w later))
 
 -- the account found in another list has the number that it was looked up by
@@ -174,12 +178,7 @@ entries_same xs others (v ∷ vs) stand at =
     rw (entry_by xs others v (account others v.number) stand (at 0 v (omega arith)) refl)
     (ap (λ es. entry_of v ∷ es) (entries_same xs others vs stand (λ p d lt. at (suc p) d (omega arith))))
 
--- a book in which accounts were put in place is a book, with the directory that it had
--- a number that is higher is above the numbers of the rows too
-below_higher : (next after : ℕ) (ns : List ℕ) → next ≤ after → AreBelow next ns → AreBelow after ns
-below_higher next after [] le below = tt
-below_higher next after (n ∷ ns) le below = (omega (arith, le, below.0), below_higher next after ns le below.1)
-
+-- accounts that were put in place have no rows ahead
 found_behind : (after a : ℕ) (others : State) (v : AccountValue) → AllByRecursion (IsBehind after) others
     → IsBehind after v → IsBehind after (unwrap_or (account others a) v)
 found_behind after a [] v all own = own

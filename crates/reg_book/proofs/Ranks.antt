@@ -6,23 +6,20 @@ use Rattle.std.proofs.lemmas.List.{map-append, map-set, take_more, length-map, g
 use Rattle.std.proofs.lemmas.List.Edits.{map_over_more}
 use Rattle.std.proofs.lemmas.List.Elements.{All-from_recursion}
 use Rattle.arrayvec.specs.ArrayVec.{ArrayVec}
+use Rattle.std.proofs.lemmas.Bool.{or_left, or_right}
+use Rattle.reg_facts.proofs.lemmas.Lists.{all-push}
 use Rattle.reg_base.specs.declared.instruction.Instruction.{Instruction}
 use Rattle.reg_base.specs.Directory.{DirectoryValue}
 use Rattle.reg_base.specs.Footprint.{footprint, is_among}
+use Rattle.reg_base.proofs.lemmas.Among.{all_among}
 use Rattle.reg_rules.specs.State.{State, numbers}
 use Rattle.reg_base.specs.Touches.{is_touched}
+use Rattle.reg_rules.proofs.lemmas.Accounts.{length-numbers}
 use Rattle.reg_book.specs.Marks.{picked, ranks_from}
 use Rattle.reg_base.specs.Footprints.{footprints}
 use Rattle.reg_book.specs.Indexes.{StandAt, AllStandAt, each_at, index_lists}
-use Rattle.reg_book.proofs.Directories.{length-numbers}
-use Rattle.reg_book.proofs.Lookups.{all_among, or_true_left, or_true_right}
 use Rattle.reg_book.proofs.Marks.{touched_marks, size-touched_marks}
 use Rattle.reg_book.proofs.Standing.{StandsAt}
-
-pub all-more : {X : Type 0} (P : X → Type 0) (xs : List X) (x : X) → AllByRecursion P xs → P x
-    → AllByRecursion P (xs ++ x ∷ [])
-all-more P [] x all holds = (holds, tt)
-all-more P (y ∷ ys) x all holds = (all.0, all-more P ys x all.1 holds)
 
 -- one account more
 pub stand-more : (s : State) (ps more wanted : List ℕ) (j a p : ℕ) → j < length wanted → a ≡ get_or wanted j a
@@ -30,7 +27,7 @@ pub stand-more : (s : State) (ps more wanted : List ℕ) (j a p : ℕ) → j < l
     → StandAt (numbers s) ps (take j wanted) → StandAt (numbers s) more (take (j + 1) wanted)
 stand-more s ps more wanted j a p lt at grown there so_far =
     subst (λ qs. StandAt (numbers s) qs (take (j + 1) wanted)) (sym grown) (record {
-      within = all-more (λ q. q < length (numbers s)) ps p so_far.within
+      within = all-push (λ q. q < length (numbers s)) ps p so_far.within
           (omega (arith, there.within, length-numbers s));
       are_there = map-append (λ q. get_or (numbers s) q 0) ps (p ∷ [])
           ∙ ap (λ xs. xs ++ get_or (numbers s) p 0 ∷ []) so_far.are_there
@@ -48,7 +45,7 @@ all-stand-more directory ns all more own is j i lt at grown there so_far =
     let lists : index_lists more ≡ index_lists all ++ own.items ∷ [] =
     ap index_lists grown ∙ map-append (λ (p : ArrayVec ℕ). p.items) all (own ∷ []) in
     subst (λ ls. AllStandAt directory ns ls (take (j + 1) is)) (sym lists) (record {
-      within = all-more (AllByRecursion (λ p. p < length ns)) (index_lists all) own.items so_far.within there.within;
+      within = all-push (AllByRecursion (λ p. p < length ns)) (index_lists all) own.items so_far.within there.within;
       are_there = map-append (each_at ns) (index_lists all) (own.items ∷ [])
           ∙ ap (λ xs. xs ++ each_at ns own.items ∷ []) so_far.are_there
           ∙ ap (λ x. footprints directory (take j is) ++ x ∷ [])
@@ -132,11 +129,11 @@ module _ (directory : DirectoryValue) (all : List Instruction) (s : State) where
   all-ranked (ps ∷ indexes) [] inside within there = absurd cc
   all-ranked (ps ∷ indexes) (i ∷ is) inside within there =
       let touched = all_among (λ a. is_touched directory all a ≡ true) (footprint directory i.act)
-      (λ a h. inside a (or_true_left (is_among (footprint directory i.act) a) (is_touched directory is a) h)) in
+      (λ a h. inside a (or_left (is_among (footprint directory i.act) a) (is_touched directory is a) h)) in
       let (first, same) = indexes-ranked ps (footprint directory i.act) within.0
       (ap (λ (ls : List (List ℕ)). get_or ls 0 []) there) touched in
       let (more, sames) = all-ranked indexes is
-      (λ a h. inside a (or_true_right (is_among (footprint directory i.act) a) (is_touched directory is a) h))
+      (λ a h. inside a (or_right (is_among (footprint directory i.act) a) (is_touched directory is a) h))
       within.1 (ap (λ (ls : List (List ℕ)). drop 1 ls) there) in (
         (first, more),
         ap (λ x. x ∷ map (each_at kept) (map (each_at ranks) indexes)) same

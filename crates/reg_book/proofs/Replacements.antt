@@ -9,10 +9,11 @@ use Rattle.reg_base.specs.Rising.{IsRising}
 use Rattle.reg_base.proofs.lemmas.RisesFrom.{rises_from}
 use Rattle.reg_account.specs.Account.{AccountValue}
 use Rattle.reg_rules.specs.State.{State, account, numbers}
+use Rattle.reg_rules.proofs.lemmas.Accounts.{length-numbers}
 use Rattle.reg_book.specs.Book.{overlay}
 use Rattle.reg_book.proofs.Accounts.{account_at, account_none}
 use Rattle.reg_book.proofs.Commits.{account-overlay, left_alone}
-use Rattle.reg_book.proofs.Directories.{length-numbers, number_at}
+use Rattle.reg_book.proofs.Directories.{number_at}
 use Rattle.reg_book.proofs.Overlays.{climbs, taken_at}
 
 -- the account at the index of a number comes out where one with this number is put in

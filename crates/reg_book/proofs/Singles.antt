@@ -3,6 +3,7 @@ use Rattle.std.proofs.Common.{Result, Ok, Err, None, ◌≡◌, ℕ, ◌+◌, �
 use Rattle.std.proofs.Common.{sym, ap, ◌∙◌, arith}
 use Rattle.std.specs.Result.{IfOk, OnErr}
 use Rattle.std.proofs.lemmas.List.Elements.{All-from_recursion}
+use Rattle.reg_facts.proofs.lemmas.Lists.{written_whole}
 use Rattle.reg_base.specs.declared.instruction.Instruction.{Instruction}
 use Rattle.reg_base.specs.declared.limits.TheConstants.{MOST_RECORD}
 use Rattle.reg_base.specs.Directory.{DirectoryValue}
@@ -15,14 +16,13 @@ use Rattle.reg_rules.specs.Checks.{refusal}
 use Rattle.reg_rules.specs.Laws.{StepLaws}
 use Rattle.reg_rules.specs.State.{State, Setting}
 use Rattle.reg_rules.specs.Step.{step, row_of}
+use Rattle.reg_rules.proofs.lemmas.Accounts.{length-numbers}
 use Rattle.reg_book.specs.Book.{BookValue, IsBook, IsBookKept, directory_of}
 use Rattle.reg_book.specs.Day.{IsDay, settled_day, log_of}
 use Rattle.reg_book.specs.Settled.{committed}
 use Rattle.reg_book.specs.Single.{setting_on, applied, row_applied, day_of_one, IsApplied}
 use Rattle.reg_book.proofs.Closings.{kept-after_day, committed-after_day}
-use Rattle.reg_book.proofs.Directories.{length-numbers}
 use Rattle.reg_book.proofs.Folds.{numbers_more}
-use Rattle.reg_book.proofs.Lookups.{written_whole}
 
 module _ (laws : StepLaws) where
   -- what became of the slice of a list is what became of the list: own is what the slice became

@@ -11,8 +11,10 @@ use Rattle.std.proofs.lemmas.List.Edits.{length-swap, swapped_from_swap, map_ove
 use Rattle.std.specs.Cmp.{nat_eq_equiv}
 use Rattle.std.proofs.lemmas.List.Sorted.{IsPermutation-swap, IsPermutation-map, All-permutation}
 use Rattle.std.proofs.lemmas.Map.Keys.{IsDistinct-IsPermutation}
+use Rattle.reg_facts.proofs.lemmas.Lists.{map-swap, swap-twice}
 use Rattle.reg_base.specs.declared.instruction.Instruction.{Instruction}
 use Rattle.reg_base.specs.Footprint.{footprint, is_among}
+use Rattle.reg_base.proofs.lemmas.Among.{all_among, not_contained}
 use Rattle.reg_account.specs.Account.{AccountValue}
 use Rattle.reg_rules.specs.declared.reply.Reply.{Reply}
 use Rattle.reg_rules.specs.State.{State, Setting, account, numbers}
@@ -20,11 +22,11 @@ use Rattle.reg_rules.specs.Checks.{refusal}
 use Rattle.reg_rules.specs.Effect.{IsBehind}
 use Rattle.reg_rules.specs.Step.{step}
 use Rattle.reg_rules.specs.Laws.{StepLaws}
+use Rattle.reg_rules.proofs.lemmas.Accounts.{account-append_right}
+use Rattle.reg_rules.proofs.lemmas.Accounts.{length-numbers, account-permutation, account-append_left}
 use Rattle.reg_book.specs.Indexes.{StandAt, each_at}
 use Rattle.reg_book.specs.Turns.{AreIndexesLeft, IsLeft, renamed}
-use Rattle.reg_book.proofs.Directories.{account-permutation}
 use Rattle.reg_book.proofs.StepFacts.{refusal-local, reply-local, after-local, one-state}
-use Rattle.reg_book.proofs.Lookups.{account-append_left, account-append_right, all_among, not_contained}
 
 pair-of : {A B : Type 0} (a b : A) (x y : B) → a ≡ b → x ≡ y → ◌≡◌ {A = A × B} (a, x) (b, y)
 pair-of a b x y e h = λ i. (e i, h i)
@@ -109,38 +111,14 @@ module _ (laws : StepLaws) where
         sym (refusal-local laws c (take count s) s i agree) ∙ kept.1,
       )
 
--- a swap made twice is none
-swap-twice : {X : Type 0} (s t u : List X) (a b : ℕ) → a < length s → b < length s → t ≡ swap s a b → u ≡ swap t a b
+-- two elements in each other's place, and back
+swapped-back : {X : Type 0} (s t u : List X) (a b : ℕ) → a < length s → b < length s → t ≡ swap s a b → u ≡ swap t a b
     → u ≡ s
-swap-twice s t u a b a_in b_in first second =
-    let size : length t ≡ length s = ap length first ∙ length-swap s a b in
-    same_lists u s (ap length second ∙ length-swap t a b ∙ size) (λ k d lt.
-    let once = swapped_from_swap s t a b d a_in b_in first in
-    let twice = swapped_from_swap t u a b d (omega (arith, size)) (omega (arith, size)) second in
-    elim (cases_eq k a) [
-      | inl at_a ↦ ap (λ m. get_or u m d) at_a ∙ twice.0 ∙ once.1 ∙ ap (λ m. get_or s m d) (sym at_a)
-      | inr not_a ↦ elim (cases_eq k b) [
-        | inl at_b ↦ ap (λ m. get_or u m d) at_b ∙ twice.1 ∙ once.0 ∙ ap (λ m. get_or s m d) (sym at_b)
-        | inr not_b ↦ twice.2 k not_a not_b ∙ once.2 k not_a not_b
-      ]
-    ])
-
-map-swap : {X Y : Type 0} (f : X → Y) (xs : List X) (a b : ℕ) → a < length xs → b < length xs
-    → map f (swap xs a b) ≡ swap (map f xs) a b
-map-swap f [] a b a_in b_in = refl
-map-swap f (d ∷ ys) a b a_in b_in =
-    map-set f (set (d ∷ ys) a (get_or (d ∷ ys) b d)) b (get_or (d ∷ ys) a d)
-    ∙ ap (λ l. set l b (f (get_or (d ∷ ys) a d))) (map-set f (d ∷ ys) a (get_or (d ∷ ys) b d))
-    ∙ ap (λ y. set (set (f d ∷ map f ys) a y) b (f (get_or (d ∷ ys) a d))) (sym (get_or-map f (d ∷ ys) b d (f d) b_in))
-    ∙ ap (λ y. set (set (f d ∷ map f ys) a (get_or (f d ∷ map f ys) b (f d))) b y)
-    (sym (get_or-map f (d ∷ ys) a d (f d) a_in))
+swapped-back s t u a b a_in b_in first second = second ∙ ap (λ l. swap l a b) first ∙ swap-twice s a b a_in b_in
 
 pub numbers-swap : (s t : State) (a b : ℕ) → a < length s → b < length s → t ≡ swap s a b
     → numbers t ≡ swap (numbers s) a b
 numbers-swap s t a b a_in b_in is = ap numbers is ∙ map-swap (λ (v : AccountValue). v.number) s a b a_in b_in
-
-pub size-numbers : (s : State) → length (numbers s) ≡ length s
-size-numbers s = length-map s (λ (v : AccountValue). v.number)
 
 module _ (laws : StepLaws) where
   -- two accounts in each other's place for an instruction, and back
@@ -154,13 +132,13 @@ module _ (laws : StepLaws) where
       let numbers_own : numbers own ≡ numbers t =
       ap (λ (r : State × Reply). numbers r.0) stepped ∙ laws.numbers_stay c t n i in
       let size : length own ≡ length s =
-      sym (size-numbers own) ∙ ap length numbers_own ∙ size-numbers t ∙ ap length there ∙ length-swap s a b in
+      sym (length-numbers own) ∙ ap length numbers_own ∙ length-numbers t ∙ ap length there ∙ length-swap s a b in
       let numbers_after : numbers after ≡ swap (numbers t) a b =
       numbers-swap own after a b (omega (arith, size)) (omega (arith, size)) back
       ∙ ap (λ ns. swap ns a b) numbers_own in
       let same_numbers : numbers after
-      ≡ numbers s = swap-twice (numbers s) (numbers t) (numbers after) a b (omega (arith, size-numbers s))
-      (omega (arith, size-numbers s)) numbers_t numbers_after in
+      ≡ numbers s = swapped-back (numbers s) (numbers t) (numbers after) a b (omega (arith, length-numbers s))
+      (omega (arith, length-numbers s)) numbers_t numbers_after in
       let found : (x : ℕ) → account s x ≡ account t x =
       account-permutation s t distinct (IsPermutation-swap s t a b a_in b_in there) in
       let agree = all_among (λ x. account t x ≡ account s x) (footprint c.directory i.act) (λ x _. sym (found x)) in
@@ -199,7 +177,7 @@ module _ (laws : StepLaws) where
       let found : (x : ℕ) → account s x ≡ account t x =
       account-permutation s t distinct (IsPermutation-swap s t a b a_in b_in there) in
       let agree = all_among (λ x. account s x ≡ account t x) (footprint c.directory i.act) (λ x _. found x) in (
-        swap-twice s t after a b a_in b_in there (back ∙ ap (λ l. swap l a b) kept.0),
+        swapped-back s t after a b a_in b_in there (back ∙ ap (λ l. swap l a b) kept.0),
         refusal-local laws c s t i agree ∙ kept.1,
       )
 
@@ -222,9 +200,6 @@ Others p qs = AllByRecursion (λ y. eqb p y ≡ false) qs
 apart-of : (p : ℕ) (qs : List ℕ) → IsDistinct eqb (p ∷ qs) → Others p qs × IsDistinct eqb qs
 unfolding IsDistinct
 apart-of p qs distinct = (distinct.0, distinct.1)
-
-eqb-flip : (x y : ℕ) → eqb x y ≡ eqb y x
-eqb-flip x y = nat_eq_equiv.symm x y
 
 -- what a swap does to the numbers at indexes
 moved-at : (ns ms : List ℕ) (k p q : ℕ) → k < length ns → p < length ns → ms ≡ swap ns k p → eqb p q ≡ false
@@ -265,7 +240,7 @@ renamed-apart k p q y pq py qy = by (eqb q k) (eqb y k) refl refl
     by : (b c : Bool) → eqb q k ≡ b → eqb y k ≡ c → eqb (cond b p q) (cond c p y) ≡ false
     by true true e h = absurd (eqb-false q y qy (eqb-true q k e ∙ sym (eqb-true y k h)))
     by true false e h = py
-    by false true e h = eqb-flip q p ∙ pq
+    by false true e h = nat_eq_equiv.symm q p ∙ pq
     by false false e h = qy
 
 renamed-others : (k p q : ℕ) (ys : List ℕ) → eqb p q ≡ false → Others p ys → Others q ys

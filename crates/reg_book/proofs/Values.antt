@@ -6,6 +6,7 @@ use Rattle.std.specs.List.{AllByRecursion}
 use Rattle.std.proofs.lemmas.Option.{same_Some}
 use Rattle.std.proofs.lemmas.List.{length-take-le}
 use Rattle.std.proofs.lemmas.List.Elements.{All-take, recursion_from_All}
+use Rattle.std.proofs.lemmas.Bool.{or_parts}
 use Rattle.reg_base.specs.declared.instruction.Instruction.{Instruction}
 use Rattle.reg_base.specs.declared.limits.TheConstants.{MOST_RECORD}
 use Rattle.reg_base.specs.Numbers.{IsDayNo, IsRecordNo}
@@ -13,6 +14,7 @@ use Rattle.reg_base.specs.Directory.{DirectoryValue}
 use Rattle.reg_base.specs.Footprint.{footprint, is_among}
 use Rattle.reg_base.specs.Rules.{AreRules}
 use Rattle.reg_base.specs.Instructions.{IsInstruction}
+use Rattle.reg_base.proofs.lemmas.Among.{not_contained}
 use Rattle.reg_rules.specs.State.{State, Setting, account}
 use Rattle.reg_rules.specs.Step.{step, row_of}
 use Rattle.reg_rules.specs.Effect.{IsBehind}
@@ -23,7 +25,7 @@ use Rattle.reg_book.specs.Fold.{state_after, rows_of}
 use Rattle.reg_book.specs.Day.{DayValue, IsDay, setting, state_at, value_at}
 use Rattle.reg_book.specs.Laws.{EachIsAStep, NumbersStay, UntouchedStay, ValueIsLastTouchers, StaysReady}
 use Rattle.reg_book.proofs.Folds.{numbers-fold, others-fold}
-use Rattle.reg_book.proofs.Lookups.{not_contained, or_cases, rising-distinct}
+use Rattle.reg_book.proofs.Lookups.{rising-distinct}
 
 -- the state after the first instructions, and the one after
 state-more : (c : Setting) (s : State) (n k : ℕ) (is : List Instruction) (i : Instruction) → slice_get is k ≡ Some i
@@ -67,7 +69,7 @@ take-untouched : (d : DirectoryValue) (is : List Instruction) (a j : ℕ) → is
 take-untouched d is a zero none = refl
 take-untouched d [] a (suc j) none = refl
 take-untouched d (i ∷ is) a (suc j) none =
-    let apart = or_cases (is_among (footprint d i.act) a) (is_touched d is a) none in
+    let apart = or_parts (is_among (footprint d i.act) a) (is_touched d is a) none in
     ap (λ b. b || is_touched d (take j is) a) apart.0 ∙ take-untouched d is a j apart.1
 
 -- from this record number on there is one for each instruction

@@ -221,10 +221,3 @@ one-bundles places touches one other h g place le =
     let here = h.finest (label_at other) g.of_account g.together place le in
     let there = g.finest (label_at one) h.of_account h.together place le in
     omega (arith, low, high, here, there)
-
--- a slice that was written as a whole
-pub written_whole : {X : Type 0} (now new : List X) (len : ℕ) → len ≡ length now → length new ≡ length now
-    → take len (new ++ drop (length new) now) ≡ new
-written_whole now new len size kept =
-    ap (λ l. take len (new ++ l)) (drop_all (length new) now (omega (arith, kept)))
-    ∙ ap (take len) (append-nil new) ∙ take_all len new (omega (arith, size, kept))

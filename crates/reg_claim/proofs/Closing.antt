@@ -6,10 +6,10 @@ use mathlib.Core.Option.{some, some-injective, some-ne-none}
 use lib.ListN.{get_elem?}
 use Rattle.atomic_table.specs.Table.{State, Final, Seen}
 use Rattle.reg_facts.specs.Counting.{times, once}
+use Rattle.reg_facts.proofs.lemmas.Times.{contains-times, times-distinct, once-most, once-only, length-full}
 use Rattle.reg_claim.specs.declared.views.SeatView.{SeatView}
 use Rattle.reg_claim.specs.Views.{is_odd}
 use Rattle.reg_claim.specs.Claims.{HasNoRepeat}
-use Rattle.reg_claim.proofs.lemmas.Numbers.{contains-times, times-distinct, once-most, once-only, length-full}
 use Rattle.reg_claim.proofs.Counts.{Knows, Rests, Counted, counted, odd-is, is-odd}
 use Rattle.reg_claim.proofs.Keeps.{Holds, total-at, alone, one-of, flag-once, done-most}
 

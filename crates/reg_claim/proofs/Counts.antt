@@ -10,11 +10,11 @@ use Rattle.std.proofs.lemmas.Bool.Decides.{nat_tests}
 use mathlib.Core.Logic.{dite}
 use native.Mathlib.Decide.{ℕ_discrete, dec_le}
 use Rattle.reg_facts.specs.Counting.{one_if, total, times}
+use Rattle.reg_facts.proofs.lemmas.Times.{contains-times, times-contains, distinct-times, times-distinct}
 use Rattle.reg_facts.proofs.lemmas.Totals.{total-append}
 use Rattle.reg_claim.specs.declared.views.SeatView.{SeatView}
 use Rattle.reg_claim.specs.Views.{spent, is_odd, is_seat, seats, all_claimed}
 use Rattle.reg_claim.specs.Claims.{IsSet, IsSeatView, IsClaimTable}
-use Rattle.reg_claim.proofs.lemmas.Numbers.{contains-times, times-contains, distinct-times, times-distinct}
 
 -- 1 for a word that is not 0
 abbrev pub set_of : ℕ → ℕ

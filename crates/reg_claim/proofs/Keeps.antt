@@ -1,6 +1,6 @@
 -- Each kind of step keeps the rule of the table.
 use Rattle.std.proofs.Common.{◌≡◌, ◌≢◌, ℕ, zero, suc, ◌+◌, ◌/◌, ◌%◌, ◌^◌, ◌<◌, ◌≤◌, ◌==◌, max, List, [], ◌∷◌, ◌++◌}
-use Rattle.std.proofs.Common.{length, get_or, set, refl, sym, ap, ◌∙◌, subst, ⊎_elim, ◌⊎◌, inl, inr, arith, All}
+use Rattle.std.proofs.Common.{length, get_or, set, refl, sym, ap, ◌∙◌, subst, ⊎_elim, arith, All}
 use Rattle.std.proofs.Common.{Contains, Some, replicate, length-append}
 use Rattle.std.specs.Prelude.{slice_get}
 use Rattle.std.specs.List.{AllByRecursion, flat_map}
@@ -17,14 +17,14 @@ use lib.ListN.{get_elem?}
 use Rattle.atomic_table.specs.Table.{State, step, keeps, Allows, Splits, Joins, opening, stepped}
 use Rattle.atomic_table.proofs.Lists.{at_set}
 use Rattle.reg_facts.specs.Counting.{one_if, total, times, once}
+use Rattle.reg_facts.proofs.lemmas.Numbers.{either-most}
+use Rattle.reg_facts.proofs.lemmas.Times.{equal-one, apart-none, contains-times, times-contains, once-yes, length-most}
 use Rattle.reg_facts.proofs.lemmas.Totals.{total-set, total-append}
 use Rattle.reg_claim.specs.declared.views.SeatView.{SeatView}
 use Rattle.reg_claim.specs.Views.{fresh, newcomer, spent, with_claimed, with_finished, with_seen, with_less}
 use Rattle.reg_claim.specs.Views.{joined_views}
 use Rattle.reg_claim.specs.Claims.{IsClaimTable}
 use Rattle.reg_claim.specs.Steps.{IsLater, Known, ClaimStep, FinishStep, LookStep, StopStep}
-use Rattle.reg_claim.proofs.lemmas.Numbers.{equal-one, apart-none, contains-times, times-contains, once-yes}
-use Rattle.reg_claim.proofs.lemmas.Numbers.{length-most}
 use Rattle.reg_claim.proofs.Counts.{set_of, set_of-some, flag, flag-most, Knows, Rests, Counted, counted, ruled, odd-is}
 use Rattle.reg_claim.proofs.Counts.{is-odd, flat-times, flat-length}
 
@@ -407,9 +407,6 @@ split-allowed n id v enough s t at =
       rest = All-push Rests vs (newcomer v.seen)
           (All-set Rests s.views id (with_less v) (λ idle. absurd (omega arith)) k.rest) (λ idle. absurd (omega arith));
     })
-
-either-most : (a b : ℕ) → (a ≤ b) ⊎ (b ≤ a)
-either-most a b = dite (dec_le a b) (λ h. inl h) (λ h. inr (omega arith))
 
 max-odd : (a b c : ℕ) → (a % 2 ≡ 1 → c % 2 ≡ 1) → (b % 2 ≡ 1 → c % 2 ≡ 1) → max a b % 2 ≡ 1 → c % 2 ≡ 1
 max-odd a b c f g h = ⊎_elim (λ le. let e : max a b ≡ b = omega arith in

@@ -1,4 +1,3 @@
-pub mod lemmas
 pub mod Counts
 pub mod Keeps
 pub mod Closing

@@ -1,5 +1,17 @@
-//! Words for counting in lists, for definitions and proofs: the sum of a number over a list, how often a number stands
-//! in one. There is no code here.
+//! Words for counting in lists, and the facts about plain lists, numbers and sums that proofs of several crates cite.
+//! There is no code here. It uses nothing but `std`: each edit of `reg_claim` loads it.
+//!
+//! | where | what |
+//! |---|---|
+//! | `specs/Counting.antt` | the sum of a number over a list, how often a number stands in one |
+//! | `proofs/lemmas/Lists.antt` | what holds of each element of a list, an element by its index, swaps |
+//! | `proofs/lemmas/Members.antt` | the elements of a list one by one: in another order, behind a filter or a search |
+//! | `proofs/lemmas/Numbers.antt` | how two numbers compare; no test is both true and false |
+//! | `proofs/lemmas/Times.antt` | how often numbers stand in a list |
+//! | `proofs/lemmas/Totals.antt` | sums over lists |
+//!
+//! A fact that `std` has stands in none of them: `rt lemma WORD..` finds it. One that needs a type of the registry
+//! stands in `proofs/lemmas` of the lowest crate that has the type.
 //!
 //! A use of it, proved in `example_uses/src/counting.rt`:
 //!

@@ -1,35 +1,21 @@
 -- The fault of a list is at the first position that has one.
-use Rattle.std.proofs.Common.{◌≡◌, ℕ, suc, ◌+◌, ◌-◌, ◌<◌, ◌≤◌, inl, inr, Bool, true, false, cond, ◌&&◌, ◌||◌, eqb, leb}
+use Rattle.std.proofs.Common.{◌≡◌, ℕ, suc, ◌+◌, ◌-◌, ◌<◌, ◌≤◌, inl, inr, Bool, true, false, cond, ◌&&◌, eqb, leb}
 use Rattle.std.proofs.Common.{List, [], ◌∷◌, ◌++◌, length, get_or, take, Option, Some, None, arith, refl, sym, ap}
 use Rattle.std.proofs.Common.{subst, ◌∙◌, append_assoc}
 use Rattle.std.specs.Prelude.{find, not}
 use Rattle.std.specs.Option.{option_map, option_or}
-use Rattle.std.proofs.lemmas.Bool.{eqb-true, eq-eqb, leb-false}
+use Rattle.std.proofs.lemmas.Bool.{eqb-true, leb-false, not-true}
 use Rattle.std.proofs.lemmas.List.{append-nil, length_push}
+use Rattle.reg_facts.proofs.lemmas.Members.{of_filter, In, in_from, contains_from}
+use Rattle.reg_facts.proofs.lemmas.Numbers.{clash}
 use Rattle.reg_base.specs.Footprint.{is_among}
+use Rattle.reg_base.proofs.lemmas.Among.{member_from_among, among_from_member}
 use Rattle.reg_plan.specs.declared.arrow.Arrow.{Arrow}
 use Rattle.reg_plan.specs.declared.order.OrderFault.{OrderFault}
 use Rattle.reg_plan.specs.declared.order.OrderFault.TheVariants.{Length, Number, Repeated}
 use Rattle.reg_plan.specs.Plans.{PlanValue, inward}
 use Rattle.reg_plan.specs.Orders.{waits, fault_at, first_fault_after}
 use Rattle.reg_plan.specs.Laws.{Says, IsAtPosition, FaultIsAtFirstPosition}
-use Rattle.reg_plan.proofs.Members.{In, in_from, contains_from}
-use Rattle.reg_plan.proofs.LegalOrders.{of_filter}
-
-among_in : (before : List ℕ) (x : ℕ) → is_among before x ≡ true → In x before
-among_in [] x e = absurd cc
-among_in (y ∷ ys) x e = by (eqb y x) refl e (among_in ys x) where
-  by : (b : Bool) → eqb y x ≡ b → (b || is_among ys x) ≡ true → (is_among ys x ≡ true → In x ys) → In x (y ∷ ys)
-  by true same h more = inl (eqb-true y x same)
-  by false other h more = inr (more h)
-
-in_among : (before : List ℕ) (x : ℕ) → In x before → is_among before x ≡ true
-in_among [] x m = absurd m
-in_among (y ∷ ys) x (inl e) = ap (λ b. b || is_among ys x) (eq-eqb y x e)
-in_among (y ∷ ys) x (inr m) = or_more (eqb y x) (is_among ys x) (in_among ys x m) where
-  or_more : (a b : Bool) → b ≡ true → (a || b) ≡ true
-  or_more true b h = refl
-  or_more false b h = h
 
 -- what a search finds
 found_in : {X : Type 0} (p : X → Bool) (xs : List X) (x : X) → find p xs ≡ Some x → In x xs × (p x ≡ true)
@@ -39,10 +25,6 @@ found_in {X = X} p (y ∷ ys) x e = by (p y) refl e (found_in p ys x) where
       → In x (y ∷ ys) × (p x ≡ true)
   by true h e' more = let same : y ≡ x = cc in (inl same, ap p (sym same) ∙ h)
   by false h e' more = let r : In x ys × (p x ≡ true) = more e' in (inr r.0, r.1)
-
-not_true : (b : Bool) → not b ≡ true → b ≡ false
-not_true true e = absurd cc
-not_true false e = refl
 
 module _ (plan : PlanValue) where
   -- what is wrong with a number is so
@@ -62,11 +44,9 @@ module _ (plan : PlanValue) where
         subst (Says plan before position number) same (record {
           named = eqb-true w.to number there.1;
           arrow = (w.account, contains_from plan.arrows w there.0);
-          missing = λ c. clash (in_among before w.from (in_from before w.from c))
-              (not_true (is_among before w.from) r.1);
-        }) where
-          clash : {b : Bool} → b ≡ true → b ≡ false → ⊥
-          clash p q = absurd cc
+          missing = λ c. clash (among_from_member before w.from (in_from before w.from c))
+              (not-true (is_among before w.from) r.1);
+        })
 
     placed : (b : Bool) → is_among before number ≡ b
         → cond b (Some (Repeated position))
@@ -76,7 +56,7 @@ module _ (plan : PlanValue) where
     placed true came h =
         let same : Repeated position ≡ fault = cc in
         subst (Says plan before position number) same
-        (record { named = refl; come = contains_from before number (among_in before number came) })
+        (record { named = refl; come = contains_from before number (member_from_among before number came) })
     placed false fresh h = early (find (λ (w : Arrow). not (is_among before w.from)) (inward plan.arrows number)) refl h
 
     no_place : (1 ≤ number → length plan.levels < number) → Some (Number position) ≡ Some fault

@@ -1,7 +1,8 @@
 -- An arrow's tail is the last toucher of its account before the head.
-use Rattle.std.proofs.Common.{◌≡◌, ℕ, zero, suc, ◌-◌, ◌≤◌, inl, inr, Bool, true, false, List, arith, sym, ap, subst}
+use Rattle.std.proofs.Common.{◌≡◌, ℕ, zero, suc, ◌-◌, ◌≤◌, inl, inr, true, List, arith, sym, ap, subst}
 use Rattle.std.proofs.Common.{◌∙◌}
 use Rattle.std.proofs.lemmas.Bool.{cases_lt}
+use Rattle.reg_facts.proofs.lemmas.Numbers.{clash}
 use Rattle.reg_base.specs.declared.instruction.Instruction.{Instruction}
 use Rattle.reg_base.specs.Directory.{DirectoryValue}
 use Rattle.reg_base.specs.Touches.{touches_at, last_toucher, IsLastToucher, LastToucherIsLast}
@@ -9,9 +10,6 @@ use Rattle.reg_plan.specs.declared.arrow.Arrow.{Arrow}
 use Rattle.reg_plan.specs.Arrows.{IsArrow, touches_place}
 use Rattle.reg_plan.specs.Laws.{LeadsFromLastToucher, TailsAreLastTouchers}
 use Rattle.reg_plan.proofs.Results.{place_within}
-
-clash : {b : Bool} → b ≡ true → b ≡ false → ⊥
-clash p q = absurd cc
 
 module _ (d : DirectoryValue) (is : List Instruction) where
   -- a place from 1, as one counted from 0

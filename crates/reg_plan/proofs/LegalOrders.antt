@@ -2,27 +2,29 @@
 use Rattle.std.proofs.Common.{◌≡◌, ℕ, zero, suc, ◌+◌, ◌<◌, ◌≤◌, inl, inr, Bool, true, false, cond, ◌&&◌, ◌||◌, eqb, leb}
 use Rattle.std.proofs.Common.{List, [], ◌∷◌, ◌++◌, length, take, Option, Some, None, arith, refl, sym, ap, subst, ◌∙◌}
 use Rattle.std.proofs.Common.{append_assoc}
-use Rattle.std.specs.Prelude.{slice_get, filter, find, not}
+use Rattle.std.specs.Prelude.{slice_get, find, not}
 use Rattle.std.specs.Option.{option_map, option_or}
 use Rattle.std.specs.List.{IsDistinct}
-use Rattle.std.proofs.lemmas.Bool.{eqb-true, eq-eqb, le-leb}
+use Rattle.std.proofs.lemmas.Bool.{eqb-true, eq-eqb, le-leb, not-false}
 use Rattle.std.proofs.lemmas.List.{append-nil}
 use Rattle.std.proofs.lemmas.List.Folds.{list_any-append}
 use Rattle.std.proofs.lemmas.List.Sorted.{length_permutation}
 use Rattle.std.proofs.lemmas.Map.Keys.{IsDistinct-IsPermutation, IsDistinct-head, IsDistinct-tail}
+use Rattle.std.specs.Cmp.{nat_eq_equiv}
+use Rattle.reg_facts.proofs.lemmas.Members.{in_filter, of_filter, In, in_from, contains_from, in_permuted, of_member}
+use Rattle.reg_facts.proofs.lemmas.Members.{in_permuted_back, of_each_member}
 use Rattle.reg_base.specs.Footprint.{is_among}
 use Rattle.reg_base.specs.Rising.{count_up}
+use Rattle.reg_base.proofs.lemmas.Rising.{length-count_up, distinct-count_up, in_count, of_count}
 use Rattle.reg_plan.specs.declared.arrow.Arrow.{Arrow}
 use Rattle.reg_plan.specs.declared.order.OrderFault.{OrderFault}
 use Rattle.reg_plan.specs.declared.order.OrderFault.TheVariants.{Length, Number, Repeated}
 use Rattle.reg_plan.specs.Plans.{inward, IsBetween}
 use Rattle.reg_plan.specs.Orders.{IsLegalOrder, waits, fault_at, first_fault_after}
 use Rattle.reg_plan.specs.Laws.{NoFaultIsALegalOrder}
-use Rattle.reg_plan.proofs.Members.{In, in_from, contains_from, in_moved, in_moved_back, of_member, of_each_member}
 use Rattle.reg_plan.proofs.Marking.{no_fault_place}
-use Rattle.reg_plan.proofs.LevelFacts.{in_filter}
 use Rattle.reg_plan.proofs.Results.{arrow_between_places}
-use Rattle.reg_plan.proofs.Permutations.{eqb-sym, in_count, of_count, distinct_count, length_count, all_places}
+use Rattle.reg_plan.proofs.Permutations.{all_places}
 
 -- a number that may come next: a place that has not come, and every tail of an arrow to it has
 record MayCome (arrows : List Arrow) (places : ℕ) (before : List ℕ) (number : ℕ) : Type 0 where
@@ -48,20 +50,6 @@ find_none {X = X} p (y ∷ ys) e x m = by (p y) refl e m (find_none p ys) where
 none_find : {X : Type 0} (p : X → Bool) (xs : List X) → ((x : X) → In x xs → p x ≡ false) → find p xs ≡ None
 none_find p [] h = refl
 none_find p (y ∷ ys) h = ap (λ b. cond b (Some y) (find p ys)) (h y (inl refl)) ∙ none_find p ys (λ x m. h x (inr m))
-
--- what a filter keeps
-pub of_filter : {X : Type 0} (p : X → Bool) (xs : List X) (x : X) → In x (filter p xs) → In x xs × (p x ≡ true)
-of_filter p [] x m = absurd m
-of_filter p (y ∷ ys) x m = by (p y) refl m (of_filter p ys x) where
-  by : (b : Bool) → p y ≡ b → In x (cond b (y ∷ filter p ys) (filter p ys))
-      → (In x (filter p ys) → In x ys × (p x ≡ true)) → In x (y ∷ ys) × (p x ≡ true)
-  by true h (inl same) more = (inl same, ap p (sym same) ∙ h)
-  by true h (inr n) more = let r : In x ys × (p x ≡ true) = more n in (inr r.0, r.1)
-  by false h n more = let r : In x ys × (p x ≡ true) = more n in (inr r.0, r.1)
-
-not_false : (b : Bool) → not b ≡ false → b ≡ true
-not_false true e = refl
-not_false false e = absurd cc
 
 module _ (arrows : List Arrow) (places : ℕ) where
   may_come : (before : List ℕ) (position x : ℕ) → fault_at arrows places (is_among before) position x ≡ None
@@ -90,7 +78,7 @@ module _ (arrows : List Arrow) (places : ℕ) where
           low = place.0;
           high = place.1;
           fresh = eb;
-          tails = λ w m e. not_false (is_among before w.from)
+          tails = λ w m e. not-false (is_among before w.from)
               (find_none (λ (w' : Arrow). not (is_among before w'.from)) (inward arrows x) eo w
               (in_filter (λ (w' : Arrow). eqb w'.to x) arrows w (eq-eqb w.to x e) m));
         }
@@ -238,7 +226,7 @@ legal_orders d is plan order made = (
       ap (λ b. cond b (first_fault_after plan.arrows (length plan.levels) [] order) (Some Length))
       (eq-eqb (length order) (length plan.levels)
       (length_permutation (count_up 1 (length plan.levels)) order legal.permutation
-      ∙ length_count 1 (length plan.levels)))
+      ∙ length-count_up 1 (length plan.levels)))
       ∙ none_after plan.arrows (length plan.levels) [] order
       (by_indexes plan.arrows (length plan.levels) [] order (λ k x at. comes legal k x at))),
 ) where
@@ -250,7 +238,7 @@ legal_orders d is plan order made = (
 
   placed : IsLegalOrder plan order → (x : ℕ) → In x order → (1 ≤ x) × (x < 1 + length plan.levels)
   placed legal x m = of_count 1 (length plan.levels) x
-      (in_moved_back (count_up 1 (length plan.levels)) order x legal.permutation m)
+      (in_permuted_back (count_up 1 (length plan.levels)) order x legal.permutation m)
 
   comes : IsLegalOrder plan order → (k x : ℕ) → slice_get order k ≡ Some x
       → MayCome plan.arrows (length plan.levels) (take k order) x
@@ -258,12 +246,12 @@ legal_orders d is plan order made = (
     low = (placed legal x (in_at plan.arrows (length plan.levels) order k x at)).0;
     high = omega (arith, (placed legal x (in_at plan.arrows (length plan.levels) order k x at)).1);
     fresh = fresh_at plan.arrows (length plan.levels) order k x
-        (IsDistinct-IsPermutation eqb eqb-sym (count_up 1 (length plan.levels)) order legal.permutation
-        (distinct_count 1 (length plan.levels))) at;
+        (IsDistinct-IsPermutation eqb nat_eq_equiv.symm (count_up 1 (length plan.levels)) order legal.permutation
+        (distinct-count_up 1 (length plan.levels))) at;
     tails = λ w m e.
         let b : IsBetween (length is) w =
         arrow_between_places d is w ((made.arrows.exactly w).0 (contains_from plan.arrows w m)) in
-        let there : In w.from order = in_moved (count_up 1 (length plan.levels)) order w.from legal.permutation
+        let there : In w.from order = in_permuted (count_up 1 (length plan.levels)) order w.from legal.permutation
         (in_count 1 (length plan.levels) w.from b.from_one (omega (arith, b.forward, b.within, made.places))) in
         let p : (i : ℕ) × (slice_get order i ≡ Some w.from) =
         index_of plan.arrows (length plan.levels) order w.from there in

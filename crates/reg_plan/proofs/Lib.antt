@@ -1,4 +1,3 @@
-pub mod Members
 pub mod Links
 pub mod SortedTouches
 pub mod Touchings

@@ -10,6 +10,7 @@ use Rattle.std.proofs.lemmas.Cmp.{then_total, on_total, nat_cmp_total}
 use Rattle.std.proofs.lemmas.List.Sorted.{sorted_far, ranks_by}
 use Rattle.std.proofs.lemmas.Map.Keys.{apart_from_distinct}
 use Rattle.std.proofs.lemmas.List.Elements.{recursion_from_All}
+use Rattle.reg_facts.proofs.lemmas.Members.{In, of_member, of_each_member}
 use Rattle.reg_base.specs.Rising.{IsRising}
 use Rattle.reg_base.proofs.lemmas.RisesFrom.{RisesFrom}
 use Rattle.reg_plan.specs.declared.arrow.Arrow.{Arrow}
@@ -19,7 +20,6 @@ use Rattle.reg_plan.specs.Arrows.{same_arrow}
 use Rattle.reg_plan.specs.TouchList.{arrow_between, arrows_after, arrows_of, opening_at, openings_after, openings_of}
 use Rattle.reg_plan.specs.TouchList.{touch_cmp}
 use Rattle.reg_plan.proofs.SortedTouches.{same_touch}
-use Rattle.reg_plan.proofs.Members.{In, of_member, of_each_member}
 
 abbrev pub touch : ℕ → ℕ → Touch
 touch a k = record { account = a; place = k }

@@ -1,5 +1,5 @@
 -- So many different numbers, from 1 to their count, are a permutation of these places.
-use Rattle.std.proofs.Common.{◌≡◌, ℕ, zero, suc, ◌+◌, ◌<◌, ◌≤◌, ◌⊎◌, inl, inr, Bool, true, false, ◌||◌, eqb, List, []}
+use Rattle.std.proofs.Common.{◌≡◌, ℕ, zero, suc, ◌≤◌, ◌⊎◌, inl, inr, Bool, true, false, ◌||◌, eqb, List, []}
 use Rattle.std.proofs.Common.{◌∷◌, ◌++◌, length, arith, refl, sym, ap, subst, ◌∙◌}
 use Rattle.std.specs.Prelude.{IsPermutation}
 use Rattle.std.specs.List.{IsDistinct, list_any}
@@ -10,44 +10,9 @@ use Rattle.std.proofs.lemmas.List.Sorted.{IsPermutation-cons, IsPermutation-to_f
 use Rattle.std.proofs.lemmas.List.Sorted.{length_permutation}
 use Rattle.std.proofs.lemmas.Map.Keys.{IsDistinct-IsPermutation, IsDistinct-head, IsDistinct-tail, IsDistinct-cons}
 use Rattle.std.proofs.lemmas.Map.Steps.{length-le_from_distinct_below}
+use Rattle.reg_facts.proofs.lemmas.Members.{In, in_either, in_front, in_back, of_member, of_each_member}
 use Rattle.reg_base.specs.Rising.{count_up}
-use Rattle.reg_plan.proofs.Members.{In, in_either, in_front, in_back, of_member, of_each_member}
-
-pub eqb-sym : (x y : ℕ) → eqb x y ≡ eqb y x
-eqb-sym x y = nat_eq_equiv.symm x y
-
-pub in_count : (first more x : ℕ) → first ≤ x → x < first + more → In x (count_up first more)
-in_count first zero x le lt = absurd (omega arith)
-in_count first (suc more) x le lt = elim (cases_eq first x) [
-  | inl e ↦ inl e
-  | inr ne ↦ inr (in_count (first + 1) more x (up ne) (omega arith))
-] where
-  up : (first ≡ x → ⊥) → first + 1 ≤ x
-  up ne = omega (arith, ne)
-
-pub of_count : (first more x : ℕ) → In x (count_up first more) → (first ≤ x) × (x < first + more)
-of_count first zero x m = absurd m
-of_count first (suc more) x (inl e) = (omega (arith, e), omega (arith, e))
-of_count first (suc more) x (inr m) = let h : (first + 1 ≤ x) × (x < first + 1 + more) =
-    of_count (first + 1) more x m in (omega (arith, h.0), omega (arith, h.1))
-
-pub distinct_count : (first more : ℕ) → IsDistinct eqb (count_up first more)
-unfolding IsDistinct
-distinct_count first zero = tt
-distinct_count first (suc more) = (
-  of_each_member (λ y. eqb first y ≡ false) (count_up (first + 1) more)
-      (λ y m. ne_eqb first y (λ e. omega (arith, e, (of_count (first + 1) more y m).0))),
-  distinct_count (first + 1) more,
-)
-
-pub length_count : (first more : ℕ) → length (count_up first more) ≡ more
-length_count first zero = refl
-length_count first (suc more) = ap suc (length_count (first + 1) more)
-
-count-last : (first more : ℕ) → count_up first (suc more) ≡ count_up first more ++ (first + more) ∷ []
-count-last first zero = ap (λ n. n ∷ []) (omega arith)
-count-last first (suc more) =
-    ap (λ ns. first ∷ ns) (count-last (first + 1) more ∙ ap (λ n. count_up (first + 1) more ++ n ∷ []) (omega arith))
+use Rattle.reg_base.proofs.lemmas.Rising.{count_up-more}
 
 -- where a number stands in a list, or that it does not
 pub record Splits (x : ℕ) (xs : List ℕ) : Type 0 where
@@ -103,13 +68,13 @@ all_places (suc m) xs size distinct within = by (split (suc m) xs) (all_places m
       subst (λ zs. IsPermutation zs (suc m ∷ (s.front ++ s.back))) (sym s.is)
       (IsPermutation-middle s.front (suc m) s.back) in
       let apart : IsDistinct eqb (suc m ∷ (s.front ++ s.back)) =
-      IsDistinct-IsPermutation eqb eqb-sym xs (suc m ∷ (s.front ++ s.back)) moved distinct in
+      IsDistinct-IsPermutation eqb nat_eq_equiv.symm xs (suc m ∷ (s.front ++ s.back)) moved distinct in
       let rest : IsPermutation (count_up 1 m) (s.front ++ s.back) =
       more (s.front ++ s.back) (count moved) (IsDistinct-tail eqb (suc m) (s.front ++ s.back) apart)
       (λ x n. (low x n, high apart x n)) in
       let counted : IsPermutation (count_up 1 (suc m)) (suc m ∷ count_up 1 m) =
       subst (λ zs. IsPermutation zs (suc m ∷ count_up 1 m))
-      (sym (count-last 1 m ∙ ap (λ n. count_up 1 m ++ n ∷ []) (omega arith)))
+      (sym (count_up-more 1 m ∙ ap (λ n. count_up 1 m ++ n ∷ []) (omega arith)))
       (IsPermutation-to_front (count_up 1 m) (suc m)) in
       IsPermutation-trans (count_up 1 (suc m)) (suc m ∷ count_up 1 m) xs counted
       (IsPermutation-trans (suc m ∷ count_up 1 m) (suc m ∷ (s.front ++ s.back)) xs

@@ -1,13 +1,14 @@
 -- Levels, raised arrow by arrow in the order of their heads.
-use Rattle.std.proofs.Common.{◌≡◌, ℕ, ◌+◌, ◌-◌, ◌<◌, ◌≤◌, inl, inr, Bool, cond, eqb, max, List, [], ◌∷◌, ◌++◌, length}
+use Rattle.std.proofs.Common.{◌≡◌, ℕ, ◌+◌, ◌-◌, ◌<◌, ◌≤◌, inl, inr, cond, eqb, max, List, [], ◌∷◌, ◌++◌, length}
 use Rattle.std.proofs.Common.{get_or, set, take, arith, refl, sym, ap, subst, ◌∙◌}
-use Rattle.std.specs.Prelude.{filter, All}
+use Rattle.std.specs.Prelude.{All}
 use Rattle.std.specs.List.{AllByRecursion}
 use Rattle.std.specs.List.Sorted.{IsNonDecreasingBy}
-use Rattle.std.proofs.lemmas.Bool.{cases_lt, cases_eq, eq-eqb, ne_eqb, cond_both}
+use Rattle.std.proofs.lemmas.Bool.{cases_lt, cases_eq, eq-eqb, ne_eqb}
 use Rattle.std.proofs.lemmas.List.{length-set, get_or-set_same, get_or-set_other, get_or_past, length-take, get_or-take}
 use Rattle.std.proofs.lemmas.List.{append-nil}
 use Rattle.std.proofs.lemmas.List.Elements.{filter_more, recursion_from_All, All-from_get_or}
+use Rattle.reg_facts.proofs.lemmas.Lists.{all-filter}
 use Rattle.reg_plan.specs.declared.arrow.Arrow.{Arrow}
 use Rattle.reg_plan.specs.Plans.{inward, level_at, greatest_tail, AreLevels, IsBetween}
 
@@ -37,13 +38,6 @@ greatest-set levels j v [] apart = refl
 greatest-set levels j v (x ∷ xs) apart =
     ap (λ n. max n (greatest_tail (set levels j v) xs)) (get_or-set_other levels j (x.from - 1) v 0 apart.0)
     ∙ ap (λ n. max (level_at levels x.from) n) (greatest-set levels j v xs apart.1)
-
-filtered : {X : Type 0} (P : X → Type 0) (p : X → Bool) (xs : List X) → AllByRecursion P xs
-    → AllByRecursion P (filter p xs)
-filtered P p [] all = tt
-filtered P p (x ∷ xs) all =
-    let more : AllByRecursion P (filter p xs) = filtered P p xs all.1 in
-    cond_both (p x) (x ∷ filter p xs) (filter p xs) (AllByRecursion P) (λ _. (all.0, more)) (λ _. more)
 
 module _ (arrows : List Arrow) (k : ℕ) (w : Arrow) (levels : List ℕ) (here : k < length arrows)
     (is : w ≡ get_or arrows k w)
@@ -75,7 +69,7 @@ module _ (arrows : List Arrow) (k : ℕ) (w : Arrow) (levels : List ℕ) (here :
   same_greatest : (p : ℕ) → greatest_tail now (inward (take k arrows) p)
       ≡ greatest_tail levels (inward (take k arrows) p)
   same_greatest p = greatest-set levels (w.to - 1) value (inward (take k arrows) p)
-      (filtered (λ (x : Arrow). x.from - 1 ≡ w.to - 1 → ⊥) (λ (x : Arrow). eqb x.to p) (take k arrows) all_apart)
+      (all-filter (λ (x : Arrow). x.from - 1 ≡ w.to - 1 → ⊥) (λ (x : Arrow). eqb x.to p) (take k arrows) all_apart)
 
   grown : (p : ℕ) → inward (take (k + 1) arrows) p ≡ inward (take k arrows) p ++ cond (eqb w.to p) (w ∷ []) []
   grown p =

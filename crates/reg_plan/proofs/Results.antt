@@ -1,11 +1,13 @@
 -- The arrows and openings of sorted touches are those of the batch.
-use Rattle.std.proofs.Common.{◌≡◌, ℕ, zero, suc, ◌≤◌, inl, inr, Bool, true, false, eqb, List, length, arith, refl, sym}
+use Rattle.std.proofs.Common.{◌≡◌, ℕ, zero, suc, ◌≤◌, inl, inr, true, List, length, arith, sym}
 use Rattle.std.proofs.Common.{subst, ◌&&◌, [], ◌∷◌}
 use Rattle.std.specs.Prelude.{All}
 use Rattle.std.specs.Cmp.{nat_eq_equiv}
-use Rattle.std.proofs.lemmas.Bool.{cases_lt}
+use Rattle.std.proofs.lemmas.Bool.{cases_lt, false_from_ne_true}
 use Rattle.std.proofs.lemmas.List.Elements.{All-from_recursion}
 use Rattle.std.proofs.lemmas.Map.Keys.{IsDistinct-IsPermutation}
+use Rattle.reg_facts.proofs.lemmas.Members.{In, in_from, contains_from, in_permuted, in_permuted_back, of_each_member}
+use Rattle.reg_facts.proofs.lemmas.Numbers.{clash}
 use Rattle.reg_base.specs.declared.instruction.Instruction.{Instruction}
 use Rattle.reg_base.specs.Directory.{DirectoryValue}
 use Rattle.reg_base.specs.Footprint.{EachFootprintIsSound}
@@ -18,23 +20,16 @@ use Rattle.reg_plan.specs.Plans.{AreOpenings, IsBetween}
 use Rattle.reg_plan.specs.TouchList.{arrows_of, openings_of, AreSorted}
 use Rattle.reg_plan.proofs.SortedTouches.{touches_from, same_touch, AreTouches}
 use Rattle.reg_base.specs.Footprints.{footprints}
-use Rattle.reg_plan.proofs.Members.{In, in_from, contains_from, in_moved, in_moved_back, of_each_member}
 use Rattle.reg_plan.proofs.Links.{touch, Rises, IsLink, IsFirst, links_of_are, each_link_of, openings_of_are}
 use Rattle.reg_plan.proofs.Links.{each_opening_of, distinct_arrows, openings_of_rise, rises-sorted}
 use Rattle.reg_plan.proofs.Touchings.{touched-place, place-touched, distinct_touches}
 
-not_true : (b : Bool) → (b ≡ true → ⊥) → b ≡ false
-not_true true h = absurd (h refl)
-not_true false h = refl
-
-flip_and : (a b : ℕ) → eqb a b ≡ eqb b a
-flip_and a b = nat_eq_equiv.symm a b
-
 same_touch-sym : (x y : Touch) → same_touch x y ≡ same_touch y x
-same_touch-sym x y = λ i. (flip_and x.account y.account i) && (flip_and x.place y.place i)
+same_touch-sym x y = λ i. (nat_eq_equiv.symm x.account y.account i) && (nat_eq_equiv.symm x.place y.place i)
 
 same_arrow-sym : (x y : Arrow) → same_arrow x y ≡ same_arrow y x
-same_arrow-sym x y = λ i. (flip_and x.account y.account i) && ((flip_and x.from y.from i) && (flip_and x.to y.to i))
+same_arrow-sym x y = λ i. (nat_eq_equiv.symm x.account y.account i)
+    && ((nat_eq_equiv.symm x.from y.from i) && (nat_eq_equiv.symm x.to y.to i))
 
 -- a place that touches an account is one of the batch
 pub place_within : (d : DirectoryValue) (is : List Instruction) (a place : ℕ) → touches_place d is a place ≡ true
@@ -62,10 +57,10 @@ module _ (sound : EachFootprintIsSound) (d : DirectoryValue) (is : List Instruct
       (distinct_touches sound d 1 is))
 
   touched : (t : Touch) → In t ts → touches_place d is t.account t.place ≡ true
-  touched t m = touched-place d is t (in_moved_back (touches_from d 1 is) ts t touches.each m)
+  touched t m = touched-place d is t (in_permuted_back (touches_from d 1 is) ts t touches.each m)
 
   is_there : (a k : ℕ) → touches_place d is a k ≡ true → In (touch a k) ts
-  is_there a k e = in_moved (touches_from d 1 is) ts (touch a k) touches.each (place-touched d is a k e)
+  is_there a k e = in_permuted (touches_from d 1 is) ts (touch a k) touches.each (place-touched d is a k e)
 
   arrow_of_link : (w : Arrow) → IsLink ts w → IsArrow d is w
   arrow_of_link w h = record {
@@ -73,7 +68,8 @@ module _ (sound : EachFootprintIsSound) (d : DirectoryValue) (is : List Instruct
     tail = touched (touch w.account w.from) h.tail;
     head = touched (touch w.account w.to) h.head;
     none_between = λ place after before.
-        not_true (touches_place d is w.account place) (λ e. elim (h.apart place (is_there w.account place e)) [
+        false_from_ne_true (touches_place d is w.account place)
+        (λ e. elim (h.apart place (is_there w.account place e)) [
           | inl early ↦ omega arith
           | inr late ↦ omega arith
         ]);
@@ -91,17 +87,15 @@ module _ (sound : EachFootprintIsSound) (d : DirectoryValue) (is : List Instruct
         | inl before ↦ absurd (clash (touched (touch w.account k) m) (h.none_between k after before))
       ]
     ];
-  } where
-    clash : {b : Bool} → b ≡ true → b ≡ false → ⊥
-    clash p q = absurd cc
+  }
 
   pub are_arrows : (arrows : List Arrow) → AreSorted ts arrows → AreArrows d is arrows
   are_arrows arrows made = record {
     exactly = λ w. (
       (λ c. arrow_of_link w (links_of_are ts rises w
-          (in_moved_back (arrows_of ts) arrows w made.each (in_from arrows w c)))),
+          (in_permuted_back (arrows_of ts) arrows w made.each (in_from arrows w c)))),
       (λ h. contains_from arrows w
-          (in_moved (arrows_of ts) arrows w made.each (each_link_of ts rises w (link_of_arrow w h)))),
+          (in_permuted (arrows_of ts) arrows w made.each (each_link_of ts rises w (link_of_arrow w h)))),
     );
     sorted = made.sorted;
     once = IsDistinct-IsPermutation same_arrow same_arrow-sym (arrows_of ts) arrows made.each
@@ -112,7 +106,7 @@ module _ (sound : EachFootprintIsSound) (d : DirectoryValue) (is : List Instruct
   opening_of_first o h = record {
     toucher = touched (touch o.account o.first) h.at;
     none_before = λ place before.
-        not_true (touches_place d is o.account place)
+        false_from_ne_true (touches_place d is o.account place)
         (λ e. omega (arith, before, h.least place (is_there o.account place e)));
   }
 
@@ -123,9 +117,7 @@ module _ (sound : EachFootprintIsSound) (d : DirectoryValue) (is : List Instruct
       | inr le ↦ le
       | inl before ↦ absurd (clash (touched (touch o.account k) m) (h.none_before k before))
     ];
-  } where
-    clash : {b : Bool} → b ≡ true → b ≡ false → ⊥
-    clash p q = absurd cc
+  }
 
   pub are_openings : (openings : List Opening) → openings ≡ openings_of ts → AreOpenings d is openings
   are_openings openings made = subst (AreOpenings d is) (sym made) (record {
@@ -140,4 +132,4 @@ module _ (sound : EachFootprintIsSound) (d : DirectoryValue) (is : List Instruct
   all_between arrows made =
       All-from_recursion (IsBetween (length is)) arrows (of_each_member (IsBetween (length is)) arrows (λ w m.
       arrow_between_places d is w
-      (arrow_of_link w (links_of_are ts rises w (in_moved_back (arrows_of ts) arrows w made.each m)))))
+      (arrow_of_link w (links_of_are ts rises w (in_permuted_back (arrows_of ts) arrows w made.each m)))))

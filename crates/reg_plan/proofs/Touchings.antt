@@ -3,6 +3,7 @@ use Rattle.std.proofs.Common.{◌≡◌, ℕ, zero, suc, ◌+◌, ◌<◌, ◌�
 use Rattle.std.proofs.Common.{◌∷◌, ◌++◌, arith, refl, sym, ap, subst, ◌∙◌}
 use Rattle.std.specs.List.{AllByRecursion, IsDistinct}
 use Rattle.std.proofs.lemmas.Bool.{eqb-true, eqb-false, eq-eqb, ne_eqb}
+use Rattle.reg_facts.proofs.lemmas.Members.{In, of_each_member, in_front, in_back, in_either}
 use Rattle.reg_base.specs.declared.instruction.Instruction.{Instruction}
 use Rattle.reg_base.specs.Directory.{DirectoryValue}
 use Rattle.reg_base.specs.Footprint.{footprint, is_among, EachFootprintIsSound}
@@ -11,7 +12,6 @@ use Rattle.reg_plan.specs.declared.arrow.Touch.{Touch}
 use Rattle.reg_plan.specs.Arrows.{touches_place}
 use Rattle.reg_plan.specs.TouchList.{touched_at}
 use Rattle.reg_plan.proofs.SortedTouches.{touches_from, same_touch}
-use Rattle.reg_plan.proofs.Members.{In, of_each_member, in_front, in_back, in_either}
 use Rattle.reg_plan.proofs.Links.{touch}
 
 among_of : (p : ℕ) (accounts : List ℕ) (t : Touch) → In t (touched_at p accounts)

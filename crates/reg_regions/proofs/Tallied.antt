@@ -12,10 +12,10 @@ use Rattle.std.proofs.lemmas.List.Sums.{sum_by-cons}
 use Rattle.std.proofs.lemmas.List.Sorted.{sum_by-IsPermutation}
 use mathlib.Core.Logic.{dite}
 use native.Mathlib.Decide.{ℕ_discrete, dec_le}
+use Rattle.reg_facts.proofs.lemmas.Times.{equal-one, apart-none, times-contains, once-yes, once-past, once-zero}
 use Rattle.reg_base.specs.Rising.{count_up}
 use Rattle.reg_facts.specs.Counting.{one_if, total, times, once}
 use Rattle.reg_facts.proofs.lemmas.Totals.{total-append}
-use Rattle.reg_claim.proofs.lemmas.Numbers.{equal-one, apart-none, times-contains, once-yes, once-past, once-zero}
 use Rattle.reg_regions.specs.declared.stealing.settled_list.SettledList.{SettledList}
 use Rattle.reg_regions.specs.declared.stealing.shift.WorkShift.{WorkShift}
 use Rattle.reg_regions.specs.Settling.{places_in}

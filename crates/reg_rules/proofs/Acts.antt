@@ -23,6 +23,7 @@ use Rattle.reg_account.specs.Account.{AccountValue, IsAccount, held_by, credited
 use Rattle.reg_account.specs.Account.{with_emissions, with_determined, CanRetire, CanUnretireRow}
 use Rattle.reg_account.specs.Figure.{figure_of, figure_by, emitted_unless, first_missing, years_counted}
 use Rattle.reg_account.specs.Laws.{YearLaws}
+use Rattle.reg_account.proofs.lemmas.Rows.{retired_pushed}
 use Rattle.reg_rules.specs.State.{State, Setting, account, seen}
 use Rattle.reg_rules.specs.Checks.{is_missing, lacks_emissions, names_year_outside, refusal}
 use Rattle.reg_rules.specs.Effect.{new_row, assessed, with_changes}
@@ -30,7 +31,7 @@ use Rattle.reg_rules.specs.Laws.{set_aside, after_step, IsReady}
 use Rattle.reg_rules.specs.ActLaws.{IsRetired, IsReversed, Creates, Reverses, Enters, Assesses}
 use Rattle.reg_rules.proofs.Moves.{amount-with, amount-without}
 use Rattle.reg_rules.proofs.Passed.{passed}
-use Rattle.reg_rules.proofs.Rows.{row-number, finds-added, finds-other, sum-added, finds-mark, finds-unmarked}
+use Rattle.reg_rules.proofs.Rows.{row-number, finds-added, finds-other, finds-mark, finds-unmarked}
 use Rattle.reg_rules.proofs.Rows.{sum-marked}
 use Rattle.reg_rules.proofs.Singles.{single, single-can, stays, found-all}
 
@@ -88,7 +89,7 @@ retired-state s t from v new can was now others = record {
       ∙ sym (ap (λ o. row_in (option_map_or (λ (u : AccountValue). u.rows) o []) number) was);
   sums = λ way kind.
       ap (λ o. retired_in way kind (option_map_or (λ (u : AccountValue). u.rows) o [])) now
-      ∙ sum-added way kind v.rows new
+      ∙ retired_pushed way kind v.rows new
       ∙ sym (ap (λ o. retired_in way kind (option_map_or (λ (u : AccountValue). u.rows) o []) + amount_in way kind new)
       was);
   other_accounts = others;

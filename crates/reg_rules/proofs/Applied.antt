@@ -19,7 +19,7 @@ use Rattle.reg_rules.specs.State.{State, Setting, Receiver, numbers, account, se
 use Rattle.reg_rules.specs.Checks.{has_repeat, overfills, overfills_first, overfills_some, refusal}
 use Rattle.reg_rules.specs.Effect.{first_after, share_of, given, given_each, with_changes, made_by, changed_by}
 use Rattle.reg_rules.specs.Effect.{CanReceive, HasSpaceEach, CanChange, IsBehind}
-use Rattle.reg_rules.proofs.Numbers.{found-by_number}
+use Rattle.reg_rules.proofs.lemmas.Accounts.{found-by_number}
 use Rattle.reg_rules.proofs.Passed.{passed}
 use Rattle.reg_rules.proofs.Repeats.{repeats-none}
 use Rattle.reg_rules.proofs.Firsts.{or-left, or-right, can-first}

@@ -24,7 +24,7 @@ use Rattle.reg_rules.specs.Effect.{first_after, share_of, given, with_changes, e
 use Rattle.reg_rules.specs.Step.{step_by}
 use Rattle.reg_rules.specs.Laws.{set_aside}
 use Rattle.reg_rules.specs.ActLaws.{IsDistributed, Distributes}
-use Rattle.reg_rules.proofs.Numbers.{account-number}
+use Rattle.reg_rules.proofs.lemmas.Accounts.{account-number}
 use Rattle.reg_rules.proofs.Passed.{passed}
 use Rattle.reg_rules.proofs.Repeats.{repeats-none}
 use Rattle.reg_rules.proofs.Effects.{account-effect}

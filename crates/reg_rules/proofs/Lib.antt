@@ -1,3 +1,4 @@
+pub mod lemmas
 pub mod Numbers
 pub mod Passed
 pub mod Administrators

@@ -36,10 +36,10 @@ use Rattle.reg_rules.specs.Effect.{fate_of, listed_from, assessed, made_by, firs
 use Rattle.reg_rules.specs.Effect.{with_changes, changed_by, CanMake, CanChange, IsBehind}
 use Rattle.reg_rules.specs.Step.{step_by}
 use Rattle.reg_rules.specs.Laws.{IsReady, StaysReadyInStep}
+use Rattle.reg_rules.proofs.lemmas.Accounts.{found-by_number}
 use Rattle.reg_rules.proofs.Applied.{can-change}
 use Rattle.reg_rules.proofs.Effects.{numbers-effect}
 use Rattle.reg_rules.proofs.Figures.{figure-fits}
-use Rattle.reg_rules.proofs.Numbers.{found-by_number}
 
 -- the numbers that a change writes down are in their ranges
 record InRange (made : Change) : Type 0 where

@@ -7,6 +7,7 @@ use Rattle.std.specs.List.{AllByRecursion}
 use Rattle.std.proofs.lemmas.Bool.{eqb-true, eqb-false, ne_eqb, not-false}
 use Rattle.std.proofs.lemmas.List.{get_or_default}
 use Rattle.std.proofs.lemmas.List.Elements.{recursion_from_All}
+use Rattle.reg_facts.proofs.lemmas.Lists.{all-weaker}
 use Rattle.reg_base.specs.declared.shares.Share.{Share}
 use Rattle.reg_base.specs.declared.act.Act.{Act}
 use Rattle.reg_base.specs.declared.act.Act.TheVariants.{Assess}
@@ -25,8 +26,8 @@ use Rattle.reg_rules.specs.Checks.{fails, refusal}
 use Rattle.reg_rules.specs.Effect.{first_after, given, with_changes, changed_by, effect}
 use Rattle.reg_rules.specs.Step.{step, step_by, held_now, closing, figure_now}
 use Rattle.reg_rules.specs.Laws.{StepIsLocal, OthersStay, NumbersStayInStep, RefusedChangesNothing}
+use Rattle.reg_rules.proofs.lemmas.Accounts.{account-number}
 use Rattle.reg_rules.proofs.Effects.{account-effect, numbers-effect}
-use Rattle.reg_rules.proofs.Numbers.{account-number}
 use Rattle.reg_rules.proofs.Passed.{passed}
 use Rattle.reg_rules.proofs.Steps.{now-of}
 
@@ -82,11 +83,6 @@ effect-local c s t n i a same =
 map-same : {X Y : Type 0} (f g : X → Y) (xs : List X) → AllByRecursion (λ x. f x ≡ g x) xs → map f xs ≡ map g xs
 map-same f g [] same = refl
 map-same f g (x ∷ xs) same = ap (λ y. y ∷ map f xs) same.0 ∙ ap (λ ys. g x ∷ ys) (map-same f g xs same.1)
-
-all-weaker : {X : Type 0} (P Q : X → Type 0) → ((x : X) → P x → Q x) → (xs : List X) → AllByRecursion P xs
-    → AllByRecursion Q xs
-all-weaker P Q weaker [] all = tt
-all-weaker P Q weaker (x ∷ xs) all = (weaker x all.0, all-weaker P Q weaker xs all.1)
 
 closing-local : (c : Setting) (s t : State) (i : Instruction)
     → AllByRecursion (λ a. account s a ≡ account t a) (footprint c.directory i.act) → closing c s i ≡ closing c t i

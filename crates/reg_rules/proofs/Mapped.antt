@@ -1,17 +1,16 @@
 -- A test of those that receive is a test of their accounts.
-use Rattle.std.proofs.Common.{◌≡◌, ℕ, Bool, true, List, [], ◌∷◌, map, ◌&&◌, Option, Some, Result, refl, sym, ap, ◌∙◌}
+use Rattle.std.proofs.Common.{◌≡◌, ℕ, Bool, true, List, [], ◌∷◌, map, ◌&&◌, Some, refl, sym, ap, ◌∙◌}
 use Rattle.std.specs.List.{list_all}
 use Rattle.reg_base.specs.declared.kinds.AccountKind.{AccountKind}
 use Rattle.reg_base.specs.declared.shares.Share.{Share}
 use Rattle.reg_base.specs.declared.movement.Change.{Change}
 use Rattle.reg_base.specs.declared.movement.Change.TheVariants.{Unretire}
 use Rattle.reg_base.specs.declared.movement.Movement.{Movement}
-use Rattle.reg_base.specs.declared.instruction.Instruction.{Instruction}
-use Rattle.reg_base.specs.Acts.{movement_of, change_of, shares}
+use Rattle.reg_base.specs.Acts.{shares}
 use Rattle.reg_account.specs.Account.{AccountValue, trusts}
 use Rattle.reg_rules.specs.declared.found.Found.{Found}
 use Rattle.reg_rules.specs.ActRules.{rule_of, fits_first, fits_receiver, fits_first_receiver, is_not_closed}
-use Rattle.reg_rules.specs.State.{State, Setting, Receiver, numbers, passes}
+use Rattle.reg_rules.specs.State.{State, Receiver, numbers, passes}
 use Rattle.reg_rules.specs.Checks.{has_right_kinds, destination_allows, row_to_reverse}
 use Rattle.reg_rules.specs.Trust.{trusts_receivers}
 use Rattle.reg_rules.specs.Cases.{receiving, seeing, seen_in, Case, IsCase}

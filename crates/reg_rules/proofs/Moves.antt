@@ -23,7 +23,7 @@ use Rattle.reg_rules.specs.Effect.{made_by, first_after, given, with_changes, ef
 use Rattle.reg_rules.specs.Step.{step_by}
 use Rattle.reg_rules.specs.Laws.{set_aside, after_step}
 use Rattle.reg_rules.specs.ActLaws.{IsMoved}
-use Rattle.reg_rules.proofs.Numbers.{account-number}
+use Rattle.reg_rules.proofs.lemmas.Accounts.{account-number}
 use Rattle.reg_rules.proofs.Passed.{passed}
 use Rattle.reg_rules.proofs.Repeats.{repeats-none}
 use Rattle.reg_rules.proofs.Effects.{account-effect}

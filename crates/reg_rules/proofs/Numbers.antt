@@ -1,38 +1,11 @@
 -- Accounts by their numbers: where each number stands once, it leads to its account.
-use Rattle.std.proofs.Common.{◌≡◌, ℕ, Bool, true, false, cond, eqb, List, [], ◌∷◌, map, Option, Some, refl, sym, ap}
+use Rattle.std.proofs.Common.{◌≡◌, ℕ, eqb, List, [], ◌∷◌, map, Option, Some, refl, sym, ap}
 use Rattle.std.proofs.Common.{◌∙◌, subst}
-use Rattle.std.specs.Option.{option_map}
 use Rattle.std.specs.List.{IsDistinct, AllByRecursion}
-use Rattle.std.proofs.lemmas.Bool.{cond_both, eqb-true, eq-eqb}
-use Rattle.std.proofs.lemmas.Option.{same_Some, none-some}
+use Rattle.std.proofs.lemmas.Option.{same_Some}
 use Rattle.reg_account.specs.Account.{AccountValue}
 use Rattle.reg_rules.specs.State.{State, numbers, account}
-
--- the account that a number leads to has it
-pub account-number : (s : State) (a : ℕ) (v : AccountValue) → account s a ≡ Some v → v.number ≡ a
-account-number [] a v e = absurd (none-some v e)
-account-number (x ∷ xs) a v e =
-    let more = account-number xs a v in
-    cond_both (eqb x.number a) (Some x) (account xs a) (λ o. o ≡ Some v → v.number ≡ a)
-    (λ same found. ap (λ (w : AccountValue). w.number) (sym (same_Some x v found)) ∙ eqb-true x.number a same)
-    (λ _ found. more found) e
-
--- an account put before a list does not change what the other numbers find
-behind : (x : AccountValue) (xs ys : State) → AllByRecursion (λ n. eqb x.number n ≡ false) (numbers ys)
-    → AllByRecursion (λ v. account xs v.number ≡ Some v) ys
-    → AllByRecursion (λ v. account (x ∷ xs) v.number ≡ Some v) ys
-behind x xs [] others found = tt
-behind x xs (y ∷ ys) others found =
-    (ap (λ b. cond b (Some x) (account xs y.number)) others.0 ∙ found.0, behind x xs ys others.1 found.1)
-
--- each account is found by its number
-pub found-by_number : (s : State) → IsDistinct eqb (numbers s) → AllByRecursion (λ v. account s v.number ≡ Some v) s
-unfolding IsDistinct
-found-by_number [] d = tt
-found-by_number (x ∷ xs) d = (
-  ap (λ b. cond b (Some x) (account xs x.number)) (eq-eqb x.number x.number refl),
-  behind x xs xs d.0 (found-by_number xs d.1),
-)
+use Rattle.reg_rules.proofs.lemmas.Accounts.{found-by_number}
 
 -- what is said of a state by its numbers is said of its accounts
 pub map-by_number : {Y : Type 0} (f : ℕ → Option AccountValue → Y) (g : AccountValue → Y)
@@ -44,18 +17,6 @@ map-by_number {Y} f g same s d = go s (found-by_number s d) where
   go [] found = refl
   go (y ∷ ys) found = let here : f y.number (account s y.number) ≡ g y = ap (f y.number) found.0 ∙ same y in
       ap (λ z. z ∷ map (λ a. f a (account s a)) (numbers ys)) here ∙ ap (λ zs. g y ∷ zs) (go ys found.1)
-
--- a change that keeps each number is a change of what the numbers lead to
-pub account-map : (f : AccountValue → AccountValue) → ((v : AccountValue) → (f v).number ≡ v.number)
-    → (s : State) (a : ℕ) → account (map f s) a ≡ option_map f (account s a)
-account-map f keeps [] a = refl
-account-map f keeps (x ∷ xs) a =
-    ap (λ n. cond (eqb n a) (Some (f x)) (account (map f xs) a)) (keeps x)
-    ∙ go (eqb x.number a) (account-map f keeps xs a) where
-      go : (b : Bool) → account (map f xs) a ≡ option_map f (account xs a)
-          → cond b (Some (f x)) (account (map f xs) a) ≡ option_map f (cond b (Some x) (account xs a))
-      go true more = refl
-      go false more = more
 
 pub numbers-map : (f : AccountValue → AccountValue) → ((v : AccountValue) → (f v).number ≡ v.number) → (s : State)
     → numbers (map f s) ≡ numbers s

@@ -5,6 +5,7 @@ use Rattle.std.specs.Option.{option_to_list}
 use Rattle.std.specs.List.{list_any}
 use Rattle.std.proofs.Math.Bool.{or-false}
 use Rattle.std.proofs.lemmas.List.Folds.{list_any-append}
+use Rattle.std.proofs.lemmas.Bool.{or_parts}
 use Rattle.reg_base.specs.declared.shares.Share.{Share}
 use Rattle.reg_rules.specs.Checks.{has_repeat}
 
@@ -13,16 +14,12 @@ any_mapped : {X Y : Type 0} (p : Y → Bool) (f : X → Y) (xs : List X)
 any_mapped p f [] = refl
 any_mapped p f (x ∷ xs) = ap (λ b. p (f x) || b) (any_mapped p f xs)
 
-or-both : (a b : Bool) → (a || b) ≡ false → (a ≡ false) × (b ≡ false)
-or-both true b h = absurd (let e : true ≡ false = h in cc)
-or-both false b h = (refl, h)
-
 -- a list without a repeat begins with one
 pub repeats-none : (xs ys : List ℕ) → has_repeat (xs ++ ys) ≡ false → has_repeat xs ≡ false
 repeats-none [] ys none = refl
 repeats-none (x ∷ xs) ys none =
-    let parts = or-both (list_any (λ y. eqb y x) (xs ++ ys)) (has_repeat (xs ++ ys)) none in
-    let here = or-both (list_any (λ y. eqb y x) xs) (list_any (λ y. eqb y x) ys)
+    let parts = or_parts (list_any (λ y. eqb y x) (xs ++ ys)) (has_repeat (xs ++ ys)) none in
+    let here = or_parts (list_any (λ y. eqb y x) xs) (list_any (λ y. eqb y x) ys)
     (sym (list_any-append (λ y. eqb y x) xs ys) ∙ parts.0) in
     ap (λ b. b || has_repeat xs) here.0 ∙ repeats-none xs ys parts.1
 

@@ -1,5 +1,5 @@
 -- Rows that are added and marked: what is found, and what they sum up to.
-use Rattle.std.proofs.Common.{◌≡◌, ◌≢◌, ℕ, suc, ◌+◌, ◌<◌, Bool, true, false, cond, ◌&&◌, eqb, List, [], ◌∷◌, ◌++◌}
+use Rattle.std.proofs.Common.{◌≡◌, ◌≢◌, ℕ, suc, ◌+◌, ◌<◌, Bool, true, false, cond, eqb, List, [], ◌∷◌, ◌++◌}
 use Rattle.std.proofs.Common.{Option, Some, None, refl, sym, ap, ◌∙◌, arith}
 use Rattle.std.specs.Option.{option_map}
 use Rattle.std.proofs.lemmas.Bool.{eqb-true, eq-eqb, ne_eqb}
@@ -9,8 +9,9 @@ use Rattle.reg_base.specs.declared.kinds.AllowanceKind.{AllowanceKind}
 use Rattle.reg_base.proofs.lemmas.RisesFrom.{RisesFrom}
 use Rattle.reg_base.specs.declared.kinds.Retirement.{Retirement}
 use Rattle.reg_account.specs.declared.rows.RetirementRow.{RetirementRow}
-use Rattle.reg_account.specs.Rows.{retirement_of, is_same_retirement, is_same_kind, amount_in, retired_in, row_numbers}
+use Rattle.reg_account.specs.Rows.{amount_in, retired_in, row_numbers}
 use Rattle.reg_account.specs.Rows.{row_in, marked_reversed, with_mark, AreBelow}
+use Rattle.reg_account.proofs.lemmas.Rows.{nothing_from}
 
 pub row-number : (rows : List RetirementRow) (number : ℕ) (row : RetirementRow) → row_in rows number ≡ Some row
     → row.number ≡ number
@@ -36,18 +37,6 @@ pub finds-other : (rows : List RetirementRow) (row : RetirementRow) (number : �
 finds-other [] row number apart = ap (λ b. cond b (Some row) None) (ne_eqb row.number number (λ same. apart (sym same)))
 finds-other (x ∷ xs) row number apart =
     ap (λ o. cond (eqb x.number number) (Some x) o) (finds-other xs row number apart)
-
-pub sum-added : (way : Retirement) (kind : AllowanceKind) (rows : List RetirementRow) (row : RetirementRow)
-    → retired_in way kind (rows ++ row ∷ []) ≡ retired_in way kind rows + amount_in way kind row
-sum-added way kind [] row = let e : retired_in way kind (row ∷ []) ≡ amount_in way kind row + 0 =
-    sum_by-cons (amount_in way kind) row [] in omega (arith, e)
-sum-added way kind (x ∷ xs) row =
-    let more = sum-added way kind xs row in
-    let all : retired_in way kind (x ∷ (xs ++ row ∷ [])) ≡ amount_in way kind x + retired_in way kind (xs ++ row ∷ []) =
-    sum_by-cons (amount_in way kind) x (xs ++ row ∷ []) in
-    let own : retired_in way kind (x ∷ xs) ≡ amount_in way kind x + retired_in way kind xs =
-    sum_by-cons (amount_in way kind) x xs in
-    omega (arith, more, all, own)
 
 -- what is found under a number among marked rows is what was found there, marked
 finds-marked : (rows : List RetirementRow) (number at : ℕ)
@@ -91,14 +80,6 @@ marks-none number low (x ∷ xs) above rises =
     (ne_eqb x.number number (λ same. let e : x.number ≡ number = same in omega (arith, e, at, above)))
     ∙ ap (λ ys. x ∷ ys) (marks-none number (suc x.number) xs (omega (arith, at, above)) rises.1)
 
-counts-no-more : (way : Retirement) (kind : AllowanceKind) (row : RetirementRow)
-    → amount_in way kind (record row { reversed = true }) ≡ 0
-counts-no-more way kind row = go (is_same_retirement (retirement_of row.fate) way) (is_same_kind row.kind kind) where
-  go : (a b : Bool) → cond (a && (b && false)) row.amount 0 ≡ 0
-  go true true = refl
-  go true false = refl
-  go false b = refl
-
 pub sum-marked : (way : Retirement) (kind : AllowanceKind) (low : ℕ) (rows : List RetirementRow) (number : ℕ)
     (row : RetirementRow) → RisesFrom low (row_numbers rows) → row_in rows number ≡ Some row
     → retired_in way kind (with_mark number rows) + amount_in way kind row ≡ retired_in way kind rows
@@ -121,7 +102,7 @@ sum-marked way kind low (x ∷ xs) number row rises found =
           let all : retired_in way kind (record x { reversed = true } ∷ with_mark number xs)
           ≡ amount_in way kind (record x { reversed = true }) + retired_in way kind (with_mark number xs) =
           sum_by-cons (amount_in way kind) (record x { reversed = true }) (with_mark number xs) in
-          let gone = counts-no-more way kind x in
+          let gone = nothing_from way kind x in
           let sum = own in
           omega (arith, is, rest, all, gone, sum)
       go false other here more =

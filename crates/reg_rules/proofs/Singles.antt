@@ -19,7 +19,7 @@ use Rattle.reg_rules.specs.Checks.{receivers_fit, has_right_kinds, refusal}
 use Rattle.reg_rules.specs.Effect.{first_after, given, with_changes, changed_by, effect, CanFirst, IsBehind}
 use Rattle.reg_rules.specs.Step.{step_by}
 use Rattle.reg_rules.specs.Laws.{after_step, IsReady}
-use Rattle.reg_rules.proofs.Numbers.{account-number}
+use Rattle.reg_rules.proofs.lemmas.Accounts.{account-number}
 use Rattle.reg_rules.proofs.Passed.{passed}
 use Rattle.reg_rules.proofs.Effects.{account-effect}
 use Rattle.reg_rules.proofs.Firsts.{can-first}

@@ -23,7 +23,7 @@ use Rattle.reg_rules.specs.State.{State, Setting, Receiver, numbers, account, se
 use Rattle.reg_rules.specs.Trust.{lag_by}
 use Rattle.reg_rules.specs.Checks.{has_repeat, row_to_reverse, fails, refusal}
 use Rattle.reg_rules.specs.Cases.{receiving, seeing, effect_day, figure_asked, found_of}
-use Rattle.reg_rules.proofs.Numbers.{found-by_number}
+use Rattle.reg_rules.proofs.lemmas.Accounts.{found-by_number}
 use Rattle.reg_rules.proofs.Repeats.{repeats-none}
 use Rattle.reg_rules.proofs.Applied.{once-distinct}
 use Rattle.reg_rules.proofs.Mapped.{trust-answer, row-seen}

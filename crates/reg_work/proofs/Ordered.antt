@@ -7,7 +7,7 @@ use Rattle.std.proofs.lemmas.List.{map-append}
 use mathlib.Core.Logic.{dite}
 use native.Mathlib.Decide.{ℕ_discrete, dec_le}
 use Rattle.reg_facts.specs.Counting.{times, once, one_if}
-use Rattle.reg_claim.proofs.lemmas.Numbers.{equal-one, apart-none, once-yes, once-past, once-zero}
+use Rattle.reg_facts.proofs.lemmas.Times.{equal-one, apart-none, once-yes, once-past, once-zero}
 use Rattle.reg_rules.specs.declared.reply.LogRow.{LogRow}
 use Rattle.reg_book.specs.Day.{DayValue, row_at, log_of}
 use Rattle.reg_tasks.specs.declared.outcome.Ran.{Ran}

@@ -3,7 +3,7 @@ use Rattle.std.proofs.Common.{◌≡◌, ◌≢◌, ◌⊎◌, inl, inr, ℕ, ze
 use Rattle.std.proofs.Common.{List, [], ◌∷◌, ◌++◌, length, get_or, Option, Some, None, refl, sym, ap, ◌∙◌, arith}
 use Rattle.std.specs.Prelude.{slice_get, ◌&&◌}
 use Rattle.std.specs.Option.{is_some}
-use Rattle.std.proofs.lemmas.Bool.{eqb-true}
+use Rattle.std.proofs.lemmas.Bool.{eqb-true, or_parts, false_from_ne_true, and_parts}
 use Rattle.std.proofs.lemmas.Bool.{true≢false}
 use Rattle.std.proofs.lemmas.Option.{slice_get-get_or}
 use Rattle.std.proofs.Math.Bool.{or-true}
@@ -229,17 +229,13 @@ ends-plain st.InField p = refl
 ends-plain st.AfterCr p = refl
 ends-plain s p = absurd cc
 
-none-of : (b t : Bool) → (b || t) ≡ false → (b ≡ false) × (t ≡ false)
-none-of true t e = absurd cc
-none-of false t e = (refl, e)
-
 after-line : (s : State) (a : List ℕ) → is_plain s ≡ true → has_quote a ≡ false → get_or a (length a - 1) 0 ≡ 10
     → 0 < length a → machine_after s a ≡ st.StartRecord
 unfolding machine_after has_quote
 after-line s [] p q last some = absurd (omega arith)
 after-line s (c ∷ []) p q last some = let line : c ≡ 10 = last in rw line (ends-plain s p)
 after-line s (c ∷ d ∷ rest) p q last some =
-    let parts = none-of (c == 34) (has_quote (d ∷ rest)) q in
+    let parts = or_parts (c == 34) (has_quote (d ∷ rest)) q in
     let at : length (c ∷ d ∷ rest) - 1 ≡ suc (length (d ∷ rest) - 1) = omega arith in
     let behind : get_or (d ∷ rest) (length (d ∷ rest) - 1) 0 ≡ 10 = rw at at last in
     after-line (step default_config s c).0 (d ∷ rest) (stays-plain s c p parts.0) parts.1 behind (omega arith)
@@ -249,20 +245,17 @@ last-there : (a : List ℕ) → slice_get a (length a - 1) ≡ Some 10 → (0 < 
 last-there [] h = absurd cc
 last-there (c ∷ a) h = let there = slice_get-get_or (c ∷ a) (length (c ∷ a) - 1) 0 (omega arith) in (omega arith, cc)
 
-and-right : (x y : Bool) → (x && y) ≡ true → y ≡ true
-and-right true y e = e
-and-right false y e = absurd cc
-
 behind-mark : (a b c : ℕ) (rest : List ℕ) → is_bom a b c ≡ true → has_quote (a ∷ b ∷ c ∷ rest) ≡ false
     → get_or (a ∷ b ∷ c ∷ rest) (length (a ∷ b ∷ c ∷ rest) - 1) 0 ≡ 10 → (has_quote rest ≡ false) × (0 < length rest)
     × (get_or rest (length rest - 1) 0 ≡ 10)
 unfolding has_quote
 behind-mark a b c [] mark q last =
-    absurd (true≢false (sym (and-right ((a == 0xEF) && (b == 0xBB)) (c == 0xBF) mark) ∙ ap (λ (n : ℕ). n == 0xBF) last))
+    absurd (true≢false (sym (and_parts ((a == 0xEF) && (b == 0xBB)) (c == 0xBF) mark).1
+    ∙ ap (λ (n : ℕ). n == 0xBF) last))
 behind-mark a b c (d ∷ rest) mark q last =
-    let one = none-of (a == 34) (has_quote (b ∷ c ∷ d ∷ rest)) q in
-    let two = none-of (b == 34) (has_quote (c ∷ d ∷ rest)) one.1 in
-    let three = none-of (c == 34) (has_quote (d ∷ rest)) two.1 in
+    let one = or_parts (a == 34) (has_quote (b ∷ c ∷ d ∷ rest)) q in
+    let two = or_parts (b == 34) (has_quote (c ∷ d ∷ rest)) one.1 in
+    let three = or_parts (c == 34) (has_quote (d ∷ rest)) two.1 in
     let at : length (a ∷ b ∷ c ∷ d ∷ rest) - 1 ≡ suc (suc (suc (length (d ∷ rest) - 1))) = omega arith in
     (three.1, omega arith, rw at at last)
 
@@ -285,16 +278,12 @@ whole (x ∷ y ∷ z ∷ rest) q h =
 
 -- ---- a search for a quote
 
-not-yes : (t : Bool) → (t ≡ true → ⊥) → t ≡ false
-not-yes true h = absurd (h refl)
-not-yes false h = refl
-
 pub by-memchr : (a : List ℕ) (r : Option ℕ) → IsFirstByte (is_byte 34) a r → is_some r ≡ has_quote a
 unfolding has_quote
 by-memchr [] None h = refl
 by-memchr [] (Some k) h = absurd (omega (arith, h.0.high))
 by-memchr (c ∷ a) None h =
-    let first : (c == 34) ≡ false = not-yes (c == 34) (h 0 (omega arith) (omega arith)) in
+    let first : (c == 34) ≡ false = false_from_ne_true (c == 34) (h 0 (omega arith) (omega arith)) in
     let rest = by-memchr a None (λ k low high. h (suc k) (omega arith) (omega arith)) in
     rw first rest
 by-memchr (c ∷ a) (Some zero) h = rw h.1 refl
@@ -319,4 +308,5 @@ no-mark [] h = refl
 no-mark (x ∷ []) h = refl
 no-mark (x ∷ y ∷ []) h = refl
 no-mark (x ∷ y ∷ z ∷ rest) h = let other : (x == 0xEF) ≡ false =
-    not-yes (x == 0xEF) (λ (e : (x == 0xEF) ≡ true). h (ap (λ (n : ℕ). Some n) (eqb-true x 0xEF e))) in rw other refl
+    false_from_ne_true (x == 0xEF) (λ (e : (x == 0xEF) ≡ true). h (ap (λ (n : ℕ). Some n) (eqb-true x 0xEF e))) in
+    rw other refl

@@ -3,8 +3,8 @@ use Rattle.std.proofs.lemmas.List.{take-set, length-set, length-take-le}
 use Rattle.std.proofs.Math.Seq.{drop-length}
 use Rattle.reg_base.specs.Rising.{IsRising}
 use Rattle.reg_rules.specs.State.{State, numbers}
+use Rattle.reg_rules.proofs.lemmas.Accounts.{length-numbers}
 use Rattle.reg_book.specs.Book.{overlay, AreHigher}
-use Rattle.reg_book.proofs.Directories.{length-numbers}
 use Rattle.reg_book.proofs.Overlays.{over_nothing, over_more, popped, last_taken, taken_fewer, numbers-overlay}
 use Rattle.reg_book.proofs.Overlays.{length-overlay, higher-last, lower-left}
 use Rattle.reg_book.proofs.Replacements.{one_more_out}

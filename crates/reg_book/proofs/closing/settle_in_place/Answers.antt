@@ -2,8 +2,8 @@ use Rattle.std.proofs.Common.{List, ◌≡◌, ◌+◌, length, rules, arith, sy
 use Rattle.reg_rules.specs.declared.reply.Reply.{Reply}
 use Rattle.reg_rules.specs.Laws.{IsReady}
 use Rattle.reg_book.specs.Day.{DayValue, IsDay, day_of}
+use Rattle.reg_book.proofs.lemmas.Logs.{length-replies_of}
 use Rattle.reg_book.proofs.Closings.{whole-after, kept-after_day, committed-after_day}
-use Rattle.reg_book.proofs.Folds.{size-replies_of}
 use Rattle.reg_book.proofs.Values.{ready-book}
 use Rattle.reg_book.proofs.closing.settle_in_place.Goals as goal
 
@@ -36,7 +36,7 @@ from_sorted-requires c =
     c.day.ensures c.into_parts-accounts.ensures.directory c.into_parts-accounts.ensures.accounts
     c.deref_mut.ensures.value size c.in_ok-replies.ensures.accounts in
     let logged = ap (λ (replies : List Reply). length replies) c.in_ok-replies.ensures.replies
-    ∙ size-replies_of (record {
+    ∙ length-replies_of (record {
       rules = c.args.rules.now;
       day = c.day.result;
       directory = c.into_parts-accounts.result.1;
@@ -58,7 +58,7 @@ returns-clause-book c =
     c.day.ensures c.into_parts-accounts.ensures.directory c.into_parts-accounts.ensures.accounts
     c.deref_mut.ensures.value size c.in_ok-replies.ensures.accounts in
     let logged = ap (λ (replies : List Reply). length replies) c.in_ok-replies.ensures.replies
-    ∙ size-replies_of (record {
+    ∙ length-replies_of (record {
       rules = c.args.rules.now;
       day = c.day.result;
       directory = c.into_parts-accounts.result.1;

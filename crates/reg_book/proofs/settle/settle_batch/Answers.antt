@@ -7,8 +7,8 @@ use Rattle.reg_book.specs.Day.{DayValue, IsDay, day_of}
 use Rattle.reg_book.specs.Fold.{touched_of}
 use Rattle.reg_book.specs.Indexes.{AllStandAt, index_lists}
 use Rattle.reg_book.specs.Settled.{IsSettled, IsOfBook}
+use Rattle.reg_book.proofs.lemmas.Logs.{length-replies_of}
 use Rattle.reg_book.proofs.Days.{day-made, log-made, settled-kept, settled-of_book, touched-ready}
-use Rattle.reg_book.proofs.Folds.{size-replies_of}
 use Rattle.reg_book.proofs.settle.settle_batch.Goals as goal
 use Rattle.reg_book.proofs.settle.settle_batch.Goals.{After-deref}
 
@@ -56,7 +56,7 @@ make_log-requires c =
       directory = c.directory-directory.result.now;
     } in
     ap (λ (replies : List Reply). length replies) c.in_ok-replies.ensures.replies
-    ∙ size-replies_of setting c.deref_mut.result.now (c.args.batch.now.base + 1) c.args.batch.now.instructions
+    ∙ length-replies_of setting c.deref_mut.result.now (c.args.batch.now.base + 1) c.args.batch.now.instructions
 
 pub new-requires : goal.new-requires
 new-requires c =

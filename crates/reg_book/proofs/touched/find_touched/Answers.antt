@@ -2,11 +2,11 @@ use Rattle.std.proofs.Common.{◌≡◌, ◌<◌, ◌++◌, List, ℕ, false, le
 use Rattle.std.proofs.Common.{◌∙◌}
 use Rattle.std.specs.List.{AllByRecursion}
 use Rattle.arrayvec.specs.ArrayVec.{ArrayVec}
+use Rattle.reg_facts.proofs.lemmas.Lists.{written_whole}
 use Rattle.reg_rules.specs.State.{State, numbers}
 use Rattle.reg_book.specs.Book.{directory_of}
 use Rattle.reg_book.specs.Marks.{picked, ranks_from}
 use Rattle.reg_book.specs.Indexes.{AllStandAt, each_at, index_lists}
-use Rattle.reg_book.proofs.Lookups.{written_whole}
 use Rattle.reg_book.proofs.Marks.{touched_marks, marks-touched, picked-touched}
 use Rattle.reg_book.proofs.Ranks.{size-ranks, size-ranked, touched-ranked}
 use Rattle.reg_book.proofs.touched.find_touched.Goals as goal

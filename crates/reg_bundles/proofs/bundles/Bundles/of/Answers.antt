@@ -1,9 +1,10 @@
 use Rattle.std.proofs.Common.{◌≡◌, ℕ, ◌<◌, ◌++◌, List, take, drop, length, get_or, replicate, rules, None}
 use Rattle.std.proofs.Common.{sym, ap, subst}
 use Rattle.std.proofs.Common.{◌∙◌}
+use Rattle.reg_facts.proofs.lemmas.Lists.{written_whole}
 use Rattle.reg_bundles.specs.Bundles.{IsBundles}
 use Rattle.reg_bundles.specs.Parents.{AreParents}
-use Rattle.reg_bundles.proofs.Joining.{begun-joined, bundles-joined, written_whole}
+use Rattle.reg_bundles.proofs.Joining.{begun-joined, bundles-joined}
 use Rattle.reg_bundles.proofs.bundles.Bundles.of.Goals as goal
 
 pub join_all-requires-clause-begun : goal.join_all-requires-clause-begun

@@ -1,17 +1,25 @@
--- How often numbers stand in a list: in one without repeats, and in one of numbers from 1 to n.
+-- How often numbers stand in a list: in two lists behind each other, in one without repeats, and in one of numbers from
+-- 1 to n.
 use Rattle.std.proofs.Common.{◌≡◌, ◌≢◌, ℕ, zero, suc, ◌+◌, ◌<◌, ◌≤◌, ◌==◌, ◌&&◌, nat_le, eqb, true, false, List, []}
-use Rattle.std.proofs.Common.{◌∷◌, length, refl, sym, ◌∙◌, ap, arith, Contains}
+use Rattle.std.proofs.Common.{◌∷◌, ◌++◌, length, refl, sym, ◌∙◌, ap, arith, Contains}
 use Rattle.std.specs.List.{IsDistinct, AllByRecursion}
 use Rattle.std.proofs.lemmas.Bool.Decides.{nat_tests}
 use mathlib.Core.Logic.{dite}
 use native.Mathlib.Decide.{ℕ_discrete, dec_le}
 use Rattle.reg_facts.specs.Counting.{one_if, total, times, once}
+use Rattle.reg_facts.proofs.lemmas.Totals.{total-append}
 
 pub equal-one : (x p : ℕ) → x ≡ p → one_if (x == p) ≡ 1
 equal-one x p e = let t : (x == p) ≡ true = grind (arith, nat_tests) in rw t refl
 
 pub apart-none : (x p : ℕ) → x ≢ p → one_if (x == p) ≡ 0
 apart-none x p e = let t : (x == p) ≡ false = grind (arith, nat_tests) in rw t refl
+
+pub times-append : (p : ℕ) (xs ys : List ℕ) → times p (xs ++ ys) ≡ times p xs + times p ys
+times-append p xs ys = total-append (λ x. one_if (x == p)) xs ys
+
+pub times-push : (p y : ℕ) (xs : List ℕ) → times p (xs ++ y ∷ []) ≡ times p xs + one_if (y == p)
+times-push p y xs = omega (arith, times-append p xs (y ∷ []))
 
 pub contains-times : (xs : List ℕ) (p : ℕ) → Contains xs p → 0 < times p xs
 contains-times [] p (k, h, e) = absurd (omega arith)

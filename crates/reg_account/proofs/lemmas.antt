@@ -1,0 +1,3 @@
+-- The lemmas that crates above cite.
+-- Retirement rows: their numbers, and what they add to a sum.
+pub mod Rows

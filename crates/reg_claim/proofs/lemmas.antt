@@ -1,2 +1,0 @@
--- The lemmas that crates above cite.
-pub mod Numbers

@@ -1,0 +1,3 @@
+-- The lemmas that crates above cite.
+-- Accounts by their numbers.
+pub mod Accounts
