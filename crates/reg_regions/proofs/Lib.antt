@@ -16,3 +16,4 @@ mod Placing
 mod Endings
 mod Listed
 mod Tallied
+mod Ended

@@ -1,13 +1,12 @@
 -- Settled regions counted: each number once, and each place as often as it was dealt out.
 use Rattle.std.proofs.Common.{◌≡◌, ℕ, zero, suc, ◌+◌, ◌<◌, ◌≤◌, ◌==◌, ◌&&◌, nat_le, true, false, List, [], ◌∷◌, ◌++◌}
-use Rattle.std.proofs.Common.{length, length-append, map, get_or, refl, sym, ap, subst, ◌∙◌, arith, add-one, append-nil}
-use Rattle.std.proofs.Common.{append_assoc, Vec, Global}
+use Rattle.std.proofs.Common.{length, length-append, map, get_or, refl, sym, ap, ◌∙◌, arith, add-one}
 use Rattle.std.specs.Prelude.{IsPermutation, All}
 use Rattle.std.specs.List.{flat_map, sum_by}
 use Rattle.std.specs.List.Sorted.{IsNonDecreasingBy}
 use Rattle.std.proofs.lemmas.Bool.Decides.{nat_tests}
-use Rattle.std.proofs.lemmas.List.{map-append, length-map, get_or-map}
-use Rattle.std.proofs.lemmas.List.Elements.{All-append, All-nil, All-head, All-push, All-tail}
+use Rattle.std.proofs.lemmas.List.{length-map, get_or-map}
+use Rattle.std.proofs.lemmas.List.Elements.{All-append, All-nil, All-head, All-tail}
 use Rattle.std.proofs.lemmas.List.Sums.{sum_by-cons}
 use Rattle.std.proofs.lemmas.List.Sorted.{sum_by-IsPermutation}
 use mathlib.Core.Logic.{dite}
@@ -179,11 +178,6 @@ all-flat P f [] all = All-nil P
 all-flat P f (x ∷ xs) all =
     All-append P (f x) (flat_map f xs) (All-head (λ y. All P (f y)) x xs all)
     (all-flat P f xs (All-tail (λ y. All P (f y)) x xs all))
-
--- what holds of the items of a list, and of one more, holds of all
-pub push-all : {X : Type 0} (P : X → Type 0) (all before : List X) (x : X) → all ≡ before ++ x ∷ []
-    → All P before → P x → All P all
-push-all P all before x is old new = subst (All P) (sym is) (All-push P before x old new)
 
 pub length-below : (n : ℕ) → length (first_numbers n) ≡ n
 length-below zero = refl

@@ -121,7 +121,7 @@ fn close_lists<R: Threads + Sync, G: PlaceGate>(
         day: batch.day(),
         directory: &directory,
     };
-    let settled = settle_cut(rt, alloc, &setting, batch, lists, workers, gate)?;
+    let settled = settle_turned(rt, alloc, &setting, batch, lists, workers, gate)?;
     let SettledLists {
         lists: left,
         replies: placed,
@@ -132,30 +132,6 @@ fn close_lists<R: Threads + Sync, G: PlaceGate>(
     Ok((ClosedParts { parts, replies }, shifts))
 }
 
-// Carries out the instructions by regions. A book in fewer lists than regions are wanted is cut.
-fn settle_cut<R: Threads + Sync, G: PlaceGate>(
-    rt: &R,
-    alloc: Global,
-    setting: &Setting,
-    batch: &Batch,
-    lists: Vec<Vec<Account>>,
-    workers: u32,
-    gate: &G,
-) -> Result<SettledLists, NoMemory>
-    requires workers { (1 ≤ workers) × (workers ≤ 8) }
-    requires rules { AreRules setting.now.rules }
-    requires ready { IsReady (batch.now.base + 1) (joined_lists lists.items) }
-    requires rising { IsRising (numbers (joined_lists lists.items)) }
-    requires few { length (joined_lists lists.items) ≤ MOST_ACCOUNTS }
-    requires directory { setting.now.directory ≡ directory_of (joined_lists lists.items) }
-    ensures turned { IfOk result
-        (λ s. AreTurned setting.now batch.now (joined_lists lists.items) (joined_lists s.lists.items) s.replies.items) }
-    ensures shifts { IfOk result (λ s. AreShiftsOf workers (length batch.now.instructions) s.shifts.items) }
-{
-    let cut = cut_lists(alloc, lists, regions_wanted(workers, batch.len()))?;
-    settle_turned(rt, alloc, setting, batch, cut, workers, gate)
-}
-
 // How many regions are wanted: a single worker wants no more than there are, and nobody more than instructions.
 fn regions_wanted(workers: u32, instructions: u32) -> usize {
     if workers < 2 {
@@ -164,7 +140,8 @@ fn regions_wanted(workers: u32, instructions: u32) -> usize {
     workers.saturating_mul(REGIONS_EACH).min(instructions) as usize
 }
 
-// Carries out the instructions by regions, or as those of one region if they can't be dealt out.
+// Carries out the instructions by regions, or as those of one region if they can't be dealt out. A book in fewer lists
+// than regions are wanted is cut before.
 fn settle_turned<R: Threads + Sync, G: PlaceGate>(
     rt: &R,
     alloc: Global,
@@ -184,7 +161,8 @@ fn settle_turned<R: Threads + Sync, G: PlaceGate>(
         (λ s. AreTurned setting.now batch.now (joined_lists lists.items) (joined_lists s.lists.items) s.replies.items) }
     ensures shifts { IfOk result (λ s. AreShiftsOf workers (length batch.now.instructions) s.shifts.items) }
 {
-    let (found, lists) = prepare(rt, alloc, setting, batch, lists, workers);
+    let cut = cut_lists(alloc, lists, regions_wanted(workers, batch.len()))?;
+    let (found, lists) = prepare(rt, alloc, setting, batch, cut, workers);
     let Some(dealing) = found else {
         return settle_whole(rt, alloc, setting, batch, lists, workers, gate);
     };

@@ -59,8 +59,9 @@ pub(crate) struct SettledLists {
 }
 
 /// Carries out the instructions of regions, each of which is a list of accounts, by workers that steal regions from one
-/// another. Each worker has a thread of its own where one can be started. If there is only one worker, or one region
-/// with instructions, they are carried out by the calling thread as worker 0.
+/// another. The calling thread is the last worker, and each of the others has a thread of its own where one can be
+/// started. If there is only one worker, or one region with instructions, they are carried out by the calling thread as
+/// worker 0.
 ///
 /// # Errors
 /// `NoMemory` if memory ran out. The lists are dropped then, and all threads have ended.

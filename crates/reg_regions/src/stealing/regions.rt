@@ -2,12 +2,6 @@
 
 ghost use Rattle.std.specs.Prelude.{◌≡◌, ◌+◌, ◌<◌, ◌^◌, map, vec_len, IfOk};
 ghost use Rattle.reg_base.specs.Rising.{count_up};
-ghost use Rattle.reg_base.specs.Rules.{AreRules};
-ghost use Rattle.reg_rules.specs.State.{numbers};
-ghost use Rattle.reg_rules.specs.Laws.{IsReady};
-ghost use Rattle.reg_book.specs.Indexes.{index_lists};
-ghost use Rattle.reg_regions.specs.Homes.{AreHome};
-ghost use Rattle.reg_regions.specs.Settling.{IsRun, places_in};
 ghost use Rattle.reg_regions.specs.Stealing.{region_openings, IsGround, IsSettledList, AreSettled, numbers_of};
 
 use crate::dealing::Deal;
@@ -75,36 +69,11 @@ pub(crate) fn settle_list<C: Cutting, G: PlaceGate>(
 {
     let ListRegion {
         number,
-        accounts,
+        mut accounts,
         ..
     } = region;
     let index = number as usize - 1;
     let deal = &deals[index];
-    let settled = settle_deal(alloc, setting, batch, deal, gate, worker, number, accounts)?;
-    Ok(settled)
-}
-
-// Carries out the instructions of a region on these accounts.
-fn settle_deal<G: PlaceGate>(
-    alloc: Global,
-    setting: &Setting,
-    batch: &Batch,
-    deal: &Deal,
-    gate: &G,
-    worker: u32,
-    number: u32,
-    accounts: Vec<Account>,
-) -> Result<SettledList, NoMemory>
-    requires rules { AreRules setting.now.rules }
-    requires ready { IsReady (batch.now.base + 1) accounts.items }
-    requires home { AreHome setting.now batch.now (numbers accounts.items) deal.now.places.items
-        (index_lists deal.now.indexes.items) }
-    ensures number { IfOk result (λ settled. settled.number ≡ number) }
-    ensures run { IfOk result
-        (λ settled. IsRun setting.now batch.now accounts.items settled.accounts.items settled.replies.items) }
-    ensures places { IfOk result (λ settled. places_in settled.replies.items ≡ deal.now.places.items) }
-{
-    let mut accounts = accounts;
     let replies = settle_gated(
         alloc,
         setting,

@@ -1,7 +1,6 @@
 //! Workers run in threads.
 
-ghost use Rattle.std.specs.Prelude.{◌≡◌, ◌∷◌, ◌++◌, [], map, length, All, IfOk};
-ghost use Rattle.std.specs.Thread.{IsSync};
+ghost use Rattle.std.specs.Prelude.{◌≡◌, Ok, map, length, All, IfOk};
 ghost use Rattle.reg_claim.specs.Seats.{table_id, places};
 ghost use Rattle.reg_regions.specs.Stealing.{IsGround, AreSettled};
 
@@ -17,12 +16,11 @@ use std::alloc::Global;
 use std::thread;
 use std::thread::Threads;
 
-/// Lets workers work, each in a thread of its own where one can be started, and else one after another.
-/// They come back in their order.
+/// Lets workers work: the last one in the calling thread, and each of the others in a thread of its own, or where none
+/// can be started, after another worker and in its thread. They come back in their order.
 ///
 /// # Errors
 /// `NoMemory` if memory ran out. All threads have ended then.
-#[cycle(running)]
 pub(crate) fn run_all<C: Cutting + Send + Sync, R: Threads + Sync, G: PlaceGate>(
     rt: &R,
     alloc: Global,
@@ -40,70 +38,32 @@ pub(crate) fn run_all<C: Cutting + Send + Sync, R: Threads + Sync, G: PlaceGate>
     ensures settled { IfOk result
         (λ all. All (λ w. AreSettled setting.now batch.now C.openings deals.now w.settled.items) all.items) }
 {
-    let mut workers = workers;
-    let Some(worker) = workers.pop() else {
-        return Ok(Vec::new(alloc));
-    };
-    let both = run_both(
-        rt, alloc, setting, batch, deals, table, stealers, gate, worker, workers,
+    let ended = thread::map_vec(
+        rt,
+        workers,
+        &|worker: ReadyWorker<C>| -> Result<BusyWorker<C>, NoMemory>
+            requires { IsGround setting.now batch.now C.openings deals.now × (table_id table.now ≡ C.table)
+                × (places table.now ≡ length C.openings) }
+            ensures number { IfOk result (λ w. w.number ≡ worker.number) }
+            ensures settled { IfOk result
+                (λ w. AreSettled setting.entry.now batch.entry.now C.openings deals.entry.now w.settled.items) }
+        { work(alloc, setting, batch, deals, table, stealers, gate, worker) },
     )?;
-    let all = joined(both)?;
+    let all = all_ended(alloc, ended)?;
     Ok(all)
 }
 
-// The last worker in a thread of its own, and those before it in others.
-#[cycle(running)]
-fn run_both<C: Cutting + Send + Sync, R: Threads + Sync, G: PlaceGate>(
-    rt: &R,
+// What all workers answered, if none of them lacked memory.
+fn all_ended<C: Cutting>(
     alloc: Global,
-    setting: &Setting,
-    batch: &Batch,
-    deals: &[Deal],
-    table: &ClaimTable,
-    stealers: &[Stealer<ListRegion<C>>],
-    gate: &G,
-    last: ReadyWorker<C>,
-    others: Vec<ReadyWorker<C>>,
-) -> Result<(BusyWorker<C>, Vec<BusyWorker<C>>), NoMemory>
-    requires ground { IsGround setting.now batch.now C.openings deals.now }
-    requires table { (table_id table.now ≡ C.table) × (places table.now ≡ length C.openings) }
-    ensures number { IfOk result (λ both. both.0.number ≡ last.number) }
-    ensures settled { IfOk result
-        (λ both. AreSettled setting.now batch.now C.openings deals.now both.0.settled.items) }
-    ensures numbers { IfOk result (λ both. map (λ w. w.number) both.1.items ≡ map (λ w. w.number) others.items) }
-    ensures settled_others { IfOk result
-        (λ both. All (λ w. AreSettled setting.now batch.now C.openings deals.now w.settled.items) both.1.items) }
-{
-    let front = move || -> Result<BusyWorker<C>, NoMemory>
-        requires { IsGround setting.now batch.now C.openings deals.now × (table_id table.now ≡ C.table)
-            × (places table.now ≡ length C.openings) }
-        ensures number { IfOk result (λ w. w.number ≡ last.number) }
-        ensures settled { IfOk result
-            (λ w. AreSettled setting.entry.now batch.entry.now C.openings deals.entry.now w.settled.items) }
-    { work(alloc, setting, batch, deals, table, stealers, gate, last) };
-    let back = move || -> Result<Vec<BusyWorker<C>>, NoMemory>
-        requires { IsSync R.row × IsGround setting.now batch.now C.openings deals.now × (table_id table.now ≡ C.table)
-            × (places table.now ≡ length C.openings) }
-        ensures numbers { IfOk result (λ all. map (λ w. w.number) all.items ≡ map (λ w. w.number) others.items) }
-        ensures settled { IfOk result
-            (λ all. All (λ w. AreSettled setting.entry.now batch.entry.now C.openings deals.entry.now w.settled.items)
-            all.items) }
-    {
-        run_all(
-            rt, alloc, setting, batch, deals, table, stealers, gate, others,
-        )
-    };
-    let (one, all) = thread::join(rt, front, back);
-    Ok((one?, all?))
-}
-
-// The workers before the last one, and the last one.
-fn joined<C: Cutting>(
-    both: (BusyWorker<C>, Vec<BusyWorker<C>>),
+    ended: Vec<Result<BusyWorker<C>, NoMemory>>,
 ) -> Result<Vec<BusyWorker<C>>, NoMemory>
-    ensures { IfOk result (λ all. all.items ≡ both.1.items ++ both.0 ∷ []) }
+    ensures { IfOk result (λ all. map Ok all.items ≡ ended.items) }
 {
-    let (last, mut all) = both;
-    all.push(last)?;
+    let mut all = Vec::with_capacity(alloc, ended.len())?;
+    for one in ended {
+        let worker = one?;
+        all.push(worker)?;
+    }
     Ok(all)
 }

@@ -9,8 +9,8 @@ use Rattle.reg_regions.proofs.Endings.{ready-day, setting-is, turned-accounts, t
 use Rattle.reg_regions.proofs.Endings.{book-after, is-after}
 use Rattle.reg_regions.proofs.closing.close_lists.Goals as goal
 
-pub settle_cut-requires-clause-ready : goal.settle_cut-requires-clause-ready
-settle_cut-requires-clause-ready g c κs within =
+pub settle_turned-requires-clause-ready : goal.settle_turned-requires-clause-ready
+settle_turned-requires-clause-ready g c κs within =
     let day : DayValue = day_of c.args.parts c.args.rules.now c.args.batch.now in
     let kept : IsDay day = record {
       book = c.into_lists-lists.ensures.kept;

@@ -1,0 +1,27 @@
+-- What workers answered, none of whom lacked memory.
+use Rattle.std.proofs.Common.{◌≡◌, ℕ, zero, suc, ◌<◌, List, [], ◌∷◌, Result, Ok, map, length, get_or, refl, sym, ap}
+use Rattle.std.proofs.Common.{subst, ◌∙◌, arith}
+use Rattle.std.specs.Prelude.{IfOk}
+use Rattle.std.proofs.lemmas.List.{get_or-map, length-map}
+
+-- each has answered
+pub as-many : {W E : Type 0} (ws : List W) (rs : List (Result W E)) → map Ok ws ≡ rs → length ws ≡ length rs
+as-many ws rs is = sym (length-map ws Ok) ∙ ap length is
+
+-- what holds of a good answer holds of what it gave
+pub answered : {W E : Type 0} (ws : List W) (rs : List (Result W E)) (P : W → Type 0) → map Ok ws ≡ rs → (i : ℕ)
+    → (w : W) → i < length ws → IfOk (get_or rs i (Ok w)) P → P (get_or ws i w)
+answered {W} {E} ws rs P is i w lt holds =
+    let at : get_or rs i (Ok w) ≡ Ok (get_or ws i w) =
+    ap (λ (xs : List (Result W E)). get_or xs i (Ok w)) (sym is) ∙ get_or-map Ok ws i w (Ok w) lt in
+    subst (λ (r : Result W E). IfOk r P) at holds
+
+-- numbers that are the same at each index are the same
+pub same-at : {J W : Type 0} (js : List J) (ws : List W) (f : J → ℕ) (g : W → ℕ) → length ws ≡ length js
+    → ((i : ℕ) (j : J) (w : W) → i < length js → g (get_or ws i w) ≡ f (get_or js i j)) → map g ws ≡ map f js
+same-at [] [] f g len each = refl
+same-at [] (w ∷ ws) f g len each = absurd (omega arith)
+same-at (j ∷ js) [] f g len each = absurd (omega arith)
+same-at (j ∷ js) (w ∷ ws) f g len each =
+    ap (λ n. n ∷ map g ws) (each zero j w (omega arith))
+    ∙ ap (λ ns. f j ∷ ns) (same-at js ws f g (omega arith) (λ i k v lt. each (suc i) k v (omega arith)))
