@@ -520,8 +520,8 @@ def thread_cases(library: str, work: str, registry: str) -> Iterator[tuple[Progr
     """Cases of the program, and how many threads each must start.
 
     To read takes all workers but the calling thread, and so does it to spell the accounts, with many instructions to
-    look up their accounts, to try the regions and to spell the log rows, and with a file to get its bytes. To settle
-    takes a thread for each worker. A short day that is one bundle starts none.
+    look up their accounts, to try the regions, to settle them and to spell the log rows, and with a file to get its
+    bytes. A short day that is one bundle starts none.
     """
     for workers in range(1, MOST_WORKERS + 1):
         others = workers - 1
@@ -529,8 +529,7 @@ def thread_cases(library: str, work: str, registry: str) -> Iterator[tuple[Progr
         yield settle_case(library, work, registry, workers, LONG), 2 * others
         # (the lists of accounts are spelled in shares of equally many, and those of six workers make five shares)
         spellers = 4 if workers == 6 else others
-        settlers = workers if others else 0
-        yield settle_case(library, work, registry, workers, FULL), 4 * others + settlers + spellers
+        yield settle_case(library, work, registry, workers, FULL), 5 * others + spellers
         yield settle_case(library, work, registry, workers, FILED, is_file=True), 3 * others
     plan = Program(library, work, registry, ["plan"], LONG.text)
     yield ProgramCase(f"registry plan, {LONG.name}", plan), min(processors(), MOST_WORKERS) - 1
