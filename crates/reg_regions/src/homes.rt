@@ -62,10 +62,10 @@ impl Bundled {
         &self,
         alloc: Global,
         cut: &Cut,
-        share: u32,
+        quota: u32,
     ) -> Result<Option<Homes>, NoMemory> {
         let heavy = heaviest_first(alloc, &self.weights)?;
-        let mut homes = Homes::new(alloc, cut, self.weights.len(), share)?;
+        let mut homes = Homes::new(alloc, cut, self.weights.len(), quota)?;
         for label in &heavy {
             if !homes.place(cut, self, *label) {
                 return Ok(None);
@@ -113,11 +113,11 @@ pub(crate) struct Homes {
     // For how many accounts more each region has room.
     left: Vec<u32>,
     // How many instructions a region gets at most, if it can be helped.
-    share: u32,
+    quota: u32,
 }
 
 impl Homes {
-    fn new(alloc: Global, cut: &Cut, labels: usize, share: u32) -> Result<Homes, NoMemory> {
+    fn new(alloc: Global, cut: &Cut, labels: usize, quota: u32) -> Result<Homes, NoMemory> {
         let mut left = Vec::with_capacity(alloc, cut.regions as usize)?;
         for region in 0..cut.regions {
             left.push(cut.len(region))?;
@@ -126,7 +126,7 @@ impl Homes {
             regions: vec![in alloc; 0u32; labels]?,
             loads: vec![in alloc; 0u32; cut.regions as usize]?,
             left,
-            share,
+            quota,
         })
     }
 
@@ -152,7 +152,7 @@ impl Homes {
         }
     }
 
-    // The region with most of these accounts, of those that have room and do not get more than their share.
+    // The region with most of these accounts, of those that have room and do not get more than their quota.
     fn nearest(&self, cut: &Cut, members: &[u32], weight: u32, size: u32) -> Option<u32> {
         let mut standing = [0u32; MOST_REGIONS];
         let mut best = None;
@@ -162,7 +162,7 @@ impl Homes {
             raise(&mut standing, region, 1);
             let here = number_at(&standing, region);
             let load = number_at(&self.loads, region).saturating_add(weight);
-            if here > most && load <= self.share && number_at(&self.left, region) >= size {
+            if here > most && load <= self.quota && number_at(&self.left, region) >= size {
                 best = Some(region);
                 most = here;
             }

@@ -67,7 +67,7 @@ fn try_deal<R: Threads + Sync>(
     }
     let bundles = Bundles::of(alloc, batch.len(), cut.accounts, &touches)?;
     let bundled = Bundled::of(alloc, cut.accounts, &bundles.labels, &touches)?;
-    let Some(homes) = bundled.homes(alloc, &cut, share_of(batch.len(), cut.regions))? else {
+    let Some(homes) = bundled.homes(alloc, &cut, quota_of(batch.len(), cut.regions))? else {
         return Ok(None);
     };
     let Some(turned) = Turned::of(alloc, &cut, bundled, &homes.regions)? else {
@@ -88,7 +88,7 @@ fn try_deal<R: Threads + Sync>(
 }
 
 // How many of so many instructions a region gets at most, if it can be helped.
-fn share_of(instructions: u32, regions: u32) -> u32 {
+fn quota_of(instructions: u32, regions: u32) -> u32 {
     let even = instructions / regions.max(1);
     even.saturating_add(even / 32).saturating_add(1)
 }

@@ -46,7 +46,7 @@ fn make_workers<N: Naming, I: SharedIds>(
     requires few { (vec_len passes ≤ 8) × (vec_len owners ≡ vec_len passes) }
     requires deques { All (λ p. deques_of_pass p ≡ I.deques) passes.items }
     ensures table { IfOk result (λ r. seat_table r.0 ≡ I.table) }
-    ensures share { IfOk result (λ r. (known r.0).stake + vec_len r.1 ≡ 16) }
+    ensures stake { IfOk result (λ r. (known r.0).stake + vec_len r.1 ≡ 16) }
     ensures fresh { IfOk result (λ r. ((known r.0).finished ≡ []) × ((known r.0).seen ≡ 0)) }
     ensures each { IfOk result (λ r. vec_len r.1 ≡ vec_len passes) }
     ensures passes { IfOk result (λ r. map (λ p. p.pass) r.1.items ≡ passes.items) }

@@ -105,7 +105,7 @@ pub(crate) fn count_up<N: Naming, I: SharedIds>(
     ended_workers: Vec<EndedWorker<N, I>>,
 ) -> Result<Work<N>, Lack>
     requires table { (table_id table ≡ I.table) × (places table ≡ I.count) × (seat_table seat ≡ I.table) }
-    requires share { (known seat).stake + vec_len ended_workers ≡ 16 }
+    requires stake { (known seat).stake + vec_len ended_workers ≡ 16 }
     requires fresh { ((known seat).finished ≡ []) × ((known seat).seen ≡ 0) }
     requires some { 0 < vec_len ended_workers }
     requires workers { ended_numbers ended_workers.items ≡ numbers_below (vec_len ended_workers) }

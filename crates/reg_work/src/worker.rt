@@ -32,7 +32,7 @@ pub(crate) struct Worker<N: Naming, I: SharedIds> {
     pub(crate) closing: Vec<LastParcel<N>>,
     pub(crate) of: PhantomData<I>,
     pub(crate) ghost table_is: { seat_table seat ≡ I.table },
-    pub(crate) ghost one_share: { (known seat).stake ≡ 1 },
+    pub(crate) ghost one_stake: { (known seat).stake ≡ 1 },
     pub(crate) ghost finished: { places_ran ran.items ≡ (known seat).finished },
     pub(crate) ghost rows: { places_of done.items ≡ (known seat).finished },
     pub(crate) ghost deques_are: { deques_of_pass pass ≡ I.deques },
@@ -60,7 +60,7 @@ impl<N: Naming, I: SharedIds> Worker<N, I> {
 
     pub(crate) fn new(alloc: Global, owner: Owner<N>, pass: Pass<N>, seat: Seat) -> Worker<N, I>
         requires table { seat_table seat ≡ I.table }
-        requires share { (known seat).stake ≡ 1 }
+        requires stake { (known seat).stake ≡ 1 }
         requires fresh { (known seat).finished ≡ [] }
         requires deques { deques_of_pass pass ≡ I.deques }
         ensures same { known result.seat ≡ known seat }

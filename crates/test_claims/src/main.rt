@@ -35,7 +35,7 @@ fn claim(table: &ClaimTable, seat: &mut Seat, place: u32, mark: &AtomicU32)
 // Tries each place with both seats of a thread: the first one tries it first.
 fn claim_all(table: &ClaimTable, seat: Seat, marks: &[AtomicU32]) -> Seat
     requires own { IsSeatOf table.now seat }
-    requires share { (known seat).stake ≡ 2 }
+    requires stake { (known seat).stake ≡ 2 }
     requires marks { (length marks.now ≡ places table.now) × (places table.now < 2 ^ 32) }
     ensures same { (seat_table result ≡ seat_table seat) × ((known result).stake ≡ 2) }
 {
@@ -58,7 +58,7 @@ fn in_threads<R: Threads + Sync>(
     threads: u32,
 ) -> Seat
     requires own { IsSeatOf table.now seat }
-    requires share { (known seat).stake ≡ 2 * threads }
+    requires stake { (known seat).stake ≡ 2 * threads }
     requires threads { 1 ≤ threads }
     requires marks { (length marks.now ≡ places table.now) × (places table.now < 2 ^ 32) }
     ensures same { (seat_table result ≡ seat_table seat) × ((known result).stake ≡ 2 * threads) }

@@ -91,7 +91,7 @@ pub(crate) fn make_workers<C: Cutting>(
     requires fresh { ((known seat).stake ≡ 16) × ((known seat).finished ≡ []) }
     requires few { vec_len deques ≤ 8 }
     ensures table { IfOk result (λ made. seat_table made.seat ≡ C.table) }
-    ensures share { IfOk result (λ made. (known made.seat).stake + vec_len deques ≡ 16) }
+    ensures stake { IfOk result (λ made. (known made.seat).stake + vec_len deques ≡ 16) }
     ensures fresh { IfOk result (λ made. (known made.seat).finished ≡ []) }
     ensures numbers { IfOk result (λ made. map (λ w. w.number) made.workers.items ≡ first_numbers (vec_len deques)) }
 {

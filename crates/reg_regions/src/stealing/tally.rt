@@ -40,7 +40,7 @@ pub(crate) fn count_up<C: Cutting>(
 ) -> Result<Done, NoMemory>
     requires count { count ≡ length C.openings }
     requires table { (table_id table ≡ C.table) × (places table ≡ length C.openings) × (seat_table seat ≡ C.table) }
-    requires share { (known seat).stake + vec_len workers ≡ 16 }
+    requires stake { (known seat).stake + vec_len workers ≡ 16 }
     requires fresh { (known seat).finished ≡ [] }
     ensures settled { IfOk result (λ done. done.settled.items ≡ flat_map (λ w. w.settled.items) workers.items) }
     ensures each { IfOk result

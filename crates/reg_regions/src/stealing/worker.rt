@@ -26,7 +26,7 @@ pub(crate) struct ReadyWorker<C: Cutting> {
     pub(crate) deque: Worker<ListRegion<C>>,
     pub(crate) seat: Seat,
     pub(crate) ghost table_is: { seat_table seat ≡ C.table },
-    pub(crate) ghost one_share: { (known seat).stake ≡ 1 },
+    pub(crate) ghost one_stake: { (known seat).stake ≡ 1 },
     pub(crate) ghost fresh: { (known seat).finished ≡ [] },
 }
 
@@ -38,7 +38,7 @@ pub(crate) struct BusyWorker<C: Cutting> {
     pub(crate) settled: Vec<SettledList>,
     pub(crate) of: PhantomData<C>,
     pub(crate) ghost table_is: { seat_table seat ≡ C.table },
-    pub(crate) ghost one_share: { (known seat).stake ≡ 1 },
+    pub(crate) ghost one_stake: { (known seat).stake ≡ 1 },
     pub(crate) ghost finished: { numbers_of settled.items ≡ (known seat).finished },
 }
 

@@ -10,14 +10,14 @@ use Rattle.reg_regions.proofs.Listed.{dealt-lists, dealt-each, dealt-sizes, deal
 use Rattle.reg_regions.proofs.Tallied.{sorted-numbers, places-permuted, all-flat, length-below}
 use Rattle.reg_regions.proofs.stealing.settle_by_workers.Goals as goal
 
-pub count_up-requires-clause-share : goal.count_up-requires-clause-share
-count_up-requires-clause-share g c =
+pub count_up-requires-clause-stake : goal.count_up-requires-clause-stake
+count_up-requires-clause-stake g c =
     let numbers = ap length (c.in_ok-ended.ensures.numbers ∙ c.in_ok-crew.ensures.numbers) in
     let many = length-map c.in_ok-ended.ended.items (λ w. w.number) in
     let count = length-below c.in_ok-deques.deques.len in
-    let share = c.in_ok-crew.ensures.share in
+    let stake = c.in_ok-crew.ensures.stake in
     let len = c.in_ok-ended.ended.ok.0 in
-    omega (arith, numbers, many, count, share, len)
+    omega (arith, numbers, many, count, stake, len)
 
 pub returns : goal.returns
 returns g c =

@@ -13,14 +13,14 @@ loop-pass-preserved g c =
     let left = ap length items in
     let pushed = c.in_ok-push.ensures.len in
     let part = ap (λ (v : SeatView). v.stake) first in
-    let share = i.share in
+    let stake = i.stake in
     let whole = i.whole in
     let few = c.requires.few in
     record {
       can_go = record {};
       ends = record {};
       table = c.split-kept.ensures.same.0 ∙ i.table;
-      share = omega arith;
+      stake = omega arith;
       idle = ap (λ (v : SeatView). v.finished) first ∙ i.idle;
       unseen = ap (λ (v : SeatView). v.seen) first ∙ i.unseen;
       whole = omega arith;

@@ -9,7 +9,7 @@ invariant-loop-pass g l = record {
   can_go : (goal.iterator-loop-pass g).can_next l.pass-iterator;
   ends : (goal.iterator-loop-pass g).is_finite l.pass-iterator;
   table : seat_table l.rest ≡ g.I.SharedIds.table;
-  share : (known l.rest).stake + vec_len l.unstarted ≡ 16;
+  stake : (known l.rest).stake + vec_len l.unstarted ≡ 16;
   idle : (known l.rest).finished ≡ [];
   unseen : (known l.rest).seen ≡ 0;
   whole : vec_len l.unstarted + length l.pass-iterator.rest.items ≡ vec_len l.fn.passes;

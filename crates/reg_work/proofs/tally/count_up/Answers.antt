@@ -18,13 +18,13 @@ loop-ended_worker-preserved g c =
     let items = c.in-Some.ensures.steps.0 in
     let left = ap length items in
     let part = ap (λ (v : SeatView). v.stake) view in
-    let one = worker.one_share in
-    let share = i.share in
+    let one = worker.one_stake in
+    let stake = i.stake in
     record {
       can_go = record {};
       ends = record {};
       table = c.join-rest.ensures.same ∙ i.table;
-      share = omega arith;
+      stake = omega arith;
       seen = inr (rw view (joined-sees g.I.SharedIds.count _ (known c.loop-ended_worker.rest)
           (known worker.seat) i.seen c.in-Some.ended_worker.over));
       times = λ p.

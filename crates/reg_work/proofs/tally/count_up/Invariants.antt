@@ -14,7 +14,7 @@ invariant-loop-ended_worker g l = record {
   can_go : (goal.iterator-loop-ended_worker g).can_next l.ended_worker-iterator;
   ends : (goal.iterator-loop-ended_worker g).is_finite l.ended_worker-iterator;
   table : seat_table l.rest ≡ g.I.SharedIds.table;
-  share : (known l.rest).stake + length l.ended_worker-iterator.rest.items ≡ 16;
+  stake : (known l.rest).stake + length l.ended_worker-iterator.rest.items ≡ 16;
   seen : ((length l.ended_worker-iterator.rest.items ≡ vec_len l.fn.ended_workers) × ((known l.rest).seen ≡ 0))
       ⊎ (sees_end g.I.SharedIds.count (known l.rest) ≡ true);
   rows : (p : ℕ) → times p (known l.rest).finished ≡ times p (places_of l.work.done.items);

@@ -9,7 +9,7 @@ invariant-loop-deque g l = record {
   can_go : (goal.iterator-loop-deque g).can_next l.deque-iterator;
   ends : (goal.iterator-loop-deque g).is_finite l.deque-iterator;
   table : seat_table l.rest ≡ g.C.Cutting.table;
-  share : (known l.rest).stake + l.number ≡ 16;
+  stake : (known l.rest).stake + l.number ≡ 16;
   idle : (known l.rest).finished ≡ [];
   whole : l.number + length l.deque-iterator.rest.items ≡ vec_len l.fn.deques;
   numbers : map (λ w. w.number) l.workers.items ≡ first_numbers l.number;

@@ -22,8 +22,8 @@ loop-worker-preserved g c =
     let items = c.in-Some.ensures.steps.0 in
     let fewer = ap length items in
     let part = ap (λ (v : SeatView). v.stake) view in
-    let one = worker.one_share in
-    let share = i.share in
+    let one = worker.one_stake in
+    let stake = i.stake in
     let settled = c.loop-worker.settled.items in
     let shifts = c.loop-worker.shifts.items in
     let shift = c.in_ok-shift.shift in
@@ -33,7 +33,7 @@ loop-worker-preserved g c =
       can_go = record {};
       ends = record {};
       table = c.join-rest.ensures.same ∙ i.table;
-      share = omega arith;
+      stake = omega arith;
       numbers = ap (λ (v : SeatView). v.finished) view
           ∙ ap (λ ns. ns ++ (known worker.seat).finished) i.numbers
           ∙ ap (λ ns. numbers_of settled ++ ns) (sym worker.finished)
