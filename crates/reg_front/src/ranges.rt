@@ -12,19 +12,19 @@ use std::alloc::Global;
 use std::thread;
 use std::thread::Threads;
 
-/// A file whose bytes can be read from any place, by several threads at once.
+/// A file whose bytes can be read from any offset, by several threads at once.
 pub trait ReadAt {
     // Its bytes, if they are known.
     ghost contents: { Self → Option (List ℕ) };
 
-    /// Puts the bytes from a place on into the front of `room`, and answers how many; nothing, if the call failed. It
+    /// Puts the bytes from an offset on into the front of `room`, and answers how many; nothing, if the call failed. It
     /// gives none only at the end or behind it, or if there is no room.
-    fn read_at(&self, place: u64, room: &mut [u8]) -> Option<usize>
+    fn read_at(&self, offset: u64, room: &mut [u8]) -> Option<usize>
         ensures bound { IfSome result (λ count. count ≤ length room.new) }
         ensures bytes { IfSome result (λ count. IfSome (contents self.now)
-            (λ bytes. take count room.new ≡ take count (drop place bytes))) }
+            (λ bytes. take count room.new ≡ take count (drop offset bytes))) }
         ensures end { IfSome result (λ count. count ≡ 0 → 0 < length room.new
-            → IfSome (contents self.now) (λ bytes. length bytes ≤ place)) };
+            → IfSome (contents self.now) (λ bytes. length bytes ≤ offset)) };
 }
 
 // The bytes of a piece, at least, about: fewer take less time than to start a thread.
@@ -35,16 +35,16 @@ const WINDOW: usize = 4 * 1024;
 
 const MOST_WINDOWS: u64 = 64;
 
-// Fills the room with the bytes from a place on, and answers whether they were there.
-fn fill<F: ReadAt>(file: &F, place: u64, room: &mut [u8]) -> bool
+// Fills the room with the bytes from an offset on, and answers whether they were there.
+fn fill<F: ReadAt>(file: &F, offset: u64, room: &mut [u8]) -> bool
     ensures { IsTrue result → IfSome (F.contents file.now)
-        (λ bytes. room.new ≡ take (length room.new) (drop place bytes)) }
+        (λ bytes. room.new ≡ take (length room.new) (drop offset bytes)) }
 {
     let length = room.len();
-    file.read_at(place, room) == Some(length)
+    file.read_at(offset, room) == Some(length)
 }
 
-// The bytes from one place up to another.
+// The bytes from one offset up to another.
 fn read_range<F: ReadAt>(alloc: Global, file: &F, from: u64, to: u64) -> Option<Vec<u8>>
     ensures order { IfSome result (λ piece. from ≤ to) }
     ensures bytes { IfSome result (λ piece. IfSome (F.contents file.now)
@@ -70,7 +70,7 @@ fn put_before(pieces: (Vec<u8>, Vec<Vec<u8>>)) -> Option<Vec<Vec<u8>>>
     Some(all)
 }
 
-// The bytes from one place up to another, in pieces that begin at these places. Each piece but the last is read by a
+// The bytes from one offset up to another, in pieces that begin at these offsets. Each piece but the last is read by a
 // thread of its own where one can be started.
 #[cycle(reading)]
 fn read_cut<T: Threads + Sync, F: ReadAt + Sync>(
@@ -123,18 +123,18 @@ fn read_both<T: Threads + Sync, F: ReadAt + Sync>(
     Some((first?, others?))
 }
 
-// Whether the file ends at this place, or before it.
-fn ends_at<F: ReadAt>(file: &F, place: u64) -> bool
-    ensures { IsTrue result → IfSome (F.contents file.now) (λ bytes. length bytes ≤ place) }
+// Whether the file ends at this offset, or before it.
+fn ends_at<F: ReadAt>(file: &F, offset: u64) -> bool
+    ensures { IsTrue result → IfSome (F.contents file.now) (λ bytes. length bytes ≤ offset) }
 {
     let mut room = [0; 1];
-    file.read_at(place, &mut room) == Some(0)
+    file.read_at(offset, &mut room) == Some(0)
 }
 
-// The place of the first row behind this one with which a piece may begin, if it is near.
-fn find_cut<F: ReadAt>(file: &F, place: u64) -> Option<u64> {
+// The offset of the first row behind this one with which a piece may begin, if it is near.
+fn find_cut<F: ReadAt>(file: &F, offset: u64) -> Option<u64> {
     for window in 0..MOST_WINDOWS {
-        let near = place.checked_add(window.checked_mul(WINDOW as u64)?)?;
+        let near = offset.checked_add(window.checked_mul(WINDOW as u64)?)?;
         if let Some(row) = find_row_near(file, near) {
             return near.checked_add(row as u64);
         }
@@ -142,14 +142,14 @@ fn find_cut<F: ReadAt>(file: &F, place: u64) -> Option<u64> {
     None
 }
 
-// How many bytes behind a place such a row begins, if it is in the next ones.
-fn find_row_near<F: ReadAt>(file: &F, place: u64) -> Option<usize> {
+// How many bytes behind an offset such a row begins, if it is in the next ones.
+fn find_row_near<F: ReadAt>(file: &F, offset: u64) -> Option<usize> {
     let mut window = [0; WINDOW];
-    let count = file.read_at(place, &mut window)?;
+    let count = file.read_at(offset, &mut window)?;
     find_row(&window[..count])
 }
 
-// Places at which pieces of about this size may begin, of which the first begins here; nothing, if no row is near one
+// Offsets at which pieces of about this size may begin, of which the first begins here; nothing, if no row is near one
 // of them. Nothing is promised of them.
 fn find_cuts<F: ReadAt>(
     alloc: Global,
@@ -166,9 +166,9 @@ fn find_cuts<F: ReadAt>(
     Some(cuts)
 }
 
-/// All bytes of a file from a place on, in pieces that begin with rows, read by at most so many threads. `to` is where
-/// the file ended when it was asked. Nothing, if that is not right any more, if the bytes are few or more than 2^30, or
-/// if a call failed or memory ran out.
+/// All bytes of a file from an offset on, in pieces that begin with rows, read by at most so many threads. `to` is
+/// where the file ended when it was asked. Nothing, if that is not right any more, if the bytes are few or more than
+/// 2^30, or if a call failed or memory ran out.
 pub fn read_in_pieces<T: Threads + Sync, F: ReadAt + Sync>(
     rt: &T,
     alloc: Global,

@@ -19,7 +19,7 @@ const HINT: &str = "reading a day text from the terminal; Ctrl-D ends it";
 // Standard input, as Linux names it among the open files of a program.
 const PATH: &str = "/proc/self/fd/0";
 
-// What Linux tells of it: the first line is the place in the file from which the next call of `read` reads.
+// What Linux tells of it: the first line is the offset in the file from which the next call of `read` reads.
 const STATE: &str = "/proc/self/fdinfo/0";
 
 // How many bytes the file has that is standard input: 0 if it is no file, or if the system does not say. Those before
@@ -31,8 +31,8 @@ fn file_length(files: &HostRuntime) -> usize {
     }
 }
 
-// The place in the file from which the next call of `read` reads. Nothing, if the system does not say.
-fn find_place(files: &HostRuntime) -> Option<u64> {
+// The offset in the file from which the next call of `read` reads. Nothing, if the system does not say.
+fn find_offset(files: &HostRuntime) -> Option<u64> {
     let mut room = [0; 64];
     let count = File::open(files, STATE).ok()?.read(&mut room).ok()?;
     let state = str::from_utf8(&room[..count]).ok()?;
@@ -64,7 +64,7 @@ impl Read for Typed {
     }
 }
 
-// The file that is standard input, opened once more: its bytes are read from any place, and the place from which the
+// The file that is standard input, opened once more: its bytes are read from any offset, and the offset from which the
 // program's other calls read stays.
 #[derive(Drop)]
 struct InputFile {
@@ -73,9 +73,9 @@ struct InputFile {
 }
 
 impl InputFile {
-    // Nothing, if the system does not tell the place from which to read, or does not let the program open the file.
+    // Nothing, if the system does not tell the offset from which to read, or does not let the program open the file.
     fn open(files: &HostRuntime) -> Option<InputFile> {
-        let from = find_place(files)?;
+        let from = find_offset(files)?;
         let file = File::open(files, PATH).ok()?;
         Some(InputFile { file, from })
     }
@@ -84,8 +84,8 @@ impl InputFile {
 impl ReadAt for InputFile {
     ghost contents = { λ _. None };
 
-    fn read_at(&self, place: u64, room: &mut [u8]) -> Option<usize> {
-        self.file.read_at(room, place).ok()
+    fn read_at(&self, offset: u64, room: &mut [u8]) -> Option<usize> {
+        self.file.read_at(room, offset).ok()
     }
 }
 

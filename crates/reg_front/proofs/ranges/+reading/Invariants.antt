@@ -1,4 +1,4 @@
--- The places behind the first one are fewer.
+-- The offsets behind the first one are fewer.
 use Rattle.std.proofs.Common.{◌+◌, ◌*◌, length}
 use Rattle.reg_front.proofs.ranges.+reading.Given as goal
 
