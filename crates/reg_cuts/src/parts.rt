@@ -22,7 +22,7 @@ fn has_quote(part: &[u8]) -> bool
 
 /// Whether the part has no quote, and ends with a line feed. If so, the text may be cut behind it. A text may also be
 /// cut behind quoted fields, but only one thread that has read all before would know.
-#[tactic(auto, using(crate::proofs::Splits::whole))]
+#[tactic(auto, using(crate::proofs::lemmas::Splits::whole))]
 pub fn is_cut(part: &[u8]) -> bool
     ensures { result ≡ true → IsCut part.now }
 {

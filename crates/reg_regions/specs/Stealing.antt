@@ -60,7 +60,7 @@ abbrev pub settled_places : List SettledList → List ℕ
 settled_places settled = flat_map (λ s. places_in s.replies.items) settled
 
 -- the seat has claimed the place, and has not finished it
-abbrev pub HasClaimed : ℕ → View → Type 0
+abbrev pub HasClaimed : ℕ → SeatView → Type 0
 HasClaimed place v = Contains v.claimed place × ¬ Contains v.finished place
 
 -- the workers of shifts

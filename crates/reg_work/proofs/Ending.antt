@@ -19,7 +19,7 @@ both-show n a b p q = ⊎_elim
     (either-most a b)
 
 -- a seat that sees the end, made one with another that has seen nothing or sees the end too
-pub joined-sees : (n : ℕ) (P : Type 0) (v w : View) → ((P × (v.seen ≡ 0)) ⊎ (sees_end n v ≡ true)) → sees_end n w ≡ true
+pub joined-sees : (n : ℕ) (P : Type 0) (v w : SeatView) → ((P × (v.seen ≡ 0)) ⊎ (sees_end n v ≡ true)) → sees_end n w ≡ true
     → sees_end n (joined_views v w) ≡ true
 joined-sees n P v w (inl none) q = let e : max v.seen w.seen ≡ w.seen = let z = none.1 in omega arith in rw e q
 joined-sees n P v w (inr p) q = both-show n v.seen w.seen p q

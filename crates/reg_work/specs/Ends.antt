@@ -8,9 +8,9 @@ abbrev pub shows_end : ℕ → ℕ → Bool
 shows_end places count = is_odd count || nat_le places (count / 2)
 
 -- the seat has seen such a count
-abbrev pub sees_end : ℕ → View → Bool
+abbrev pub sees_end : ℕ → SeatView → Bool
 sees_end places v = shows_end places v.seen
 
 -- the seat has claimed the place, and has not finished it
-abbrev pub IsToFinish : ℕ → View → Type 0
+abbrev pub IsToFinish : ℕ → SeatView → Type 0
 IsToFinish place v = Contains v.claimed place × ¬ Contains v.finished place
