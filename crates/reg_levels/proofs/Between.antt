@@ -11,7 +11,7 @@ use Rattle.reg_plan.specs.Arrows.{touches_place}
 use Rattle.reg_book.specs.Day.{DayValue}
 use Rattle.reg_schedules.specs.Pool.{directory, footprint_at}
 use Rattle.reg_schedules.proofs.lemmas.Known.{footprint_touches}
-use Rattle.reg_tasks.specs.Slots.{last_of, StandAfter, AreOpened, AreTaken}
+use Rattle.reg_tasks.specs.Slots.{last_of, StandAfter, AreTaken}
 use Rattle.reg_tasks.proofs.lemmas.Slotting.{Name}
 use Rattle.reg_tasks.proofs.lemmas.Standing.{last_push}
 use Rattle.reg_levels.specs.Levels.{touched_by, StandsBetween, places_between}
@@ -21,9 +21,6 @@ size_drop : (xs : List ℕ) (k m : ℕ) → k + m < length xs → m < length (dr
 size_drop xs zero m lt = omega (arith, lt)
 size_drop [] (suc k) m lt = absurd (omega (arith, lt))
 size_drop (x ∷ xs) (suc k) m lt = size_drop xs k m (omega (arith, lt))
-
-pub between_none : (order : List ℕ) (k : ℕ) → places_between order k k ≡ []
-between_none order k = ap (λ n. take n (drop k order)) (let e : k - k ≡ 0 = omega arith in e)
 
 pub none_between : (order : List ℕ) (from to : ℕ) → to ≤ from → places_between order from to ≡ []
 none_between order from to le = ap (λ n. take n (drop from order)) (let e : to - from ≡ 0 = omega (arith, le) in e)
@@ -103,10 +100,6 @@ module _ (day : DayValue) where
   last_append a before [] ys = refl
   last_append a before (x ∷ xs) ys =
       last_append a (cond (touches_place (directory day) day.batch.instructions a x) x before) xs ys
-
-  -- at the start no instruction is done, and none runs
-  pub stands_first : (standing : ℕ → Name) → AreOpened day standing → StandsBetween day [] [] standing
-  stands_first standing opened a touched = opened a ∙ ap (λ b. cond b (Some (a, 0)) None) touched
 
   -- if none runs, what stands is what the last ones left
   pub stands_after : (done : List ℕ) (standing : ℕ → Name) → StandsBetween day done [] standing

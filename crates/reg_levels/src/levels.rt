@@ -43,7 +43,8 @@ impl<'c, 'a, N: Naming> Levels<'c, 'a, N> {
     ghost use Rattle.reg_book.specs.Settled.{IsOfBook};
     ghost use Rattle.reg_tasks.specs.Slots.{IsLack};
     ghost use Rattle.reg_tasks.specs.declared.lack.Lack.TheVariants.{Foreign};
-    ghost use Rattle.reg_levels.specs.Levels.{AreRestOrMost, places_of, places_run};
+    ghost use Rattle.reg_levels.specs.Levels.{places_run};
+    ghost use Rattle.reg_levels.specs.Steps.{TakesLevel, LaysLevel};
 
     /// The levels of a day, before the first.
     ///
@@ -105,16 +106,7 @@ impl<'c, 'a, N: Naming> Levels<'c, 'a, N> {
         requires laid { self.old.laid ≡ self.old.taken }
         requires left { self.old.taken < length self.old.order.items }
         requires most { 1 ≤ most }
-        ensures context { self.new.slots.context.now ≡ self.old.slots.context.now }
-        ensures order { self.new.order ≡ self.old.order }
-        ensures laid { self.new.laid ≡ self.old.laid }
-        ensures tasks { IfOk result
-            (λ tasks. places_of tasks.items ≡ places_between self.new.order.items self.new.laid self.new.taken) }
-        ensures some { OnOk result (self.old.taken < self.new.taken) }
-        ensures few { OnOk result (self.new.taken ≤ self.old.taken + most) }
-        ensures whole { OnOk result
-            (AreRestOrMost self.new.slots.context.now.plan self.new.order.items most self.new.laid self.new.taken) }
-        ensures lack { IfErr result (IsLack N.day) }
+        ensures { TakesLevel most self.old self.new result }
     {
         let context = self.slots.context();
         let end = level_end(context.plan(), &self.order, self.taken, most);
@@ -154,11 +146,7 @@ impl<'c, 'a, N: Naming> Levels<'c, 'a, N> {
     pub fn lay(&mut self, outcomes: Vec<Outcome<N>>) -> Result<(), Lack>
         requires outcomes { places_run outcomes.items
             ≡ places_between self.old.order.items self.old.laid self.old.taken }
-        ensures context { self.new.slots.context.now ≡ self.old.slots.context.now }
-        ensures order { self.new.order ≡ self.old.order }
-        ensures taken { self.new.taken ≡ self.old.taken }
-        ensures laid { OnOk result (self.new.laid ≡ self.new.taken) }
-        ensures foreign { IfErr result (λ lack. (lack ≡ Foreign) × (N.day ≡ None)) }
+        ensures { LaysLevel self.old self.new result }
     {
         for outcome in outcomes {
             self.lay_one(outcome)?;

@@ -6,4 +6,6 @@ pub mod Tasks
 pub mod Gathering
 pub mod Slots
 pub mod Openings
+pub mod Opened
 pub mod Standing
+pub mod Turns

@@ -1,7 +1,6 @@
 //! The opening values of accounts.
 
-ghost use Rattle.std.specs.Prelude.{◌≡◌, ◌==◌, ◌<◌, ◌≤◌, true, not, All, Some, is_some, map, length, slice_index, IfOk};
-ghost use Rattle.std.specs.Prelude.{IfSome};
+ghost use Rattle.std.specs.Prelude.{◌≡◌, ◌==◌, ◌<◌, ◌≤◌, true, not, All, Some, is_some, map, length, IfOk};
 ghost use Rattle.reg_rules.specs.State.{account};
 ghost use Rattle.reg_tasks.specs.Parcels.{names_of};
 
@@ -36,8 +35,9 @@ pub(crate) fn open_all<N: Naming>(
 
 impl<N: Naming> Context<'_, N> {
     ghost use Rattle.reg_plan.specs.Plans.{inward};
-    ghost use Rattle.reg_schedules.specs.Pool.{footprint_at, tail_of};
+    ghost use Rattle.reg_schedules.specs.Pool.{footprint_at};
     ghost use Rattle.reg_tasks.specs.Contexts.{the_day};
+    ghost use Rattle.reg_tasks.specs.Opened.{IsOpeningAt};
 
     /// Whether the instruction at a place waits for another: an arrow leads there. The place is counted from 1.
     pub fn waits(&self, place: u32) -> bool
@@ -65,13 +65,7 @@ impl<N: Naming> Context<'_, N> {
         requires within { place ≤ length self.now.batch.now.instructions }
         requires arrows { arrows.now ≡ inward self.now.plan.arrows place }
         requires there { index < length (footprint_at (the_day self.now) place) }
-        ensures first { IfOk result
-            (λ p. is_some p ≡ (tail_of self.now.plan place
-            (slice_index (footprint_at (the_day self.now) place) index) == 0)) }
-        ensures value { IfOk result
-            (λ p. IfSome p (λ p. account self.now.book.now.accounts
-            (slice_index (footprint_at (the_day self.now) place) index) ≡ Some p.value)) }
-        ensures after { IfOk result (λ p. IfSome p (λ p. p.after ≡ 0)) }
+        ensures { IfOk result (IsOpeningAt (the_day self.now) self.now.plan place index) }
     {
         each_footprint_is_sound();
         let account = self.touched_at(place)[index];

@@ -28,18 +28,15 @@ pub struct Slots<'c, 'a, N: Naming> {
 }
 
 impl<'c, 'a, N: Naming> Slots<'c, 'a, N> {
-    ghost use Rattle.std.specs.Prelude.{ℕ, ◌≤◌, Some, None, true, false, IfOk, IfErr, IfSome, OnOk, OnErr};
+    ghost use Rattle.std.specs.Prelude.{ℕ, ◌≤◌, Some, IfOk, IfErr, IfSome};
     ghost use Rattle.reg_book.specs.Day.{DayValue, settled_day};
     ghost use Rattle.reg_book.specs.Settled.{IsOfBook};
     ghost use Rattle.reg_tasks.specs.Contexts.{the_day};
     ghost use Rattle.reg_base.specs.Rising.{count_up};
     ghost use Rattle.reg_tasks.specs.Gathering.{places_of, AreFirstRows};
-    ghost use Rattle.reg_tasks.specs.Names.{IsRowOfDay};
-    ghost use Rattle.reg_tasks.specs.Parcels.{names_of};
-    ghost use Rattle.reg_tasks.specs.Slots.{AreOpened, AreTaken, AreLaid, StandAsBefore, IsAtEnd, LacksFor, have_slots};
-    ghost use Rattle.reg_tasks.specs.Slots.{is_ready, name_of};
+    ghost use Rattle.reg_tasks.specs.Slots.{AreOpened, IsAtEnd, LacksFor};
     ghost use Rattle.reg_tasks.specs.Standing.{stands};
-    ghost use Rattle.reg_tasks.specs.declared.lack.Lack.TheVariants.{Foreign};
+    ghost use Rattle.reg_tasks.specs.Turns.{TakesTask, LaysForRow, LaysForReply};
 
     /// The slots before the first instruction: the opening value stands in each.
     ///
@@ -72,16 +69,7 @@ impl<'c, 'a, N: Naming> Slots<'c, 'a, N> {
     pub fn take(&mut self, alloc: Global, place: u32) -> Result<Task<N>, Lack>
         requires from_one { 1 ≤ place }
         requires within { place ≤ length self.old.context.now.batch.now.instructions }
-        ensures context { self.new.context.now ≡ self.old.context.now }
-        ensures place { IfOk result (λ t. t.place ≡ place) }
-        ensures ready { OnOk result
-            (is_ready (the_day self.old.context.now) self.old.context.now.plan place (stands self.old) ≡ true) }
-        ensures taken { OnOk result
-            (AreTaken (the_day self.old.context.now) place (stands self.old) (stands self.new)) }
-        ensures lack { IfErr result
-            (LacksFor (is_ready (the_day self.old.context.now) self.old.context.now.plan place (stands self.old)
-            ≡ false)) }
-        ensures back { OnErr result (StandAsBefore (stands self.old) (stands self.new)) }
+        ensures { TakesTask place self.old self.new result }
     {
         each_footprint_is_sound();
         let context = self.context;
@@ -107,15 +95,7 @@ impl<'c, 'a, N: Naming> Slots<'c, 'a, N> {
     /// # Errors
     /// The outcome as it was, if one of its accounts has no slot. If a day is named, this does not occur.
     pub fn lay_for_row(&mut self, outcome: Outcome<N>) -> Result<(Ran<N>, LogRow), Outcome<N>>
-        ensures context { self.new.context.now ≡ self.old.context.now }
-        ensures ran { IfOk result (λ r. r.0.place ≡ outcome.place) }
-        ensures row { IfOk result (λ r. (r.1 ≡ outcome.row) × IsRowOfDay N.day outcome.place r.1) }
-        ensures laid { OnOk result (AreLaid (names_of outcome.parcels.items) (stands self.old) (stands self.new)) }
-        ensures there { IfErr result
-            (λ o. have_slots (the_day self.old.context.now) (names_of outcome.parcels.items) ≡ false) }
-        ensures named { IfErr result (λ o. N.day ≡ None) }
-        ensures back { IfErr result (λ o. o ≡ outcome) }
-        ensures unchanged { OnErr result (self.new ≡ self.old) }
+        ensures { LaysForRow outcome self.old self.new result }
     {
         last_toucher_is_last();
         tails_are_last_touchers();
@@ -134,15 +114,7 @@ impl<'c, 'a, N: Naming> Slots<'c, 'a, N> {
     /// # Errors
     /// The outcome as it was, if one of its accounts has no slot. If a day is named, this does not occur.
     pub fn lay(&mut self, outcome: Outcome<N>) -> Result<(Ran<N>, Done<N>), Outcome<N>>
-        ensures context { self.new.context.now ≡ self.old.context.now }
-        ensures ran { IfOk result (λ r. r.0.place ≡ outcome.place) }
-        ensures done { IfOk result (λ r. (r.1.place ≡ outcome.place) × (r.1.reply ≡ outcome.row.reply)) }
-        ensures laid { OnOk result (AreLaid (names_of outcome.parcels.items) (stands self.old) (stands self.new)) }
-        ensures there { IfErr result
-            (λ o. have_slots (the_day self.old.context.now) (names_of outcome.parcels.items) ≡ false) }
-        ensures named { IfErr result (λ o. N.day ≡ None) }
-        ensures back { IfErr result (λ o. o ≡ outcome) }
-        ensures unchanged { OnErr result (self.new ≡ self.old) }
+        ensures { LaysForReply outcome self.old self.new result }
     {
         let (ran, row) = self.lay_for_row(outcome)?;
         let done = Done::new(ran.place(), row);

@@ -28,19 +28,18 @@ pub struct Task<N: Naming> {
 }
 
 impl<N: Naming> Task<N> {
-    ghost use Rattle.std.specs.Prelude.{◌≤◌, ◌==◌, true, Some, None, length, map, is_ok, is_some, IfOk, IfErr, IfSome};
-    ghost use Rattle.std.specs.Prelude.{MatchResult, IsPermutation};
+    ghost use Rattle.std.specs.Prelude.{◌≤◌, ◌==◌, true, Some, length, map, is_some, IfOk, IfErr, IfSome};
     ghost use Rattle.reg_rules.specs.State.{account};
     ghost use Rattle.reg_plan.specs.Plans.{inward};
     ghost use Rattle.reg_book.specs.Day.{DayValue};
     ghost use Rattle.reg_tasks.specs.Contexts.{the_day};
     ghost use Rattle.reg_schedules.specs.Pool.{footprint_at, run_at};
     ghost use Rattle.reg_tasks.specs.Parcels.{values_of, afters_of, parcels_of};
-    ghost use Rattle.reg_schedules.specs.Docks.{names_needed, complete};
-    ghost use Rattle.reg_tasks.specs.Names.{has_names, IsFor};
+    ghost use Rattle.reg_schedules.specs.Docks.{names_needed};
+    ghost use Rattle.reg_tasks.specs.Names.{IsFor};
     ghost use Rattle.reg_base.specs.declared.limits.TheConstants.{MOST_TOUCHED};
     ghost use Rattle.reg_schedules.specs.World.{left_by};
-    ghost use Rattle.reg_tasks.specs.Tasks.{task_of};
+    ghost use Rattle.reg_tasks.specs.Tasks.{are_all, Assembles, IsTaskOf};
 
     /// The task of a place, exactly if the parcels are, in any order, one for each account that its instruction
     /// touches, each named by the tail of the arrow that leads there, or by 0 if there is none. The place is counted
@@ -55,15 +54,7 @@ impl<N: Naming> Task<N> {
     ) -> Result<Task<N>, Vec<Parcel<N>>>
         requires from_one { 1 ≤ place }
         requires within { place ≤ length context.now.batch.now.instructions }
-        ensures fits { is_ok result
-            ≡ has_names (names_of parcels.items)
-            (names_needed (inward context.now.plan.arrows place) (footprint_at (the_day context.now) place)) }
-        ensures place { IfOk result (λ t. t.place ≡ place) }
-        ensures parcels { IfOk result (λ t. IsPermutation parcels.items t.parcels.items) }
-        ensures back { IfErr result (λ ps. ps ≡ parcels) }
-        ensures complete { MatchResult result
-            (λ t. complete (the_day context.now) context.now.plan place (parcels_of parcels.items) ≡ Some (task_of t))
-            (λ ps. complete (the_day context.now) context.now.plan place (parcels_of parcels.items) ≡ None) }
+        ensures { Assembles (the_day context.now) context.now.plan place parcels result }
     {
         let touched = context.touched_at(place);
         let arrows = context.arrows_to(place);
@@ -78,12 +69,8 @@ impl<N: Naming> Task<N> {
     pub fn of_unordered(context: &Context<N>, place: u32, mut parcels: Vec<Parcel<N>>) -> Task<N>
         requires from_one { 1 ≤ place }
         requires within { place ≤ length context.now.batch.now.instructions }
-        requires needed { has_names (names_of parcels.items)
-            (names_needed (inward context.now.plan.arrows place) (footprint_at (the_day context.now) place)) ≡ true }
-        ensures place { result.place ≡ place }
-        ensures parcels { IsPermutation parcels.items result.parcels.items }
-        ensures complete { complete (the_day context.now) context.now.plan place (parcels_of parcels.items)
-            ≡ Some (task_of result) }
+        requires needed { are_all (the_day context.now) context.now.plan place parcels.items ≡ true }
+        ensures { IsTaskOf (the_day context.now) context.now.plan place parcels.items result }
     {
         each_footprint_is_sound();
         last_toucher_is_last();

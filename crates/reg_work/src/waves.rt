@@ -30,12 +30,15 @@ pub(crate) fn is_allowed(workers: u32) -> bool
 // So many tasks are taken at once if one worker runs them: their values then stay near the processor.
 const AT_ONCE: usize = 32;
 
+// All tasks of a level are taken at once.
+const ALL: usize = usize::MAX;
+
 // How many tasks of a level are taken at once, at most: all, unless one worker runs them.
 fn most_at_once(workers: u32) -> usize
     ensures some { 1 ≤ result }
     ensures all { 2 ≤ workers → result ≡ usize.MAX }
 {
-    if workers <= 1 { AT_ONCE } else { usize::MAX }
+    if workers <= 1 { AT_ONCE } else { ALL }
 }
 
 // Runs the tasks of the next level, or some of them if one worker runs them, and lays what they leave.

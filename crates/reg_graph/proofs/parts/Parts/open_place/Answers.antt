@@ -29,7 +29,7 @@ dealt-next g c next more turn =
     let lists = c.args.self.now.lists.items in
     let list = c.index_mut.result.now in
     let done = ap (complete day c.args.context.now.plan c.args.place) (sym c.in_ok-came.ensures.came)
-    ∙ c.in-Ok.ensures.complete in
+    ∙ c.in-Ok.ensures.task_is.complete in
     let pushed = ap (map task_of) c.in_ok-push_back-in-Ok.ensures.items
     ∙ map-append task_of list.items (c.in-Ok.task ∷ []) in
     ap (dealt next more) (map-set (λ tasks. map task_of tasks.items) lists c.args.worker c.push_back.new.self

@@ -32,10 +32,16 @@ loop-outcome-preserved g c =
           ∙ ap (λ o. places_between o.items new.laid new.taken) (sym c.in_ok-lay_one.ensures.order);
     }
 
-pub returns-clause-laid : goal.returns-clause-laid
-returns-clause-laid g c =
+pub returns : goal.returns
+returns g c =
     let l = c.loop-outcome.self in
+    let i = c.loop-outcome.invariant in
     let ended : length c.loop-outcome.outcome-iterator.rest.items ≡ 0 = search rules in
     let none : c.loop-outcome.outcome-iterator.rest.items ≡ [] =
     nil_from_length c.loop-outcome.outcome-iterator.rest.items ended in
-    none_left l.order.items l.laid l.taken l.ahead l.within (sym (ap places_run none) ∙ c.loop-outcome.invariant.places)
+    record {
+      context = i.context;
+      order = i.order;
+      taken = i.taken;
+      laid = none_left l.order.items l.laid l.taken l.ahead l.within (sym (ap places_run none) ∙ i.places);
+    }

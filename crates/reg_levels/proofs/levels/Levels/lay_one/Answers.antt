@@ -53,7 +53,7 @@ invariant_of-self-2 g c =
           (between_first order l.laid l.taken c.requires.running l.within) (l.standing d e)) laid));
       rows = ap places_done pushed ∙ map-append _ l.done.items (c.in-Ok.done ∷ [])
           ∙ ap (λ xs. xs ++ c.in-Ok.done.place ∷ []) l.rows
-          ∙ ap (λ p. take l.laid order ++ p ∷ []) (c.in-Ok.ensures.done.0 ∙ c.requires.place)
+          ∙ ap (λ p. take l.laid order ++ p ∷ []) (c.in-Ok.ensures.place ∙ c.requires.place)
           ∙ sym (take_more order l.laid 0 few);
       room = search rules;
     }

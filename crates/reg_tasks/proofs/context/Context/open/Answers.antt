@@ -12,7 +12,9 @@ new-requires g c =
     c.in_ok-value.value c.args.self.now.named
     (sym c.get.ensures ∙ ap option_copied c.unwrap.ensures ∙ ap Some (sym c.in_ok-value.ensures))
 
-pub returns-clause-value : goal.returns-clause-value
-returns-clause-value g c =
-    sym c.get.ensures ∙ ap option_copied c.unwrap.ensures ∙ ap Some (sym c.in_ok-value.ensures)
-    ∙ ap Some (sym c.new.ensures.value)
+pub returns : goal.returns
+returns g c = record {
+  value = sym c.get.ensures ∙ ap option_copied c.unwrap.ensures ∙ ap Some (sym c.in_ok-value.ensures)
+      ∙ ap Some (sym c.new.ensures.value);
+  after = c.new.ensures.after;
+}

@@ -1,4 +1,4 @@
-use Rattle.std.proofs.Common.{◌≡◌, ℕ, List, length, map, true, false, sym, ap, subst, ◌∙◌, rules}
+use Rattle.std.proofs.Common.{◌≡◌, ℕ, List, length, map, true, false, refl, sym, ap, subst, ◌∙◌, rules}
 use Rattle.std.specs.List.{list_all}
 use Rattle.reg_base.specs.Footprint.{is_among}
 use Rattle.reg_book.specs.Day.{DayValue}
@@ -12,30 +12,34 @@ use Rattle.reg_tasks.proofs.AtEnd.{left_have_slots, slots_touched}
 use Rattle.reg_tasks.proofs.lemmas.Gathering.{no_name}
 use Rattle.reg_tasks.proofs.slots.Slots.lay_for_row.Goals as goal
 
-pub returns-then-not-have_slots-clause-there : goal.returns-then-not-have_slots-clause-there
-returns-then-not-have_slots-clause-there g c =
+pub returns-then-not-have_slots : goal.returns-then-not-have_slots
+returns-then-not-have_slots g c =
     let context = c.args.self.now.context.now in
     let names = names_of c.args.outcome.parcels.items in
     let missing : c.have_slots.result ≡ false = c.if-not-have_slots.true in
+    let there : have_slots (the_day context) names ≡ false =
     sym (slots_touched c.tails_are_last_touchers.ensures c.last_toucher_is_last.ensures
     (the_day context) context.plan context.planned names)
     ∙ ap (λ os. list_all (λ (n : ℕ × ℕ). is_among (opened_accounts os) n.0) names)
     (sym c.openings-openings.ensures.value)
     ∙ ap (λ ps. list_all (λ (n : ℕ × ℕ). is_among (opened_accounts c.openings-openings.result.now) n.0) (names_of ps))
     (sym c.parcels.ensures.value)
-    ∙ sym c.have_slots.ensures ∙ missing
+    ∙ sym c.have_slots.ensures ∙ missing in
+    record {
+      context = refl;
+      there = there;
+      named = no_name g.N.Naming.day (λ d e.
+          let left : List (ℕ × ℕ) = map (λ a. (a, c.args.outcome.place)) (footprint_at d c.args.outcome.place) in
+          clash (ap (have_slots (the_day context)) (c.args.outcome.left d e)
+          ∙ subst (λ (x : DayValue). have_slots x left ≡ true) (sym (context.named d e))
+          (left_have_slots d c.args.outcome.place))
+          there);
+      back = refl;
+      unchanged = refl;
+    }
 
-pub returns-then-not-have_slots-clause-named : goal.returns-then-not-have_slots-clause-named
-returns-then-not-have_slots-clause-named g c = no_name g.N.Naming.day (λ d e.
-    let context = c.args.self.now.context.now in
-    let left : List (ℕ × ℕ) = map (λ a. (a, c.args.outcome.place)) (footprint_at d c.args.outcome.place) in
-    clash (ap (have_slots (the_day context)) (c.args.outcome.left d e)
-    ∙ subst (λ (x : DayValue). have_slots x left ≡ true) (sym (context.named d e))
-    (left_have_slots d c.args.outcome.place))
-    (returns-then-not-have_slots-clause-there g c))
-
-pub returns-clause-laid : goal.returns-clause-laid
-returns-clause-laid g c a =
+pub returns : goal.returns
+returns g c =
     let context = c.args.self.now.context.now in
     let os = context.plan.openings in
     let items = c.args.outcome.parcels.items in
@@ -46,12 +50,20 @@ returns-clause-laid g c a =
     ∙ sym c.have_slots.ensures ∙ passed in
     let slots = c.args.self.now.slots in
     let size : slots.len ≡ length slots.items = search rules in
-    ap (λ ss. standing_in os ss a)
-    (written_whole slots.items c.lay_parcels.new.slots slots.len size (c.lay_parcels.auto.slots
-    ∙ ap length c.deref_mut.ensures.value))
-    ∙ ap (λ ws. standing_in ws c.lay_parcels.new.slots a) (sym c.openings-openings.ensures.value)
-    ∙ c.lay_parcels.ensures.laid all a
-    ∙ ap (λ ps. laid_at (names_of ps) (standing_in c.openings-openings.result.now c.deref_mut.result.now a) a)
-    c.into_parts-row.ensures.parcels.0
-    ∙ ap (λ ws. laid_at (names_of items) (standing_in ws c.deref_mut.result.now a) a) c.openings-openings.ensures.value
-    ∙ ap (λ ss. laid_at (names_of items) (standing_in os ss a) a) c.deref_mut.ensures.value
+    record {
+      context = refl;
+      ran = c.into_parts-row.ensures.ran;
+      row = c.into_parts-row.ensures.row.0;
+      row_is = c.into_parts-row.ensures.row.1;
+      laid = λ a.
+          ap (λ ss. standing_in os ss a)
+          (written_whole slots.items c.lay_parcels.new.slots slots.len size (c.lay_parcels.auto.slots
+          ∙ ap length c.deref_mut.ensures.value))
+          ∙ ap (λ ws. standing_in ws c.lay_parcels.new.slots a) (sym c.openings-openings.ensures.value)
+          ∙ c.lay_parcels.ensures.laid all a
+          ∙ ap (λ ps. laid_at (names_of ps) (standing_in c.openings-openings.result.now c.deref_mut.result.now a) a)
+          c.into_parts-row.ensures.parcels.0
+          ∙ ap (λ ws. laid_at (names_of items) (standing_in ws c.deref_mut.result.now a) a)
+          c.openings-openings.ensures.value
+          ∙ ap (λ ss. laid_at (names_of items) (standing_in os ss a) a) c.deref_mut.ensures.value;
+    }

@@ -1,11 +1,13 @@
-use Rattle.std.proofs.Common.{◌≡◌, true, map, Some, sym, ap, ◌∙◌}
+use Rattle.std.proofs.Common.{◌≡◌, true, cond, length, map, None, Some, refl, rules, sym, ap, ◌∙◌}
 use Rattle.std.specs.List.{list_all}
+use Rattle.reg_base.specs.Footprint.{is_among}
 use Rattle.reg_plan.specs.Plans.{inward}
 use Rattle.reg_schedules.specs.Pool.{footprint_at, tail_in}
 use Rattle.reg_schedules.specs.Docks.{names_needed}
 use Rattle.reg_tasks.specs.Contexts.{the_day}
 use Rattle.reg_tasks.specs.Parcels.{names_of}
 use Rattle.reg_tasks.specs.Slots.{standing_in, is_there}
+use Rattle.reg_tasks.proofs.Names.{written_whole}
 use Rattle.reg_tasks.proofs.lemmas.Placing.{ready_stands, all_there, taken_needed}
 use Rattle.reg_tasks.proofs.slots.Slots.take.Goals as goal
 
@@ -48,3 +50,27 @@ take_parcels-requires-clause-there g c =
     ∙ sym c.are_ready.ensures ∙ c.if-not-are_ready.false in
     let st = standing_in c.openings-2.result.now c.deref_mut.result.now in
     all_there st touched (λ a. (a, tail_in arrows a)) (ready_stands arrows st touched ready)
+
+pub returns : goal.returns
+returns g c =
+    let context = c.args.self.now.context.now in
+    let os = context.plan.openings in
+    let touched = footprint_at (the_day context) c.args.place in
+    let slots = c.args.self.now.slots in
+    let size : slots.len ≡ length slots.items = search rules in
+    record {
+      context = refl;
+      place = search rules;
+      ready = search rules;
+      taken = λ a.
+          ap (λ ss. standing_in os ss a)
+          (written_whole slots.items c.take_parcels.new.slots slots.len size (c.take_parcels.auto.slots
+          ∙ ap length c.deref_mut.ensures.value))
+          ∙ ap (λ ws. standing_in ws c.take_parcels.new.slots a) (sym c.openings-2.ensures.value)
+          ∙ c.in_ok-parcels.ensures.left a
+          ∙ ap (λ ns. cond (is_among ns a) None (standing_in c.openings-2.result.now c.deref_mut.result.now a))
+          c.touched_at-accounts.ensures.value
+          ∙ ap (λ ws. cond (is_among touched a) None (standing_in ws c.deref_mut.result.now a))
+          c.openings-2.ensures.value
+          ∙ ap (λ ss. cond (is_among touched a) None (standing_in os ss a)) c.deref_mut.ensures.value;
+    }

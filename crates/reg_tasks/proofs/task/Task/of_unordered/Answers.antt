@@ -1,4 +1,4 @@
-use Rattle.std.proofs.Common.{◌≡◌, Some, ap, subst, sym, ◌∙◌, length, rules}
+use Rattle.std.proofs.Common.{◌≡◌, Some, ap, refl, subst, sym, ◌∙◌, length, rules}
 use Rattle.std.specs.Prelude.{nat_eq, IsPermutation}
 use Rattle.std.specs.List.{IsDistinct}
 use Rattle.std.proofs.lemmas.List.Sorted.{length_permutation, IsPermutation-map}
@@ -49,8 +49,8 @@ invariant_of-result g c =
           d (c.args.context.now.named d e);
     }
 
-pub returns-clause-complete : goal.returns-clause-complete
-returns-clause-complete g c =
+pub returns : goal.returns
+returns g c =
     let day = day_of c.args.context.now.book.now c.args.context.now.rules.now c.args.context.now.batch.now in
     let plan = c.args.context.now.plan in
     let size : c.args.parcels.len ≡ length c.args.parcels.items = search rules in
@@ -66,7 +66,12 @@ returns-clause-complete g c =
     = names-are c.put_in_order.new.parcels ∙ c.put_in_order.ensures.names
     ∙ ap (λ ws. names_needed ws c.touched_at.result.now) c.arrows_to.ensures
     ∙ ap (names_needed (inward plan.arrows c.args.place)) c.touched_at.ensures.value in
-    complete-of day plan c.args.place (parcels_of c.args.parcels.items) (parcels_of c.put_in_order.new.parcels)
-    (IsPermutation-map _ c.args.parcels.items c.put_in_order.new.parcels order)
-    (footprint_distinct c.each_footprint_is_sound.ensures day c.args.place) names
-    ∙ ap (λ ps. Some (record { place = c.args.place; parcels = parcels_of ps })) (sym whole)
+    record {
+      place = refl;
+      parcels = subst (IsPermutation c.args.parcels.items) (sym whole) order;
+      complete =
+          complete-of day plan c.args.place (parcels_of c.args.parcels.items) (parcels_of c.put_in_order.new.parcels)
+          (IsPermutation-map _ c.args.parcels.items c.put_in_order.new.parcels order)
+          (footprint_distinct c.each_footprint_is_sound.ensures day c.args.place) names
+          ∙ ap (λ ps. Some (record { place = c.args.place; parcels = parcels_of ps })) (sym whole);
+    }
