@@ -16,7 +16,7 @@ use Rattle.reg_tasks.specs.Standing.{stands}
 
 module _ {N : Type 0} {b : Ghosts N} where
   -- the parcels that this place needs were there, are out of their slots, and this is their task
-  pub record IsTaken (here : ℕ) (old new : Slots N b) (task : Task N b) : Type 0 where
+  pub record IsTaskTaken (here : ℕ) (old new : Slots N b) (task : Task N b) : Type 0 where
     pub context : new.context.now ≡ old.context.now
     pub place : task.place ≡ here
     pub ready : is_ready (the_day old.context.now) old.context.now.plan here (stands old) ≡ true
@@ -30,7 +30,7 @@ module _ {N : Type 0} {b : Ghosts N} where
 
   -- the task of this place is taken out of the slots, with a fault or without
   abbrev pub TakesTask : ℕ → Slots N b → Slots N b → Result (Task N b) Lack → Type 0
-  TakesTask place old new result = MatchResult result (IsTaken place old new) (TakesNothing place old new)
+  TakesTask place old new result = MatchResult result (IsTaskTaken place old new) (TakesNothing place old new)
 
   -- what an instruction left lies in the slots of its accounts, and these are its run and its row in the log
   pub record IsLaidForRow (outcome : Outcome N b) (old new : Slots N b) (kept : Ran N × LogRow) : Type 0 where
