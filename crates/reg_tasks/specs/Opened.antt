@@ -9,7 +9,7 @@ use Rattle.reg_tasks.specs.declared.parcel.Parcel.{Parcel}
 
 module _ {N : Type 0} {b : Ghosts N} where
   -- the opening value of an account: as it stands among these, after no instruction
-  pub record IsOpening (accounts : State) (a : ℕ) (parcel : Parcel N b) : Type 0 where
+  pub record IsOpeningValue (accounts : State) (a : ℕ) (parcel : Parcel N b) : Type 0 where
     pub value : account accounts a ≡ Some parcel.value
     pub after : parcel.after ≡ 0
 
@@ -18,4 +18,4 @@ module _ {N : Type 0} {b : Ghosts N} where
   pub record IsOpeningAt (day : DayValue) (plan : PlanValue) (place index : ℕ) (opened : Option (Parcel N b)) : Type 0
     where
       pub first : is_some opened ≡ (tail_of plan place (slice_index (footprint_at day place) index) == 0)
-      pub opening : IfSome opened (IsOpening day.book.accounts (slice_index (footprint_at day place) index))
+      pub opening : IfSome opened (IsOpeningValue day.book.accounts (slice_index (footprint_at day place) index))

@@ -37,7 +37,7 @@ pub struct Context<'a, N: Naming> {
 
 impl<'a, N: Naming> Context<'a, N> {
     ghost use Rattle.reg_tasks.specs.Contexts.{the_day};
-    ghost use Rattle.reg_tasks.specs.Opened.{IsOpening};
+    ghost use Rattle.reg_tasks.specs.Opened.{IsOpeningValue};
 
     /// The context of a day. If a day is named, it must be this one.
     ///
@@ -161,7 +161,7 @@ impl<'a, N: Naming> Context<'a, N> {
         likely_slot: u32,
     ) -> Result<Parcel<N>, NoMemory>
         requires known { is_some (account self.now.book.now.accounts number) ≡ true }
-        ensures { IfOk result (IsOpening self.now.book.now.accounts number) }
+        ensures { IfOk result (IsOpeningValue self.now.book.now.accounts number) }
     {
         let value = self.book.get(number).unwrap().copy(alloc)?;
         Ok(Parcel::new(value, 0, likely_slot))
@@ -176,7 +176,7 @@ impl<'a, N: Naming> Context<'a, N> {
     ) -> Result<Parcel<N>, NoMemory>
         requires touched { IsTrue
             (is_touched (directory_of self.now.book.now.accounts) self.now.batch.now.instructions number) }
-        ensures { IfOk result (IsOpening self.now.book.now.accounts number) }
+        ensures { IfOk result (IsOpeningValue self.now.book.now.accounts number) }
     {
         // An account that an instruction touches is in the directory, and so in the book.
         each_footprint_is_sound();
@@ -190,7 +190,7 @@ impl<'a, N: Naming> Context<'a, N> {
     pub fn opening(&self, alloc: Global, number: AccountNo) -> Result<Parcel<N>, NoMemory>
         requires touched { IsTrue
             (is_touched (directory_of self.now.book.now.accounts) self.now.batch.now.instructions number) }
-        ensures { IfOk result (IsOpening self.now.book.now.accounts number) }
+        ensures { IfOk result (IsOpeningValue self.now.book.now.accounts number) }
     {
         self.open_touched(alloc, number, 0)
     }
