@@ -10,6 +10,7 @@ use Rattle.atomic_table.specs.Seated.{TableId}
 use Rattle.crossbeam_deque.specs.Tasks.{Pushes, Takes, Forks}
 use Rattle.crossbeam_deque.proofs.Lists.{at_set, at_snoc}
 use Rattle.reg_facts.specs.Counting.{total, times, once}
+use Rattle.reg_facts.proofs.lemmas.Times.{times-push, once-only}
 use Rattle.reg_tasks.specs.declared.naming.Naming.{Ghosts}
 use Rattle.reg_deques.specs.declared.ticket.Ticketed.{Ticketed}
 use Rattle.reg_deques.specs.declared.views.DequeView.{DequeView}
@@ -17,7 +18,7 @@ use Rattle.reg_deques.specs.Views.{view, fresh_view, blank, table_of, with_table
 use Rattle.reg_deques.specs.Deques.{IsViewOf}
 use Rattle.reg_deques.specs.Queues.{Queued, places_of, queued, queue_of, AreTicketed, IsDeque}
 use Rattle.reg_deques.specs.Steps.{PutStep, TakesOwn, TakeStep, StealStep}
-use Rattle.reg_deques.proofs.Counts.{total_set, total_has, total_snoc, times_snoc, once_none, once_more, once_within}
+use Rattle.reg_deques.proofs.Counts.{total_set, total_has, total_snoc, once_none, once_more}
 use Rattle.reg_deques.proofs.Counts.{once_past, drop_first}
 
 abbrev taken : ℕ → DequeView → ℕ
@@ -214,7 +215,7 @@ counts_more views port v k seen at h p =
     let w : DequeView = with_taken (suc k) seen v in
     let t = total_set (taken p) views port v w at in
     let c = h p in
-    let s = times_snoc p (suc k) v.took in
+    let s = times-push p (suc k) v.took in
     let m = once_more k p in
     omega arith
 
@@ -281,7 +282,7 @@ stealing_keeps t rest views port v h at owns =
                     let s = total_set (taken p) views port v w at in
                     let b = total_has (taken p) views port v at in
                     let c = counts p in
-                    let near = once_within (suc h.k) p (omega arith) in
+                    let near = once-only (suc h.k) p (omega arith) in
                     let deep = first.0 in omega arith;
               })
               (λ j u other e. h.order.known j u e);

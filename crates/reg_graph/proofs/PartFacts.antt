@@ -1,10 +1,9 @@
 -- What stands in the parts of a world, and the world after one of them has changed.
-use Rattle.std.proofs.Common.{◌≡◌, ℕ, zero, suc, ◌-◌, ◌<◌, ◌≤◌, Bool, true, false, not, cond, List, [], ◌∷◌, ◌++◌}
+use Rattle.std.proofs.Common.{◌≡◌, ℕ, zero, suc, ◌-◌, ◌≤◌, Bool, true, false, not, cond, List, [], ◌∷◌, ◌++◌}
 use Rattle.std.proofs.Common.{length, map, Option, Some, None, Ok, Err, Result, get_or, take, drop, arith, refl, sym}
 use Rattle.std.proofs.Common.{ap, ◌∙◌}
 use Rattle.std.specs.Prelude.{slice_get, slice_set, filter, IsOk, OnOk, OnErr, IfErr, MatchResult}
-use Rattle.std.specs.Option.{option_map, option_map_or}
-use Rattle.std.proofs.lemmas.Option.{slice_get-map, slice_get-get_or}
+use Rattle.std.specs.Option.{option_map_or}
 use Rattle.reg_rules.specs.State.{State}
 use Rattle.reg_plan.specs.Plans.{PlanValue}
 use Rattle.reg_rules.specs.declared.reply.LogRow.{LogRow}
@@ -25,15 +24,6 @@ use Rattle.reg_schedules.specs.declared.event.Event.{Event}
 use Rattle.reg_schedules.specs.Schedules.{IsReached}
 use Rattle.reg_tasks.specs.Parcels.{parcels_of}
 use Rattle.reg_graph.specs.WorldParts.{first_head, IsWhy}
-
--- what is read at an index of a list that is a view of another
-pub view-at : {X Y : Type 0} (f : X → Y) (xs : List X) (k : ℕ) (x : X) → k < length xs → x ≡ get_or xs k x
-    → slice_get (map f xs) k ≡ Some (f x)
-view-at f xs k x lt is = slice_get-map f xs k ∙ ap (option_map f) (slice_get-get_or xs k x lt ∙ ap Some (sym is))
-
-pub none-left : {X : Type 0} (xs : List X) → length xs ≡ 0 → xs ≡ []
-none-left [] e = refl
-none-left (x ∷ xs) e = absurd (omega (arith, e))
 
 pub known-all : {X : Type 0} (xs : List X) → known_of (map Some xs) ≡ xs
 known-all [] = refl

@@ -3,8 +3,10 @@ use Rattle.std.proofs.Common.{◌≡◌, ℕ, zero, suc, ◌+◌, ◌-◌, ◌<�
 use Rattle.std.proofs.Common.{◌∷◌, ◌++◌, length, take, drop, get_or, Option, Some, None, arith, refl, sym, ap, subst}
 use Rattle.std.proofs.Common.{◌∙◌}
 use Rattle.std.proofs.Props.{props}
-use Rattle.std.proofs.lemmas.Bool.{cases_lt, cases_eq, eq-eqb, eqb-true}
+use Rattle.std.proofs.lemmas.Bool.{cases_lt, cases_eq, eq-eqb, eqb-true, false_from_ne_true}
 use mathlib.Core.Logic.{∥∥₁_elim}
+use Rattle.reg_facts.proofs.lemmas.Members.{In, contains_from}
+use Rattle.reg_facts.proofs.lemmas.Numbers.{clash}
 use Rattle.reg_base.specs.Footprint.{is_among}
 use Rattle.reg_base.specs.Touches.{LastToucherIsLast}
 use Rattle.reg_plan.specs.declared.arrow.Arrow.{Arrow}
@@ -14,10 +16,8 @@ use Rattle.reg_plan.specs.Orders.{first_order_fault}
 use Rattle.reg_plan.specs.Laws.{TailsAreLastTouchers, LevelsRiseAlongArrows}
 use Rattle.reg_book.specs.Day.{DayValue}
 use Rattle.reg_schedules.specs.Pool.{directory, footprint_at, tail_of}
-use Rattle.reg_schedules.proofs.lemmas.Members.{In, contains_from}
 use Rattle.reg_schedules.proofs.lemmas.Known.{footprint_touches}
 use Rattle.reg_schedules.proofs.lemmas.Tails as tail
-use Rattle.reg_schedules.proofs.lemmas.Tails.{clash}
 use Rattle.reg_tasks.specs.Slots.{last_of, is_ready}
 use Rattle.reg_tasks.proofs.lemmas.Slotting.{Name}
 use Rattle.reg_tasks.proofs.lemmas.Placing.{stands_ready}
@@ -45,10 +45,6 @@ among_taken (x ∷ xs) (suc j) (suc k) lt le =
       by : (b : Bool) → is_among (take k xs) (get_or xs j 0) ≡ true → (b || is_among (take k xs) (get_or xs j 0)) ≡ true
       by true e = refl
       by false e = e
-
-not_true : (b : Bool) → (b ≡ true → ⊥) → b ≡ false
-not_true true h = absurd (h refl)
-not_true false h = refl
 
 -- those after the first of a level
 pub level_more : (plan : PlanValue) (order : List ℕ) (from to : ℕ) → IsOneLevel plan order from to
@@ -113,7 +109,8 @@ module _ (rise : LevelsRiseAlongArrows) (tails : TailsAreLastTouchers) (last : L
         none_passes (λ place. touches_place (directory day) day.batch.instructions a place)
         (places_between order from k) (λ j lt.
         let inside : from + j < k = let short = size_take (drop from order) (k - from) j lt in omega (arith, short) in
-        not_true (touches_place (directory day) day.batch.instructions a (get_or (places_between order from k) j 0))
+        false_from_ne_true (touches_place (directory day) day.batch.instructions a
+        (get_or (places_between order from k) j 0))
         (λ touched.
         apart a (from + j) k inside within
         (level (from + j) (omega arith) (omega (arith, inside)) ∙ sym (level k le (omega arith)))
@@ -127,7 +124,8 @@ module _ (rise : LevelsRiseAlongArrows) (tails : TailsAreLastTouchers) (last : L
         (places_between order (j + 1) to) (λ i short.
         let inside : j + 1 + i < to = let few = size_take (drop (j + 1) order) (to - (j + 1)) i short in
         omega (arith, few) in
-        not_true (touches_place (directory day) day.batch.instructions a (get_or (places_between order (j + 1) to) i 0))
+        false_from_ne_true (touches_place (directory day) day.batch.instructions a
+        (get_or (places_between order (j + 1) to) i 0))
         (λ touched.
         apart a j (j + 1 + i) (omega arith) (omega (arith, inside, le))
         (sym (level (j + 1 + i) (omega arith) inside))

@@ -12,11 +12,13 @@ use Rattle.reg_rules.specs.State.{State, Setting, account, numbers}
 use Rattle.reg_rules.specs.Step.{step}
 use Rattle.reg_rules.specs.Laws.{StepLaws, AgreeOn, IsReady}
 use Rattle.reg_base.specs.Directory.{DirectoryValue}
+use Rattle.reg_rules.proofs.lemmas.Accounts.{length-numbers, distinct-permutation, account-permutation}
 use Rattle.reg_book.specs.Book.{BookValue, IsBookKept, directory_of}
 use Rattle.reg_book.specs.Day.{DayValue, IsDay, setting, closing_state, settled_day, replies_of, log_of}
 use Rattle.reg_book.specs.Settled.{committed}
 use Rattle.reg_book.specs.Fold.{rows_of, replies_in}
 use Rattle.reg_book.specs.Laws.{StaysReady, NumbersStay, ClosingIsABook, CommittedIsClosing}
+use Rattle.reg_book.proofs.lemmas.Logs.{length-replies_of}
 use Rattle.reg_regions.specs.declared.region.Placed.{Placed}
 use Rattle.reg_regions.specs.declared.swaps.Swap.{Swap}
 use Rattle.reg_regions.specs.Days.{RegionsAreADay}
@@ -27,7 +29,6 @@ use Rattle.reg_regions.specs.Settling.{places_in}
 use Rattle.reg_regions.specs.Swaps.{IsSwapWithin, exchanged, exchanged_back}
 use Rattle.reg_regions.proofs.Exchanged.{exchanged-same, exchanged-undone, back-same, map-exchanged, map-back}
 use Rattle.reg_regions.proofs.Exchanged.{length-exchanged}
-use Rattle.reg_regions.proofs.Found.{distinct-permutation, account-permutation, size-numbers}
 use Rattle.reg_regions.proofs.Marking.{once-contained, once-within}
 use Rattle.reg_regions.proofs.Replying.{length-put, put-right, same-got, IsTold}
 
@@ -66,7 +67,7 @@ module _ (laws : StepLaws) (ready : StaysReady) (stay : NumbersStay) (regions : 
       subst (All (λ p. Some p.reply ≡ reply_of day p.place)) dealt.told are.replies
 
   size : length after ≡ length day.book.accounts
-  size = sym (size-numbers after) ∙ ap length are-numbers ∙ size-numbers (exchanged swaps day.book.accounts)
+  size = sym (length-numbers after) ∙ ap length are-numbers ∙ length-numbers (exchanged swaps day.book.accounts)
       ∙ length-exchanged swaps day.book.accounts
 
   within-after : All (IsSwapWithin (length after)) swaps
@@ -78,7 +79,7 @@ module _ (laws : StepLaws) (ready : StaysReady) (stay : NumbersStay) (regions : 
       ∙ ap (exchanged_back swaps) (are-numbers
       ∙ map-exchanged (λ (v : AccountValue). v.number) swaps day.book.accounts within)
       ∙ exchanged-undone swaps (numbers day.book.accounts)
-      (subst (λ n. All (IsSwapWithin n) swaps) (sym (size-numbers day.book.accounts)) within)
+      (subst (λ n. All (IsSwapWithin n) swaps) (sym (length-numbers day.book.accounts)) within)
 
   found : (a : ℕ) → account after a ≡ account (exchanged_back swaps after) a
   found = account-permutation after (exchanged_back swaps after)
@@ -98,12 +99,6 @@ module _ (laws : StepLaws) (ready : StaysReady) (stay : NumbersStay) (regions : 
       (numbers-back ∙ sym closing_numbers)
       (subst (λ ns. AgreeOn ns (exchanged_back swaps after) (closing_state day)) (sym numbers-back) agree)
 
--- there is a reply to each instruction
-size-replies : (c : Setting) (s : State) (n : ℕ) (is : List Instruction)
-    → length (replies_in (rows_of c s n is)) ≡ length is
-size-replies c s n [] = refl
-size-replies c s n (i ∷ is) = ap suc (size-replies c (step c s n i).0 (n + 1) is)
-
 -- put at their places, they are the replies of the day
 pub replies-are : (day : DayValue) (slots : List Reply) (replies : List Placed)
     → length slots ≡ length day.batch.instructions → All (IsTold (reply_of day)) replies
@@ -112,7 +107,7 @@ pub replies-are : (day : DayValue) (slots : List Reply) (replies : List Placed)
     → put_all replies slots ≡ replies_of day
 replies-are day slots replies many right within each =
     let total : length (replies_of day) ≡ length day.batch.instructions =
-    size-replies (setting day) day.book.accounts (day.batch.base + 1) day.batch.instructions in
+    length-replies_of (setting day) day.book.accounts (day.batch.base + 1) day.batch.instructions in
     let size : length (put_all replies slots) ≡ length slots = length-put replies slots in
     same-got (put_all replies slots) (replies_of day) (size ∙ many ∙ sym total) (λ k lt.
     put-right (reply_of day) replies slots k right within

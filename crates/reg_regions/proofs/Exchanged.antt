@@ -8,37 +8,9 @@ use Rattle.std.proofs.lemmas.List.{same_lists, map-set, get_or-map}
 use Rattle.std.proofs.lemmas.List.Edits.{length-swap, swapped_from_swap}
 use Rattle.std.proofs.lemmas.List.Elements.{All-head, All-tail}
 use Rattle.std.proofs.lemmas.List.Sorted.{IsPermutation-refl, IsPermutation-swap, IsPermutation-trans}
+use Rattle.reg_facts.proofs.lemmas.Lists.{map-swap, swap-twice}
 use Rattle.reg_regions.specs.declared.swaps.Swap.{Swap}
 use Rattle.reg_regions.specs.Swaps.{IsSwapWithin, exchanged, exchanged_back}
-
--- a swap made twice is none
-swap-twice : {X : Type 0} (xs : List X) (a b : ℕ) → a < length xs → b < length xs → swap (swap xs a b) a b ≡ xs
-swap-twice xs a b a_in b_in =
-    let size : length (swap xs a b) ≡ length xs = length-swap xs a b in
-    same_lists (swap (swap xs a b) a b) xs (length-swap (swap xs a b) a b ∙ size) (λ k d lt.
-    let once = swapped_from_swap xs (swap xs a b) a b d a_in b_in refl in
-    let twice = swapped_from_swap (swap xs a b) (swap (swap xs a b) a b) a b d (omega (arith, size, a_in))
-    (omega (arith, size, b_in)) refl in
-    elim (cases_eq k a) [
-      | inl at_a ↦ ap (λ m. get_or (swap (swap xs a b) a b) m d) at_a ∙ twice.0 ∙ once.1
-          ∙ ap (λ m. get_or xs m d) (sym at_a)
-      | inr not_a ↦ elim (cases_eq k b) [
-        | inl at_b ↦ ap (λ m. get_or (swap (swap xs a b) a b) m d) at_b ∙ twice.1 ∙ once.0
-            ∙ ap (λ m. get_or xs m d) (sym at_b)
-        | inr not_b ↦ twice.2 k not_a not_b ∙ once.2 k not_a not_b
-      ]
-    ])
-
--- a view of swapped elements
-map-swap : {X Y : Type 0} (f : X → Y) (xs : List X) (a b : ℕ) → a < length xs → b < length xs
-    → map f (swap xs a b) ≡ swap (map f xs) a b
-map-swap f [] a b a_in b_in = refl
-map-swap f (d ∷ ys) a b a_in b_in =
-    map-set f (set (d ∷ ys) a (get_or (d ∷ ys) b d)) b (get_or (d ∷ ys) a d)
-    ∙ ap (λ l. set l b (f (get_or (d ∷ ys) a d))) (map-set f (d ∷ ys) a (get_or (d ∷ ys) b d))
-    ∙ ap (λ y. set (set (f d ∷ map f ys) a y) b (f (get_or (d ∷ ys) a d))) (sym (get_or-map f (d ∷ ys) b d (f d) b_in))
-    ∙ ap (λ y. set (set (f d ∷ map f ys) a (get_or (f d ∷ map f ys) b (f d))) b y)
-    (sym (get_or-map f (d ∷ ys) a d (f d) a_in))
 
 -- swaps within a list are within one of the same length
 within-same : (m n : ℕ) (swaps : List Swap) → m ≡ n → All (IsSwapWithin n) swaps → All (IsSwapWithin m) swaps

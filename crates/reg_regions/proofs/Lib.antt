@@ -4,7 +4,6 @@ mod Restricted
 mod Exchanged
 mod Across
 mod Running
-mod Found
 mod Together
 mod AtHome
 mod Pieces

@@ -14,6 +14,7 @@ use Rattle.reg_base.specs.Rules.{AreRules}
 use Rattle.reg_account.specs.Account.{AccountValue}
 use Rattle.reg_rules.specs.State.{State, Setting, numbers}
 use Rattle.reg_rules.specs.Laws.{StepLaws, IsReady}
+use Rattle.reg_rules.proofs.lemmas.Accounts.{length-numbers}
 use Rattle.reg_book.specs.Indexes.{index_lists}
 use Rattle.reg_regions.specs.declared.dealing.Deal.{Deal}
 use Rattle.reg_regions.specs.declared.region.Placed.{Placed}
@@ -27,13 +28,6 @@ use Rattle.reg_regions.specs.Stealing.{region_openings, region_opening, places_a
 use Rattle.reg_regions.specs.Stealing.{IsSettledList, numbers_of, settled_places}
 use Rattle.reg_regions.proofs.Keeping.{numbers-all}
 use Rattle.reg_regions.proofs.Pieces.{ready-cut, cut-numbers, rest-numbers}
-
--- a list that was passed as a slice, and written whole
-pub written_whole : {X : Type 0} (now new : List X) (len : ℕ) → len ≡ length now → length new ≡ length now
-    → take len (new ++ drop (length new) now) ≡ new
-written_whole now new len size kept =
-    ap (λ l. take len (new ++ l)) (drop_all (length new) now (omega (arith, kept)))
-    ∙ ap (take len) (append-nil new) ∙ take_all len new (omega (arith, size, kept))
 
 -- the first of what is left of a list
 pub next-opening : (os : List State) (k : ℕ) (a : State) (left : List State) → a ∷ left ≡ drop k os
@@ -60,10 +54,6 @@ places-flat [] = refl
 places-flat (s ∷ ss) =
     map-append (λ (p : Placed). p.place) s.replies.items (flat_map (λ t. t.replies.items) ss)
     ∙ ap (λ ps. places_in s.replies.items ++ ps) (places-flat ss)
-
-length-numbers : (s : State) → length (numbers s) ≡ length s
-length-numbers [] = refl
-length-numbers (v ∷ s) = ap suc (length-numbers s)
 
 sizes-openings : (lists : List (Vec AccountValue Global)) → map length (region_openings lists) ≡ sizes_of lists
 sizes-openings [] = refl

@@ -8,14 +8,11 @@ use Rattle.std.proofs.lemmas.Grind.{flat_map-append}
 use Rattle.std.proofs.lemmas.List.{get_or-set_other, get_or-set_same, take_more}
 use Rattle.std.proofs.lemmas.List.Elements.{Contains-get_or}
 use Rattle.reg_facts.specs.Counting.{times, once, one_if}
+use Rattle.reg_facts.proofs.lemmas.Times.{once-yes, once-past, once-zero, times-append}
 use Rattle.reg_facts.proofs.lemmas.Totals.{total-append}
 use Rattle.reg_regions.specs.declared.dealing.Deal.{Deal}
 use Rattle.reg_regions.specs.Homes.{AreMarked, set_mark, IsPlaceUpTo, dealt_places}
 use Rattle.reg_regions.proofs.Membership.{contains_first, contains_later}
-
--- how often a number stands in two lists, one behind the other
-pub times-append : (p : ℕ) (xs ys : List ℕ) → times p (xs ++ ys) ≡ times p xs + times p ys
-times-append p xs ys = total-append (λ x. one_if (eqb x p)) xs ys
 
 -- one place more was marked, whose mark was not set
 pub marked-one : (done : List ℕ) (marks : List Bool) (place index : ℕ) → 1 ≤ place → index ≡ place - 1
@@ -61,28 +58,15 @@ beyond [] k le = refl
 beyond (m ∷ marks) zero le = absurd (omega (arith, le))
 beyond (m ∷ marks) (suc k) le = beyond marks k (omega (arith, le))
 
-pub within-once : (n p : ℕ) → 1 ≤ p → p ≤ n → once n p ≡ 1
-within-once n p one le = ap (λ b. one_if (b && leb p n)) (le-leb 1 p one) ∙ ap one_if (le-leb p n le)
-
-and_false : (b : Bool) → (b && false) ≡ false
-and_false true = refl
-and_false false = refl
-
-pub beyond-once : (n p : ℕ) → n < p → once n p ≡ 0
-beyond-once n p lt = ap (λ b. one_if (leb 1 p && b)) (lt-leb p n lt) ∙ ap one_if (and_false (leb 1 p))
-
-pub zero-once : (n : ℕ) → once n 0 ≡ 0
-zero-once n = ap (λ b. one_if (b && leb 0 n)) (lt-leb 1 0 (omega arith))
-
 -- if each mark is set, each place stands there once
 pub all-marked : (places : List ℕ) (marks : List Bool) → AreMarked places marks → All (λ mark. IsTrue mark) marks
     → (place : ℕ) → times place places ≡ once (length marks) place
-all-marked places marks marked set zero = marked 0 ∙ sym (zero-once (length marks))
+all-marked places marks marked set zero = marked 0 ∙ sym (once-zero (length marks))
 all-marked places marks marked set (suc k) = elim (cases_lt k (length marks)) [
   | inl lt ↦ marked (suc k) ∙ ap one_if (set k false lt)
-      ∙ sym (within-once (length marks) (suc k) (omega arith) (omega (arith, lt)))
+      ∙ sym (once-yes (length marks) (suc k) (omega arith) (omega (arith, lt)))
   | inr le ↦ marked (suc k) ∙ ap one_if (beyond marks k le)
-      ∙ sym (beyond-once (length marks) (suc k) (omega (arith, le)))
+      ∙ sym (once-past (length marks) (suc k) (omega (arith, le)))
 ]
 
 -- what stands in a list at all is contained in it
@@ -98,7 +82,7 @@ contained p (q ∷ ps) one = elim (cases_eq q p) [
 -- each place of a batch is among those that are there once
 pub once-contained : (n : ℕ) (ps : List ℕ) → ((p : ℕ) → times p ps ≡ once n p) → (p : ℕ) → 1 ≤ p → p ≤ n
     → Contains ps p
-once-contained n ps all p one le = contained p ps (let e = all p ∙ within-once n p one le in omega (arith, e))
+once-contained n ps all p one le = contained p ps (let e = all p ∙ once-yes n p one le in omega (arith, e))
 
 -- what is contained in a list stands in it
 counted : (p : ℕ) (ps : List ℕ) → Contains ps p → 1 ≤ times p ps
@@ -116,12 +100,12 @@ once-within n ps all k d lt =
     record {
       from_one = elim (cases_lt p 1) [
         | inl low ↦
-            let none : once n p ≡ 0 = ap (once n) (let e : p ≡ 0 = omega (arith, low) in e) ∙ zero-once n in
+            let none : once n p ≡ 0 = ap (once n) (let e : p ≡ 0 = omega (arith, low) in e) ∙ once-zero n in
             absurd (omega (arith, one, is, none))
         | inr high ↦ high
       ];
       within = elim (cases_lt n p) [
-        | inl high ↦ let none = beyond-once n p high in absurd (omega (arith, one, is, none))
+        | inl high ↦ let none = once-past n p high in absurd (omega (arith, one, is, none))
         | inr low ↦ low
       ];
     }

@@ -2,28 +2,11 @@
 use Rattle.std.proofs.Common.{◌≡◌, ℕ, zero, suc, ◌<◌, ◌≤◌, Bool, true, false, cond, eqb, leb, ◌||◌, List, [], ◌∷◌}
 use Rattle.std.proofs.Common.{take, None, refl, ap, ◌∙◌, arith}
 use Rattle.std.specs.Prelude.{Contains, All, slice_get}
-use Rattle.std.proofs.lemmas.Bool.{eq-eqb, le-leb, leb-true}
+use Rattle.std.proofs.lemmas.Bool.{eq-eqb, le-leb, leb-true, or_left, or_right}
 use Rattle.std.proofs.lemmas.List.Elements.{All-head, All-tail}
 use Rattle.reg_base.specs.Footprint.{is_among}
+use Rattle.reg_base.proofs.lemmas.Among.{is_among-contained}
 use Rattle.reg_regions.specs.Regions.{RiseAbove, up_to}
-
-or_left : (b c : Bool) → b ≡ true → (b || c) ≡ true
-or_left true c h = refl
-or_left false c h = absurd cc
-
-or_right : (b c : Bool) → c ≡ true → (b || c) ≡ true
-or_right true c h = refl
-or_right false c h = h
-
--- a number that stands in the list is found there
-pub is_among-contained : (ns : List ℕ) (a : ℕ) → Contains ns a → is_among ns a ≡ true
-is_among-contained [] a (k, lt, is) = absurd (omega arith)
-is_among-contained (n ∷ ns) a (zero, lt, is) = or_left (eqb n a) (is_among ns a) (eq-eqb n a is)
-is_among-contained (n ∷ ns) a (suc k, lt, is) =
-    or_right (eqb n a) (is_among ns a) (is_among-contained ns a (k, omega arith, is))
-
-pub not_contained : (ns : List ℕ) (a : ℕ) → is_among ns a ≡ false → Contains ns a → ⊥
-not_contained ns a absent there = let h = is_among-contained ns a there in cc
 
 pub contains_first : (p : ℕ) (ps : List ℕ) → Contains (p ∷ ps) p
 contains_first p ps = (zero, omega arith, refl)

@@ -8,11 +8,13 @@ use Rattle.std.proofs.lemmas.Grind.{flat_map-append}
 use Rattle.std.proofs.lemmas.Map.Keys.{IsDistinct-head, IsDistinct-tail, IsDistinct-cons}
 use Rattle.std.proofs.lemmas.List.Elements.{All-nil, All-take, All-drop}
 use Rattle.std.proofs.lemmas.List.Sorted.{All-permutation}
+use Rattle.reg_facts.proofs.lemmas.Lists.{all-first}
 use Rattle.reg_base.specs.Batch.{BatchValue}
 use Rattle.reg_account.specs.Account.{AccountValue, IsAccount}
 use Rattle.reg_rules.specs.State.{State, Setting, numbers}
 use Rattle.reg_rules.specs.Effect.{IsBehind}
 use Rattle.reg_rules.specs.Laws.{IsReady}
+use Rattle.reg_rules.proofs.lemmas.Accounts.{distinct-permutation}
 use Rattle.reg_book.specs.Indexes.{index_lists}
 use Rattle.reg_regions.specs.declared.dealing.Deal.{Deal}
 use Rattle.reg_regions.specs.declared.region.Placed.{Placed}
@@ -20,7 +22,6 @@ use Rattle.reg_regions.specs.Days.{Run, all_opening, all_afterwards, all_replies
 use Rattle.reg_regions.specs.Settling.{IsRun, IsInside}
 use Rattle.reg_regions.specs.Dealing.{AreDealt}
 use Rattle.reg_regions.specs.Homes.{AreHome, AreAllHome}
-use Rattle.reg_regions.proofs.Found.{distinct-permutation}
 
 module _ (c : Setting) (b : BatchValue) where
   runs-append : (os ps : List State) (rs ss : List Run) → AreRuns c b os rs → AreRuns c b ps ss
@@ -77,15 +78,11 @@ dealt-last c b old new rest (Ok v) items run =
     (dealt-idle c b rest) (sym (append-nil (items v)))
 dealt-last c b old new rest (Err e) items run = tt
 
-all-front : (P : ℕ → Type 0) (xs ys : List ℕ) → AllByRecursion P (xs ++ ys) → AllByRecursion P xs
-all-front P [] ys all = tt
-all-front P (x ∷ xs) ys all = (all.0, all-front P xs ys all.1)
-
 distinct-front : (xs ys : List ℕ) → IsDistinct eqb (xs ++ ys) → IsDistinct eqb xs
 unfolding IsDistinct
 distinct-front [] ys distinct = tt
 distinct-front (x ∷ xs) ys distinct =
-    IsDistinct-cons eqb x xs (all-front (λ y. eqb x y ≡ false) xs ys (IsDistinct-head eqb x (xs ++ ys) distinct))
+    IsDistinct-cons eqb x xs (all-first (λ y. eqb x y ≡ false) xs ys (IsDistinct-head eqb x (xs ++ ys) distinct))
     (distinct-front xs ys (IsDistinct-tail eqb x (xs ++ ys) distinct))
 
 distinct-behind : (xs ys : List ℕ) → IsDistinct eqb (xs ++ ys) → IsDistinct eqb ys

@@ -8,6 +8,8 @@ use Rattle.std.proofs.lemmas.Bool.{cases_eq, cases_lt, eq-eqb, ne_eqb}
 use Rattle.std.proofs.lemmas.List.{length-map, map-append, take_all}
 use Rattle.std.proofs.lemmas.List.Elements.{All-nil}
 use Rattle.arrayvec.specs.ArrayVec.{ArrayVec}
+use Rattle.reg_facts.proofs.lemmas.Lists.{all-append}
+use Rattle.reg_facts.proofs.lemmas.Times.{once-yes, once-past, once-zero}
 use Rattle.reg_base.specs.declared.instruction.Instruction.{Instruction}
 use Rattle.reg_base.specs.Batch.{BatchValue}
 use Rattle.reg_base.specs.Directory.{DirectoryValue}
@@ -15,6 +17,7 @@ use Rattle.reg_base.specs.Footprint.{footprint}
 use Rattle.reg_base.specs.Footprints.{footprints}
 use Rattle.reg_base.specs.Rising.{count_up}
 use Rattle.reg_facts.specs.Counting.{times, once, one_if}
+use Rattle.reg_base.proofs.lemmas.Rising.{length-count_up, count_up-more, get_or-count_up}
 use Rattle.reg_rules.specs.State.{State, Setting}
 use Rattle.reg_book.specs.Indexes.{StandAt, AllStandAt, each_at, index_lists}
 use Rattle.reg_regions.specs.declared.dealing.Deal.{Deal}
@@ -27,16 +30,6 @@ use Rattle.reg_regions.specs.Homes.{IsHome, AreHome, AreAllHome, dealt_places}
 use Rattle.reg_regions.specs.Settling.{places_in}
 use Rattle.reg_regions.specs.Stealing.{AreWorkShifts}
 use Rattle.reg_regions.specs.Swaps.{IsSwapWithin}
-use Rattle.reg_regions.proofs.Marking.{within-once, beyond-once, zero-once}
-
-pub size-count : (a n : ℕ) → length (count_up a n) ≡ n
-size-count a zero = refl
-size-count a (suc n) = ap suc (size-count (a + 1) n)
-
-get-count : (a n k : ℕ) → k < n → get_or (count_up a n) k 0 ≡ a + k
-get-count a zero k lt = absurd (omega (arith, lt))
-get-count a (suc n) zero lt = omega arith
-get-count a (suc n) (suc k) lt = let later = get-count (a + 1) n k (omega (arith, lt)) in omega (arith, later)
 
 rise-count : (low a n : ℕ) → low < a → RiseAbove low (count_up a n)
 rise-count low a zero lt = tt
@@ -78,25 +71,19 @@ pub times-count : (n p : ℕ) → times p (count_up 1 n) ≡ once n p
 times-count n p = elim (cases_lt p 1) [
   | inl low ↦
       let none : p ≡ 0 = omega (arith, low) in
-      count-below p 1 n low ∙ sym (zero-once n) ∙ ap (once n) (sym none)
+      count-below p 1 n low ∙ sym (once-zero n) ∙ ap (once n) (sym none)
   | inr one ↦ elim (cases_lt n p) [
-    | inl high ↦ count-beyond p 1 n (omega (arith, high)) ∙ sym (beyond-once n p high)
-    | inr le ↦ count-in p 1 n one (omega (arith, le)) ∙ sym (within-once n p one le)
+    | inl high ↦ count-beyond p 1 n (omega (arith, high)) ∙ sym (once-past n p high)
+    | inr le ↦ count-in p 1 n one (omega (arith, le)) ∙ sym (once-yes n p one le)
   ]
 ]
-
-count-later : (a n : ℕ) → count_up a (suc n) ≡ count_up a n ++ (a + n) ∷ []
-count-later a zero = let e : a ≡ a + 0 = omega arith in ap (λ x. x ∷ []) e
-count-later a (suc n) =
-    let e : a + 1 + n ≡ a + suc n = omega arith in
-    ap (λ xs. a ∷ xs) (count-later (a + 1) n ∙ ap (λ x. count_up (a + 1) n ++ x ∷ []) e)
 
 -- one place more
 pub count-more : (n : ℕ) → count_up 1 (n + 1) ≡ count_up 1 n ++ (n + 1) ∷ []
 count-more n =
     let next : n + 1 ≡ suc n = omega arith in
     let e : 1 + n ≡ n + 1 = omega arith in
-    ap (count_up 1) next ∙ count-later 1 n ∙ ap (λ x. count_up 1 n ++ x ∷ []) e
+    ap (count_up 1) next ∙ count_up-more 1 n ∙ ap (λ x. count_up 1 n ++ x ∷ []) e
 
 -- where the accounts of one instruction stand
 stand-at : (d : DirectoryValue) (ns : List ℕ) (indexes : List (List ℕ)) (is : List Instruction) (k : ℕ)
@@ -120,15 +107,15 @@ home-whole c b ns indexes found =
     record {
       rising = rise-count 0 1 n (omega arith);
       each = λ k lt.
-          let inside : k < n = omega (arith, lt, size-count 1 n) in
-          subst (λ p. IsHome c b ns p (get_or indexes k [])) (sym (get-count 1 n k inside))
+          let inside : k < n = omega (arith, lt, length-count_up 1 n) in
+          subst (λ p. IsHome c b ns p (get_or indexes k [])) (sym (get_or-count_up 1 n k inside))
           (at k inside);
       as_many =
           let many : length (map (each_at ns) indexes) ≡ length (footprints c.directory b.instructions) =
           ap length found.are_there in
           let one = length-map indexes (each_at ns) in
           let other = length-map b.instructions (λ (i : Instruction). footprint c.directory i.act) in
-          let size = size-count 1 n in
+          let size = length-count_up 1 n in
           omega (arith, many, one, other, size);
     }
   where
@@ -153,11 +140,6 @@ home-alone c b ns d size home =
       tt,
     )
 
-all-both : (P : List ℕ → Type 0) (xs ys : List (List ℕ)) → AllByRecursion P xs → AllByRecursion P ys
-    → AllByRecursion P (xs ++ ys)
-all-both P [] ys one other = other
-all-both P (x ∷ xs) ys one other = (one.0, all-both P xs ys one.1 other)
-
 -- what was found of a run, and of those behind it
 pub found-both : {E : Type 0} (r : Result (Vec (ArrayVec ℕ) Global) E) (d : DirectoryValue) (ns : List ℕ)
     (one other : List (ArrayVec ℕ)) (is js whole : List Instruction) → whole ≡ is ++ js
@@ -169,7 +151,7 @@ found-both (Ok all) d ns one other is js whole cut front back items =
     ap index_lists items ∙ map-append (λ (x : ArrayVec ℕ). x.items) one other in
     record {
       within = subst (AllByRecursion (AllByRecursion (λ p. p < length ns))) (sym both)
-          (all-both (AllByRecursion (λ p. p < length ns)) (index_lists one) (index_lists other) front.within
+          (all-append (AllByRecursion (λ p. p < length ns)) (index_lists one) (index_lists other) front.within
           back.within);
       are_there = ap (map (each_at ns)) both ∙ map-append (each_at ns) (index_lists one) (index_lists other)
           ∙ ap (λ xs. xs ++ map (each_at ns) (index_lists other)) front.are_there

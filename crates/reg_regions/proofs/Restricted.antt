@@ -4,11 +4,12 @@ use Rattle.std.proofs.Common.{◌∷◌, length}
 use Rattle.std.proofs.Common.{map, get_or, Option, Some, None, add-zero, refl, sym, ap, subst, ◌∙◌, arith}
 use Rattle.std.specs.Prelude.{Contains, slice_get}
 use Rattle.std.specs.Option.{option_map, option_map_or}
-use Rattle.std.proofs.lemmas.Bool.{leb-true, leb-false}
+use Rattle.std.proofs.lemmas.Bool.{leb-true, leb-false, false_from_ne_true}
 use Rattle.std.proofs.lemmas.List.Elements.{All-contains, Contains-get_or}
 use Rattle.reg_base.specs.declared.instruction.Instruction.{Instruction}
 use Rattle.reg_base.specs.Footprint.{footprint}
 use Rattle.reg_base.specs.Touches.{touches}
+use Rattle.reg_base.proofs.lemmas.Among.{is_among-contained, not_contained}
 use Rattle.reg_rules.specs.declared.reply.LogRow.{LogRow}
 use Rattle.reg_rules.specs.State.{State, Setting, account, numbers}
 use Rattle.reg_rules.specs.Step.{step}
@@ -21,7 +22,7 @@ use Rattle.reg_regions.specs.Regions.{accounts_after, reply_for, accounts_after_
 use Rattle.reg_regions.specs.Regions.{up_to, Touches}
 use Rattle.reg_regions.specs.Laws.{reply_of}
 use Rattle.reg_regions.specs.Laws.{RegionIsAsTheDay, RegionEndsAsTheDay, RegionRepliesAsTheDay, RegionKeepsNumbers}
-use Rattle.reg_regions.proofs.Membership.{is_among-contained, not_contained, contains_first, contains_later, above}
+use Rattle.reg_regions.proofs.Membership.{contains_first, contains_later, above}
 use Rattle.reg_regions.proofs.Keeping.{numbers-all}
 use Rattle.reg_regions.proofs.Membership.{among_later, up_to-none, up_to-all, take_none}
 
@@ -51,16 +52,12 @@ no-row c s n k [] none = refl
 no-row c s n zero (i ∷ is) none = absurd cc
 no-row c s n (suc k) (i ∷ is) none = no-row c (step c s n i).0 (n + 1) k is none
 
-not_true : (b : Bool) → (b ≡ true → ⊥) → b ≡ false
-not_true true h = absurd (h refl)
-not_true false h = refl
-
 module _ (laws : StepLaws) (steps : EachIsAStep) (day : DayValue) (own : List ℕ) where
   -- an instruction that touches none of the accounts leaves them
   idle-one : (k : ℕ) → ((a : ℕ) → Contains own a → Touches day (suc k) a → ⊥)
       → Same own (state_at day k) (state_at day (suc k))
   idle-one k apart a there =
-      by (slice_get day.batch.instructions k) refl (not_true (touched (slice_get day.batch.instructions k))
+      by (slice_get day.batch.instructions k) refl (false_from_ne_true (touched (slice_get day.batch.instructions k))
       (apart a there))
     where
       touched : Option Instruction → Bool

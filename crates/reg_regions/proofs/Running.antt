@@ -16,6 +16,7 @@ use Rattle.reg_base.specs.Instructions.{IsInstruction}
 use Rattle.reg_base.specs.Numbers.{IsDayNo, IsRecordNo}
 use Rattle.reg_base.specs.Rules.{AreRules}
 use Rattle.reg_account.specs.Rows.{row_numbers, AreBelow}
+use Rattle.reg_account.proofs.lemmas.Rows.{below_higher}
 use Rattle.reg_rules.specs.declared.reply.Reply.{Reply}
 use Rattle.reg_rules.specs.State.{State, Setting, numbers}
 use Rattle.reg_rules.specs.Effect.{IsBehind}
@@ -26,10 +27,6 @@ use Rattle.reg_regions.specs.declared.region.Placed.{Placed}
 use Rattle.reg_regions.specs.Regions.{accounts_after, reply_for, accounts_after_all, replies_for, RiseAbove}
 use Rattle.reg_regions.specs.Settling.{places_in, IsInside, IsCarriedOut, IsRun}
 
-below-later : (m n : ℕ) (xs : List ℕ) → m ≤ n → AreBelow m xs → AreBelow n xs
-below-later m n [] le below = tt
-below-later m n (x ∷ xs) le below = (omega (arith, below.0, le), below-later m n xs le below.1)
-
 -- what was recorded under lower numbers than one is so for each later one
 pub ready-later : (m n : ℕ) (s : State) → m ≤ n → IsReady m s → IsReady n s
 ready-later m n s le ready =
@@ -37,7 +34,7 @@ ready-later m n s le ready =
       once = ready.once;
       fit = ready.fit;
       behind = All-weaker (IsBehind m) (IsBehind n)
-          (λ v below. below-later m n (row_numbers v.rows) le below) s ready.behind;
+          (λ v below. below_higher m n (row_numbers v.rows) le below) s ready.behind;
     }
 
 -- one place more

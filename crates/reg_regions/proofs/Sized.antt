@@ -7,11 +7,11 @@ use Rattle.std.proofs.lemmas.Grind.{flat_map-append}
 use Rattle.reg_base.specs.Batch.{BatchValue}
 use Rattle.reg_account.specs.Account.{AccountValue}
 use Rattle.reg_rules.specs.State.{Setting, numbers}
+use Rattle.reg_rules.proofs.lemmas.Accounts.{length-numbers}
 use Rattle.reg_book.specs.Indexes.{index_lists}
 use Rattle.reg_regions.specs.declared.dealing.Deal.{Deal}
 use Rattle.reg_regions.specs.Homes.{AreHome, AreAllHome}
 use Rattle.reg_regions.specs.Lists.{joined_lists, sizes_of, deal_sizes}
-use Rattle.reg_regions.proofs.Found.{size-numbers}
 
 -- a list that was cut
 pub cut-at : {X : Type 0} (xs front back : List X) (n : ℕ) → front ≡ take n xs → back ≡ drop n xs → xs ≡ front ++ back
@@ -40,7 +40,7 @@ module _ (c : Setting) (b : BatchValue) where
   home-listed l lists d deals size home later =
       subst (λ ns. AreAllHome c b ns (d ∷ deals))
       (sym (map-append (λ (v : AccountValue). v.number) l.items (joined_lists lists)))
-      (home-next (numbers l.items) (numbers (joined_lists lists)) d deals (size-numbers l.items ∙ size) home later)
+      (home-next (numbers l.items) (numbers (joined_lists lists)) d deals (length-numbers l.items ∙ size) home later)
 
   -- lists, and accounts behind them
   home-more : (lists : List (Vec AccountValue Global)) (ns : List ℕ) (ds es : List Deal)
@@ -56,7 +56,7 @@ module _ (c : Setting) (b : BatchValue) where
       let behind = numbers (joined_lists lists) in
       let both : numbers (l.items ++ joined_lists lists) ≡ own ++ behind =
       map-append (λ (v : AccountValue). v.number) l.items (joined_lists lists) in
-      let many : length own ≡ d.size = size-numbers l.items ∙ size in
+      let many : length own ≡ d.size = length-numbers l.items ∙ size in
       let all = subst (λ xs. AreAllHome c b xs (d ∷ ds)) both home in
       let front : take d.size (own ++ behind) ≡ own =
       ap (λ k. take k (own ++ behind)) (sym many) ∙ take-append_seam own behind in

@@ -3,21 +3,10 @@ use Rattle.std.proofs.Common.{◌≡◌, ℕ, zero, suc, ◌+◌, ◌<◌, List,
 use Rattle.std.proofs.Common.{sym, subst, arith, add-one, length-append}
 use Rattle.std.proofs.lemmas.List.{get_or_append_left, map-append}
 use Rattle.reg_base.specs.Rising.{IsRising}
+use Rattle.reg_base.proofs.lemmas.Rising.{rising-tail, rising-right, rising-left}
 use Rattle.reg_account.specs.Account.{AccountValue}
 use Rattle.reg_rules.specs.State.{numbers}
 use Rattle.reg_regions.specs.Lists.{joined_lists}
-
-rising-tail : (x : ℕ) (xs : List ℕ) → IsRising (x ∷ xs) → IsRising xs
-rising-tail x xs rising k lt = rw add-one (let h = rising (suc k) (omega arith) in rw add-one at h)
-
-rising-right : (xs ys : List ℕ) → IsRising (xs ++ ys) → IsRising ys
-rising-right [] ys rising = rising
-rising-right (x ∷ xs) ys rising = rising-right xs ys (rising-tail x (xs ++ ys) rising)
-
-rising-left : (xs ys : List ℕ) → IsRising (xs ++ ys) → IsRising xs
-rising-left xs ys rising k lt =
-    let h = rising k (omega (arith, length-append xs ys)) in
-    rw (get_or_append_left xs ys 0 k (omega arith), get_or_append_left xs ys 0 (k + 1) lt) at h
 
 pub rising-each : (lists : List (Vec AccountValue Global)) (k : ℕ) (l : Vec AccountValue Global) → k < length lists
     → l ≡ get_or lists k l → IsRising (numbers (joined_lists lists)) → IsRising (numbers l.items)

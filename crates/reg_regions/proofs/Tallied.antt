@@ -12,6 +12,7 @@ use Rattle.std.proofs.lemmas.List.Sorted.{sum_by-IsPermutation}
 use mathlib.Core.Logic.{dite}
 use native.Mathlib.Decide.{ℕ_discrete, dec_le}
 use Rattle.reg_facts.proofs.lemmas.Times.{equal-one, apart-none, times-contains, once-yes, once-past, once-zero}
+use Rattle.reg_facts.proofs.lemmas.Times.{times-append}
 use Rattle.reg_base.specs.Rising.{count_up}
 use Rattle.reg_facts.specs.Counting.{one_if, total, times, once}
 use Rattle.reg_facts.proofs.lemmas.Totals.{total-append}
@@ -28,9 +29,6 @@ total-sum f (x ∷ xs) = ap (λ n. f x + n) (total-sum f xs) ∙ sym (sum_by-con
 total-permuted : {X : Type 0} (f : X → ℕ) (xs ys : List X) → IsPermutation xs ys → total f ys ≡ total f xs
 total-permuted f xs ys same =
     total-sum f ys ∙ sum_by-IsPermutation f xs ys same ∙ sym (total-sum f xs)
-
-pub times-append : (p : ℕ) (xs ys : List ℕ) → times p (xs ++ ys) ≡ times p xs + times p ys
-times-append p xs ys = total-append (λ x. one_if (x == p)) xs ys
 
 times-mapped : {X : Type 0} (f : X → ℕ) (p : ℕ) (xs : List X) → times p (map f xs) ≡ total (λ x. one_if (f x == p)) xs
 times-mapped f p [] = refl

@@ -14,9 +14,11 @@ use Rattle.std.proofs.lemmas.List.Elements.{All-contains, All-append, All-nil, A
 use Rattle.std.proofs.lemmas.List.Elements.{Contains-append_left, Contains-append_right}
 use Rattle.std.proofs.lemmas.List.Elements.{Contains-append_cases, Contains-get_or}
 use Rattle.reg_base.specs.Footprint.{is_among}
+use Rattle.reg_base.proofs.lemmas.Among.{is_among-contained}
 use Rattle.reg_account.specs.Account.{AccountValue}
 use Rattle.reg_rules.specs.State.{State, account, numbers}
 use Rattle.reg_rules.specs.Laws.{StepLaws}
+use Rattle.reg_rules.proofs.lemmas.Accounts.{distinct-permutation, account-permutation, account-append_left}
 use Rattle.reg_book.specs.Book.{directory_of}
 use Rattle.reg_book.specs.Day.{DayValue, setting, closing_state}
 use Rattle.reg_book.specs.Laws.{StaysReady}
@@ -27,9 +29,7 @@ use Rattle.reg_regions.specs.Regions.{Touches, IsRegion, accounts_after_all}
 use Rattle.reg_regions.specs.Settling.{places_in, IsInside, IsRun}
 use Rattle.reg_regions.specs.Days.{Run, all_opening, all_afterwards, all_replies, AreRuns, RegionsAreADay}
 use Rattle.reg_regions.specs.Laws.{RegionEndsAsTheDay, RegionRepliesAsTheDay, reply_of}
-use Rattle.reg_regions.proofs.Membership.{is_among-contained}
 use Rattle.reg_regions.proofs.Keeping.{numbers-all}
-use Rattle.reg_regions.proofs.Found.{distinct-permutation, account-permutation}
 
 -- numbers that differ: what stands in front does not stand behind
 apart : (xs ys : List ℕ) (a : ℕ) → IsDistinct eqb (xs ++ ys) → Contains xs a → Contains ys a → ⊥
@@ -46,19 +46,8 @@ behind : (xs ys : List ℕ) → IsDistinct eqb (xs ++ ys) → IsDistinct eqb ys
 behind [] ys distinct = distinct
 behind (x ∷ xs) ys distinct = behind xs ys (IsDistinct-tail eqb x (xs ++ ys) distinct)
 
--- an account is found in front if its number stands there, and else behind
-front : (us vs : State) (n : ℕ) → is_among (numbers us) n ≡ true → account (us ++ vs) n ≡ account us n
-front [] vs n among = absurd cc
-front (u ∷ us) vs n among = step (eqb u.number n) among (front us vs n)
-  where
-    step : (b : Bool) → (b || is_among (numbers us) n) ≡ true
-        → (is_among (numbers us) n ≡ true → account (us ++ vs) n ≡ account us n)
-        → cond b (Some u) (account (us ++ vs) n) ≡ cond b (Some u) (account us n)
-    step true h more = refl
-    step false h more = more h
-
 account-front : (xs ys : State) (a : ℕ) → Contains (numbers xs) a → account (xs ++ ys) a ≡ account xs a
-account-front xs ys a there = front xs ys a (is_among-contained (numbers xs) a there)
+account-front xs ys a there = account-append_left xs ys a (is_among-contained (numbers xs) a there)
 
 account-behind : (xs ys : State) (a : ℕ) → (Contains (numbers xs) a → ⊥) → account (xs ++ ys) a ≡ account ys a
 account-behind [] ys a none = refl

@@ -5,9 +5,11 @@ use Rattle.std.proofs.Common.{List, [], ◌∷◌, ◌++◌, length, Option, Som
 use Rattle.std.specs.Prelude.{is_some, slice_get}
 use Rattle.std.specs.Option.{option_map}
 use Rattle.std.proofs.lemmas.Bool.{cases_eq, eq-eqb, eqb-true, ne_eqb}
+use Rattle.reg_facts.proofs.lemmas.Numbers.{clash}
 use Rattle.reg_base.specs.declared.instruction.Instruction.{Instruction}
 use Rattle.reg_base.specs.Footprint.{is_among, EachFootprintIsSound}
 use Rattle.reg_base.specs.Touches.{is_touched, last_toucher, LastToucherIsLast}
+use Rattle.reg_base.proofs.lemmas.Among.{among_push}
 use Rattle.reg_account.specs.Account.{AccountValue}
 use Rattle.reg_rules.specs.declared.reply.LogRow.{LogRow}
 use Rattle.reg_rules.specs.State.{State, account}
@@ -20,9 +22,7 @@ use Rattle.reg_book.specs.Day.{DayValue, setting, state_at, value_at, row_at}
 use Rattle.reg_book.specs.Laws.{EachIsAStep, NumbersStay, ValueIsLastTouchers}
 use Rattle.reg_schedules.specs.Pool.{directory, footprint_at, run_at, tail_of, leads_on, Progress, at_first, needed}
 use Rattle.reg_schedules.specs.Pool.{removed, laid, with_closing, with_log_row, after_place, executed_on, executed}
-use Rattle.reg_schedules.proofs.lemmas.Members.{among_push}
 use Rattle.reg_schedules.proofs.lemmas.Tails as tails
-use Rattle.reg_schedules.proofs.lemmas.Tails.{clash}
 use Rattle.reg_schedules.proofs.lemmas.Known.{footprint_touches, touched_known, stays_known}
 use Rattle.reg_schedules.proofs.lemmas.Needed.{all_needed}
 use Rattle.reg_schedules.proofs.lemmas.Ran.{ran_right}

@@ -4,10 +4,12 @@ use Rattle.std.proofs.Common.{eqb, leb, List, [], ◌∷◌, ◌++◌, length, O
 use Rattle.std.proofs.Common.{◌∙◌, append_assoc}
 use Rattle.std.specs.Prelude.{is_some, is_none, slice_get, find, MatchOption}
 use Rattle.std.specs.Option.{option_map, option_or}
-use Rattle.std.proofs.lemmas.Bool.{cases_eq, eq-eqb, eqb-false, ne_eqb, le-leb, lt-leb}
+use Rattle.std.proofs.lemmas.Bool.{cases_eq, eq-eqb, eqb-false, ne_eqb, le-leb, lt-leb, not-false, not-true}
 use Rattle.std.proofs.lemmas.List.{append-nil}
 use Rattle.std.proofs.lemmas.List.Sorted.{Contains-permutation}
 use Rattle.std.proofs.lemmas.Option.{slice_get_past, slice_get_cases}
+use Rattle.reg_facts.proofs.lemmas.Members.{In, in_from, contains_from, any_in, Missing, search_of}
+use Rattle.reg_facts.proofs.lemmas.Numbers.{clash}
 use Rattle.reg_base.specs.declared.instruction.Instruction.{Instruction}
 use Rattle.reg_base.specs.Footprint.{is_among}
 use Rattle.reg_base.specs.Rising.{count_up}
@@ -25,20 +27,11 @@ use Rattle.reg_book.specs.Laws.{UntouchedStay, SettledAreTouched}
 use Rattle.reg_schedules.specs.Pool.{directory, footprint_at, run_at, tail_of, Progress, at_first, after_place, needed}
 use Rattle.reg_schedules.specs.Pool.{executed_on, executed, executed_all, meaning_of, IsSettledDay}
 use Rattle.reg_schedules.specs.Laws.{OrderDecides}
-use Rattle.reg_schedules.proofs.lemmas.Members.{In, in_from, contains_from, any_in, Missing, search_of}
 use Rattle.reg_schedules.proofs.lemmas.Tails as tails
 use Rattle.reg_schedules.proofs.lemmas.Known.{footprint_touches}
 use Rattle.reg_schedules.proofs.lemmas.Needed.{one_missing}
 use Rattle.reg_schedules.proofs.Executing.{Known, has_come, pooled, Follows, MayFollow, follows_at_first, makes_at}
 use Rattle.reg_schedules.proofs.Executing.{executed_is, follows_more}
-
-not_false : (b : Bool) → not b ≡ false → b ≡ true
-not_false true e = refl
-not_false false e = absurd cc
-
-not_true : (b : Bool) → not b ≡ true → b ≡ false
-not_true true e = absurd cc
-not_true false e = refl
 
 module _ (k : Known) (day : DayValue) (plan : PlanValue)
     (made : IsPlan (directory day) day.batch.instructions plan) where
@@ -129,7 +122,7 @@ module _ (k : Known) (day : DayValue) (plan : PlanValue)
         let some : tail_of plan x a ≡ 0 → ⊥ = eqb-false (tail_of plan x a) 0 e in
         let (w, there, from) = tails.tail_inward k.tails k.last (directory day) day.batch.instructions plan made a x on
         (omega (arith, some)) in
-        ap (is_among done) (sym from) ∙ not_false (is_among done w.from) (missing.each_fails w there)
+        ap (is_among done) (sym from) ∙ not-false (is_among done w.from) (missing.each_fails w there)
 
   abbrev fault_of : List ℕ → ℕ → Option OrderFault
   fault_of done x = fault_at plan.arrows (length day.batch.instructions) (is_among done) (suc (length done)) x
@@ -161,7 +154,7 @@ module _ (k : Known) (day : DayValue) (plan : PlanValue)
           cause = waits one.0;
           some = ap (option_map waits) one.1.found;
           is_undefined = tail_missing done p (suc n) one.0 f fresh one.1.there
-              (not_true (is_among done one.0.from) one.1.passes);
+              (not-true (is_among done one.0.from) one.1.passes);
         })
       ]
 
@@ -301,7 +294,7 @@ module _ (k : Known) (day : DayValue) (plan : PlanValue)
         no_touch none false e = refl
         no_touch none true e =
             let (n, lt, on) = tails.touched_somewhere (directory day) day.batch.instructions a e in
-            absurd (tails.clash on ((k.last (directory day) day.batch.instructions a
+            absurd (clash on ((k.last (directory day) day.batch.instructions a
             (length day.batch.instructions)).none_later n (omega (arith, none)) lt))
 
         by : (t : ℕ) → t ≡ last_toucher (directory day) day.batch.instructions a (length day.batch.instructions)

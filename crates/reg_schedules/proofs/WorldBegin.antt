@@ -6,29 +6,29 @@ use Rattle.std.specs.Option.{option_map}
 use Rattle.std.specs.List.{AllByRecursion}
 use Rattle.std.proofs.lemmas.Bool.{eq-eqb, eqb-true}
 use Rattle.std.proofs.lemmas.List.{length-replicate, length-set}
+use Rattle.reg_facts.proofs.lemmas.Lists.{all-append}
 use Rattle.reg_base.specs.Footprint.{is_among, EachFootprintIsSound}
 use Rattle.reg_base.specs.Touches.{LastToucherIsLast}
+use Rattle.reg_base.proofs.lemmas.Among.{all_among}
 use Rattle.reg_account.specs.Account.{AccountValue}
 use Rattle.reg_rules.specs.State.{account}
 use Rattle.reg_rules.specs.Laws.{StepLaws}
 use Rattle.reg_plan.specs.Plans.{PlanValue, IsPlan}
 use Rattle.reg_plan.specs.Laws.{TailsAreLastTouchers}
+use Rattle.reg_rules.proofs.lemmas.Accounts.{account-number}
 use Rattle.reg_book.specs.Day.{DayValue}
 use Rattle.reg_schedules.specs.Pool.{directory, footprint_at, tail_of}
 use Rattle.reg_schedules.specs.Docks.{is_name, ParcelValue, TaskValue, awaited, complete}
 use Rattle.reg_schedules.specs.World.{empty, WorldValue, at_place, arrived, opening_of, known_of, opened_at, docks_from}
 use Rattle.reg_schedules.specs.World.{ready_from, before_some, pushed_to, dealt, at_start, is_in_dock}
 use Rattle.reg_facts.specs.Counting.{one_if, total}
-use Rattle.reg_schedules.proofs.lemmas.Members.{all_among}
 use Rattle.reg_schedules.proofs.lemmas.Known.{footprint_touches, footprint_distinct, touched_known}
-use Rattle.reg_schedules.proofs.lemmas.Needed.{number_found}
 use Rattle.reg_schedules.proofs.lemmas.Tails.{is_place, is_within}
 use Rattle.reg_facts.proofs.lemmas.Totals.{total-replicate}
 use Rattle.reg_schedules.proofs.lemmas.WorldSums.{get-within, at_within}
 use Rattle.reg_schedules.proofs.lemmas.WorldCounts.{complete-place}
 use Rattle.reg_schedules.proofs.WorldStart.{next_worker, length-docks}
 use Rattle.reg_schedules.proofs.lemmas.WorldFits.{Fits, IsTask, IsHand, IsDock, Awaits, On, all-set, all-get}
-use Rattle.reg_schedules.proofs.lemmas.WorldFits.{all-append}
 use Rattle.reg_schedules.proofs.lemmas.WorldFits.{complete_names}
 use Rattle.reg_schedules.proofs.WorldReach.{times, carried, sent, lying, come_in, count, count-once, name_differs}
 use Rattle.reg_schedules.proofs.WorldReach.{complete-has}
@@ -113,7 +113,7 @@ module _ (day : DayValue) (plan : PlanValue) where
       rest_of = opened place more
 
       same-name : (v : AccountValue) → account day.book.accounts b ≡ Some v → eqb v.number a ≡ eqb b a
-      same-name v e = ap (λ n. eqb n a) (number_found day.book.accounts b v e)
+      same-name v e = ap (λ n. eqb n a) (account-number day.book.accounts b v e)
 
       here : (v : AccountValue) → eqb v.number a ≡ true → is_name (v.number, 0) (a, 0) ≡ true
       here v e = rw e refl
@@ -172,7 +172,7 @@ module _ (laws : StepLaws) (sound : EachFootprintIsSound) (tails : TailsAreLastT
               ∷ map (opening_of day) (filter (λ x. eqb (tail_of plan place x) 0) more)))
           at None f = rest
           at (Some v) f =
-              let same : a ≡ v.number = sym (number_found day.book.accounts a v f) in (
+              let same : a ≡ v.number = sym (account-number day.book.accounts a v f) in (
                 (
                   subst (λ b. On tails last day plan made b place) same all.0,
                   ap (tail_of plan place) (sym same)

@@ -8,6 +8,7 @@ use Rattle.std.specs.List.{IsDistinct, list_any}
 use Rattle.std.proofs.lemmas.Bool.{eq-eqb, eqb-true}
 use Rattle.std.proofs.lemmas.Option.{slice_get_within}
 use Rattle.std.proofs.lemmas.List.{length-replicate}
+use Rattle.reg_facts.proofs.lemmas.Numbers.{clash}
 use Rattle.reg_base.specs.Footprint.{is_among, EachFootprintIsSound}
 use Rattle.reg_base.specs.Touches.{LastToucherIsLast}
 use Rattle.reg_rules.specs.declared.reply.LogRow.{LogRow}
@@ -26,7 +27,6 @@ use Rattle.reg_schedules.specs.World.{docks_from, ready_from, before_some, pushe
 use Rattle.reg_schedules.specs.World.{at_start, after_event, after_result, after_events, world_after}
 use Rattle.reg_facts.specs.Counting.{one_if, total}
 use Rattle.reg_schedules.proofs.lemmas.Known.{footprint_distinct}
-use Rattle.reg_schedules.proofs.lemmas.Tails.{clash}
 use Rattle.reg_facts.proofs.lemmas.Totals.{total-set, total-append, total-replicate}
 use Rattle.reg_schedules.proofs.lemmas.WorldSums.{place-within, get-within}
 use Rattle.reg_schedules.proofs.WorldSteps.{Moves, Pushes, Runs, Step, moves, runs, delivers, pushes, step-of}

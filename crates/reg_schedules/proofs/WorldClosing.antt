@@ -5,29 +5,23 @@ use Rattle.std.specs.Prelude.{slice_get, is_some}
 use Rattle.std.specs.Option.{option_map_or}
 use Rattle.std.specs.List.{AllByRecursion, list_all}
 use Rattle.std.proofs.lemmas.Bool.{and_parts}
-use Rattle.reg_base.specs.declared.instruction.Instruction.{Instruction}
 use Rattle.reg_base.specs.Footprint.{is_among}
 use Rattle.reg_base.specs.Touches.{is_touched, last_toucher}
 use Rattle.reg_account.specs.Account.{AccountValue}
 use Rattle.reg_rules.specs.declared.reply.LogRow.{LogRow}
-use Rattle.reg_rules.specs.State.{State, Setting, account, numbers}
-use Rattle.reg_rules.specs.Step.{step}
+use Rattle.reg_rules.specs.State.{State, account, numbers}
 use Rattle.reg_plan.specs.Plans.{PlanValue, IsPlan}
-use Rattle.reg_book.specs.Fold.{rows_of}
+use Rattle.reg_rules.proofs.lemmas.Accounts.{found-by_number, found-among}
 use Rattle.reg_book.specs.Day.{DayValue, value_at, row_at, log_of}
+use Rattle.reg_book.proofs.lemmas.Logs.{length-rows_of}
 use Rattle.reg_schedules.specs.Pool.{directory}
 use Rattle.reg_schedules.specs.declared.event.Event.{Event}
 use Rattle.reg_schedules.specs.World.{WorldValue, at_place, is_over, world_after}
 use Rattle.reg_schedules.specs.Schedules.{HasRightValues, IsWorldSettled, ScheduleDecides}
-use Rattle.reg_schedules.proofs.lemmas.Known.{found_among, stays_known, touched_account}
-use Rattle.reg_schedules.proofs.lemmas.Ran.{found_by_number}
+use Rattle.reg_schedules.proofs.lemmas.Known.{stays_known, touched_account}
 use Rattle.reg_schedules.proofs.Executing.{Known}
 use Rattle.reg_schedules.proofs.Orders.{among_last}
 use Rattle.reg_schedules.proofs.WorldOrder.{WholeOf, Ordered, ordered-after}
-
-length-log : (c : Setting) (s : State) (number : ℕ) (is : List Instruction) → length (rows_of c s number is) ≡ length is
-length-log c s number [] = refl
-length-log c s number (i ∷ is) = ap suc (length-log c (step c s number i).0 (number + 1) is)
 
 rows-are : (rows : List (Option LogRow)) (log : List LogRow) → length rows ≡ length log
     → ((k : ℕ) → k < length rows → slice_get rows k ≡ Some (slice_get log k)) → rows ≡ map Some log
@@ -60,7 +54,7 @@ module _ (k : Known) (day : DayValue) (plan : PlanValue)
     (made : IsPlan (directory day) day.batch.instructions plan) where
   last-values : (order : List ℕ) (w : WorldValue) → Ordered k day plan made order w
       → AllByRecursion (λ v. value_at day v.number (length day.batch.instructions) ≡ Some v) w.closing
-  last-values order w h = all w.closing (found_by_number w.closing h.once)
+  last-values order w h = all w.closing (found-by_number w.closing h.once)
     where
       by : (b : Bool) (v : AccountValue) → cond b (value_at day v.number (length day.batch.instructions)) None ≡ Some v
           → value_at day v.number (length day.batch.instructions) ≡ Some v
@@ -95,14 +89,14 @@ module _ (k : Known) (day : DayValue) (plan : PlanValue)
   }
     where
       log_long : length (log_of day) ≡ length day.batch.instructions
-      log_long = length-log _ day.book.accounts (day.batch.base + 1) day.batch.instructions
+      log_long = length-rows_of _ day.book.accounts (day.batch.base + 1) day.batch.instructions
 
       all-done : (place : ℕ) → 1 ≤ place → place ≤ length day.batch.instructions → is_among order place ≡ true
       all-done zero low high = absurd (omega (arith, low))
       all-done (suc i) low high = h.is_of.done (suc i) ∙ each-row w.rows i over (omega (arith, high, whole.stands.rows))
 
       touched : (a : ℕ) → is_among (numbers w.closing) a ≡ is_touched (directory day) day.batch.instructions a
-      touched a = sym (found_among w.closing a) ∙ ap is_some (sym (h.is_of.closing a) ∙ h.follows.closing a)
+      touched a = sym (found-among w.closing a) ∙ ap is_some (sym (h.is_of.closing a) ∙ h.follows.closing a)
           ∙ by (is_touched (directory day) day.batch.instructions a) refl
         where
           by : (b : Bool) → is_touched (directory day) day.batch.instructions a ≡ b

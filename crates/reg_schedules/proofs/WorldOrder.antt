@@ -7,11 +7,15 @@ use Rattle.std.specs.List.{AllByRecursion, IsDistinct}
 use Rattle.std.proofs.lemmas.Bool.{eq-eqb, eqb-true, ne_eqb}
 use Rattle.std.proofs.lemmas.List.{map-append, length-append, append-nil}
 use Rattle.std.proofs.lemmas.Option.{same_Some}
+use Rattle.reg_facts.proofs.lemmas.Lists.{all-append, distinct-filter}
+use Rattle.reg_facts.proofs.lemmas.Numbers.{clash}
 use Rattle.reg_base.specs.Footprint.{is_among}
+use Rattle.reg_base.proofs.lemmas.Among.{all_among}
 use Rattle.reg_account.specs.Account.{AccountValue}
 use Rattle.reg_rules.specs.declared.reply.LogRow.{LogRow}
 use Rattle.reg_rules.specs.State.{State, account, numbers}
 use Rattle.reg_plan.specs.Plans.{PlanValue, IsPlan, inward}
+use Rattle.reg_rules.proofs.lemmas.Accounts.{account-number, found-among}
 use Rattle.reg_book.specs.Day.{DayValue, value_at}
 use Rattle.reg_schedules.specs.declared.event.Event.{Event}
 use Rattle.reg_schedules.specs.Pool.{directory, footprint_at, run_at, tail_of, leads_on, Progress, at_first, and_more}
@@ -22,24 +26,22 @@ use Rattle.reg_schedules.specs.World.{after_delivery, at_start, is_in_dock, is_d
 use Rattle.reg_schedules.specs.Schedules.{IsRight, AreRight, in_hand, world_row_in, IsEachParcel, IsMadeBy}
 use Rattle.reg_facts.specs.Counting.{one_if, total}
 use Rattle.reg_facts.proofs.lemmas.Totals.{total-replicate}
-use Rattle.reg_schedules.proofs.lemmas.Members.{all_among}
-use Rattle.reg_schedules.proofs.lemmas.Known.{footprint_touches, footprint_distinct, found_among}
-use Rattle.reg_schedules.proofs.lemmas.Needed.{number_found}
+use Rattle.reg_schedules.proofs.lemmas.Known.{footprint_touches, footprint_distinct}
 use Rattle.reg_schedules.proofs.lemmas.Ran.{results_right}
 use Rattle.reg_schedules.proofs.Executing as orders
 use Rattle.reg_schedules.proofs.Executing.{Known, pooled, Follows, MayFollow, Makes, IsMade, follows_at_first, makes_at}
 use Rattle.reg_schedules.proofs.Executing.{executed_is, follows_more, among_same, among_other}
-use Rattle.reg_schedules.proofs.lemmas.Tails.{clash, last_of_all}
+use Rattle.reg_schedules.proofs.lemmas.Tails.{last_of_all}
 use Rattle.reg_schedules.proofs.lemmas.WorldSums.{at-most-total, if-true, if-false, get-within, place-there, place-else}
 use Rattle.reg_schedules.proofs.lemmas.WorldSums.{place-within}
 use Rattle.reg_schedules.proofs.WorldSteps.{Step, moves, runs, delivers, pushes}
 use Rattle.reg_schedules.proofs.lemmas.WorldCounts.{dock-of, in_hand_once}
-use Rattle.reg_schedules.proofs.lemmas.WorldFits.{names_are, IsTask, IsHand, On, all-get, all-append}
+use Rattle.reg_schedules.proofs.lemmas.WorldFits.{names_are, IsTask, IsHand, On, all-get}
 use Rattle.reg_schedules.proofs.WorldReach.{come_in, has_come}
 use Rattle.reg_schedules.proofs.lemmas.WorldSent.{run-numbers, numbers-of, firsts, held-undone}
 use Rattle.reg_schedules.proofs.lemmas.WorldEnds.{Whole, whole-step, whole-start}
 use Rattle.reg_schedules.proofs.WorldBound.{total-place, undone-row}
-use Rattle.reg_schedules.proofs.WorldValues.{all-kept, move-each, push-each, deliver-each, run-each, start-each}
+use Rattle.reg_schedules.proofs.WorldValues.{move-each, push-each, deliver-each, run-each, start-each}
 use Rattle.reg_schedules.proofs.Schedules.{by-steps}
 
 -- ---- accounts of two lists
@@ -74,15 +76,6 @@ distinct-append (x ∷ xs) ys one two apart = (
     later : (b c : Bool) → (b || c) ≡ false → c ≡ false
     later true c e = absurd cc
     later false c e = e
-
-distinct-filter : (p : ℕ → Bool) (ns : List ℕ) → IsDistinct eqb ns → IsDistinct eqb (filter p ns)
-unfolding IsDistinct
-distinct-filter p [] one = tt
-distinct-filter p (n ∷ ns) one = by (p n) (distinct-filter p ns one.1)
-  where
-    by : (b : Bool) → IsDistinct eqb (filter p ns) → IsDistinct eqb (cond b (n ∷ filter p ns) (filter p ns))
-    by true rest = (all-kept (λ m. eqb n m ≡ false) p ns one.0, rest)
-    by false rest = rest
 
 -- ---- the accounts of a run that are closing
 
@@ -321,7 +314,7 @@ module _ (k : Known) (day : DayValue) (plan : PlanValue)
         ∙ ap (λ b. cond b (value_at day a (length day.batch.instructions)) None) may.fresh
 
     not-found : (a : ℕ) → is_among (footprint_at day task.place) a ≡ false → account out.0 a ≡ None
-    not-found a e = by (account out.0 a) (found_among out.0 a ∙ ap (λ ns. is_among ns a) (same-numbers ∙ own-numbers)
+    not-found a e = by (account out.0 a) (found-among out.0 a ∙ ap (λ ns. is_among ns a) (same-numbers ∙ own-numbers)
         ∙ e)
       where
         by : (o : Option AccountValue) → is_some o ≡ false → o ≡ None
@@ -353,9 +346,9 @@ module _ (k : Known) (day : DayValue) (plan : PlanValue)
         (sym (map-append (λ (v : AccountValue). v.number) w.closing (closing_of plan task.place out.0)))
         (distinct-append (numbers w.closing) (numbers (closing_of plan task.place out.0)) h.once
         (subst (IsDistinct eqb) (sym (numbers-closing plan task.place out.0))
-        (distinct-filter (λ a. not (leads_on plan task.place a)) (numbers out.0)
+        (distinct-filter eqb (λ a. not (leads_on plan task.place a)) (numbers out.0)
         (subst (IsDistinct eqb) (sym (same-numbers ∙ own-numbers)) (footprint_distinct k.sound day task.place))))
-        (λ a e. by a (found_among (closing_of plan task.place out.0) a ∙ e)))
+        (λ a e. by a (found-among (closing_of plan task.place out.0) a ∙ e)))
       where
         by : (a : ℕ) → is_some (account (closing_of plan task.place out.0) a) ≡ true
             → is_among (numbers w.closing) a ≡ false
@@ -364,7 +357,7 @@ module _ (k : Known) (day : DayValue) (plan : PlanValue)
             at : (c : Bool) → leads_on plan task.place a ≡ c → (b : Bool) → is_among (footprint_at day task.place) a ≡ b
                 → is_among (numbers w.closing) a ≡ false
             at true leads b f = absurd (clash e (ap is_some (account-closing plan task.place a out.0 true leads)))
-            at false leads true f = sym (found_among w.closing a) ∙ ap is_some (not-yet a f leads)
+            at false leads true f = sym (found-among w.closing a) ∙ ap is_some (not-yet a f leads)
             at false leads false f = absurd
                 (clash e (ap is_some (account-closing plan task.place a out.0 false leads ∙ not-found a f)))
 
@@ -473,7 +466,7 @@ module _ (k : Known) (day : DayValue) (plan : PlanValue)
     many = sym (total-replicate (λ r. one_if (is_some r)) (length day.batch.instructions) no-row refl);
     once = tt;
     right = start-each (IsRight day) day plan
-        (λ a v e. ap (account day.book.accounts) (number_found day.book.accounts a v e) ∙ e) workers some;
+        (λ a v e. ap (account day.book.accounts) (account-number day.book.accounts a v e) ∙ e) workers some;
   }
     where
       no-row : Option LogRow

@@ -5,8 +5,11 @@ use Rattle.std.specs.Prelude.{slice_get, ◌≢◌}
 use Rattle.std.specs.Option.{option_map_or}
 use Rattle.std.specs.List.{AllByRecursion}
 use Rattle.std.proofs.lemmas.Bool.{eq-eqb, eqb-true}
+use Rattle.reg_facts.proofs.lemmas.Lists.{all-weaker}
+use Rattle.reg_facts.proofs.lemmas.Numbers.{clash}
 use Rattle.reg_base.specs.Footprint.{EachFootprintIsSound}
 use Rattle.reg_base.specs.Touches.{LastToucherIsLast}
+use Rattle.reg_base.proofs.lemmas.Among.{all_among}
 use Rattle.reg_rules.specs.Laws.{StepLaws}
 use Rattle.reg_plan.specs.declared.arrow.Arrow.{Arrow}
 use Rattle.reg_plan.specs.Plans.{PlanValue, IsPlan, inward}
@@ -18,23 +21,17 @@ use Rattle.reg_schedules.specs.World.{HandValue, Holds, Carries, WorldValue, is_
 use Rattle.reg_schedules.specs.Schedules.{in_dock, in_hand, times_named, has_come}
 use Rattle.reg_facts.specs.Counting.{one_if, total}
 use Rattle.reg_facts.proofs.lemmas.Totals.{total-append}
-use Rattle.reg_schedules.proofs.lemmas.Members.{all_among}
 use Rattle.reg_schedules.proofs.lemmas.Known.{footprint_touches, footprint_distinct}
-use Rattle.reg_schedules.proofs.lemmas.Tails.{clash, is_place, is_within}
+use Rattle.reg_schedules.proofs.lemmas.Tails.{is_place, is_within}
 use Rattle.reg_schedules.proofs.lemmas.WorldCounts.{in_list, in_hand_once}
-use Rattle.reg_schedules.proofs.lemmas.WorldFits.{name_is, names_are, IsTask, IsHand, On, Awaits}
-use Rattle.reg_schedules.proofs.WorldReach.{times, carried, lying, sent, docked, count, count-once, name_same}
+use Rattle.reg_schedules.proofs.lemmas.WorldFits.{name_is, names_are, IsTask, IsHand, On, Awaits, name_itself}
+use Rattle.reg_schedules.proofs.WorldReach.{times, carried, lying, sent, docked, count, count-once}
 use Rattle.reg_schedules.proofs.WorldReach.{name_differs}
 use Rattle.reg_schedules.proofs.WorldReach as reach
 use Rattle.reg_schedules.proofs.lemmas.WorldSent.{one-head}
 use Rattle.reg_schedules.proofs.lemmas.WorldEnds.{Whole}
 
 -- ---- sums
-
-all-map : {X : Type 0} (P Q : X → Type 0) → ((x : X) → P x → Q x) → (xs : List X) → AllByRecursion P xs
-    → AllByRecursion Q xs
-all-map P Q f [] all = tt
-all-map P Q f (x ∷ xs) all = (f x all.0, all-map P Q f xs all.1)
 
 total-same : {X : Type 0} (f g : X → ℕ) (xs : List X) → AllByRecursion (λ x. f x ≡ g x) xs → total f xs ≡ total g xs
 total-same f g [] all = refl
@@ -87,7 +84,7 @@ times-needed arrows (b ∷ more) (p ∷ ps) a e = by (eqb b a) refl (times-neede
     by true same rest =
         let is : is_name (b, tail_in arrows b) (a, tail_in arrows a)
         ≡ true = subst (λ n. is_name (b, tail_in arrows b) (n, tail_in arrows n) ≡ true) (eqb-true b a same)
-        (name_same (b, tail_in arrows b)) in
+        (name_itself (b, tail_in arrows b)) in
         omega (arith, one, ap one_if is, rest)
     by false other rest =
         let is : is_name (b, tail_in arrows b) (a, tail_in arrows a)
@@ -185,13 +182,13 @@ module _ (laws : StepLaws) (sound : EachFootprintIsSound) (tails : TailsAreLastT
           arith,
           in-a-dock workers w whole place refl,
           total-same (total (λ t. times name t.parcels)) (total (in_list place)) w.lists
-              (all-map (AllByRecursion (IsTask tails last day plan made)) (λ l. total (λ t. times name t.parcels) l
+              (all-weaker (AllByRecursion (IsTask tails last day plan made)) (λ l. total (λ t. times name t.parcels) l
               ≡ total (in_list place) l)
               (λ l each. total-same (λ t. times name t.parcels) (in_list place) l
-              (all-map (IsTask tails last day plan made) (λ t. times name t.parcels ≡ in_list place t) in-task l
+              (all-weaker (IsTask tails last day plan made) (λ t. times name t.parcels ≡ in_list place t) in-task l
               each)) w.lists whole.fits.lists),
           total-sum (λ h. times name (in_hand h)) (in_hand_once place) (λ h. times name (carried h)) w.hands
-              (all-map (IsHand tails last day plan made)
+              (all-weaker (IsHand tails last day plan made)
               (λ h. times name (in_hand h) ≡ in_hand_once place h + times name (carried h)) in-a-hand w.hands
               whole.fits.hands),
           whole.reaches place a on,

@@ -4,6 +4,7 @@ use Rattle.std.proofs.Common.{Option, Some, None, arith, refl, sym, ap, subst, �
 use Rattle.std.specs.Prelude.{slice_get, is_some}
 use Rattle.std.specs.List.{AllByRecursion}
 use Rattle.std.proofs.lemmas.Bool.{eq-eqb, ne_eqb}
+use Rattle.reg_facts.proofs.lemmas.Lists.{all-append, all-first, all-rest}
 use Rattle.reg_base.specs.Footprint.{is_among}
 use Rattle.reg_account.specs.Account.{AccountValue}
 use Rattle.reg_plan.specs.Plans.{PlanValue, IsPlan}
@@ -15,16 +16,16 @@ use Rattle.reg_schedules.specs.Schedules.{IsRight, AreRight, in_dock, in_hand, t
 use Rattle.reg_schedules.specs.Schedules as world
 use Rattle.reg_facts.specs.Counting.{one_if, total}
 use Rattle.reg_schedules.proofs.lemmas.Known.{stays_known, touched_known}
+use Rattle.reg_schedules.proofs.lemmas.WorldFits.{name_itself}
 use Rattle.reg_schedules.proofs.WorldParcels.{task-awaits, value-once}
 use Rattle.reg_schedules.proofs.Executing as orders
 use Rattle.reg_schedules.proofs.Executing.{Known, pooled}
 use Rattle.reg_schedules.proofs.lemmas.WorldSums.{at-most-total, one-most, if-true, if-false, is-true}
 use Rattle.reg_schedules.proofs.lemmas.WorldSent.{counted}
 use Rattle.reg_schedules.proofs.lemmas.WorldCounts.{in_list, in_hand_once}
-use Rattle.reg_schedules.proofs.lemmas.WorldFits.{name_is, IsTask, IsHand, On, Awaits, all-get, all-append, head_awaits}
-use Rattle.reg_schedules.proofs.WorldReach.{times, carried, sent, lying, docked, has_come, name_same}
+use Rattle.reg_schedules.proofs.lemmas.WorldFits.{name_is, IsTask, IsHand, On, Awaits, all-get, head_awaits}
+use Rattle.reg_schedules.proofs.WorldReach.{times, carried, sent, lying, docked, has_come}
 use Rattle.reg_schedules.proofs.lemmas.WorldPossible.{head-of, waits-there}
-use Rattle.reg_schedules.proofs.WorldValues.{all-before, all-behind}
 use Rattle.reg_schedules.proofs.lemmas.Tails.{is_place, is_within}
 use Rattle.reg_schedules.proofs.WorldOrder.{WholeOf, Ordered, come-in-order}
 
@@ -38,7 +39,7 @@ all-from P (x ∷ xs) each = (each 0 x refl, all-from P xs (λ i y e. each (suc 
 times-there : (ps : List ParcelValue) (i : ℕ) (p : ParcelValue) → slice_get ps i ≡ Some p → 1 ≤ times (name_is p) ps
 times-there ps i p e = omega (
   arith,
-  ap one_if (name_same (name_is p)),
+  ap one_if (name_itself (name_is p)),
   at-most-total (λ q. one_if (is_name (name_is q) (name_is p))) ps i p e,
 )
 
@@ -167,8 +168,8 @@ module _ (k : Known) (day : DayValue) (plan : PlanValue)
           ap one_if (eq-eqb t.place t.place refl),
           at-most-total (in_hand_once t.place) w.hands worker (Carries (Some t) ps) e,
         )))
-        (all-before (IsRight day) t.parcels ps right))
-        (carried-pool worker (Carries (Some t) ps) e is.1 (all-behind (IsRight day) t.parcels ps right))
+        (all-first (IsRight day) t.parcels ps right))
+        (carried-pool worker (Carries (Some t) ps) e is.1 (all-rest (IsRight day) t.parcels ps right))
 
     pub each-in-pool : IsEachParcel InPool w
     each-in-pool = record {

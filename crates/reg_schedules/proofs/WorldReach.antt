@@ -5,6 +5,7 @@ use Rattle.std.specs.Prelude.{slice_get, ◌≢◌, is_some, filter, if◌then�
 use Rattle.std.specs.Option.{option_map, option_map_or}
 use Rattle.std.specs.List.{AllByRecursion, IsDistinct}
 use Rattle.std.proofs.lemmas.Bool.{eq-eqb, eqb-true}
+use Rattle.reg_facts.proofs.lemmas.Numbers.{clash}
 use Rattle.reg_base.specs.Footprint.{is_among}
 use Rattle.reg_rules.specs.declared.reply.LogRow.{LogRow}
 use Rattle.reg_rules.specs.State.{State, numbers}
@@ -16,7 +17,6 @@ use Rattle.reg_schedules.specs.Docks.{names_needed, is_name, ParcelValue, TaskVa
 use Rattle.reg_schedules.specs.Docks.{awaited, complete}
 use Rattle.reg_schedules.specs.World.{HandValue, Holds, Carries, WorldValue, arrived, left_by, goes_on}
 use Rattle.reg_facts.specs.Counting.{one_if, total}
-use Rattle.reg_schedules.proofs.lemmas.Tails.{clash}
 use Rattle.reg_schedules.proofs.lemmas.WorldFits.{name_is, same_name}
 
 -- ---- how often a name is among parcels
@@ -56,9 +56,6 @@ name_differs x y ne = by (is_name x y) refl
     by : (b : Bool) → is_name x y ≡ b → b ≡ false
     by true e = absurd (ne (same_name x y e))
     by false e = refl
-
-pub name_same : (x : ℕ × ℕ) → is_name x x ≡ true
-name_same x = let one = eq-eqb x.0 x.0 refl in let two = eq-eqb x.1 x.1 refl in rw (one, two) refl
 
 count-none : (a : ℕ) (ns : List ℕ) → AllByRecursion (λ n. eqb a n ≡ false) ns → count a ns ≡ 0
 count-none a [] all = refl

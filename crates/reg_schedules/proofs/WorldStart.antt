@@ -5,6 +5,7 @@ use Rattle.std.specs.Prelude.{slice_get, slice_set, ◌≢◌, is_some, replicat
 use Rattle.std.specs.Option.{option_map_or}
 use Rattle.std.proofs.lemmas.Bool.{eq-eqb, eqb-true}
 use Rattle.std.proofs.lemmas.List.{length-set, length-replicate}
+use Rattle.reg_facts.proofs.lemmas.Numbers.{clash}
 use Rattle.reg_rules.specs.declared.reply.LogRow.{LogRow}
 use Rattle.reg_plan.specs.Plans.{PlanValue}
 use Rattle.reg_book.specs.Day.{DayValue}
@@ -13,7 +14,6 @@ use Rattle.reg_schedules.specs.World.{empty, at_place, opened_at, docks_from, re
 use Rattle.reg_schedules.specs.World.{at_start}
 use Rattle.reg_facts.specs.Counting.{one_if, total}
 use Rattle.reg_schedules.specs.Schedules.{times_found}
-use Rattle.reg_schedules.proofs.lemmas.Tails.{clash}
 use Rattle.reg_facts.proofs.lemmas.Totals.{total-set, total-append, total-replicate}
 use Rattle.reg_schedules.proofs.lemmas.WorldSums.{get-within}
 use Rattle.reg_schedules.proofs.lemmas.WorldCounts.{in_list, in_hand_once, Stands, complete-place}

@@ -3,6 +3,7 @@ use Rattle.std.proofs.Common.{◌≡◌, ℕ, zero, suc, ◌≤◌, Bool, true, 
 use Rattle.std.proofs.Common.{Option, Some, None, arith, refl, subst}
 use Rattle.std.specs.Prelude.{slice_get, slice_set, is_some, filter, replicate, if◌then◌else◌}
 use Rattle.std.proofs.lemmas.List.{length-replicate}
+use Rattle.reg_facts.proofs.lemmas.Lists.{all-append, all-first, all-rest, all-filter}
 use Rattle.reg_account.specs.Account.{AccountValue}
 use Rattle.std.specs.Option.{option_map}
 use Rattle.std.specs.List.{AllByRecursion}
@@ -20,7 +21,7 @@ use Rattle.reg_schedules.specs.Schedules.{in_dock, in_hand, IsEachParcel}
 use Rattle.reg_schedules.proofs.lemmas.WorldSums.{get-within}
 use Rattle.reg_schedules.proofs.WorldSteps.{Moves, Pushes, Runs}
 use Rattle.reg_schedules.proofs.lemmas.WorldCounts.{Stands}
-use Rattle.reg_schedules.proofs.lemmas.WorldFits.{all-get, all-set, all-append}
+use Rattle.reg_schedules.proofs.lemmas.WorldFits.{all-get, all-set}
 use Rattle.reg_schedules.proofs.WorldBegin.{all-dealt, all-replicate}
 
 -- ---- lists
@@ -34,23 +35,6 @@ at-place : {X : Type 0} (P : X → Type 0) (xs : List X) (place : ℕ) (x : X) �
     → at_place xs place ≡ Some x → P x
 at-place P xs zero x all e = absurd cc
 at-place P xs (suc k) x all e = all-get P xs k x all e
-
-pub all-before : {X : Type 0} (P : X → Type 0) (xs ys : List X) → AllByRecursion P (xs ++ ys) → AllByRecursion P xs
-all-before P [] ys all = tt
-all-before P (x ∷ xs) ys all = (all.0, all-before P xs ys all.1)
-
-pub all-behind : {X : Type 0} (P : X → Type 0) (xs ys : List X) → AllByRecursion P (xs ++ ys) → AllByRecursion P ys
-all-behind P [] ys all = all
-all-behind P (x ∷ xs) ys all = all-behind P xs ys all.1
-
-pub all-kept : {X : Type 0} (P : X → Type 0) (p : X → Bool) (xs : List X) → AllByRecursion P xs
-    → AllByRecursion P (filter p xs)
-all-kept P p [] all = tt
-all-kept P p (x ∷ xs) all = by (p x) (all-kept P p xs all.1)
-  where
-    by : (b : Bool) → AllByRecursion P (filter p xs) → AllByRecursion P (cond b (x ∷ filter p xs) (filter p xs))
-    by true rest = (all.0, rest)
-    by false rest = rest
 
 found-all : (P : ParcelValue → Type 0) (parcels : List ParcelValue) (n : ℕ × ℕ) (p : ParcelValue)
     → AllByRecursion P parcels → of_name parcels n ≡ Some p → P p
@@ -120,9 +104,9 @@ module _ (P : ParcelValue → Type 0) where
         lists = rw more (all-set (AllByRecursion (λ t. Each t.parcels)) w.lists worker (l.0 ++ task ∷ []) r.lists
             (all-append (λ t. Each t.parcels) l.0 (task ∷ [])
             (all-get (AllByRecursion (λ t. Each t.parcels)) w.lists worker l.0 r.lists l.1)
-            (all-before P task.parcels ps hand, tt)));
+            (all-first P task.parcels ps hand, tt)));
         hands = all-set (λ h. Each (in_hand h)) w.hands worker (Carries None ps) r.hands
-            (all-behind P task.parcels ps hand);
+            (all-rest P task.parcels ps hand);
       })
 
   pub deliver-each : (day : DayValue) (plan : PlanValue) (w : WorldValue) (worker : ℕ) (p : ParcelValue)
@@ -157,7 +141,7 @@ module _ (P : ParcelValue → Type 0) where
     lists = r.lists;
     hands = all-set (λ h. Each (in_hand h)) w.hands worker
         (Carries None (filter (goes_on plan) (left_by task.place out.0))) r.hands
-        (all-kept P (goes_on plan) (left_by task.place out.0) left);
+        (all-filter P (goes_on plan) (left_by task.place out.0) left);
   })
 
   -- ---- the start

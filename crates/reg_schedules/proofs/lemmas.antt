@@ -1,6 +1,5 @@
 -- The lemmas that crates above cite.
 pub mod Known
-pub mod Members
 pub mod Needed
 pub mod Ran
 pub mod Tails

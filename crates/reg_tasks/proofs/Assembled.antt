@@ -8,17 +8,17 @@ use Rattle.std.proofs.lemmas.Bool.{eq-eqb, and_from, or_left, or_right}
 use Rattle.std.proofs.lemmas.List.Sorted.{All-permutation, IsPermutation-sym, IsPermutation-map, list_any-IsPermutation}
 use Rattle.std.proofs.lemmas.List.Sorted.{length_permutation}
 use Rattle.std.proofs.lemmas.List.Elements.{All-from_recursion, recursion_from_All}
+use Rattle.reg_facts.proofs.lemmas.Numbers.{clash}
 use Rattle.reg_plan.specs.Plans.{PlanValue, inward}
 use Rattle.reg_book.specs.Day.{DayValue}
 use Rattle.reg_schedules.specs.Pool.{footprint_at}
-use Rattle.reg_schedules.specs.Docks.{is_name, ParcelValue, TaskValue, of_name, before_all, of_names, awaited, complete}
+use Rattle.reg_schedules.specs.Docks.{is_name, ParcelValue, of_name, before_all, of_names, awaited, complete}
 use Rattle.reg_tasks.specs.Names.{has_names}
 use Rattle.reg_tasks.specs.Parcels.{names_of}
 use Rattle.reg_tasks.specs.Parcels.{parcels_of}
 use Rattle.reg_tasks.specs.declared.naming.Naming.{Ghosts}
 use Rattle.reg_tasks.specs.declared.parcel.Parcel.{Parcel}
-use Rattle.reg_schedules.proofs.lemmas.Tails.{clash}
-use Rattle.reg_schedules.proofs.lemmas.WorldFits.{name_is, names_are, same_name}
+use Rattle.reg_schedules.proofs.lemmas.WorldFits.{name_is, names_are, same_name, task_with}
 use Rattle.reg_schedules.proofs.lemmas.WorldSent.{firsts}
 
 -- a parcel with this name is there, and it is the first one that is found
@@ -144,9 +144,6 @@ lacking ps (w ∷ more) e = by (list_any (λ n. is_name n w) (names_are ps)) ref
         last None none = refl
         last (Some p) none = rw none refl
     by false f g rest = let none = missing ps w f in rw none refl
-
-abbrev task_with : ℕ → List ParcelValue → TaskValue
-task_with place parcels = record { place = place; parcels = parcels }
 
 -- it is not complete without one of them, or with another
 pub incomplete : (day : DayValue) (plan : PlanValue) (place : ℕ) (ps : List ParcelValue)

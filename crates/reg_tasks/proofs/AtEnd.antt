@@ -4,6 +4,7 @@ use Rattle.std.proofs.Common.{Some, None, refl, sym, ap, subst, ◌∙◌, arith
 use Rattle.std.specs.Option.{option_map}
 use Rattle.std.specs.List.{IsDistinct, AllByRecursion, list_all}
 use Rattle.std.proofs.lemmas.Bool.{eq-eqb, ne_eqb, and_from, or_left, or_right}
+use Rattle.reg_facts.proofs.lemmas.Members.{In}
 use Rattle.reg_base.specs.Rising.{IsRising}
 use Rattle.reg_base.specs.Footprint.{is_among}
 use Rattle.reg_base.specs.Touches.{is_touched, last_toucher, LastToucherIsLast}
@@ -14,7 +15,6 @@ use Rattle.reg_book.specs.Day.{DayValue}
 use Rattle.reg_schedules.specs.Pool.{directory, footprint_at}
 use Rattle.reg_schedules.proofs.lemmas.Known.{footprint_touches}
 use Rattle.reg_schedules.proofs.lemmas.Tails.{touched_from}
-use Rattle.reg_schedules.proofs.lemmas.Members.{In}
 use Rattle.reg_tasks.specs.Gathering.{AreLast, AreOutcomes, have_accounts, is_last, is_last_there, named_accounts}
 use Rattle.reg_tasks.specs.Slots.{name_of, standing_in, opened_accounts, have_slots, IsAtEnd}
 use Rattle.reg_tasks.specs.declared.naming.Naming.{Ghosts}

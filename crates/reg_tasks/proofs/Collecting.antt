@@ -1,5 +1,5 @@
 -- What the tests of rows and parcels say: that they are those of all places and of all touched accounts.
-use Rattle.std.proofs.Common.{◌≡◌, ℕ, zero, suc, ◌+◌, ◌++◌, ◌<◌, ◌≤◌, inl, inr, Bool, true, false, not, ◌||◌, ◌&&◌, eqb}
+use Rattle.std.proofs.Common.{◌≡◌, ℕ, zero, suc, ◌+◌, ◌++◌, ◌<◌, ◌≤◌, inl, inr, Bool, true, false, not, ◌&&◌, eqb}
 use Rattle.std.proofs.Common.{List, [], ◌∷◌, length, map, take, Some, arith, refl, sym, ap, subst, ◌∙◌, append_assoc}
 use Rattle.std.specs.Prelude.{slice_get, IsPermutation}
 use Rattle.std.specs.Option.{option_map}
@@ -13,9 +13,14 @@ use Rattle.std.proofs.lemmas.List.Sorted.{IsPermutation-map, IsPermutation-trans
 use Rattle.std.proofs.lemmas.List.Sorted.{list_any-IsPermutation}
 use Rattle.std.proofs.lemmas.Map.Keys.{IsDistinct-IsPermutation}
 use mathlib.Core.Logic.{∥∥₁_elim}
+use Rattle.std.specs.Cmp.{nat_eq_equiv}
+use Rattle.reg_facts.proofs.lemmas.Members.{of_member, of_each_member, in_permuted, in_permuted_back, In}
+use Rattle.reg_facts.proofs.lemmas.Numbers.{clash}
 use Rattle.reg_base.specs.Footprint.{is_among}
 use Rattle.reg_base.specs.Rising.{IsRising, count_up}
 use Rattle.reg_base.specs.Touches.{is_touched, last_toucher, LastToucherIsLast}
+use Rattle.reg_base.proofs.lemmas.Among.{member_from_among, among_from_member}
+use Rattle.reg_base.proofs.lemmas.Rising.{length-count_up, distinct-count_up}
 use Rattle.reg_plan.specs.Arrows.{touches_place}
 use Rattle.reg_plan.specs.Plans.{PlanValue, IsPlan}
 use Rattle.reg_plan.specs.Laws.{TailsAreLastTouchers}
@@ -28,11 +33,11 @@ use Rattle.reg_rules.specs.Step.{step, row_of}
 use Rattle.reg_book.specs.Day.{DayValue, IsDay, setting, row_at, log_of, settled_day}
 use Rattle.reg_book.specs.Fold.{rows_of}
 use Rattle.reg_book.specs.Laws.{ValueIsLastTouchers, SettledAreTouched, SettledIsInOrder}
+use Rattle.reg_book.proofs.lemmas.Logs.{length-rows_of}
 use Rattle.reg_schedules.specs.Schedules.{AreLastValues}
 use Rattle.reg_schedules.specs.Pool.{directory, footprint_at, leads_on}
-use Rattle.reg_schedules.proofs.lemmas.Members.{In}
 use Rattle.reg_schedules.proofs.lemmas.Known.{footprint_touches}
-use Rattle.reg_schedules.proofs.lemmas.Tails.{clash, touched_somewhere, last_of_all, not_last, last_touches}
+use Rattle.reg_schedules.proofs.lemmas.Tails.{touched_somewhere, last_of_all, not_last, last_touches}
 use Rattle.reg_tasks.specs.Gathering.{AreLast, AreOutcomes, AreWithin, named_accounts, places_of}
 use Rattle.reg_tasks.specs.Gathering.{row_replied, rows_in, replies_by_number, replies_from, counts_up, is_last}
 use Rattle.reg_tasks.specs.Gathering.{are_each, have_accounts, are_outcomes}
@@ -43,10 +48,10 @@ use Rattle.reg_tasks.specs.declared.done.Done.{Done}
 use Rattle.reg_tasks.specs.declared.last_parcel.LastParcel.{LastParcel}
 use Rattle.reg_tasks.specs.declared.parcel.Parcel.{Parcel}
 use Rattle.reg_tasks.specs.Parcels.{names_of, values_of}
-use Rattle.reg_tasks.proofs.Rising.{Up, all_in, all_from_in, in_permuted, in_before, up_distinct, up_rising, up_keys}
+use Rattle.reg_tasks.proofs.Rising.{Up, up_distinct, up_rising, up_keys}
 use Rattle.reg_tasks.proofs.Rising.{keys_are, ascending}
 use Rattle.reg_tasks.proofs.lemmas.Slotting.{Name, number_of, among_opening}
-use Rattle.reg_tasks.proofs.lemmas.Gathering.{eqb_sym, size_rows, same_accounts, closing_values, accounts_are}
+use Rattle.reg_tasks.proofs.lemmas.Gathering.{same_accounts, closing_values, accounts_are}
 use Rattle.reg_tasks.proofs.lemmas.OrderSteps.{touched_opened, all_touched}
 
 -- ---- numbers that count up
@@ -71,43 +76,18 @@ up_count : (first n : ℕ) → Up (λ x. x) (count_up first n)
 up_count first zero = tt
 up_count first (suc n) = ((λ y m. omega (arith, counted_from (first + 1) n y m)), up_count (first + 1) n)
 
-size_count : (first n : ℕ) → length (count_up first n) ≡ n
-size_count first zero = refl
-size_count first (suc n) = ap suc (size_count (first + 1) n)
-
 numbers_same : (ns : List ℕ) → map (λ n. n) ns ≡ ns
 numbers_same [] = refl
 numbers_same (n ∷ ns) = ap (λ ms. n ∷ ms) (numbers_same ns)
-
-count_distinct : (first n : ℕ) → IsDistinct eqb (count_up first n)
-count_distinct first n = subst (IsDistinct eqb) (numbers_same (count_up first n))
-    (up_distinct (λ x. x) (count_up first n) (up_count first n))
 
 -- sorted elements with the numbers 1 to n
 pub sorted_count : {X : Type 0} (key : X → ℕ) (n : ℕ) (xs : List X) → IsPermutation (count_up 1 n) (map key xs)
     → IsNonDecreasingBy key xs → map key xs ≡ count_up 1 n
 sorted_count key n xs same sorted =
     keys_are key xs (count_up 1 n) (up_count 1 n) sorted
-    (IsDistinct-IsPermutation eqb eqb_sym (count_up 1 n) (map key xs) same (count_distinct 1 n))
-    (λ x m. in_before (count_up 1 n) (map key xs) x same m)
+    (IsDistinct-IsPermutation eqb nat_eq_equiv.symm (count_up 1 n) (map key xs) same (distinct-count_up 1 n))
+    (λ x m. in_permuted_back (count_up 1 n) (map key xs) x same m)
     (λ x m. in_permuted (count_up 1 n) (map key xs) x same m)
-
--- ---- numbers in a list
-
-pub in_number : (ns : List ℕ) (a : ℕ) → is_among ns a ≡ true → In a ns
-in_number [] a e = absurd cc
-in_number (n ∷ ns) a e = by (eqb n a) refl e (in_number ns a) where
-  by : (b : Bool) → eqb n a ≡ b → (b || is_among ns a) ≡ true → (is_among ns a ≡ true → In a ns) → In a (n ∷ ns)
-  by true h g more = inl (eqb-true n a h)
-  by false h g more = inr (more g)
-
-pub number_in : (ns : List ℕ) (a : ℕ) → In a ns → is_among ns a ≡ true
-number_in [] a m = absurd m
-number_in (n ∷ ns) a (inl e) = ap (λ b. b || is_among ns a) (eq-eqb n a e)
-number_in (n ∷ ns) a (inr m) = by (eqb n a) (number_in ns a m) where
-  by : (b : Bool) → is_among ns a ≡ true → (b || is_among ns a) ≡ true
-  by true g = refl
-  by false g = g
 
 -- ---- the last names
 
@@ -144,13 +124,13 @@ tested_accounts (a ∷ more) (n ∷ names) e =
 pub last_permuted : (day : DayValue) (names others : List (ℕ × ℕ)) → IsPermutation names others → AreLast day names
     → AreLast day others
 last_permuted day names others same is = record {
-  once = IsDistinct-IsPermutation eqb eqb_sym (named_accounts names) (named_accounts others) accounts is.once;
+  once = IsDistinct-IsPermutation eqb nat_eq_equiv.symm (named_accounts names) (named_accounts others) accounts is.once;
   touched = λ a. sym (list_any-IsPermutation (λ n. eqb n a) (named_accounts names) (named_accounts others) accounts)
       ∙ is.touched a;
-  last = all_from_in (λ n. n.1
+  last = of_each_member (λ n. n.1
       ≡ last_toucher (directory day) day.batch.instructions n.0 (length day.batch.instructions)) others
-      (λ n m. all_in (λ n. n.1 ≡ last_toucher (directory day) day.batch.instructions n.0
-      (length day.batch.instructions)) names n is.last (in_before names others n same m));
+      (λ n m. of_member (λ n. n.1 ≡ last_toucher (directory day) day.batch.instructions n.0
+      (length day.batch.instructions)) names n is.last (in_permuted_back names others n same m));
 } where
   accounts : IsPermutation (named_accounts names) (named_accounts others)
   accounts = IsPermutation-map (λ (n : ℕ × ℕ). n.0) names others same
@@ -167,7 +147,7 @@ pub tested_each : (day : DayValue) (places : List ℕ) → places ≡ count_up 1
 tested_each day places e =
     and_from (eqb (length places) (length day.batch.instructions)) (counts_up 1 places)
     (eq-eqb (length places) (length day.batch.instructions)
-    (ap length e ∙ size_count 1 (length day.batch.instructions)))
+    (ap length e ∙ length-count_up 1 (length day.batch.instructions)))
     (ap (counts_up 1) e ∙ counts 1 (length day.batch.instructions))
 
 pub outcomes_tested : (day : DayValue) (accounts places : List ℕ) (names : List (ℕ × ℕ))
@@ -275,11 +255,12 @@ module _ (tails : TailsAreLastTouchers) (last : LastToucherIsLast) (day : DayVal
         ∙ keys_are (λ l. l.parcel.value.number) ls (opened_accounts plan.openings)
         (up_keys number_of plan.openings (up_rising number_of plan.openings rising)) sorted
         (subst (IsDistinct eqb) (sym (keys_names ls)) is.once)
-        (λ a m. in_number (opened_accounts plan.openings) a
-        (sym (same a) ∙ number_in (named_accounts (names_of (parcels_in ls))) a (subst (In a) (keys_names ls) m)))
+        (λ a m. member_from_among (opened_accounts plan.openings) a
+        (sym (same a)
+        ∙ among_from_member (named_accounts (names_of (parcels_in ls))) a (subst (In a) (keys_names ls) m)))
         (λ a m. subst (In a) (sym (keys_names ls))
-        (in_number (named_accounts (names_of (parcels_in ls))) a
-        (same a ∙ number_in (opened_accounts plan.openings) a m)))
+        (member_from_among (named_accounts (names_of (parcels_in ls))) a
+        (same a ∙ among_from_member (opened_accounts plan.openings) a m)))
       where
         same : (a : ℕ) → is_among (named_accounts (names_of (parcels_in ls))) a
             ≡ is_among (opened_accounts plan.openings) a
@@ -358,7 +339,7 @@ rows_from day (r ∷ rs) k at =
 all_rows : (day : DayValue) → map (row_at day) (count_up 1 (length day.batch.instructions)) ≡ map Some (log_of day)
 all_rows day =
     ap (λ n. map (row_at day) (count_up 1 n))
-    (sym (size_rows (setting day) day.book.accounts (day.batch.base + 1) day.batch.instructions))
+    (sym (length-rows_of (setting day) day.book.accounts (day.batch.base + 1) day.batch.instructions))
     ∙ rows_from day (log_of day) 0 (λ j. ap (slice_get (log_of day)) (zero_add j))
   where
     zero_add : (j : ℕ) → 0 + j ≡ j
@@ -382,7 +363,7 @@ pub first_whole : (day : DayValue) (rows : List LogRow) → rows ≡ take (lengt
     → rows ≡ log_of day
 first_whole day rows e =
     e ∙ ap (λ n. take n (log_of day))
-    (sym (size_rows (setting day) day.book.accounts (day.batch.base + 1) day.batch.instructions))
+    (sym (length-rows_of (setting day) day.book.accounts (day.batch.base + 1) day.batch.instructions))
     ∙ take_whole (log_of day)
 
 -- a row of the log is made again of its place and its reply
@@ -472,7 +453,7 @@ pub rows_logged : (d : DayValue) → (rows : List LogRow) → IsPermutation (log
     → IsLogged d row
 rows_logged d rows same row m =
     let (k, at, number, lt) = row_index (setting d) d.book.accounts (d.batch.base + 1) d.batch.instructions row
-    (in_before (log_of d) rows row same m) in
+    (in_permuted_back (log_of d) rows row same m) in
     record { place = suc k; number = omega (arith, number); at = at }
 
 module _ {N : Type 0} {b : Ghosts N} where

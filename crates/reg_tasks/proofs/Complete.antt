@@ -1,7 +1,7 @@
 -- A complete task has the values that its instruction needs.
-use Rattle.std.proofs.Common.{◌≡◌, ℕ, ◌-◌, ◌≤◌, Bool, true, false, ◌||◌, eqb, List, [], ◌∷◌, length, refl, sym, ap}
+use Rattle.std.proofs.Common.{◌≡◌, ℕ, ◌-◌, ◌≤◌, true, eqb, List, [], ◌∷◌, length, refl, sym, ap}
 use Rattle.std.proofs.Common.{subst, ◌∙◌}
-use Rattle.std.proofs.lemmas.Bool.{eq-eqb}
+use Rattle.std.proofs.lemmas.Bool.{eq-eqb, or_left, or_right}
 use Rattle.std.proofs.Props.{props}
 use mathlib.Core.Logic.{∥∥₁_elim}
 use Rattle.reg_base.specs.Footprint.{is_among}
@@ -15,14 +15,6 @@ use Rattle.reg_tasks.specs.Names.{before_place, AreNeeded}
 use Rattle.reg_schedules.proofs.lemmas.Known.{footprint_touches}
 use Rattle.reg_schedules.proofs.lemmas.Tails.{Touches, tail_is_last}
 
-or_here : (b c : Bool) → b ≡ true → (b || c) ≡ true
-or_here true c e = refl
-or_here false c e = absurd cc
-
-or_later : (b c : Bool) → c ≡ true → (b || c) ≡ true
-or_later true c e = refl
-or_later false c e = e
-
 module _ (tails : TailsAreLastTouchers) (last : LastToucherIsLast) (day : DayValue) (plan : PlanValue) where
   needed_of : IsPlan (directory day) day.batch.instructions plan → (place : ℕ) (accounts : List ℕ)
       → ((a : ℕ) → is_among accounts a ≡ true → Touches (directory day) day.batch.instructions a place)
@@ -31,9 +23,9 @@ module _ (tails : TailsAreLastTouchers) (last : LastToucherIsLast) (day : DayVal
   needed_of made place (a ∷ more) on =
       ap (λ t. (a, t) ∷ names_needed (inward plan.arrows place) more)
       (tail_is_last tails last (directory day) day.batch.instructions plan made a place
-      (on a (or_here (eqb a a) (is_among more a) (eq-eqb a a refl))))
+      (on a (or_left (eqb a a) (is_among more a) (eq-eqb a a refl))))
       ∙ ap (λ ns. (a, last_toucher (directory day) day.batch.instructions a (place - 1)) ∷ ns)
-      (needed_of made place more (λ b e. on b (or_later (eqb a b) (is_among more b) e)))
+      (needed_of made place more (λ b e. on b (or_right (eqb a b) (is_among more b) e)))
 
   pub needed_before : ∥ IsPlan (directory day) day.batch.instructions plan ∥₁ → (place : ℕ)
       → names_needed (inward plan.arrows place) (footprint_at day place)

@@ -5,6 +5,7 @@ use Rattle.std.specs.Prelude.{not}
 use Rattle.std.specs.List.{list_all}
 use Rattle.std.proofs.lemmas.Bool.{and_from}
 use Rattle.std.proofs.lemmas.List.Elements.{recursion_from_All}
+use Rattle.reg_facts.proofs.lemmas.Members.{of_member}
 use Rattle.reg_base.specs.Touches.{last_toucher}
 use Rattle.reg_account.specs.Account.{AccountValue}
 use Rattle.reg_rules.specs.State.{State, account, numbers}
@@ -17,7 +18,6 @@ use Rattle.reg_tasks.specs.Names.{before_place}
 use Rattle.reg_tasks.specs.declared.naming.Naming.{Ghosts}
 use Rattle.reg_tasks.specs.declared.parcel.Parcel.{Parcel}
 use Rattle.reg_tasks.specs.Parcels.{names_of, values_of}
-use Rattle.reg_tasks.proofs.Rising.{all_in}
 use Rattle.reg_tasks.proofs.lemmas.Gathering.{in_account, behind_not_ahead}
 
 module _ {N : Type 0} {b : Ghosts N} where
@@ -58,7 +58,7 @@ module _ {N : Type 0} {b : Ghosts N} where
       (ready d is_day (place - 1) (omega (arith, high))).behind in
       let same : d.batch.base + 1 + (place - 1) ≡ d.batch.base + place = omega (arith, low) in
       let behind = subst (λ n. IsBehind n p.value) same
-      (all_in (IsBehind (d.batch.base + 1 + (place - 1))) (state_at d (place - 1)) p.value all
+      (of_member (IsBehind (d.batch.base + 1 + (place - 1))) (state_at d (place - 1)) p.value all
       (in_account (state_at d (place - 1)) a p.value here)) in
       and_from (not (has_row_ahead (d.batch.base + place) p.value))
       (list_all (λ (v : AccountValue). not (has_row_ahead (d.batch.base + place) v)) (values_of ps))

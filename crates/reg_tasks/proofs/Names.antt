@@ -1,39 +1,23 @@
 -- Names of parcels: those that a place needs, and how they are put in order.
 use Rattle.std.proofs.Common.{◌≡◌, ℕ, zero, suc, ◌+◌, ◌<◌, ◌≤◌, inl, inr, Bool, true, false, ◌&&◌, ◌||◌, eqb, List, []}
-use Rattle.std.proofs.Common.{◌∷◌, ◌++◌, length, get_or, take, drop, None, refl, sym, ap, ◌∙◌, arith}
+use Rattle.std.proofs.Common.{◌∷◌, length, get_or, None, refl, sym, ap, ◌∙◌, arith}
 use Rattle.std.specs.Prelude.{IsPermutation}
 use Rattle.std.specs.List.{IsDistinct, list_all, list_any, swap}
-use Rattle.std.proofs.lemmas.Bool.{cases_eq, cases_lt, eq-eqb, eqb-true}
-use Rattle.std.proofs.lemmas.List.{take_all, drop_all, append-nil, ext_get_or}
+use Rattle.std.proofs.lemmas.Bool.{cases_eq, cases_lt, eq-eqb, eqb-true, and_parts}
+use Rattle.std.proofs.lemmas.List.{ext_get_or}
 use Rattle.std.proofs.lemmas.List.Edits.{length-swap, swapped_from_swap}
 use Rattle.std.proofs.lemmas.List.Sorted.{IsPermutation-map, list_any-IsPermutation, length_permutation}
 use Rattle.std.proofs.lemmas.Map.Keys.{apart_from_distinct}
+use Rattle.reg_facts.proofs.lemmas.Numbers.{clash}
 use Rattle.reg_plan.specs.declared.arrow.Arrow.{Arrow}
 use Rattle.reg_schedules.specs.Pool.{tail_in}
 use Rattle.reg_schedules.specs.Docks.{names_needed, is_name}
 use Rattle.reg_schedules.proofs.lemmas.Needed.{length_needed}
+use Rattle.reg_schedules.proofs.lemmas.WorldFits.{same_name}
 use Rattle.reg_tasks.specs.Names.{has_names, FindsFrom}
 use Rattle.reg_tasks.specs.declared.naming.Naming.{Ghosts}
 use Rattle.reg_tasks.specs.declared.parcel.Parcel.{Parcel}
 use Rattle.reg_tasks.specs.Parcels.{names_of}
-
--- a slice that was written as a whole
-pub written_whole : {X : Type 0} (now new : List X) (len : ℕ) → len ≡ length now → length new ≡ length now
-    → take len (new ++ drop (length new) now) ≡ new
-written_whole now new len size kept =
-    ap (λ l. take len (new ++ l)) (drop_all (length new) now (omega (arith, kept)))
-    ∙ ap (take len) (append-nil new) ∙ take_all len new (omega (arith, size, kept))
-
-and_both : (a b : Bool) → (a && b) ≡ true → (a ≡ true) × (b ≡ true)
-and_both true b e = (refl, e)
-and_both false b e = absurd cc
-
-pub name_same : (x y : ℕ × ℕ) → is_name x y ≡ true → x ≡ y
-name_same x y e =
-    let (p, q) = and_both (eqb x.0 y.0) (eqb x.1 y.1) e in
-    let first : x.0 ≡ y.0 = eqb-true x.0 y.0 p in
-    let second : x.1 ≡ y.1 = eqb-true x.1 y.1 q in
-    λ i. (first i, second i)
 
 pub needed_at : (arrows : List Arrow) (accounts : List ℕ) (k : ℕ) → k < length accounts
     → get_or (names_needed arrows accounts) k (0, 0) ≡ (get_or accounts k 0, tail_in arrows (get_or accounts k 0))
@@ -44,8 +28,8 @@ needed_at arrows (a ∷ more) (suc k) lt = needed_at arrows more k (omega arith)
 all_at : {X : Type 0} (p : X → Bool) (xs : List X) (k : ℕ) (d : X) → k < length xs → list_all p xs ≡ true
     → p (get_or xs k d) ≡ true
 all_at p [] k d lt e = absurd (omega arith)
-all_at p (x ∷ xs) zero d lt e = (and_both (p x) (list_all p xs) e).0
-all_at p (x ∷ xs) (suc k) d lt e = all_at p xs k d (omega arith) (and_both (p x) (list_all p xs) e).1
+all_at p (x ∷ xs) zero d lt e = (and_parts (p x) (list_all p xs) e).0
+all_at p (x ∷ xs) (suc k) d lt e = all_at p xs k d (omega arith) (and_parts (p x) (list_all p xs) e).1
 
 any_at : {X : Type 0} (p : X → Bool) (xs : List X) (d : X) → list_any p xs ≡ true → (m : ℕ) × (m < length xs)
     × (p (get_or xs m d) ≡ true)
@@ -82,7 +66,7 @@ same_size : (arrows : List Arrow) (accounts : List ℕ) (names : List (ℕ × �
     → has_names names (names_needed arrows accounts) ≡ true → length names ≡ length accounts
 same_size arrows accounts names e =
     eqb-true (length names) (length accounts)
-    (and_both (eqb (length names) (length accounts))
+    (and_parts (eqb (length names) (length accounts))
     (list_all (λ w. list_any (λ n. is_name n w) names) (names_needed arrows accounts))
     (sym (names_test arrows accounts names (length names) refl) ∙ e)).0
 
@@ -91,7 +75,7 @@ pub is_behind : (arrows : List Arrow) (accounts : List ℕ) (names : List (ℕ �
     → k < length accounts → InOrder arrows accounts names k
     → (m : ℕ) × (k ≤ m) × (m < length names) × (get_or names m (0, 0) ≡ get_or (names_needed arrows accounts) k (0, 0))
 is_behind arrows accounts names k distinct lt h =
-    let each = (and_both (eqb (length names) (length accounts))
+    let each = (and_parts (eqb (length names) (length accounts))
     (list_all (λ w. list_any (λ n. is_name n w) names) (names_needed arrows accounts))
     (sym (names_test arrows accounts names (length names) refl) ∙ h.needed)).1 in
     let w : ℕ × ℕ = get_or (names_needed arrows accounts) k (0, 0) in
@@ -100,7 +84,7 @@ is_behind arrows accounts names k distinct lt h =
     (omega (arith, lt, length_needed arrows accounts)) each in
     let found = any_at (λ n. is_name n w) names (0, 0) some in
     let m : ℕ = found.0 in
-    let is : get_or names m (0, 0) ≡ w = name_same (get_or names m (0, 0)) w found.2 in
+    let is : get_or names m (0, 0) ≡ w = same_name (get_or names m (0, 0)) w found.2 in
     elim (cases_lt m k) [
       | inr le ↦ (m, le, found.1, is)
       | inl early ↦
@@ -112,9 +96,6 @@ is_behind arrows accounts names k distinct lt h =
           absurd (clash (eq-eqb (get_or accounts m 0) (get_or accounts k 0) number)
           (apart_from_distinct eqb accounts m k 0 distinct early lt))
     ]
-  where
-    clash : {b : Bool} → b ≡ true → b ≡ false → ⊥
-    clash p q = absurd cc
 
 -- the names of the list in another order
 module _ {N : Type 0} {b : Ghosts N} where
@@ -216,9 +197,6 @@ module _ {N : Type 0} {b : Ghosts N} where
       get_or_any (names_of now) behind.0 name (0, 0) behind.2 ∙ behind.3 ∙ sym is in
       clash (name_is same) (none behind.0 behind.1 behind.2)
     where
-      clash : {b : Bool} → b ≡ true → b ≡ false → ⊥
-      clash p q = absurd cc
-
       name_is : {x : ℕ × ℕ} → x ≡ name → is_name x name ≡ true
       name_is {x} e = ap (λ n. is_name n name) e ∙ ap (λ b. b && eqb name.1 name.1) (eq-eqb name.0 name.0 refl)
           ∙ eq-eqb name.1 name.1 refl

@@ -1,14 +1,15 @@
 -- Opening values.
-use Rattle.std.proofs.Common.{Bor, IsSome, ◌≡◌, ℕ, true, List, [], ◌∷◌, length, map, arith, Option, Some, None, refl}
+use Rattle.std.proofs.Common.{Bor, IsSome, ◌≡◌, ℕ, true, List, [], ◌∷◌, map, Option, Some, None, refl}
 use Rattle.std.proofs.Common.{ap, sym, subst, ◌∙◌}
 use Rattle.std.specs.Prelude.{All}
 use Rattle.std.proofs.lemmas.List.Elements.{All-from_recursion}
 use Rattle.reg_base.specs.Footprint.{EachFootprintIsSound}
 use Rattle.reg_base.specs.Touches.{is_touched}
+use Rattle.reg_base.proofs.lemmas.Among.{all_among}
+use Rattle.reg_rules.proofs.lemmas.Accounts.{account-number}
 use Rattle.reg_schedules.specs.Pool.{directory, footprint_at}
 use Rattle.reg_schedules.proofs.lemmas.Tails.{touched_from}
 use Rattle.reg_schedules.proofs.lemmas.Known.{footprint_touches, touched_known}
-use Rattle.reg_schedules.proofs.lemmas.Members.{all_among}
 use Rattle.reg_schedules.specs.Docks.{names_needed}
 use Rattle.std.specs.Prelude.{is_some}
 use Rattle.std.specs.Option.{option_copied}
@@ -19,7 +20,6 @@ use Rattle.reg_base.specs.Batch.{BatchValue}
 use Rattle.reg_book.specs.Book.{BookValue}
 use Rattle.reg_book.specs.Day.{DayValue, value_at}
 use Rattle.reg_tasks.specs.Names.{IsNamed, IsValue}
-use Rattle.reg_schedules.proofs.lemmas.Needed.{number_found}
 
 pub some_copied : {T : Type 0} (o : Option (Bor T)) (x : Option T) → option_copied o ≡ x → is_some x ≡ true → IsSome o
 some_copied None None e h = absurd cc
@@ -32,16 +32,12 @@ pub opened : (name : Option DayValue) (book : BookValue) (rules : RulesValue) (b
     → IsNamed name book rules batch → account book.accounts a ≡ Some value → IsValue name value 0
 opened name book rules batch a value named found = λ day e.
     subst (λ (d : DayValue). value_at d value.number 0 ≡ Some value) (named day e)
-    (ap (account book.accounts) (number_found book.accounts a value found) ∙ found)
+    (ap (account book.accounts) (account-number book.accounts a value found) ∙ found)
 
 -- an instruction to which no arrow leads needs opening values
 pub needed_none : (accounts : List ℕ) → names_needed [] accounts ≡ map (λ a. (a, 0)) accounts
 needed_none [] = refl
 needed_none (a ∷ more) = ap (λ ns. (a, 0) ∷ ns) (needed_none more)
-
-pub no_arrows : {X : Type 0} (xs : List X) → length xs ≡ 0 → xs ≡ []
-no_arrows [] e = refl
-no_arrows (x ∷ xs) e = absurd (omega (arith, e))
 
 -- the accounts that an instruction touches are in the book
 pub all_known : EachFootprintIsSound → (day : DayValue) (place : ℕ)

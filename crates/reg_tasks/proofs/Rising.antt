@@ -1,14 +1,13 @@
 -- Lists that rise by a number are one if they have the same elements.
 use Rattle.std.proofs.Common.{◌≡◌, ℕ, zero, suc, ◌<◌, ◌≤◌, inl, inr, eqb, false, List, [], ◌∷◌, length, get_or, map}
 use Rattle.std.proofs.Common.{refl, sym, ap, ◌∙◌, arith}
-use Rattle.std.specs.Prelude.{AllPairs, IsPermutation}
-use Rattle.std.specs.List.{IsDistinct, AllByRecursion}
+use Rattle.std.specs.Prelude.{AllPairs}
+use Rattle.std.specs.List.{IsDistinct}
 use Rattle.std.specs.List.Sorted.{IsNonDecreasingBy}
 use Rattle.std.proofs.lemmas.Bool.{eqb-false, ne_eqb}
 use Rattle.std.proofs.lemmas.List.Kept.{AllPairs-from_increasing}
-use Rattle.std.proofs.lemmas.List.Sorted.{Contains-permutation, IsPermutation-sym}
+use Rattle.reg_facts.proofs.lemmas.Members.{of_member, of_each_member, In, contains_from}
 use Rattle.reg_base.specs.Rising.{IsRising}
-use Rattle.reg_schedules.proofs.lemmas.Members.{In, in_from, contains_from}
 
 -- each later element has a higher number
 abbrev pub Up : {X : Type 0} → (X → ℕ) → List X → Type 0
@@ -45,15 +44,6 @@ same_rising {X} key (x ∷ xs) (y ∷ ys) up_x up_y there back =
       | inr n ↦ n
     ]
 
-pub all_in : {X : Type 0} (P : X → Type 0) (xs : List X) (x : X) → AllByRecursion P xs → In x xs → P x
-all_in P [] x all m = absurd m
-all_in P (y ∷ ys) x all (inl e) = rw (← e) all.0
-all_in P (y ∷ ys) x all (inr m) = all_in P ys x all.1 m
-
-pub all_from_in : {X : Type 0} (P : X → Type 0) (xs : List X) → ((x : X) → In x xs → P x) → AllByRecursion P xs
-all_from_in P [] h = tt
-all_from_in P (x ∷ xs) h = (h x (inl refl), all_from_in P xs (λ y m. h y (inr m)))
-
 pub in_map : {X Y : Type 0} (f : X → Y) (xs : List X) (x : X) → In x xs → In (f x) (map f xs)
 in_map f [] x m = absurd m
 in_map f (y ∷ ys) x (inl e) = inl (ap f e)
@@ -69,7 +59,7 @@ pub up_distinct : {X : Type 0} (key : X → ℕ) (xs : List X) → Up key xs →
 unfolding IsDistinct
 up_distinct key [] up = tt
 up_distinct key (x ∷ xs) up = (
-  all_from_in (λ n. eqb (key x) n ≡ false) (map key xs) (λ n m. let r = of_map key xs n m in
+  of_each_member (λ n. eqb (key x) n ≡ false) (map key xs) (λ n m. let r = of_map key xs n m in
       ne_eqb (key x) n (λ e. omega (arith, e, r.2, up.0 r.0 r.1))),
   up_distinct key xs up.1,
 )
@@ -89,7 +79,7 @@ up_sorted {X} key (x ∷ xs) sorted distinct = (
       let le : key x ≤ key (get_or xs c.0 y) = sorted 0 (suc c.0) y (omega arith) (omega (arith, c.1)) in
       let ne : key x ≡ key y → ⊥ =
       eqb-false (key x) (key y)
-      (all_in (λ n. eqb (key x) n ≡ false) (map key xs) (key y) distinct.0 (in_map key xs y m)) in
+      (of_member (λ n. eqb (key x) n ≡ false) (map key xs) (key y) distinct.0 (in_map key xs y m)) in
       omega (arith, le, ap key c.2, ne)
 
 index_of : {X : Type 0} (key : X → ℕ) (xs : List X) (x : X) → In x xs → (k : ℕ) × (k < length (map key xs))
@@ -109,12 +99,6 @@ up_pairs key (x ∷ xs) pairs = (
 
 pub up_rising : {X : Type 0} (key : X → ℕ) (xs : List X) → IsRising (map key xs) → Up key xs
 up_rising key xs rising = up_pairs key xs (AllPairs-from_increasing (map key xs) rising)
-
-pub in_permuted : {X : Type 0} (xs ys : List X) (x : X) → IsPermutation xs ys → In x xs → In x ys
-in_permuted xs ys x same m = in_from ys x (Contains-permutation xs ys x same (contains_from xs x m))
-
-pub in_before : {X : Type 0} (xs ys : List X) (x : X) → IsPermutation xs ys → In x ys → In x xs
-in_before xs ys x same m = in_permuted ys xs x (IsPermutation-sym xs ys same) m
 
 in_at : {X : Type 0} (xs : List X) (k : ℕ) (d : X) → k < length xs → In (get_or xs k d) xs
 in_at [] k d lt = absurd (omega (arith, lt))

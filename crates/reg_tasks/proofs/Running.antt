@@ -1,17 +1,16 @@
 -- What a task's own values give is what the day gives.
-use Rattle.std.proofs.Common.{◌≡◌, ℕ, zero, suc, ◌+◌, ◌-◌, ◌≤◌, inl, inr, Bool, true, false, cond, ◌||◌, eqb, leb, List}
+use Rattle.std.proofs.Common.{◌≡◌, ℕ, zero, suc, ◌+◌, ◌-◌, ◌≤◌, inl, inr, Bool, true, false, cond, ◌||◌, eqb, List}
 use Rattle.std.proofs.Common.{[], ◌∷◌, map, Option, Some, None, refl, sym, ap, subst, ◌∙◌, arith}
 use Rattle.std.specs.Prelude.{slice_get, not}
 use Rattle.std.specs.Option.{option_map}
-use Rattle.std.specs.List.{AllByRecursion, list_all, list_any}
-use Rattle.std.proofs.lemmas.Bool.{eqb-true, leb-false, or_parts, and_parts, not-true}
+use Rattle.std.specs.List.{AllByRecursion, list_all}
+use Rattle.std.proofs.lemmas.Bool.{eqb-true, and_parts, not-true}
 use Rattle.std.proofs.lemmas.Option.{slice_get_cases}
 use Rattle.reg_base.specs.declared.instruction.Instruction.{Instruction}
 use Rattle.reg_base.specs.Footprint.{is_among, EachFootprintIsSound}
 use Rattle.reg_base.specs.Touches.{last_toucher}
 use Rattle.reg_account.specs.Account.{AccountValue}
-use Rattle.reg_account.specs.Rows.{row_numbers, AreBelow}
-use Rattle.reg_account.specs.declared.rows.RetirementRow.{RetirementRow}
+use Rattle.reg_account.proofs.lemmas.Rows.{none_ahead}
 use Rattle.reg_rules.specs.Effect.{IsBehind}
 use Rattle.reg_book.specs.Book.{has_row_ahead}
 use Rattle.reg_rules.specs.declared.reply.LogRow.{LogRow}
@@ -27,14 +26,6 @@ use Rattle.reg_tasks.specs.declared.naming.Naming.{Ghosts}
 use Rattle.reg_tasks.specs.declared.parcel.Parcel.{Parcel}
 use Rattle.reg_tasks.specs.Parcels.{values_of, afters_of, names_of}
 use Rattle.reg_schedules.proofs.lemmas.Ran.{AgreeAt, IsRight, ran_right, results_right}
-
--- an account without a row ahead has rows of lower numbers alone
-pub none_ahead : (n : ℕ) (rows : List RetirementRow) → list_any (λ (row : RetirementRow). leb n row.number) rows ≡ false
-    → AreBelow n (row_numbers rows)
-none_ahead n [] none = tt
-none_ahead n (row ∷ rows) none =
-    let both = or_parts (leb n row.number) (list_any (λ (r : RetirementRow). leb n r.number) rows) none in
-    (leb-false n row.number both.0, none_ahead n rows both.1)
 
 pub all_behind : (n : ℕ) (vs : State) → list_all (λ (v : AccountValue). not (has_row_ahead n v)) vs ≡ true
     → AllByRecursion (IsBehind n) vs

@@ -1,10 +1,12 @@
 -- What the tests of a settled day say.
-use Rattle.std.proofs.Common.{◌≡◌, ℕ, zero, suc, ◌+◌, ◌<◌, ◌≤◌, inl, Bool, true, false, eqb, leb, List, [], ◌∷◌, length}
+use Rattle.std.proofs.Common.{◌≡◌, ℕ, zero, suc, ◌+◌, ◌<◌, ◌≤◌, inl, true, false, eqb, leb, List, [], ◌∷◌, length}
 use Rattle.std.proofs.Common.{get_or, refl, ap, subst, ◌∙◌, arith, add-one}
 use Rattle.std.specs.Prelude.{Some}
 use Rattle.std.specs.FinMap as fin
 use Rattle.std.specs.List.{AllByRecursion}
 use Rattle.std.proofs.lemmas.Bool.{eq-eqb, eqb-true, le-leb, leb-true, and_parts, and_from}
+use Rattle.reg_facts.proofs.lemmas.Members.{In}
+use Rattle.reg_facts.proofs.lemmas.Numbers.{clash}
 use Rattle.reg_base.specs.Batch.{BatchValue, IsBatch}
 use Rattle.reg_base.specs.Directory.{DirectoryValue}
 use Rattle.reg_base.specs.Rising.{IsRising, is_rising_from, count_up}
@@ -15,7 +17,6 @@ use Rattle.reg_rules.specs.Effect.{IsBehind}
 use Rattle.reg_book.specs.Book.{BookValue, directory_of}
 use Rattle.reg_book.specs.Settled.{record_numbers}
 use Rattle.reg_tasks.specs.Gathering.{IsWhole, IsCommittable, are_counted}
-use Rattle.reg_schedules.proofs.lemmas.Members.{In}
 use Rattle.reg_tasks.proofs.Rising.{Up, up_rising}
 
 -- rows that are counted
@@ -117,11 +118,7 @@ module _ (book : BookValue) (batch : BatchValue) (rows : List LogRow) (accounts 
 
   pub not_whole_counted : (first : ℕ) → first ≡ batch.base + 1 → are_counted first rows ≡ false
       → IsWhole book batch rows accounts → ⊥
-  not_whole_counted first is fails w = clash (ap (λ n. are_counted n rows) is ∙ whole_counted w) fails where
-    clash : {b : Bool} → b ≡ true → b ≡ false → ⊥
-    clash p q = absurd cc
+  not_whole_counted first is fails w = clash (ap (λ n. are_counted n rows) is ∙ whole_counted w) fails
 
   pub not_whole_rising : is_rising_from 0 (numbers accounts) ≡ false → IsWhole book batch rows accounts → ⊥
-  not_whole_rising fails w = clash (whole_rising w) fails where
-    clash : {b : Bool} → b ≡ true → b ≡ false → ⊥
-    clash p q = absurd cc
+  not_whole_rising fails w = clash (whole_rising w) fails

@@ -12,7 +12,7 @@ use Rattle.reg_base.specs.declared.limits.TheConstants.{MOST_ACCOUNTS}
 use Rattle.reg_account.specs.Account.{AccountValue, IsAccount}
 use Rattle.reg_book.specs.declared.totals.BothTotals.{BothTotals}
 use Rattle.reg_book.specs.Parts.{joined}
-use Rattle.reg_book.specs.Totals.{totals_of, both_added, BothTotalsFit}
+use Rattle.reg_book.specs.Totals.{both_added, BothTotalsFit}
 use Rattle.reg_book.proofs.lemmas.TotalFacts.{AddUpWith, add-list, have_space}
 use Rattle.reg_text.specs.declared.writing.pieces.Blocks.{Blocks}
 use Rattle.reg_text.specs.Pieces.{AreBlocksOfLists}

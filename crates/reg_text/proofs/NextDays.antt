@@ -6,6 +6,7 @@ use Rattle.std.specs.Option.{option_map_or}
 use Rattle.std.specs.List.{AllByRecursion}
 use Rattle.std.proofs.lemmas.List.{append_cancel_left, append_cancel_right}
 use Rattle.std.proofs.lemmas.List.Elements.{All-from_recursion, recursion_from_All}
+use Rattle.reg_facts.proofs.lemmas.Lists.{all-push}
 use Rattle.reg_base.specs.declared.kinds.AllowanceKind.{AllowanceKind}
 use Rattle.reg_base.specs.declared.kinds.Retirement.{Retirement}
 use Rattle.reg_base.specs.declared.kinds.Retirement.TheVariants.{Surrendered, Deleted}
@@ -42,7 +43,6 @@ use Rattle.reg_cuts.specs.Rows.{rows_in_text}
 use Rattle.reg_text.specs.Faults.{day_of_rows}
 use Rattle.reg_text.specs.ReadAgain.{accounts_text, book_line, IsBlocks, BookIsReadAgain}
 use Rattle.reg_text.specs.NextDays.{rows_behind, StandInReport, IsTextOf, AreTexts, IsNextDay, GoOn, ReportsAreReadOn}
-use Rattle.reg_text.proofs.ListFacts.{all-push}
 use Rattle.reg_text.proofs.ReadAgain.{text-append, book-text-parts}
 
 -- ---- a day speaks of the periods of its rules alone

@@ -7,6 +7,7 @@ use mathlib.Core.List.{map-id}
 use Rattle.std.specs.Prelude.{All, unwrap_or, if◌then◌else◌}
 use Rattle.std.proofs.lemmas.List.Elements.{All-from_recursion}
 use Rattle.std.specs.List.{AllByRecursion}
+use Rattle.reg_facts.proofs.lemmas.Lists.{all-weaker}
 use Rattle.reg_text.proofs.Names.{IsRising, IsWithin, IsSection, SectionStandsAt, Instruction, IsShared, Cause, Tag}
 use Rattle.reg_text.proofs.Names.{Version, One, Two, TextRow, stage, is_in_version, Said, row, option_to_list}
 use Rattle.reg_text.proofs.Names.{items_said, scope_of, version_in, current_said, current_rows, Fits, IsOfPeriods}
@@ -19,7 +20,6 @@ use Rattle.reg_text.proofs.Names.{day_of_rows}
 use Rattle.reg_book.specs.Book.{IsBook}
 use Rattle.reg_text.specs.Day.{day_headed}
 use Rattle.reg_text.specs.declared.reading.tag.Tag.TheVariants as tag
-use Rattle.reg_text.proofs.ListFacts.{all-weaker}
 use Rattle.reg_text.proofs.RowLaws.{lags-fit, instruction-fits, instruction-shared}
 use Rattle.reg_text.proofs.DraftSteps.{rows_so_far, at-tag, at-blocks, over-rows, over-fits, grows, nothing-fits}
 use Rattle.reg_text.proofs.Taken.{text-taken}

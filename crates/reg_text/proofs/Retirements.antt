@@ -6,12 +6,12 @@ use Rattle.std.specs.List.{AllByRecursion}
 use Rattle.std.proofs.lemmas.Bool.{leb-true, le-leb, ltb-true, lt-ltb}
 use Rattle.std.proofs.lemmas.List.{append-nil}
 use Rattle.std.proofs.lemmas.List.Sums.{sum_by-append, sum_by-cons}
+use Rattle.reg_facts.proofs.lemmas.Lists.{all-push}
 use Rattle.reg_text.proofs.Names.{AllowanceKind, General, Aviation, Retirement, Surrendered, Deleted, RetirementRow}
 use Rattle.reg_text.proofs.Names.{RetiredFits, AreBelow, AccountValue, AccountHead, ListsValue, IsBehind, AreRecorded}
 use Rattle.reg_text.proofs.Names.{amount_in, retired_in, row_numbers, option_to_list, account_with}
 use Rattle.reg_text.proofs.Names.{is_recorded, is_sum_left}
 use Rattle.reg_account.specs.Rows.{retirement_of, is_same_kind, is_same_retirement}
-use Rattle.reg_text.proofs.ListFacts.{all-push}
 
 -- ---- the sums
 

@@ -5,11 +5,12 @@ use Rattle.std.proofs.lemmas.Bool.{ltb-true, lt-ltb, le-leb}
 use Rattle.std.proofs.lemmas.List.{append-nil, length-map, map-append}
 use Rattle.std.specs.List.{AllByRecursion, flat_map}
 use Rattle.std.proofs.lemmas.Grind.{flat_map-append}
+use Rattle.reg_facts.proofs.lemmas.Lists.{all-append, all-push, all-first, all-rest}
 use Rattle.reg_text.proofs.Names.{Tag, Version, Scope, TextRow, stages, tag_stage, last_item, is_above, Said, row}
 use Rattle.reg_text.proofs.Names.{Section, item_rows, section_rows, all_rows, Key, key, follows, IsOrdered, most}
 use Rattle.reg_text.proofs.Names.{is_space, AreAtMost, IsSection, stands_at, has_to_come, SectionStandsAt}
 use Rattle.reg_text.specs.Grammar.{row_text}
-use Rattle.reg_text.proofs.ListFacts.{all-push, all-append, all-first, all-rest, all-both}
+use Rattle.reg_text.proofs.ListFacts.{all-both}
 use Rattle.reg_text.proofs.RisingFacts.{above-push, above-at, last-key}
 
 -- ---- the rows

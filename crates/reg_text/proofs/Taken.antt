@@ -7,6 +7,7 @@ use Rattle.std.specs.List.{AllByRecursion, flat_map}
 use Rattle.std.proofs.lemmas.List.Elements.{recursion_from_All}
 use Rattle.std.proofs.lemmas.Bool.{le-leb, lt-ltb}
 use Rattle.std.proofs.lemmas.List.{append-nil, map-append}
+use Rattle.reg_facts.proofs.lemmas.Lists.{all-rest, all-weaker}
 use Rattle.reg_text.proofs.Names.{MOST_ACCOUNTS, MOST_ROWS, Instruction, IsShared, MOST_RECORD, IsUserNo, IsDayNo}
 use Rattle.reg_text.proofs.Names.{IsInstruction, IsRising, AccountValue, IsAccount, IsBehind, AreBelow, RetiredFits}
 use Rattle.reg_text.proofs.Names.{RetirementRow, ListsValue, row_numbers, no_lists, AccountHead, IsWithin, IsYearNo}
@@ -21,7 +22,7 @@ use Rattle.reg_text.specs.declared.reading.tag.Tag.TheVariants as tag
 use Rattle.reg_account.specs.Corrections.{LaterFits}
 use Rattle.reg_text.specs.Grammar.{row_text}
 use Rattle.reg_text.specs.Faults.{has_row_space}
-use Rattle.reg_text.proofs.ListFacts.{all-both, all-weaker, all-rest}
+use Rattle.reg_text.proofs.ListFacts.{all-both}
 use Rattle.reg_text.proofs.GrammarLaws.{each-row, same-spelling}
 use Rattle.reg_text.proofs.RowLaws.{ArePeriodsOf, fit-lags, fit-account, fit-lists, fit-instruction}
 use Rattle.reg_text.proofs.Retirements.{below-at, sum-left}

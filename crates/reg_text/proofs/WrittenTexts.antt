@@ -1,6 +1,7 @@
 -- No field of a written text needs quotes, and csv splits each text into its rows again.
 use Rattle.std.proofs.Common.{ℕ, List, [], ◌∷◌, ◌++◌, None, refl}
 use Rattle.std.specs.List.{AllByRecursion, flat_map}
+use Rattle.reg_facts.proofs.lemmas.Lists.{all-append, all-weaker}
 use Rattle.reg_base.specs.declared.kinds.AllowanceKind.TheVariants.{General, Aviation}
 use Rattle.reg_plan.specs.declared.arrow.Arrow.{Arrow}
 use Rattle.reg_plan.specs.Plans.{PlanValue, inward, level_at}
@@ -20,7 +21,7 @@ use Rattle.reg_text.specs.PlanText.{arrow_row, place_rows, plan_rows}
 use Rattle.reg_text.specs.Statement.{closing_held, closing_row, opening_row, rows_about, statement_of}
 use Rattle.reg_text.specs.Written.{AreWritten, EachBookIsWritten, EachReportIsWritten, EachPlanIsWritten}
 use Rattle.reg_text.specs.Written.{EachStatementIsWritten, AllFiguresAreWritten, AllTotalsAreWritten}
-use Rattle.reg_text.proofs.ListFacts.{all-append, all-weaker, all-map, all-flat_map}
+use Rattle.reg_text.proofs.ListFacts.{all-map, all-flat_map}
 use Rattle.reg_text.proofs.PlainFacts.{plain-decimal, plain-signed}
 use Rattle.reg_text.proofs.PlainRows.{IsWritten, Plain, plain-holding, plain-log_row, plain-totals_row, splits-again}
 use Rattle.reg_text.proofs.PlainRows.{written-item}

@@ -1,8 +1,9 @@
 -- Counting places in shifts.
-use Rattle.std.proofs.Common.{arith, add-one, ◌≡◌, ℕ, ◌+◌, ◌==◌, List, [], ◌∷◌, ◌++◌, map, length, length-append}
+use Rattle.std.proofs.Common.{arith, add-one, ◌≡◌, ℕ, ◌+◌, List, [], ◌∷◌, ◌++◌, map, length, length-append}
 use Rattle.std.proofs.Common.{append-nil, append_assoc, refl, ap, sym, ◌∙◌}
 use Rattle.std.proofs.lemmas.List.{map-append, length-map, nil_from_length}
-use Rattle.reg_facts.specs.Counting.{times, one_if}
+use Rattle.reg_facts.specs.Counting.{times}
+use Rattle.reg_facts.proofs.lemmas.Times.{times-append}
 use Rattle.reg_facts.proofs.lemmas.Totals.{total-append}
 use Rattle.reg_work.specs.declared.shift.Shift.{Shift}
 use Rattle.reg_work.specs.Shifts.{times_in, places_ran, numbers_below}
@@ -11,10 +12,6 @@ use Rattle.reg_work.specs.Shifts.{times_in, places_ran, numbers_below}
 pub times-one_more : {N : Type 0} (p : ℕ) (shifts : List (Shift N)) (s : Shift N)
     → times_in p (shifts ++ s ∷ []) ≡ times_in p shifts + times p (places_ran s.ran.items)
 times-one_more p shifts s = omega (arith, total-append (λ x. times p (places_ran x.ran.items)) shifts (s ∷ []))
-
--- how often a number stands in two lists, one behind the other
-pub times-append : (p : ℕ) (xs ys : List ℕ) → times p (xs ++ ys) ≡ times p xs + times p ys
-times-append p xs ys = total-append (λ x. one_if (x == p)) xs ys
 
 -- one more number
 pub numbers-next : (n : ℕ) → numbers_below (n + 1) ≡ numbers_below n ++ n ∷ []

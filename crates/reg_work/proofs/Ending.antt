@@ -2,14 +2,10 @@
 use Rattle.std.proofs.Common.{arith, refl, ◌≡◌, ℕ, ◌≤◌, ◌<◌, ◌/◌, ◌||◌, max, Bool, true, false, nat_le, sym, ◌∙◌, ◌⊎◌}
 use Rattle.std.proofs.Common.{inl, inr, ⊎_elim}
 use Rattle.std.proofs.lemmas.Bool.Decides.{nat_tests}
-use mathlib.Core.Logic.{dite}
-use native.Mathlib.Decide.{dec_le}
+use Rattle.reg_facts.proofs.lemmas.Numbers.{either-most}
 use Rattle.reg_claim.specs.declared.views.SeatView.{SeatView}
 use Rattle.reg_claim.specs.Views.{joined_views, is_odd}
 use Rattle.reg_work.specs.Ends.{sees_end, shows_end}
-
-either-most : (a b : ℕ) → (a ≤ b) ⊎ (b ≤ a)
-either-most a b = dite (dec_le a b) (λ h. inl h) (λ h. inr (omega arith))
 
 -- the greater of two counts shows the end if both do
 both-show : (n a b : ℕ) → shows_end n a ≡ true → shows_end n b ≡ true → shows_end n (max a b) ≡ true

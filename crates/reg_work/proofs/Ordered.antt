@@ -7,13 +7,12 @@ use Rattle.std.proofs.lemmas.List.{map-append}
 use mathlib.Core.Logic.{dite}
 use native.Mathlib.Decide.{ℕ_discrete, dec_le}
 use Rattle.reg_facts.specs.Counting.{times, once, one_if}
-use Rattle.reg_facts.proofs.lemmas.Times.{equal-one, apart-none, once-yes, once-past, once-zero}
+use Rattle.reg_facts.proofs.lemmas.Times.{equal-one, apart-none, once-yes, once-past, once-zero, times-append}
 use Rattle.reg_rules.specs.declared.reply.LogRow.{LogRow}
 use Rattle.reg_book.specs.Day.{DayValue, row_at, log_of}
 use Rattle.reg_tasks.specs.declared.outcome.Ran.{Ran}
 use Rattle.reg_work.specs.declared.shift.Shift.{Shift}
 use Rattle.reg_work.specs.Shifts.{AreShifts, places_ran}
-use Rattle.reg_work.proofs.Counting.{times-append}
 
 -- no number is one of the numbers 1 to 0
 pub once-none : (p : ℕ) → 0 ≡ once 0 p

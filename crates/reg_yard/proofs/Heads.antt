@@ -5,6 +5,7 @@ use Rattle.std.specs.Option.{option_map}
 use Rattle.std.proofs.Props.{props}
 use Rattle.std.proofs.lemmas.Bool.{eqb-true, ne_eqb}
 use mathlib.Core.Logic.{∥∥₁_elim}
+use Rattle.reg_facts.proofs.lemmas.Members.{In, contains_from, of_filter, Found, Missing, search_of}
 use Rattle.reg_base.specs.declared.instruction.Instruction.{Instruction}
 use Rattle.reg_base.specs.Directory.{DirectoryValue}
 use Rattle.reg_plan.specs.declared.arrow.Arrow.{Arrow}
@@ -12,7 +13,6 @@ use Rattle.reg_plan.specs.Arrows.{IsArrow}
 use Rattle.reg_plan.specs.Plans.{PlanValue, IsPlan, outward}
 use Rattle.reg_schedules.specs.Docks.{ParcelValue}
 use Rattle.reg_schedules.specs.World.{head_of}
-use Rattle.reg_schedules.proofs.lemmas.Members.{In, contains_from, of_filter, Found, Missing, search_of}
 use Rattle.reg_schedules.proofs.lemmas.Tails.{is_within}
 use Rattle.reg_tasks.specs.Openings.{first_at}
 use Rattle.reg_yard.specs.Parcels.{goes_to}

@@ -11,6 +11,7 @@ use Rattle.reg_schedules.specs.Laws.{IsPlanOf}
 use Rattle.reg_schedules.specs.Pool.{footprint_at}
 use Rattle.reg_schedules.specs.Docks.{ParcelValue, TaskValue, is_name, name_of, of_name, of_names, before_all, awaited}
 use Rattle.reg_schedules.proofs.lemmas.Needed.{length_needed}
+use Rattle.reg_schedules.proofs.lemmas.WorldFits.{task_with}
 use Rattle.reg_tasks.specs.declared.naming.Naming.{Ghosts}
 use Rattle.reg_tasks.specs.declared.parcel.Parcel.{Parcel}
 use Rattle.reg_tasks.specs.declared.task.Task.{Task}
@@ -47,10 +48,6 @@ module _ {N : Type 0} {b : Ghosts N} where
 -- the names of a list that none of these parcels has
 abbrev left : List ParcelValue → List (ℕ × ℕ) → List (ℕ × ℕ)
 left came names = filter (λ name. not (is_some (of_name came name))) names
-
--- the task of a place that needs these names, if all came
-abbrev task_with : ℕ → List ParcelValue → TaskValue
-task_with place parcels = record { place = place; parcels = parcels }
 
 abbrev made : ℕ → List (ℕ × ℕ) → List ParcelValue → Option TaskValue
 made place names came = cond (eqb (length came) (length names)) (option_map (task_with place) (of_names came names))

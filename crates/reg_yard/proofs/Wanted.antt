@@ -4,10 +4,10 @@ use Rattle.std.proofs.Common.{◌≡◌, ℕ, Bool, true, false, cond, ◌&&◌,
 use Rattle.std.proofs.Common.{◌∙◌}
 use Rattle.std.specs.Prelude.{not, filter, is_some}
 use Rattle.std.specs.List.{list_any}
-use Rattle.std.proofs.lemmas.Bool.{eqb-true, ne_eqb}
+use Rattle.std.proofs.lemmas.Bool.{eqb-true, and_parts}
 use Rattle.std.proofs.lemmas.List.Filters.{length-filter_both}
-use mathlib.Core.Logic.{dite}
-use native.Mathlib.Decide.{ℕ_discrete}
+use Rattle.std.specs.Cmp.{nat_eq_equiv}
+use Rattle.std.proofs.Math.Bool.{and-false}
 use Rattle.reg_plan.specs.declared.arrow.Arrow.{Arrow}
 use Rattle.reg_plan.specs.Plans.{PlanValue, inward}
 use Rattle.reg_book.specs.Day.{DayValue}
@@ -15,11 +15,6 @@ use Rattle.reg_schedules.specs.Pool.{footprint_at, tail_in}
 use Rattle.reg_schedules.specs.Docks.{ParcelValue, is_name, names_needed, awaited, of_name}
 use Rattle.reg_schedules.proofs.lemmas.Needed.{length_needed}
 use Rattle.reg_yard.specs.Held.{FitInDock}
-
-flip : (m n : ℕ) → eqb m n ≡ eqb n m
-flip m n = dite (ℕ_discrete m n)
-    (λ same. ap (λ k. eqb k n) same ∙ ap (λ k. eqb n k) (sym same))
-    (λ apart. ne_eqb m n apart ∙ sym (ne_eqb n m (λ same. apart (sym same))))
 
 absorb : (t any : Bool) → (t || (any && t)) ≡ t
 absorb true any = refl
@@ -32,25 +27,19 @@ pub needed-any : (arrows : List Arrow) (accounts : List ℕ) (a after : ℕ)
     ≡ (list_any (λ other. eqb other a) accounts && eqb (tail_in arrows a) after)
 needed-any arrows [] a after = refl
 needed-any arrows (x ∷ more) a after =
-    ap (λ b. (b && eqb after (tail_in arrows x)) || list_any (is_name (a, after)) (names_needed arrows more)) (flip a x)
+    ap (λ b. (b && eqb after (tail_in arrows x)) || list_any (is_name (a, after)) (names_needed arrows more))
+    (nat_eq_equiv.symm a x)
     ∙ by (eqb x a) refl (list_any (is_name (a, after)) (names_needed arrows more))
     (list_any (λ other. eqb other a) more) (needed-any arrows more a after)
   where
     by : (c : Bool) → eqb x a ≡ c → (rest any : Bool) → rest ≡ (any && eqb (tail_in arrows a) after)
         → ((c && eqb after (tail_in arrows x)) || rest) ≡ ((c || any) && eqb (tail_in arrows a) after)
     by true same rest any e =
-        ap (λ b. b || rest) (flip after (tail_in arrows x) ∙ ap (λ n. eqb (tail_in arrows n) after) (eqb-true x a same))
+        ap (λ b. b || rest)
+        (nat_eq_equiv.symm after (tail_in arrows x) ∙ ap (λ n. eqb (tail_in arrows n) after) (eqb-true x a same))
         ∙ ap (λ r. eqb (tail_in arrows a) after || r) e
         ∙ absorb (eqb (tail_in arrows a) after) any
     by false other rest any e = e
-
-and-both : (a b : Bool) → (a && b) ≡ true → (a ≡ true) × (b ≡ true)
-and-both true b e = (refl, e)
-and-both false b e = absurd cc
-
-none-and : (b : Bool) → (b && false) ≡ false
-none-and true = refl
-none-and false = refl
 
 -- whether one of a list is found, whose first is found or not, and is kept or not
 abbrev found : Bool → Bool → Bool → Bool
@@ -59,7 +48,7 @@ found c keep rest = cond keep (c || rest) rest
 found-kept : (c keep kept any rest : Bool) → (c ≡ true → keep ≡ kept) → rest ≡ (any && kept)
     → found c keep rest ≡ ((c || any) && kept)
 found-kept true true kept any rest like ih = like refl
-found-kept true false kept any rest like ih = ih ∙ ap (λ k. any && k) (sym (like refl)) ∙ none-and any ∙ like refl
+found-kept true false kept any rest like ih = ih ∙ ap (λ k. any && k) (sym (like refl)) ∙ and-false any ∙ like refl
 found-kept false true kept any rest like ih = ih
 found-kept false false kept any rest like ih = ih
 
@@ -81,7 +70,7 @@ still-any came n (x ∷ more) =
     (λ e. ap (λ name. not (is_some (of_name came name))) (sym (same e))) (still-any came n more)
   where
     same : is_name n x ≡ true → n ≡ x
-    same e = let parts = and-both (eqb n.0 x.0) (eqb n.1 x.1) e in
+    same e = let parts = and_parts (eqb n.0 x.0) (eqb n.1 x.1) e in
         λ i. (eqb-true n.0 x.0 parts.0 i, eqb-true n.1 x.1 parts.1 i)
 
 -- as many are awaited at most as the place touches accounts, if nothing came

@@ -2,24 +2,15 @@
 use Rattle.std.proofs.Common.{◌≡◌, ℕ, suc, length, Bool, true, false, cond, ◌||◌, eqb, List, [], ◌∷◌, Option, Some}
 use Rattle.std.proofs.Common.{None, refl, sym, ap, ◌∙◌}
 use Rattle.std.specs.Prelude.{is_some}
-use Rattle.std.proofs.lemmas.Bool.{eq-eqb, eqb-true}
+use Rattle.std.proofs.lemmas.Bool.{eq-eqb, eqb-true, or_left, or_right}
 use Rattle.reg_base.specs.Footprint.{is_among}
 use Rattle.reg_account.specs.Account.{AccountValue}
 use Rattle.reg_rules.specs.State.{State, account}
 use Rattle.reg_plan.specs.declared.arrow.Arrow.{Arrow}
 use Rattle.reg_plan.specs.Plans.{PlanValue}
+use Rattle.reg_rules.proofs.lemmas.Accounts.{account-number}
 use Rattle.reg_schedules.specs.Pool.{Pool, tail_of, and_more, needed}
 use Rattle.reg_schedules.specs.Docks.{names_needed}
-
--- an account that is found has the number
-pub number_found : (s : State) (a : ℕ) (v : AccountValue) → account s a ≡ Some v → v.number ≡ a
-number_found [] a v e = absurd cc
-number_found (w ∷ ws) a v e = by (eqb w.number a) refl e (number_found ws a v) where
-  by : (b : Bool) → eqb w.number a ≡ b → cond b (Some w) (account ws a) ≡ Some v
-      → (account ws a ≡ Some v → v.number ≡ a) → v.number ≡ a
-  by true same found more = let is : w ≡ v = cc in
-      ap (λ (o : AccountValue). o.number) (sym is) ∙ eqb-true w.number a same
-  by false other found more = more found
 
 -- these are the accounts of a state at these numbers, and nothing else
 pub record AreTaken (plan : PlanValue) (pool : Pool) (place : ℕ) (t : State) (accounts : List ℕ) (own : State) :
@@ -27,26 +18,18 @@ pub record AreTaken (plan : PlanValue) (pool : Pool) (place : ℕ) (t : State) (
   pub taken : needed plan pool place accounts ≡ Some own
   pub agree : (b : ℕ) → account own b ≡ cond (is_among accounts b) (account t b) None
 
-or_here : (b c : Bool) → b ≡ true → (b || c) ≡ true
-or_here true c e = refl
-or_here false c e = absurd cc
-
-or_later : (b c : Bool) → c ≡ true → (b || c) ≡ true
-or_later true c e = refl
-or_later false c e = e
-
 pub all_needed : (plan : PlanValue) (pool : Pool) (place : ℕ) (t : State) (accounts : List ℕ)
     → ((a : ℕ) → is_among accounts a ≡ true → pool a (tail_of plan place a) ≡ account t a)
     → ((a : ℕ) → is_among accounts a ≡ true → is_some (account t a) ≡ true)
     → (own : State) × AreTaken plan pool place t accounts own
 all_needed plan pool place t [] there known = ([], record { taken = refl; agree = λ b. refl })
 all_needed plan pool place t (a ∷ more) there known =
-    by (account t a) refl (known a (or_here (eqb a a) (is_among more a) (eq-eqb a a refl)))
-    (all_needed plan pool place t more (λ b e. there b (or_later (eqb a b) (is_among more b) e))
-    (λ b e. known b (or_later (eqb a b) (is_among more b) e)))
+    by (account t a) refl (known a (or_left (eqb a a) (is_among more a) (eq-eqb a a refl)))
+    (all_needed plan pool place t more (λ b e. there b (or_right (eqb a b) (is_among more b) e))
+    (λ b e. known b (or_right (eqb a b) (is_among more b) e)))
   where
     here : (v : AccountValue) → account t a ≡ Some v → pool a (tail_of plan place a) ≡ Some v
-    here v e = there a (or_here (eqb a a) (is_among more a) (eq-eqb a a refl)) ∙ e
+    here v e = there a (or_left (eqb a a) (is_among more a) (eq-eqb a a refl)) ∙ e
 
     pick : (v : AccountValue) → account t a ≡ Some v → (rest : Option AccountValue) (b : ℕ) (c : Bool) → eqb a b ≡ c
         → rest ≡ cond (is_among more b) (account t b) None
@@ -62,7 +45,7 @@ all_needed plan pool place t (a ∷ more) there known =
       v ∷ rest.0,
       record {
         taken = ap (λ o. and_more o (needed plan pool place more)) (here v e) ∙ ap (and_more (Some v)) rest.1.taken;
-        agree = λ b. ap (λ n. cond (eqb n b) (Some v) (account rest.0 b)) (number_found t a v e)
+        agree = λ b. ap (λ n. cond (eqb n b) (Some v) (account rest.0 b)) (account-number t a v e)
             ∙ pick v e (account rest.0 b) b (eqb a b) refl (rest.1.agree b);
       },
     )

@@ -1,24 +1,24 @@
 -- What the run of an instruction on the values before it gives.
-use Rattle.std.proofs.Common.{◌≡◌, ℕ, suc, ◌+◌, true, false, cond, eqb, List, [], ◌∷◌, Some, None, refl, sym, ap, subst}
+use Rattle.std.proofs.Common.{◌≡◌, ℕ, suc, ◌+◌, true, cond, eqb, List, [], ◌∷◌, Some, None, sym, ap, subst}
 use Rattle.std.proofs.Common.{◌∙◌}
 use Rattle.std.specs.Prelude.{slice_get, is_some}
 use Rattle.std.specs.Option.{option_map, option_map_or}
 use Rattle.std.specs.List.{IsDistinct, AllByRecursion}
-use Rattle.std.proofs.lemmas.Bool.{eq-eqb}
 use Rattle.std.proofs.lemmas.Option.{same_Some}
 use Rattle.std.proofs.lemmas.List.Elements.{All-from_recursion}
 use Rattle.reg_base.specs.declared.instruction.Instruction.{Instruction}
 use Rattle.reg_base.specs.Footprint.{footprint, is_among, EachFootprintIsSound}
+use Rattle.reg_base.proofs.lemmas.Among.{all_among}
 use Rattle.reg_account.specs.Account.{AccountValue}
 use Rattle.reg_rules.specs.declared.reply.LogRow.{LogRow}
 use Rattle.reg_rules.specs.State.{State, account, numbers}
 use Rattle.reg_rules.specs.Step.{step, row_of}
 use Rattle.reg_rules.specs.Laws.{StepLaws}
+use Rattle.reg_rules.proofs.lemmas.Accounts.{found-by_number, found-among}
 use Rattle.reg_book.specs.Day.{DayValue, setting, state_at, value_at, row_at}
 use Rattle.reg_book.specs.Laws.{EachIsAStep, IsStepOf}
 use Rattle.reg_schedules.specs.Pool.{directory, footprint_at, run_at}
-use Rattle.reg_schedules.proofs.lemmas.Members.{all_among}
-use Rattle.reg_schedules.proofs.lemmas.Known.{found_among, footprint_distinct}
+use Rattle.reg_schedules.proofs.lemmas.Known.{footprint_distinct}
 
 -- the accounts agree with those of a state, and there are no others
 abbrev pub AgreeAt : State → List ℕ → State → Type 0
@@ -65,31 +65,16 @@ ran_right laws each day n i own results row at agree ran =
       same_numbers = ap numbers results_are ∙ laws.numbers_stay (setting day) own (day.batch.base + suc n) i;
     }
 
-found_behind : (v : AccountValue) (vs ws : State) → AllByRecursion (λ n. eqb v.number n ≡ false) (numbers ws)
-    → AllByRecursion (λ w. account vs w.number ≡ Some w) ws
-    → AllByRecursion (λ w. account (v ∷ vs) w.number ≡ Some w) ws
-found_behind v vs [] others found = tt
-found_behind v vs (w ∷ ws) others found =
-    (ap (λ b. cond b (Some v) (account vs w.number)) others.0 ∙ found.0, found_behind v vs ws others.1 found.1)
-
-pub found_by_number : (s : State) → IsDistinct eqb (numbers s) → AllByRecursion (λ v. account s v.number ≡ Some v) s
-unfolding IsDistinct
-found_by_number [] distinct = tt
-found_by_number (v ∷ vs) distinct = (
-  ap (λ b. cond b (Some v) (account vs v.number)) (eq-eqb v.number v.number refl),
-  found_behind v vs vs distinct.0 (found_by_number vs distinct.1),
-)
-
 -- each result is the account as the instruction left it
 pub results_right : (day : DayValue) (place : ℕ) (own results : State) (row : LogRow) → EachFootprintIsSound
     → IsRight day place own results row → numbers own ≡ footprint_at day place
     → AllByRecursion (λ v. value_at day v.number place ≡ Some v) results
 results_right day place own results row sound right touched =
-    go results (found_by_number results
+    go results (found-by_number results
     (subst (IsDistinct eqb) (sym (right.same_numbers ∙ touched)) (footprint_distinct sound day place)))
   where
     among : (v : AccountValue) → account results v.number ≡ Some v → is_among (numbers results) v.number ≡ true
-    among v e = sym (found_among results v.number) ∙ ap is_some e
+    among v e = sym (found-among results v.number) ∙ ap is_some e
 
     go : (vs : State) → AllByRecursion (λ v. account results v.number ≡ Some v) vs
         → AllByRecursion (λ v. value_at day v.number place ≡ Some v) vs

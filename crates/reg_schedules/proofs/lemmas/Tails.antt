@@ -5,6 +5,9 @@ use Rattle.std.proofs.Common.{[], ◌∷◌, length, Option, arith, refl, sym, a
 use Rattle.std.specs.Prelude.{slice_get}
 use Rattle.std.specs.Option.{option_map_or}
 use Rattle.std.proofs.lemmas.Bool.{cases_lt, eq-eqb, eqb-true}
+use Rattle.reg_facts.proofs.lemmas.Members.{In, in_from, contains_from, in_filter, of_filter, Found, Missing, search_of}
+use Rattle.reg_facts.proofs.lemmas.Members.{any_in, of_any}
+use Rattle.reg_facts.proofs.lemmas.Numbers.{clash}
 use Rattle.reg_base.specs.declared.instruction.Instruction.{Instruction}
 use Rattle.reg_base.specs.Directory.{DirectoryValue}
 use Rattle.reg_base.specs.Touches.{touches, touches_at, is_touched, last_toucher, IsLastToucher, LastToucherIsLast}
@@ -13,13 +16,6 @@ use Rattle.reg_plan.specs.Arrows.{IsArrow, touches_place}
 use Rattle.reg_plan.specs.Plans.{PlanValue, IsPlan, inward, outward}
 use Rattle.reg_plan.specs.Laws.{LeadsFromLastToucher, TailsAreLastTouchers}
 use Rattle.reg_schedules.specs.Pool.{tail_of, leads_on}
-use Rattle.reg_schedules.proofs.lemmas.Members.{In, in_from, contains_from, in_filter, of_filter, Found, Missing}
-use Rattle.reg_schedules.proofs.lemmas.Members.{search_of}
-use Rattle.reg_schedules.proofs.lemmas.Members.{any_in, of_any}
-
--- no test answers both
-pub clash : {b : Bool} → b ≡ true → b ≡ false → ⊥
-clash p q = absurd cc
 
 module _ (d : DirectoryValue) (is : List Instruction) where
   -- the instruction at this place touches the account

@@ -5,6 +5,7 @@ use Rattle.std.specs.Prelude.{slice_get, slice_set, is_some, if◌then◌else◌
 use Rattle.std.specs.Option.{option_map, option_map_or}
 use Rattle.std.proofs.lemmas.Bool.{eq-eqb, eqb-true}
 use Rattle.std.proofs.lemmas.List.{length-set}
+use Rattle.reg_facts.proofs.lemmas.Numbers.{clash}
 use Rattle.reg_rules.specs.declared.reply.LogRow.{LogRow}
 use Rattle.reg_rules.specs.State.{State}
 use Rattle.reg_plan.specs.Plans.{PlanValue}
@@ -17,7 +18,6 @@ use Rattle.reg_schedules.specs.Schedules.{times_found}
 use Rattle.reg_facts.proofs.lemmas.Totals.{total-set, total-append}
 use Rattle.reg_schedules.proofs.lemmas.WorldSums.{place-there, place-else, place-within, length-place, get-within}
 use Rattle.std.proofs.lemmas.Option.{slice_get_within}
-use Rattle.reg_schedules.proofs.lemmas.Tails.{clash}
 use Rattle.reg_schedules.proofs.WorldSteps.{Moves, Pushes, Runs, Step, moves, runs, delivers, pushes}
 
 -- the sizes of a world, and each place is found once

@@ -5,8 +5,10 @@ use Rattle.std.specs.Prelude.{slice_get, is_some}
 use Rattle.std.specs.Option.{option_map_or}
 use Rattle.std.specs.List.{AllByRecursion, list_all}
 use Rattle.std.proofs.lemmas.Bool.{eq-eqb, eqb-true}
+use Rattle.reg_facts.proofs.lemmas.Numbers.{clash}
 use Rattle.reg_base.specs.Footprint.{EachFootprintIsSound}
 use Rattle.reg_base.specs.Touches.{LastToucherIsLast}
+use Rattle.reg_base.proofs.lemmas.Among.{all_among}
 use Rattle.reg_rules.specs.declared.reply.LogRow.{LogRow}
 use Rattle.reg_rules.specs.Laws.{StepLaws}
 use Rattle.reg_plan.specs.declared.arrow.Arrow.{Arrow}
@@ -20,9 +22,8 @@ use Rattle.reg_schedules.specs.World.{HandValue, empty, WorldValue, at_place, at
 use Rattle.reg_schedules.specs.World.{world_after}
 use Rattle.reg_facts.specs.Counting.{one_if, total}
 use Rattle.reg_schedules.specs.Schedules.{HasNoTask}
-use Rattle.reg_schedules.proofs.lemmas.Members.{all_among}
 use Rattle.reg_schedules.proofs.lemmas.Known.{footprint_touches, footprint_distinct}
-use Rattle.reg_schedules.proofs.lemmas.Tails.{clash, tail_before}
+use Rattle.reg_schedules.proofs.lemmas.Tails.{tail_before}
 use Rattle.reg_schedules.proofs.WorldSteps.{Step}
 use Rattle.reg_schedules.proofs.lemmas.WorldCounts.{Stands, in_list, in_hand_once, step-stands}
 use Rattle.reg_schedules.proofs.WorldStart.{start-stands}

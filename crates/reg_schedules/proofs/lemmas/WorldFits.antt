@@ -5,6 +5,9 @@ use Rattle.std.specs.Prelude.{slice_get, slice_set, filter, find, if◌then◌el
 use Rattle.std.specs.Option.{option_map}
 use Rattle.std.specs.List.{AllByRecursion}
 use Rattle.std.proofs.lemmas.Bool.{eq-eqb, eqb-true, and_parts}
+use Rattle.reg_facts.proofs.lemmas.Lists.{all-append, all-kept}
+use Rattle.reg_facts.proofs.lemmas.Members.{In, in_filter, of_filter, Found, Missing, search_of}
+use Rattle.reg_facts.proofs.lemmas.Numbers.{clash}
 use Rattle.reg_base.specs.Touches.{LastToucherIsLast}
 use Rattle.reg_rules.specs.declared.reply.LogRow.{LogRow}
 use Rattle.reg_rules.specs.State.{State}
@@ -17,8 +20,7 @@ use Rattle.reg_schedules.specs.Pool.{directory, tail_of}
 use Rattle.reg_schedules.specs.Docks.{is_name, ParcelValue, TaskValue, of_name, of_names, before_all, awaited, complete}
 use Rattle.reg_schedules.specs.World.{HandValue, Holds, Carries, WorldValue, at_place, with_place, head_of, pushed_to}
 use Rattle.reg_schedules.specs.World.{left_by, goes_on, after_delivery}
-use Rattle.reg_schedules.proofs.lemmas.Members.{In, in_filter, of_filter, Found, Missing, search_of}
-use Rattle.reg_schedules.proofs.lemmas.Tails.{clash, inward_tail}
+use Rattle.reg_schedules.proofs.lemmas.Tails.{inward_tail}
 use Rattle.std.proofs.lemmas.Option.{slice_get_within}
 use Rattle.reg_schedules.proofs.lemmas.WorldSums.{place-there, place-else, get-within, at_within}
 use Rattle.reg_schedules.proofs.WorldSteps.{Moves, Pushes, Runs, Step, moves, runs, delivers, pushes}
@@ -38,20 +40,6 @@ all-set P [] k y all h = tt
 all-set P (x ∷ xs) zero y all h = (h, all.1)
 all-set P (x ∷ xs) (suc k) y all h = (all.0, all-set P xs k y all.1 h)
 
-pub all-append : {X : Type 0} (P : X → Type 0) (xs ys : List X) → AllByRecursion P xs → AllByRecursion P ys
-    → AllByRecursion P (xs ++ ys)
-all-append P [] ys all more = more
-all-append P (x ∷ xs) ys all more = (all.0, all-append P xs ys all.1 more)
-
-pub all-filter : {X : Type 0} (p : X → Bool) (xs : List X) → AllByRecursion (λ x. p x ≡ true) (filter p xs)
-all-filter p [] = tt
-all-filter p (x ∷ xs) = by (p x) refl (all-filter p xs)
-  where
-    by : (b : Bool) → p x ≡ b → AllByRecursion (λ y. p y ≡ true) (filter p xs)
-        → AllByRecursion (λ y. p y ≡ true) (cond b (x ∷ filter p xs) (filter p xs))
-    by true e rest = (e, rest)
-    by false e rest = rest
-
 -- ---- names
 
 abbrev pub name_is : ParcelValue → ℕ × ℕ
@@ -60,12 +48,19 @@ name_is p = (p.value.number, p.after)
 abbrev pub names_are : List ParcelValue → List (ℕ × ℕ)
 names_are ps = map name_is ps
 
+-- the task of a place that needs these parcels
+abbrev pub task_with : ℕ → List ParcelValue → TaskValue
+task_with place parcels = record { place = place; parcels = parcels }
+
 pub same_name : (x y : ℕ × ℕ) → is_name x y ≡ true → x ≡ y
 same_name x y e =
     let both = and_parts (eqb x.0 y.0) (eqb x.1 y.1) e in
     let one = eqb-true x.0 y.0 both.0 in
     let two = eqb-true x.1 y.1 both.1 in
     ap (λ n. (n, x.1)) one ∙ ap (λ n. (y.0, n)) two
+
+pub name_itself : (x : ℕ × ℕ) → is_name x x ≡ true
+name_itself x = let one = eq-eqb x.0 x.0 refl in let two = eq-eqb x.1 x.1 refl in rw (one, two) refl
 
 found_name : (parcels : List ParcelValue) (name : ℕ × ℕ) (p : ParcelValue) → of_name parcels name ≡ Some p
     → name_is p ≡ name
@@ -180,7 +175,7 @@ module _ (tails : TailsAreLastTouchers) (last : LastToucherIsLast) (day : DayVal
   run-fits w x worker task made f r = subst Fits r.now (record {
     lists = f.lists;
     hands = all-set IsHand w.hands worker (Carries None (filter (goes_on plan) (left_by task.place made.0))) f.hands
-        (all-filter (goes_on plan) (left_by task.place made.0));
+        (all-kept (λ q. goes_on plan q ≡ true) (goes_on plan) (λ q e. e) (left_by task.place made.0));
     docks = f.docks;
   })
 

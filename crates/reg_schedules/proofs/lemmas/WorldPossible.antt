@@ -6,6 +6,8 @@ use Rattle.std.specs.Option.{option_map}
 use Rattle.std.specs.List.{AllByRecursion}
 use Rattle.std.proofs.lemmas.Bool.{eqb-true}
 use Rattle.std.proofs.lemmas.Option.{slice_get_within}
+use Rattle.reg_facts.proofs.lemmas.Members.{In, in_filter, any_in, Found, Missing, search_of, of_any}
+use Rattle.reg_facts.proofs.lemmas.Numbers.{clash}
 use Rattle.reg_base.specs.Footprint.{is_among, EachFootprintIsSound}
 use Rattle.reg_base.specs.Touches.{LastToucherIsLast}
 use Rattle.reg_rules.specs.declared.reply.LogRow.{LogRow}
@@ -25,12 +27,10 @@ use Rattle.reg_schedules.specs.World.{HandValue, Holds, Carries, empty, WorldVal
 use Rattle.reg_schedules.specs.World.{after_event, is_in_dock, is_over}
 use Rattle.reg_schedules.specs.Schedules.{is_to_run, is_to_deliver, is_to_push, has_hand, FindsDock, HandsGoOn}
 use Rattle.reg_facts.specs.Counting.{one_if}
-use Rattle.reg_schedules.proofs.lemmas.Members.{In, in_filter, any_in, Found, Missing, search_of, of_any}
 use Rattle.reg_schedules.proofs.lemmas.Known.{footprint_touches}
-use Rattle.reg_schedules.proofs.lemmas.Tails.{clash}
 use Rattle.reg_schedules.proofs.lemmas.WorldSums.{get-within, at-most-total, one-most, is-true}
-use Rattle.reg_schedules.proofs.lemmas.WorldFits.{name_is, IsHand, Awaits, all-get, head_awaits}
-use Rattle.reg_schedules.proofs.WorldReach.{times, carried, sent, lying, docked, has_come, name_same, found-times}
+use Rattle.reg_schedules.proofs.lemmas.WorldFits.{name_is, IsHand, Awaits, all-get, head_awaits, name_itself}
+use Rattle.reg_schedules.proofs.WorldReach.{times, carried, sent, lying, docked, has_come, found-times}
 use Rattle.reg_schedules.proofs.lemmas.WorldSent.{counted}
 use Rattle.reg_schedules.proofs.lemmas.WorldEnds.{Whole, no-task-over, dock-open}
 
@@ -149,7 +149,7 @@ module _ (laws : StepLaws) (sound : EachFootprintIsSound) (tails : TailsAreLastT
       → times (name_is p) came ≡ 0 → is_not_awaited day plan place came p ≡ false
   still-awaited place came p awaits none =
       ap not (any_in (is_name (name_is p)) (still_awaited day plan place came) (name_is p) there
-      (name_same (name_is p)))
+      (name_itself (name_is p)))
     where
       wanted : In (name_is p) (awaited day plan place)
       wanted = subst (λ t. In (p.value.number, t) (awaited day plan place)) awaits.1
@@ -190,7 +190,7 @@ module _ (laws : StepLaws) (sound : EachFootprintIsSound) (tails : TailsAreLastT
       held : 1 ≤ sent w (name_is p)
       held = omega (
         arith,
-        ap one_if (name_same (name_is p)),
+        ap one_if (name_itself (name_is p)),
         at-most-total (λ k. times (name_is p) (carried k)) w.hands worker (Carries None (p ∷ ps)) h,
       )
 

@@ -5,8 +5,12 @@ use Rattle.std.proofs.Common.{Some, None, arith, refl, sym, ap, ◌∙◌}
 use Rattle.std.specs.Prelude.{slice_get, slice_set}
 use Rattle.std.specs.List.{AllByRecursion}
 use Rattle.std.proofs.lemmas.Bool.{eq-eqb, eqb-true}
+use Rattle.reg_facts.proofs.lemmas.Lists.{all-append}
+use Rattle.reg_facts.proofs.lemmas.Members.{In, of_any, of_filter, in_filter}
+use Rattle.reg_facts.proofs.lemmas.Numbers.{clash}
 use Rattle.reg_base.specs.Footprint.{EachFootprintIsSound}
 use Rattle.reg_base.specs.Touches.{LastToucherIsLast}
+use Rattle.reg_base.proofs.lemmas.Among.{all_among}
 use Rattle.reg_rules.specs.Laws.{StepLaws}
 use Rattle.reg_plan.specs.declared.arrow.Arrow.{Arrow}
 use Rattle.reg_plan.specs.Plans.{PlanValue, IsPlan, inward, outward}
@@ -17,13 +21,12 @@ use Rattle.reg_schedules.specs.Docks.{is_name, ParcelValue, TaskValue, awaited}
 use Rattle.reg_schedules.proofs.lemmas.Needed.{length_needed}
 use Rattle.reg_schedules.specs.World.{Carries, WorldValue, at_place, head_of, arrived, goes_on, is_task}
 use Rattle.reg_facts.specs.Counting.{one_if, total}
-use Rattle.reg_schedules.proofs.lemmas.Members.{In, all_among, of_any, of_filter, in_filter}
 use Rattle.reg_schedules.proofs.lemmas.Known.{footprint_touches}
-use Rattle.reg_schedules.proofs.lemmas.Tails.{clash, is_within, tail_before, inward_tail}
+use Rattle.reg_schedules.proofs.lemmas.Tails.{is_within, tail_before, inward_tail}
 use Rattle.reg_facts.proofs.lemmas.Totals.{total-set, total-append}
 use Rattle.reg_schedules.proofs.lemmas.WorldSums.{at-most-total, one-most}
 use Rattle.reg_schedules.proofs.lemmas.WorldCounts.{dock-of, in_list, in_hand_once}
-use Rattle.reg_schedules.proofs.lemmas.WorldFits.{name_is, Awaits, On, IsTask, all-get, all-append, head_awaits}
+use Rattle.reg_schedules.proofs.lemmas.WorldFits.{name_is, Awaits, On, IsTask, all-get, head_awaits}
 use Rattle.reg_schedules.proofs.WorldReach.{times, carried, sent, has_come}
 use Rattle.reg_schedules.proofs.lemmas.WorldEnds.{Whole, came-many, at-each}
 

@@ -4,6 +4,7 @@ use Rattle.std.proofs.Common.{map, Option, Some, None, arith, refl, sym, ap, sub
 use Rattle.std.specs.Prelude.{slice_get, slice_set, ◌≢◌, is_some, filter}
 use Rattle.std.specs.Option.{option_map, option_map_or}
 use Rattle.std.proofs.lemmas.Bool.{eq-eqb, eqb-true}
+use Rattle.reg_facts.proofs.lemmas.Numbers.{clash}
 use Rattle.reg_base.specs.Footprint.{is_among, EachFootprintIsSound}
 use Rattle.reg_base.specs.Touches.{LastToucherIsLast}
 use Rattle.reg_rules.specs.declared.reply.LogRow.{LogRow}
@@ -21,7 +22,7 @@ use Rattle.reg_schedules.specs.World.{Holds, Carries, empty, WorldValue, at_plac
 use Rattle.reg_schedules.specs.World.{after_delivery, is_in_dock, is_done}
 use Rattle.reg_facts.specs.Counting.{one_if, total}
 use Rattle.reg_schedules.proofs.lemmas.Known.{footprint_touches, footprint_distinct}
-use Rattle.reg_schedules.proofs.lemmas.Tails.{clash, tail_touches, tails_differ, tail_leads_on}
+use Rattle.reg_schedules.proofs.lemmas.Tails.{tail_touches, tails_differ, tail_leads_on}
 use Rattle.reg_facts.proofs.lemmas.Totals.{total-set, total-append}
 use Rattle.reg_schedules.proofs.lemmas.WorldSums.{one-most, place-there, place-else, place-within}
 use Rattle.reg_schedules.proofs.WorldSteps.{Moves, Pushes, Runs, Step, moves, runs, delivers, pushes}

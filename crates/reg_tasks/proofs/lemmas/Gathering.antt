@@ -1,5 +1,5 @@
 -- Rows and parcels in any order, once sorted, are the settled day.
-use Rattle.std.proofs.Common.{◌≡◌, ℕ, suc, ◌+◌, ◌≤◌, inl, inr, Bool, true, false, cond, eqb, leb, ◌||◌, List, [], ◌∷◌}
+use Rattle.std.proofs.Common.{◌≡◌, ℕ, ◌+◌, ◌≤◌, inl, inr, Bool, true, false, cond, eqb, leb, ◌||◌, List, [], ◌∷◌}
 use Rattle.std.proofs.Common.{length, map, Option, Some, None, refl, sym, ap, subst, ◌∙◌, arith}
 use Rattle.std.specs.Prelude.{IsPermutation, IfSome, not}
 use Rattle.std.specs.List.{IsDistinct, AllByRecursion, list_any}
@@ -8,6 +8,8 @@ use Rattle.std.proofs.lemmas.Bool.{eq-eqb, eqb-true, ne_eqb, lt-leb}
 use Rattle.std.proofs.lemmas.Option.{same_Some}
 use Rattle.std.proofs.lemmas.List.Sorted.{IsPermutation-map}
 use Rattle.std.proofs.lemmas.Map.Keys.{IsDistinct-IsPermutation}
+use Rattle.std.specs.Cmp.{nat_eq_equiv}
+use Rattle.reg_facts.proofs.lemmas.Members.{of_member, in_permuted, in_permuted_back, In}
 use Rattle.reg_base.specs.declared.instruction.Instruction.{Instruction}
 use Rattle.reg_base.specs.Footprint.{is_among}
 use Rattle.reg_base.specs.Touches.{is_touched, last_toucher}
@@ -22,27 +24,14 @@ use Rattle.reg_book.specs.Book.{has_row_ahead}
 use Rattle.reg_book.specs.Fold.{rows_of}
 use Rattle.reg_book.specs.Day.{DayValue, IsDay, setting, value_at, log_of, settled_day}
 use Rattle.reg_book.specs.Laws.{ValueIsLastTouchers, SettledAreTouched, SettledIsInOrder, SettledIsOfBook}
+use Rattle.reg_book.proofs.lemmas.Logs.{length-rows_of}
 use Rattle.reg_schedules.specs.Pool.{directory}
 use Rattle.reg_tasks.specs.Gathering.{AreClosing, AreClosingValues, named_accounts, gathered, IsGathered, IsWhole}
 use Rattle.reg_schedules.specs.Schedules.{AreLastValues}
 use Rattle.reg_tasks.specs.declared.naming.Naming.{Ghosts}
 use Rattle.reg_tasks.specs.declared.parcel.Parcel.{Parcel}
 use Rattle.reg_tasks.specs.Parcels.{names_of, values_of}
-use Rattle.reg_schedules.proofs.lemmas.Members.{In}
-use Rattle.reg_tasks.proofs.Rising.{Up, same_rising, all_in, up_distinct, up_sorted, up_rising, in_permuted, in_before}
-
-pub eqb_sym : (x y : ℕ) → eqb x y ≡ eqb y x
-eqb_sym x y = by (eqb x y) refl where
-  by : (b : Bool) → eqb x y ≡ b → eqb x y ≡ eqb y x
-  by true e = e ∙ sym (eq-eqb y x (sym (eqb-true x y e)))
-  by false e = e ∙ sym (ne_eqb y x (λ same. clash (eq-eqb x y (sym same)) e)) where
-    clash : {b : Bool} → b ≡ true → b ≡ false → ⊥
-    clash p q = absurd cc
-
--- the log of a day
-pub size_rows : (c : Setting) (s : State) (n : ℕ) (is : List Instruction) → length (rows_of c s n is) ≡ length is
-size_rows c s n [] = refl
-size_rows c s n (i ∷ is) = ap suc (size_rows c (step c s n i).0 (n + 1) is)
+use Rattle.reg_tasks.proofs.Rising.{Up, same_rising, up_distinct, up_sorted, up_rising}
 
 rows_from : (c : Setting) (s : State) (n : ℕ) (is : List Instruction) (row : LogRow) → In row (rows_of c s n is)
     → n ≤ row.number
@@ -63,10 +52,10 @@ pub rows_are : (day : DayValue) (rows : List LogRow) → IsPermutation (log_of d
 rows_are day rows same sorted =
     let key : LogRow → ℕ = λ row. row.number in
     let up = up_rows (setting day) day.book.accounts (day.batch.base + 1) day.batch.instructions in
-    let distinct = IsDistinct-IsPermutation eqb eqb_sym (map key (log_of day)) (map key rows)
+    let distinct = IsDistinct-IsPermutation eqb nat_eq_equiv.symm (map key (log_of day)) (map key rows)
     (IsPermutation-map key (log_of day) rows same) (up_distinct key (log_of day) up) in
     same_rising key rows (log_of day) (up_sorted key rows sorted distinct) up
-    (λ row m. in_before (log_of day) rows row same m)
+    (λ row m. in_permuted_back (log_of day) rows row same m)
     (λ row m. in_permuted (log_of day) rows row same m)
 
 -- accounts by their numbers
@@ -130,17 +119,17 @@ module _ (settled : SettledAreTouched) (day : DayValue) where
       let key : AccountValue → ℕ = λ v. v.number in
       let up : Up key (settled_day day).accounts =
       up_rising key (settled_day day).accounts (in_order day is_day).rising in
-      let distinct = IsDistinct-IsPermutation eqb eqb_sym (map key before) (map key accounts)
+      let distinct = IsDistinct-IsPermutation eqb nat_eq_equiv.symm (map key before) (map key accounts)
       (IsPermutation-map key before accounts same) closing.once in
       same_rising key accounts (settled_day day).accounts (up_sorted key accounts sorted distinct) up
-      (λ v m. there v (in_before before accounts v same m))
+      (λ v m. there v (in_permuted_back before accounts v same m))
       (λ v m. in_permuted before accounts v same
       (back v (was_touched v (account_in (settled_day day).accounts v up m))))
     where
       there : (v : AccountValue) → In v before → In v (settled_day day).accounts
       there v m = in_account (settled_day day).accounts v.number v
           (is_settled v (sym (closing.touched v.number) ∙ among_in before v m)
-          (all_in (λ (w : AccountValue). last w.number ≡ Some w) before v closing.values m))
+          (of_member (λ (w : AccountValue). last w.number ≡ Some w) before v closing.values m))
 
       back : (v : AccountValue) → (is_touched (directory day) day.batch.instructions v.number ≡ true)
           × (last v.number ≡ Some v) → In v before
@@ -148,7 +137,7 @@ module _ (settled : SettledAreTouched) (day : DayValue) where
           let r = in_among before v.number (closing.touched v.number ∙ known.0) in
           let w : AccountValue = r.0 in
           let is : w ≡ v = same_Some w v
-          (sym (all_in (λ (u : AccountValue). last u.number ≡ Some u) before w closing.values r.1) ∙ ap last r.2
+          (sym (of_member (λ (u : AccountValue). last u.number ≡ Some u) before w closing.values r.1) ∙ ap last r.2
           ∙ known.1) in
           subst (λ u. In u before) is r.1
 
@@ -158,7 +147,7 @@ module _ (settled : SettledAreTouched) (day : DayValue) where
       subst (λ (s : State). IsWhole day.book day.batch rows s) (sym accounts_same)
       (subst (λ rs. IsWhole day.book day.batch rs (settled_day day).accounts) (sym rows_same)
       (record {
-        each = size_rows (setting day) day.book.accounts (day.batch.base + 1) day.batch.instructions;
+        each = length-rows_of (setting day) day.book.accounts (day.batch.base + 1) day.batch.instructions;
         in_order = in_order day is_day;
         of_book = of_book day is_day;
       }))

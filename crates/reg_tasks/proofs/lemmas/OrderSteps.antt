@@ -7,6 +7,8 @@ use Rattle.std.proofs.lemmas.Bool.{cases_eq, eq-eqb, or_left, or_right}
 use Rattle.std.proofs.lemmas.List.{drop_more, take_more, take-append-drop}
 use Rattle.std.proofs.lemmas.List.Sorted.{Contains-permutation}
 use mathlib.Core.Logic.{∥∥₁_elim, ∥∥₁_map}
+use Rattle.reg_facts.proofs.lemmas.Members.{In, in_from, contains_from}
+use Rattle.reg_facts.proofs.lemmas.Numbers.{clash}
 use Rattle.reg_base.specs.Footprint.{is_among}
 use Rattle.reg_base.specs.Rising.{count_up}
 use Rattle.reg_base.specs.Touches.{is_touched, last_toucher, LastToucherIsLast}
@@ -19,9 +21,8 @@ use Rattle.reg_plan.specs.Laws.{TailsAreLastTouchers, NoFaultIsALegalOrder}
 use Rattle.reg_book.specs.Day.{DayValue}
 use Rattle.reg_schedules.specs.Pool.{directory, footprint_at, tail_of}
 use Rattle.reg_tasks.specs.Slots.{opened_accounts, last_of, StandAfter, is_ready, IsAtEnd}
-use Rattle.reg_schedules.proofs.lemmas.Members.{In, in_from, contains_from}
 use Rattle.reg_schedules.proofs.lemmas.Known.{footprint_touches}
-use Rattle.reg_schedules.proofs.lemmas.Tails.{touched_from, touched_somewhere, clash}
+use Rattle.reg_schedules.proofs.lemmas.Tails.{touched_from, touched_somewhere}
 use Rattle.reg_tasks.proofs.lemmas.Slotting.{Name, number_of, opening_touched}
 use Rattle.reg_tasks.proofs.lemmas.Placing.{stands_ready}
 use Rattle.reg_tasks.proofs.lemmas.Standing.{IsFaultless, next_of, later_none, last_push, needed_stands, last_stands}

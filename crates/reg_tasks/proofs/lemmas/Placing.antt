@@ -9,11 +9,11 @@ use Rattle.reg_base.specs.Footprint.{is_among}
 use Rattle.reg_plan.specs.declared.arrow.Arrow.{Arrow}
 use Rattle.reg_schedules.specs.Pool.{tail_in}
 use Rattle.reg_schedules.specs.Docks.{names_needed, is_name}
+use Rattle.reg_schedules.proofs.lemmas.WorldFits.{name_itself, same_name}
 use Rattle.reg_tasks.specs.Names.{has_names}
 use Rattle.reg_tasks.specs.Slots.{laid_at, LacksFor, is_that, is_there}
 use Rattle.reg_tasks.specs.declared.lack.Lack.{Lack}
 use Rattle.reg_tasks.specs.declared.lack.Lack.TheVariants.{Memory, Foreign}
-use Rattle.reg_tasks.proofs.Names.{name_same}
 use Rattle.reg_tasks.proofs.lemmas.Slotting.{Name}
 
 pub lack_from : {P Q : Type 0} (l : Lack) → LacksFor P l → (P → Q) → LacksFor Q l
@@ -54,9 +54,6 @@ taken_needed arrows st (a ∷ more) (n ∷ names) there e =
     ap (λ m. m ∷ names) is ∙ ap (λ ms. (a, tail_in arrows a) ∷ ms)
     (taken_needed arrows st more names (λ b e. there b (or_right (eqb a b) (is_among more b) e)) tail)
 
-name_itself : (n : ℕ × ℕ) → is_name n n ≡ true
-name_itself n = and_from (eqb n.0 n.0) (eqb n.1 n.1) (eq-eqb n.0 n.0 refl) (eq-eqb n.1 n.1 refl)
-
 has_all : (names wanted : List (ℕ × ℕ))
     → ((w : ℕ × ℕ) → list_any (λ n. is_name n w) wanted ≡ true → list_any (λ n. is_name n w) names ≡ true)
     → list_all (λ w. list_any (λ n. is_name n w) names) wanted ≡ true
@@ -75,7 +72,7 @@ has_themselves names wanted same =
 -- what is there
 there_is : (n : ℕ × ℕ) (o : Name) → is_that n o ≡ true → o ≡ Some n
 there_is n None e = absurd cc
-there_is n (Some m) e = ap Some (name_same m n e)
+there_is n (Some m) e = ap Some (same_name m n e)
 
 is_there_from : (n : ℕ × ℕ) (o : Name) → o ≡ Some n → is_that n o ≡ true
 is_there_from n o e = ap (is_that n) e ∙ name_itself n

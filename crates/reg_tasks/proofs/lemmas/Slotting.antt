@@ -1,16 +1,18 @@
 -- Slots: finding one, and what stands in the slots after one has changed.
-use Rattle.std.proofs.Common.{◌≡◌, ℕ, zero, suc, ◌<◌, ◌≤◌, inl, inr, Bool, true, false, cond, eqb, ◌&&◌, ◌||◌, List, []}
+use Rattle.std.proofs.Common.{◌≡◌, ℕ, zero, suc, ◌<◌, inl, inr, Bool, true, false, cond, eqb, ◌&&◌, ◌||◌, List, []}
 use Rattle.std.proofs.Common.{◌∷◌, ◌++◌, length, get_or, set, map, Option, Some, None, Err, ⊎_elim, append_assoc, refl}
-use Rattle.std.proofs.Common.{sym, ap, ◌∙◌, arith, tests}
+use Rattle.std.proofs.Common.{sym, ap, ◌∙◌, arith}
 use Rattle.std.specs.Option.{option_map}
 use Rattle.std.specs.Prelude.{is_some, Contains}
 use Rattle.std.specs.List.{HoldsAt, IsDistinct, AllByRecursion, list_all}
 use Rattle.std.specs.List.Sorted.{IsBinarySearchResult}
 use Rattle.std.specs.Cmp.{ranked}
-use Rattle.std.specs.Ordering.{nat_cmp, ordering_index}
+use Rattle.std.specs.Ordering.{nat_cmp}
 use Rattle.std.specs.declared.cmp.Ordering.TheVariants.{Less, Equal, Greater}
 use Rattle.std.proofs.lemmas.List.{map-append}
 use Rattle.std.proofs.lemmas.Bool.{eq-eqb, eqb-true, ne_eqb, cases_lt, and_parts}
+use Rattle.reg_facts.proofs.lemmas.Members.{In, contains_from}
+use Rattle.reg_facts.proofs.lemmas.Numbers.{ordering-higher}
 use Rattle.reg_base.specs.Footprint.{is_among}
 use Rattle.reg_base.specs.Rising.{IsRising}
 use Rattle.reg_base.specs.declared.instruction.Instruction.{Instruction}
@@ -22,15 +24,10 @@ use Rattle.reg_schedules.proofs.lemmas.Tails.{touched_from}
 use Rattle.reg_tasks.specs.Slots.{opened_accounts, name_of, standing_in}
 use Rattle.reg_tasks.specs.declared.naming.Naming.{Ghosts}
 use Rattle.reg_tasks.specs.declared.parcel.Parcel.{Parcel}
-use Rattle.reg_schedules.proofs.lemmas.Members.{In, contains_from}
 use Rattle.reg_tasks.proofs.Rising.{Up, up_rising, ascending}
 
 abbrev pub number_of : Opening → ℕ
 number_of opening = opening.account
-
--- finding a slot
-higher : (x a b : ℕ) → a ≤ b → ordering_index (nat_cmp a x) ≤ ordering_index (nat_cmp b x)
-higher x a b le = grind (arith, tests)
 
 pub among_opening : (os : List Opening) (a : ℕ) → is_among (opened_accounts os) a ≡ true → (o : Opening) × In o os
     × (o.account ≡ a)
@@ -48,7 +45,7 @@ search_missed os a i rising searched = by (is_among (opened_accounts os) a) refl
   by : (c : Bool) → is_among (opened_accounts os) a ≡ c → c ≡ false
   by false e = refl
   by true e =
-      let parted = searched (λ p q d le lt. higher a (get_or os p d).account (get_or os q d).account
+      let parted = searched (λ p q d le lt. ordering-higher a (get_or os p d).account (get_or os q d).account
       (ascending number_of os (up_rising number_of os rising) p q d le lt)) in
       let (o, there, same) = among_opening os a e in
       let at = contains_from os o there in

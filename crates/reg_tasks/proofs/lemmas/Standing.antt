@@ -7,8 +7,12 @@ use Rattle.std.specs.Prelude.{find}
 use Rattle.std.specs.Option.{option_map, option_or}
 use Rattle.std.proofs.lemmas.Bool.{cases_eq, cases_lt, eq-eqb, ne_eqb, le-leb, lt-leb, leb-true, leb-false, and_parts}
 use Rattle.std.proofs.lemmas.List.{append-nil}
+use Rattle.std.proofs.lemmas.Bool.{not-false}
+use Rattle.reg_facts.proofs.lemmas.Members.{In, Found, Missing, search_of}
+use Rattle.reg_facts.proofs.lemmas.Numbers.{clash}
 use Rattle.reg_base.specs.Footprint.{is_among}
 use Rattle.reg_base.specs.Touches.{is_touched, last_toucher, IsLastToucher, LastToucherIsLast}
+use Rattle.reg_base.proofs.lemmas.Among.{among_push}
 use Rattle.reg_plan.specs.declared.arrow.Arrow.{Arrow}
 use Rattle.reg_plan.specs.declared.order.OrderFault.{OrderFault}
 use Rattle.reg_plan.specs.declared.order.OrderFault.TheVariants.{Number, Repeated}
@@ -19,13 +23,7 @@ use Rattle.reg_plan.specs.Laws.{TailsAreLastTouchers}
 use Rattle.reg_book.specs.Day.{DayValue}
 use Rattle.reg_schedules.specs.Pool.{directory, tail_of}
 use Rattle.reg_tasks.specs.Slots.{last_of}
-use Rattle.reg_schedules.proofs.lemmas.Members.{In, Found, Missing, search_of, among_push}
 use Rattle.reg_schedules.proofs.lemmas.Tails as tails
-use Rattle.reg_schedules.proofs.lemmas.Tails.{clash}
-
-not_false : (b : Bool) → not b ≡ false → b ≡ true
-not_false true e = refl
-not_false false e = absurd cc
 
 -- a number after others that has no fault
 pub record IsFaultless (arrows : List Arrow) (places : ℕ) (done : List ℕ) (x : ℕ) : Type 0 where
@@ -121,7 +119,7 @@ module _ (tail_law : TailsAreLastTouchers) (last_law : LastToucherIsLast) (day :
       let (w, there, from) = tails.tail_inward tail_law last_law (directory day) day.batch.instructions plan made a x on
       one in
       ap (is_among done) (sym from)
-      ∙ not_false (is_among done w.from)
+      ∙ not-false (is_among done w.from)
       (none_in w there (search_of (λ (v : Arrow). not (is_among done v.from)) (inward plan.arrows x)))
     where
       none_in : (w : Arrow) → In w (inward plan.arrows x)

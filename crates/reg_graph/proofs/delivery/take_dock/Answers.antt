@@ -2,10 +2,11 @@ use Rattle.std.proofs.Common.{◌≡◌, ◌-◌, ◌≤◌, ◌<◌, length, No
 use Rattle.std.specs.Prelude.{slice_set, IfSome, vec_capacity}
 use Rattle.std.specs.Option.{option_map, option_map_or}
 use Rattle.std.proofs.lemmas.List.{map-set}
+use Rattle.reg_facts.proofs.lemmas.Lists.{slice_get-view}
 use Rattle.reg_schedules.specs.Pool.{footprint_at}
 use Rattle.reg_tasks.specs.Parcels.{parcels_of}
 use Rattle.reg_graph.specs.WorldParts.{docks_of, DocksHaveRoom}
-use Rattle.reg_graph.proofs.PartFacts.{view-at, placed, at-placed}
+use Rattle.reg_graph.proofs.PartFacts.{placed, at-placed}
 use Rattle.reg_graph.proofs.DockRoom.{room-at, room-gone}
 use Rattle.reg_graph.proofs.delivery.take_dock.Goals as goal
 
@@ -16,7 +17,7 @@ returns-clause-came g c =
     let here : c.args.place - 1 < length docks = search rules in
     ap (option_map (λ came. parcels_of came.items)) c.take.ensures.value
     ∙ sym (ap (λ o. option_map_or (λ d. d) o None) (at-placed (docks_of docks) c.args.place low
-    ∙ view-at (option_map (λ came. parcels_of came.items)) docks (c.args.place - 1) c.index_mut.result.now here
+    ∙ slice_get-view (option_map (λ came. parcels_of came.items)) docks (c.args.place - 1) c.index_mut.result.now here
     c.index_mut.ensures.value))
 
 pub returns-clause-left : goal.returns-clause-left

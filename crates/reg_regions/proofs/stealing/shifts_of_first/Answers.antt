@@ -1,9 +1,9 @@
-use Rattle.std.proofs.Common.{◌≡◌, ◌+◌, ◌++◌, ◌∷◌, [], arith, sym, ap, ◌∙◌}
+use Rattle.std.proofs.Common.{◌+◌, ◌++◌, ◌∷◌, [], arith, sym, ap, ◌∙◌}
 use Rattle.std.proofs.lemmas.List.{map-append}
 use Rattle.reg_facts.specs.Counting.{times}
 use Rattle.reg_regions.specs.declared.stealing.shift.WorkShift.{WorkShift}
-use Rattle.reg_regions.specs.Stealing.{shift_workers, times_in_shifts, first_numbers, settled_places}
-use Rattle.reg_regions.proofs.Tallied.{shifts-more, numbers-next, times-append}
+use Rattle.reg_regions.specs.Stealing.{shift_workers, times_in_shifts}
+use Rattle.reg_regions.proofs.Tallied.{shifts-more, numbers-next}
 use Rattle.reg_regions.proofs.stealing.shifts_of_first.Goals as goal
 
 pub loop-worker-preserved : goal.loop-worker-preserved

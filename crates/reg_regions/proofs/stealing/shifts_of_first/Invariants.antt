@@ -1,4 +1,4 @@
-use Rattle.std.proofs.Common.{◌≡◌, ◌≤◌, ℕ}
+use Rattle.std.proofs.Common.{◌≡◌, ℕ}
 use Rattle.reg_facts.specs.Counting.{times}
 use Rattle.reg_regions.specs.Stealing.{settled_places, shift_workers, first_numbers, times_in_shifts}
 use Rattle.reg_regions.proofs.stealing.shifts_of_first.Given as goal

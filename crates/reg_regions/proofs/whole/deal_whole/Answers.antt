@@ -2,10 +2,10 @@ use Rattle.std.proofs.Common.{◌≡◌, ◌∷◌, [], rules, length, sym, ap, 
 use Rattle.reg_base.specs.Rising.{count_up}
 use Rattle.reg_rules.specs.State.{numbers}
 use Rattle.reg_base.specs.Directory.{DirectoryValue}
+use Rattle.reg_rules.proofs.lemmas.Accounts.{length-numbers}
 use Rattle.reg_book.specs.Indexes.{AllStandAt, index_lists}
 use Rattle.reg_regions.specs.declared.dealing.Deal.{Deal}
 use Rattle.reg_regions.specs.Homes.{AreHome, AreAllHome}
-use Rattle.reg_regions.proofs.Found.{size-numbers}
 use Rattle.reg_regions.proofs.Placing.{home-whole, home-alone}
 use Rattle.reg_regions.proofs.whole.deal_whole.Goals as goal
 
@@ -28,4 +28,4 @@ returns-clause-home g c =
     let deal : Deal = record { size = length c.args.accounts.now; places = places; indexes = indexes } in
     let items : c.push.new.self.items ≡ deal ∷ [] = search rules in
     subst (AreAllHome setting batch ns) (sym items)
-    (home-alone setting batch ns deal (sym (size-numbers c.args.accounts.now)) home)
+    (home-alone setting batch ns deal (sym (length-numbers c.args.accounts.now)) home)

@@ -1,7 +1,7 @@
 use Rattle.std.proofs.Common.{ap, sym, ◌∙◌}
 use Rattle.std.specs.Prelude.{not}
 use Rattle.std.proofs.lemmas.Bool.{not-true}
-use Rattle.reg_tasks.proofs.Running.{none_ahead}
+use Rattle.reg_account.proofs.lemmas.Rows.{none_ahead}
 use Rattle.reg_tasks.proofs.lemmas.Gathering.{behind_not_ahead}
 use Rattle.reg_tasks.proofs.gather.is_committable.Goals as goal
 

@@ -2,10 +2,9 @@ use Rattle.std.proofs.Common.{◌≡◌, ◌+◌, ◌++◌, rules, arith, Some, 
 use Rattle.std.specs.List.{AllByRecursion}
 use Rattle.std.proofs.Props.{props}
 use mathlib.Core.Logic.{∥∥₁_elim, ∥∥₁_map}
+use Rattle.reg_facts.proofs.lemmas.Members.{of_each_member, In}
 use Rattle.reg_book.specs.Day.{DayValue, row_at}
-use Rattle.reg_schedules.proofs.lemmas.Members.{In}
 use Rattle.reg_tasks.specs.Gathering.{replies_by_number, replies_from}
-use Rattle.reg_tasks.proofs.Rising.{all_from_in}
 use Rattle.reg_tasks.proofs.Collecting.{IsLogged, rows_logged, reply_more}
 use Rattle.reg_tasks.proofs.gather.with_places.Goals as goal
 
@@ -13,7 +12,7 @@ pub loop-row-init : goal.loop-row-init
 loop-row-init g c = record {
   next = search rules;
   ends = search rules;
-  right = λ d e. all_from_in (λ row. ∥ IsLogged d row ∥₁) _ (λ row m. ∥∥₁_map (c.requires.rows d e) (λ same.
+  right = λ d e. of_each_member (λ row. ∥ IsLogged d row ∥₁) _ (λ row m. ∥∥₁_map (c.requires.rows d e) (λ same.
       rows_logged d c.args.rows.items same row (subst (In row) c.into_iter-row-iterator.ensures.into_iter_gives.0 m)));
   room = search rules;
   rows = search rules;

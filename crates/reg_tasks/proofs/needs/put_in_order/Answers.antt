@@ -3,10 +3,11 @@ use Rattle.std.specs.Prelude.{IsPermutation}
 use Rattle.std.proofs.lemmas.List.Sorted.{IsPermutation-trans}
 use Rattle.reg_schedules.specs.Pool.{tail_in}
 use Rattle.reg_schedules.specs.Docks.{names_needed}
+use Rattle.reg_schedules.proofs.lemmas.WorldFits.{same_name}
 use Rattle.reg_tasks.specs.Names.{FindsFrom}
 use Rattle.reg_tasks.specs.Parcels.{names_of}
 use Rattle.reg_tasks.proofs.Names.{InOrder, in_order, never_missing, fetched, all_in_order, needed_at, get_or_any}
-use Rattle.reg_tasks.proofs.Names.{name_same, names_size}
+use Rattle.reg_tasks.proofs.Names.{names_size}
 use Rattle.reg_tasks.proofs.needs.put_in_order.Goals as goal
 use Rattle.reg_tasks.proofs.needs.put_in_order.Goals.{in-Some, in_default}
 
@@ -34,7 +35,7 @@ loop-index-preserved g c =
             c.index-accounts-index.result,
             c.tail_in.result,
           ) there.1
-          ∙ name_same (get_or (names_of now) w.in-Some.other (c.index-accounts-index.result, c.tail_in.result))
+          ∙ same_name (get_or (names_of now) w.in-Some.other (c.index-accounts-index.result, c.tail_in.result))
           (c.index-accounts-index.result, c.tail_in.result) there.2 ∙ name_is in
           record {
             moved = IsPermutation-trans c.args.parcels.now now c.match-found.parcels c.loop-index.invariant.moved moved;

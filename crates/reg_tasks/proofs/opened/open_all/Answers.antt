@@ -1,7 +1,7 @@
 use Rattle.std.proofs.Common.{◌≡◌, ◌++◌, ◌∷◌, ◌+◌, [], Some, take, map, sym, ap, ◌∙◌, rules}
 use Rattle.std.proofs.lemmas.List.{take_more, map-append}
 use Rattle.reg_rules.specs.State.{account}
-use Rattle.reg_schedules.proofs.lemmas.Needed.{number_found}
+use Rattle.reg_rules.proofs.lemmas.Accounts.{account-number}
 use Rattle.reg_tasks.specs.Parcels.{names_of}
 use Rattle.reg_tasks.proofs.opened.open_all.Goals as goal
 
@@ -15,7 +15,7 @@ loop-account-preserved g c =
     let pushed : c.push.new.self.items ≡ c.loop-account.parcels.items ++ p ∷ [] = search rules in
     let more : take (k + 1) accounts ≡ take k accounts ++ a ∷ [] =
     take_more accounts k a c.loop-account-test.true ∙ ap (λ x. take k accounts ++ x ∷ []) (sym c.account-item.is) in
-    let number : p.value.number ≡ a = number_found book a p.value c.in_ok-parcel.ensures.value in
+    let number : p.value.number ≡ a = account-number book a p.value c.in_ok-parcel.ensures.value in
     let after : p.after ≡ 0 = c.in_ok-parcel.ensures.after in
     record {
       names =

@@ -3,9 +3,9 @@ use Rattle.std.proofs.Props.{props}
 use Rattle.std.proofs.lemmas.List.{drop_more}
 use Rattle.std.specs.Option.{option_map}
 use mathlib.Core.Logic.{∥∥₁_elim}
+use Rattle.reg_rules.proofs.lemmas.Accounts.{account-number}
 use Rattle.reg_book.specs.Book.{directory_of}
 use Rattle.reg_tasks.specs.Slots.{name_of}
-use Rattle.reg_schedules.proofs.lemmas.Needed.{number_found}
 use Rattle.reg_tasks.proofs.lemmas.Slotting.{opening_touched, opened_more, unopened}
 use Rattle.reg_tasks.proofs.slot.open_slots.Goals as goal
 
@@ -31,7 +31,7 @@ loop-opening-preserved g c =
     let at = drop_more openings k o c.loop-opening-test.true
     ∙ ap (λ w. w ∷ drop (k + 1) openings) (sym c.opening-item.is) in
     let pushed : c.push.new.self.items ≡ c.loop-opening.slots.items ++ Some c.in_ok-parcel.parcel ∷ [] = search rules in
-    let number = number_found c.args.context.now.book.now.accounts o.account c.in_ok-parcel.parcel.value
+    let number = account-number c.args.context.now.book.now.accounts o.account c.in_ok-parcel.parcel.value
     c.in_ok-parcel.ensures.value in
     ap (λ ss. map (option_map name_of) ss ++ map unopened (drop (k + 1) openings)) pushed
     ∙ opened_more c.loop-opening.slots.items c.in_ok-parcel.parcel o (drop (k + 1) openings)

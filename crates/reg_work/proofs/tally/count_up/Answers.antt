@@ -1,12 +1,13 @@
 use Rattle.std.proofs.Common.{arith, ◌≡◌, ◌++◌, ◌∷◌, [], append-nil, append_assoc, length, ap, sym, ◌∙◌, inr}
 use Rattle.std.proofs.lemmas.List.{nil_from_length}
 use Rattle.reg_facts.specs.Counting.{times, once}
+use Rattle.reg_facts.proofs.lemmas.Times.{times-append}
 use Rattle.reg_claim.specs.declared.views.SeatView.{SeatView}
 use Rattle.reg_claim.specs.Seats.{known}
 use Rattle.reg_work.specs.Parts.{joined}
 use Rattle.reg_work.specs.Shifts.{workers_of}
 use Rattle.reg_work.specs.EndedWorkers.{ended_numbers, all_done, all_closing}
-use Rattle.reg_work.proofs.Counting.{times-append, times-mapped}
+use Rattle.reg_work.proofs.Counting.{times-mapped}
 use Rattle.reg_work.proofs.Ending.{joined-sees, all-finished, was-there}
 use Rattle.reg_work.proofs.tally.count_up.Goals as goal
 

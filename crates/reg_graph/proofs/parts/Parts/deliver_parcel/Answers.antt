@@ -2,12 +2,13 @@ use Rattle.std.proofs.Common.{◌≡◌, ◌<◌, length, map, Some, None, sym, 
 use Rattle.std.specs.Prelude.{slice_get, slice_set}
 use Rattle.std.proofs.lemmas.List.{map-set}
 use Rattle.std.proofs.Math.Seq.{map-set_same}
+use Rattle.reg_facts.proofs.lemmas.Lists.{slice_get-view}
 use Rattle.reg_book.specs.Day.{day_of}
 use Rattle.reg_graph.specs.declared.hand.Hand.TheVariants as hand
 use Rattle.reg_schedules.specs.World.{Carries, delivered_by}
 use Rattle.reg_tasks.specs.Parcels.{parcels_of}
 use Rattle.reg_graph.specs.WorldParts.{hand_of, world_of}
-use Rattle.reg_graph.proofs.PartFacts.{view-at, with-one, set-twice, set-back, deliver-anew, why-delivery}
+use Rattle.reg_graph.proofs.PartFacts.{with-one, set-twice, set-back, deliver-anew, why-delivery}
 use Rattle.reg_graph.proofs.parts.Parts.deliver_parcel.Goals as goal
 
 pub deliver_held-requires-clause-sent : goal.deliver_held-requires-clause-sent
@@ -16,7 +17,7 @@ deliver_held-requires-clause-sent g c =
     let w = world_of p in
     let k = c.args.worker in
     let here : k < length p.hands.items = search rules in
-    let was = view-at hand_of p.hands.items k c.index_mut.result.now here c.index_mut.ensures.value in
+    let was = slice_get-view hand_of p.hands.items k c.index_mut.result.now here c.index_mut.ensures.value in
     let qs = parcels_of c.in-Carries.parcels.items in
     let held : slice_get w.hands k ≡ Some (Carries None qs) = was
     ∙ ap (λ h. Some (hand_of h)) (sym c.replace.ensures.value ∙ c.in-Carries.is
@@ -29,7 +30,7 @@ deliver_held-requires-clause-room g c =
     let w = world_of p in
     let k = c.args.worker in
     let here : k < length p.hands.items = search rules in
-    let was = view-at hand_of p.hands.items k c.index_mut.result.now here c.index_mut.ensures.value in
+    let was = slice_get-view hand_of p.hands.items k c.index_mut.result.now here c.index_mut.ensures.value in
     let qs = parcels_of c.in-Carries.parcels.items in
     let held : slice_get w.hands k ≡ Some (Carries None qs) = was
     ∙ ap (λ h. Some (hand_of h)) (sym c.replace.ensures.value ∙ c.in-Carries.is
@@ -42,7 +43,7 @@ returns-in-None-clause-answer g c =
     let w = world_of p in
     let k = c.args.worker in
     let here : k < length p.hands.items = search rules in
-    let was = view-at hand_of p.hands.items k c.index_mut.result.now here c.index_mut.ensures.value in
+    let was = slice_get-view hand_of p.hands.items k c.index_mut.result.now here c.index_mut.ensures.value in
     let qs = parcels_of c.in-Carries.parcels.items in
     let held : slice_get w.hands k ≡ Some (Carries None qs) = was
     ∙ ap (λ h. Some (hand_of h)) (sym c.replace.ensures.value ∙ c.in-Carries.is
@@ -66,7 +67,7 @@ returns-in-Some-clause-answer g c =
     let w = world_of p in
     let k = c.args.worker in
     let here : k < length p.hands.items = search rules in
-    let was = view-at hand_of p.hands.items k c.index_mut.result.now here c.index_mut.ensures.value in
+    let was = slice_get-view hand_of p.hands.items k c.index_mut.result.now here c.index_mut.ensures.value in
     let plan = c.args.context.now.plan in
     let day = day_of c.args.context.now.book.now c.args.context.now.rules.now c.args.context.now.batch.now in
     let is = c.in-Carries.is ∙ ap (λ r. hand.Carries r c.in-Carries.parcels) c.in-Some.is in (
@@ -84,7 +85,7 @@ returns-in-Holds-clause-answer g c =
     let w = world_of p in
     let k = c.args.worker in
     let here : k < length p.hands.items = search rules in
-    let was = view-at hand_of p.hands.items k c.index_mut.result.now here c.index_mut.ensures.value in
+    let was = slice_get-view hand_of p.hands.items k c.index_mut.result.now here c.index_mut.ensures.value in
     let plan = c.args.context.now.plan in
     let day = day_of c.args.context.now.book.now c.args.context.now.rules.now c.args.context.now.batch.now in (
       ap (λ hs. record w { hands = map hand_of hs })

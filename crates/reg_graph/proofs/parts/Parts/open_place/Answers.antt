@@ -3,12 +3,12 @@ use Rattle.std.proofs.Common.{ap, subst, ◌∙◌, arith, rules}
 use Rattle.std.specs.Prelude.{slice_set}
 use Rattle.std.proofs.lemmas.Bool.{eq-eqb, ne_eqb}
 use Rattle.std.proofs.lemmas.List.{map-set, map-append, length-map}
+use Rattle.reg_facts.proofs.lemmas.Lists.{slice_get-view}
 use Rattle.reg_book.specs.Day.{day_of}
 use Rattle.reg_schedules.specs.Docks.{TaskValue, complete}
 use Rattle.reg_schedules.specs.World.{opened_at, dealt, before_some}
 use Rattle.reg_tasks.specs.Tasks.{task_of}
 use Rattle.reg_graph.specs.WorldParts.{DocksHaveRoom, task_lists}
-use Rattle.reg_graph.proofs.PartFacts.{view-at}
 use Rattle.reg_graph.proofs.Dealing.{deal-one}
 use Rattle.reg_graph.proofs.DockRoom.{room-more}
 use Rattle.reg_graph.proofs.parts.Parts.open_place.Goals as goal
@@ -35,7 +35,8 @@ dealt-next g c next more turn =
     ap (dealt next more) (map-set (λ tasks. map task_of tasks.items) lists c.args.worker c.push_back.new.self
     ∙ ap (slice_set (task_lists lists) c.args.worker) pushed)
     ∙ deal-one c.args.worker next (task_of c.in-Ok.task) more (task_lists lists) (map task_of list.items)
-    (view-at (λ tasks. map task_of tasks.items) lists c.args.worker list c.requires.there c.index_mut.ensures.value)
+    (slice_get-view (λ tasks. map task_of tasks.items) lists c.args.worker list c.requires.there
+    c.index_mut.ensures.value)
     turn
     ∙ ap (λ o. dealt c.args.worker (before_some o more) (task_lists lists)) (sym done)
 

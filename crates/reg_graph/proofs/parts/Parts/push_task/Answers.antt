@@ -4,19 +4,21 @@ use Rattle.std.specs.Option.{option_map}
 use Rattle.std.specs.VecDeque.{deque_len, deque_capacity}
 use Rattle.std.proofs.lemmas.List.{map-set, map-append, length-map}
 use Rattle.std.proofs.Math.Seq.{map-set_same}
+use Rattle.reg_facts.proofs.lemmas.Lists.{slice_get-view}
 use Rattle.reg_graph.specs.declared.hand.Hand.TheVariants as hand
 use Rattle.reg_schedules.specs.World.{Carries, pushed_by}
 use Rattle.reg_tasks.specs.Parcels.{parcels_of}
 use Rattle.reg_tasks.specs.Tasks.{task_of}
 use Rattle.reg_graph.specs.WorldParts.{hand_of, world_of}
-use Rattle.reg_graph.proofs.PartFacts.{view-at, with-one, list-there}
+use Rattle.reg_graph.proofs.PartFacts.{with-one, list-there}
 use Rattle.reg_graph.proofs.parts.Parts.push_task.Goals as goal
 
 pub returns-in_default-clause-answer : goal.returns-in_default-clause-answer
 returns-in_default-clause-answer g c =
     let p = c.args.self.now in
     let here : c.args.worker < length p.hands.items = search rules in
-    let held = view-at hand_of p.hands.items c.args.worker c.index_mut.result.now here c.index_mut.ensures.value in (
+    let held = slice_get-view hand_of p.hands.items c.args.worker c.index_mut.result.now here
+    c.index_mut.ensures.value in (
       ap (λ hs. record (world_of p) { hands = hs })
           (map-set_same hand_of p.hands.items c.args.worker c.index_mut.result.now c.index_mut.result.now
           (ap hand_of c.index_mut.ensures.value)),
@@ -30,7 +32,8 @@ returns-in_default-take-clause-answer g c =
     let here : c.args.worker < length p.hands.items = search rules in
     let none = sym c.in_default-take.ensures.value in
     let is = c.in-Carries.is ∙ ap (λ r. hand.Carries r c.in-Carries.field-1) none in
-    let held = view-at hand_of p.hands.items c.args.worker c.index_mut.result.now here c.index_mut.ensures.value in (
+    let held = slice_get-view hand_of p.hands.items c.args.worker c.index_mut.result.now here
+    c.index_mut.ensures.value in (
       ap (λ hs. record (world_of p) { hands = hs })
           (map-set_same hand_of p.hands.items c.args.worker (hand.Carries c.take.new.self c.in-Carries.field-1)
           c.index_mut.result.now
@@ -47,9 +50,9 @@ push_back_reserved-requires g c =
     let here : c.args.worker < length p.hands.items = search rules in
     let many : c.args.worker < length p.lists.items = omega (arith, here, p.workers) in
     let is = c.in-Carries.is ∙ ap (λ r. hand.Carries r c.in-Carries.field-1) (sym c.in-Some.ensures.value) in
-    let held = view-at hand_of p.hands.items c.args.worker c.index_mut.result.now here c.index_mut.ensures.value
+    let held = slice_get-view hand_of p.hands.items c.args.worker c.index_mut.result.now here c.index_mut.ensures.value
     ∙ ap (λ h. Some (hand_of h)) is in
-    let listed = view-at (λ tasks. map task_of tasks.items) p.lists.items c.args.worker list many
+    let listed = slice_get-view (λ tasks. map task_of tasks.items) p.lists.items c.args.worker list many
     c.index_mut-2.ensures.value in
     let size : length list.items ≡ deque_len list = search rules in
     let room : length p.rows.items ≤ deque_capacity list =
@@ -64,9 +67,9 @@ returns-clause-answer g c =
     let here : c.args.worker < length p.hands.items = search rules in
     let many : c.args.worker < length p.lists.items = omega (arith, here, p.workers) in
     let is = c.in-Carries.is ∙ ap (λ r. hand.Carries r c.in-Carries.field-1) (sym c.in-Some.ensures.value) in
-    let held = view-at hand_of p.hands.items c.args.worker c.index_mut.result.now here c.index_mut.ensures.value
+    let held = slice_get-view hand_of p.hands.items c.args.worker c.index_mut.result.now here c.index_mut.ensures.value
     ∙ ap (λ h. Some (hand_of h)) is in
-    let listed = view-at (λ tasks. map task_of tasks.items) p.lists.items c.args.worker list many
+    let listed = slice_get-view (λ tasks. map task_of tasks.items) p.lists.items c.args.worker list many
     c.index_mut-2.ensures.value in
     let more = ap (map task_of) c.push_back_reserved.ensures.items
     ∙ map-append task_of list.items (c.in-Some.task ∷ []) in

@@ -2,26 +2,29 @@ use Rattle.std.proofs.Common.{◌<◌, length, map, Some, sym, subst, ap, ◌∙
 use Rattle.std.specs.Prelude.{slice_set, IsOk}
 use Rattle.std.proofs.lemmas.List.{map-set}
 use Rattle.std.proofs.Math.Seq.{map-set_same}
+use Rattle.reg_facts.proofs.lemmas.Lists.{slice_get-view}
 use Rattle.reg_book.specs.Day.{day_of}
 use Rattle.reg_graph.specs.declared.hand.Hand.TheVariants as hand
 use Rattle.reg_schedules.specs.World.{Holds, run_by}
 use Rattle.reg_tasks.specs.Tasks.{task_of}
 use Rattle.reg_graph.specs.WorldParts.{hand_of, world_of}
-use Rattle.reg_graph.proofs.PartFacts.{view-at, with-one, set-twice, set-back, run-anew, can-run, why-run}
+use Rattle.reg_graph.proofs.PartFacts.{with-one, set-twice, set-back, run-anew, can-run, why-run}
 use Rattle.reg_graph.proofs.parts.Parts.run_task.Goals as goal
 
 pub run_held-requires-clause-from_one : goal.run_held-requires-clause-from_one
 run_held-requires-clause-from_one g c =
     let here : c.args.worker < length c.args.self.now.hands.items = search rules in
     (c.requires.within (task_of c.in-Holds.task)
-    (view-at hand_of c.args.self.now.hands.items c.args.worker c.index_mut.result.now here c.index_mut.ensures.value
+    (slice_get-view hand_of c.args.self.now.hands.items c.args.worker c.index_mut.result.now here
+    c.index_mut.ensures.value
     ∙ ap (λ h. Some (hand_of h)) (sym c.replace.ensures.value ∙ c.in-Holds.is))).0
 
 pub run_held-requires-clause-within : goal.run_held-requires-clause-within
 run_held-requires-clause-within g c =
     let here : c.args.worker < length c.args.self.now.hands.items = search rules in
     (c.requires.within (task_of c.in-Holds.task)
-    (view-at hand_of c.args.self.now.hands.items c.args.worker c.index_mut.result.now here c.index_mut.ensures.value
+    (slice_get-view hand_of c.args.self.now.hands.items c.args.worker c.index_mut.result.now here
+    c.index_mut.ensures.value
     ∙ ap (λ h. Some (hand_of h)) (sym c.replace.ensures.value ∙ c.in-Holds.is))).1
 
 pub returns-in-Holds-clause-answer : goal.returns-in-Holds-clause-answer
@@ -33,7 +36,7 @@ returns-in-Holds-clause-answer g c =
     let day = day_of c.args.context.now.book.now c.args.context.now.rules.now c.args.context.now.batch.now in
     let task = task_of c.in-Holds.task in
     let here : k < length p.hands.items = search rules in
-    let held = view-at hand_of p.hands.items k c.index_mut.result.now here c.index_mut.ensures.value
+    let held = slice_get-view hand_of p.hands.items k c.index_mut.result.now here c.index_mut.ensures.value
     ∙ ap (λ h. Some (hand_of h)) (sym c.replace.ensures.value ∙ c.in-Holds.is) in
     let bounds = c.requires.within task held in
     let hands = map-set hand_of p.hands.items k c.replace.new.dest in
@@ -54,7 +57,7 @@ returns-in-Carries-clause-answer g c =
     let plan = c.args.context.now.plan in
     let day = day_of c.args.context.now.book.now c.args.context.now.rules.now c.args.context.now.batch.now in
     let here : k < length p.hands.items = search rules in
-    let held = view-at hand_of p.hands.items k c.index_mut.result.now here c.index_mut.ensures.value
+    let held = slice_get-view hand_of p.hands.items k c.index_mut.result.now here c.index_mut.ensures.value
     ∙ ap (λ h. Some (hand_of h)) (sym c.replace.ensures.value ∙ c.in-Carries.is) in (
       ap (λ hs. record w { hands = map hand_of hs })
           (set-twice p.hands.items k c.replace.new.dest (hand.Carries c.in-Carries.ready c.in-Carries.parcels))

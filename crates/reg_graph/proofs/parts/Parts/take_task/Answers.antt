@@ -1,12 +1,13 @@
 use Rattle.std.proofs.Common.{◌≡◌, ◌<◌, length, map, Some, Ok, refl, sym, ap, ◌∙◌, rules}
 use Rattle.std.specs.Prelude.{slice_set}
 use Rattle.std.specs.VecDeque.{deque_len}
-use Rattle.std.proofs.lemmas.List.{map-set}
+use Rattle.std.proofs.lemmas.List.{map-set, nil_from_length}
 use Rattle.std.proofs.Math.Seq.{map-set_same}
+use Rattle.reg_facts.proofs.lemmas.Lists.{slice_get-view}
 use Rattle.reg_schedules.specs.World.{Holds, moved}
 use Rattle.reg_tasks.specs.Tasks.{task_of}
 use Rattle.reg_graph.specs.WorldParts.{hand_of, world_of}
-use Rattle.reg_graph.proofs.PartFacts.{view-at, none-left, with-both}
+use Rattle.reg_graph.proofs.PartFacts.{with-both}
 use Rattle.reg_graph.proofs.parts.Parts.take_task.Goals as goal
 
 pub returns-in-Some-clause-answer : goal.returns-in-Some-clause-answer
@@ -14,8 +15,8 @@ returns-in-Some-clause-answer g c =
     let p = c.args.self.now in
     let here : c.args.worker < length p.hands.items = search rules in
     let many : c.args.from < length p.lists.items = search rules in
-    let hand = view-at hand_of p.hands.items c.args.worker c.index.result.now here c.index.ensures in
-    let list = view-at (λ tasks. map task_of tasks.items) p.lists.items c.args.from c.index_mut.result.now many
+    let hand = slice_get-view hand_of p.hands.items c.args.worker c.index.result.now here c.index.ensures in
+    let list = slice_get-view (λ tasks. map task_of tasks.items) p.lists.items c.args.from c.index_mut.result.now many
     c.index_mut.ensures.value in
     with-both (world_of p) c.args.worker c.args.from _ _ (moved c.args.worker c.args.from (world_of p))
     (hand ∙ ap Some (c.if-not-is_empty.ensures.0 refl))
@@ -36,9 +37,9 @@ returns-in-None-clause-answer g c =
     let here : c.args.worker < length p.hands.items = search rules in
     let many : c.args.from < length p.lists.items = search rules in
     let size : length c.index_mut.result.now.items ≡ deque_len c.index_mut.result.now = search rules in
-    let none = none-left c.index_mut.result.now.items (size ∙ c.in-None.ensures.cases.0) in
-    let hand = view-at hand_of p.hands.items c.args.worker c.index.result.now here c.index.ensures in
-    let list = view-at (λ tasks. map task_of tasks.items) p.lists.items c.args.from c.index_mut.result.now many
+    let none = nil_from_length c.index_mut.result.now.items (size ∙ c.in-None.ensures.cases.0) in
+    let hand = slice_get-view hand_of p.hands.items c.args.worker c.index.result.now here c.index.ensures in
+    let list = slice_get-view (λ tasks. map task_of tasks.items) p.lists.items c.args.from c.index_mut.result.now many
     c.index_mut.ensures.value in (
       ap (λ ls. record (world_of p) { lists = ls })
           (map-set_same (λ tasks. map task_of tasks.items) p.lists.items c.args.from c.pop_front.new.self

@@ -1,13 +1,13 @@
 use Rattle.std.proofs.Common.{◌≡◌, suc, ◌+◌, ◌-◌, ◌<◌, ◌≤◌, length, map, take, sym, subst, ◌∙◌, arith, rules}
 use Rattle.std.specs.Option.{option_map}
 use Rattle.std.proofs.lemmas.List.{length-map}
+use Rattle.reg_facts.proofs.lemmas.Lists.{slice_get-view}
 use Rattle.reg_schedules.specs.World.{is_in_dock}
 use Rattle.reg_facts.specs.Counting.{total}
 use Rattle.reg_tasks.specs.Parcels.{parcels_of}
 use Rattle.reg_tasks.specs.Tasks.{task_of}
 use Rattle.reg_graph.specs.WorldParts.{hand_of, task_lists, world_of}
 use Rattle.reg_schedules.proofs.lemmas.WorldCounts.{in_list, in_hand_once}
-use Rattle.reg_graph.proofs.PartFacts.{view-at}
 use Rattle.reg_graph.proofs.WorldPlaces.{none-yet, none-at-all, dock-there, not-listed, is-listed, not-held, done-then}
 use Rattle.reg_graph.proofs.WorldPlaces.{in-list-there, in-hand-there}
 use Rattle.reg_graph.proofs.world.World.whereabouts.Goals as goal
@@ -21,8 +21,8 @@ read g c =
     let here : c.args.place - 1 < length p.docks.items =
     omega (arith, c.requires.from_one, c.requires.within, c.knows.ensures.docks) in
     dock-there (λ came. parcels_of came.items) (world_of p) c.args.place c.index.result.now c.requires.from_one
-    (view-at (option_map (λ came. parcels_of came.items)) p.docks.items (c.args.place - 1) c.index.result.now here
-    c.index.ensures)
+    (slice_get-view (option_map (λ came. parcels_of came.items)) p.docks.items (c.args.place - 1) c.index.result.now
+    here c.index.ensures)
     ∙ sym c.is_some.ensures
 
 pub returns-then-is_some : goal.returns-then-is_some
@@ -36,7 +36,7 @@ returns-then-is_listed g c =
     let here : c.loop-worker.worker < length p.lists.items =
     omega (arith, c.loop-worker-test.true, c.len-worker-end.ensures, size, p.workers) in
     in-list-there (world_of p) c.args.place c.loop-worker.worker (map task_of list.items)
-    (view-at (λ tasks. map task_of tasks.items) p.lists.items c.loop-worker.worker list here
+    (slice_get-view (λ tasks. map task_of tasks.items) p.lists.items c.loop-worker.worker list here
     c.index-in-loop-worker.ensures)
     (is-listed c.args.place list.items (sym c.is_listed.ensures ∙ c.if-is_listed.true))
 
@@ -48,7 +48,7 @@ returns-then-is_held g c =
     let here : c.loop-worker.worker < length p.hands.items =
     omega (arith, c.loop-worker-test.true, c.len-worker-end.ensures, size) in
     in-hand-there (world_of p) c.args.place c.loop-worker.worker (hand_of hand)
-    (view-at hand_of p.hands.items c.loop-worker.worker hand here c.index-in-loop-worker-2.ensures)
+    (slice_get-view hand_of p.hands.items c.loop-worker.worker hand here c.index-in-loop-worker-2.ensures)
     (sym c.is_held.ensures ∙ c.if-is_held.true)
 
 pub loop-worker-preserved : goal.loop-worker-preserved
@@ -65,11 +65,11 @@ loop-worker-preserved g c =
     record {
       listed = subst (λ j. total (total (in_list q)) (take j (task_lists p.lists.items)) ≡ 0) next
           (none-yet (total (in_list q)) (task_lists p.lists.items) k (map task_of list.items)
-          (view-at (λ tasks. map task_of tasks.items) p.lists.items k list there c.index-in-loop-worker.ensures)
+          (slice_get-view (λ tasks. map task_of tasks.items) p.lists.items k list there c.index-in-loop-worker.ensures)
           (not-listed q list.items (sym c.if-is_listed.ensures)) c.loop-worker.invariant.listed);
       held = subst (λ j. total (in_hand_once q) (take j (map hand_of p.hands.items)) ≡ 0) next
           (none-yet (in_hand_once q) (map hand_of p.hands.items) k (hand_of hand)
-          (view-at hand_of p.hands.items k hand here c.index-in-loop-worker-2.ensures)
+          (slice_get-view hand_of p.hands.items k hand here c.index-in-loop-worker-2.ensures)
           (not-held q (hand_of hand) (sym c.if-is_held.ensures)) c.loop-worker.invariant.held);
     }
 

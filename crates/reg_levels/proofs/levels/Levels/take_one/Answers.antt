@@ -1,10 +1,10 @@
 use Rattle.std.proofs.Common.{◌≡◌, ◌+◌, ◌≤◌, take, length, get_or, false, None, arith, sym, subst, ◌∙◌}
 use Rattle.std.proofs.lemmas.Grind.{get_or_default_zero}
+use Rattle.reg_facts.proofs.lemmas.Numbers.{clash}
 use Rattle.reg_plan.specs.Orders.{first_order_fault}
 use Rattle.reg_tasks.specs.Contexts.{the_day}
 use Rattle.reg_tasks.specs.Slots.{IsLack, AreTaken, is_ready}
 use Rattle.reg_tasks.specs.Standing.{stands}
-use Rattle.reg_schedules.proofs.lemmas.Tails.{clash}
 use Rattle.reg_tasks.proofs.lemmas.Gathering.{no_name}
 use Rattle.reg_tasks.proofs.lemmas.Placing.{lack_from, err_from}
 use Rattle.reg_tasks.proofs.lemmas.OrderSteps.{faultless_at, within_at}

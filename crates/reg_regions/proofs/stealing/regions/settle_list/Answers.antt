@@ -1,13 +1,13 @@
 use Rattle.std.proofs.Common.{◌≡◌, ◌+◌, ◌-◌, ◌<◌, ◌++◌, [], Some, length, take, drop, rules, arith, sym, ap, subst, ◌∙◌}
 use Rattle.std.specs.Prelude.{slice_get}
 use Rattle.std.specs.Option.{option_map_or}
+use Rattle.reg_facts.proofs.lemmas.Lists.{written_whole}
 use Rattle.reg_rules.specs.State.{State, numbers}
 use Rattle.reg_rules.specs.Laws.{IsReady}
 use Rattle.reg_book.specs.Indexes.{index_lists}
 use Rattle.reg_regions.specs.declared.dealing.Deal.{Deal}
 use Rattle.reg_regions.specs.Homes.{AreHome}
 use Rattle.reg_regions.specs.Settling.{IsRun}
-use Rattle.reg_regions.proofs.Listed.{written_whole}
 use Rattle.reg_regions.proofs.Running.{got-at}
 use Rattle.reg_regions.proofs.stealing.regions.settle_list.Goals as goal
 

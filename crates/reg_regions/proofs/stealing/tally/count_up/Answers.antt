@@ -1,15 +1,16 @@
-use Rattle.std.proofs.Common.{arith, ◌≡◌, ◌+◌, ◌++◌, ◌∷◌, [], List, map, append-nil, append_assoc, length, ap, sym, ◌∙◌}
+use Rattle.std.proofs.Common.{arith, ◌≡◌, ◌+◌, ◌++◌, ◌∷◌, [], map, append-nil, append_assoc, length, ap, sym, ◌∙◌}
 use Rattle.std.specs.List.{flat_map}
 use Rattle.std.proofs.lemmas.List.{map-append, nil_from_length}
 use Rattle.std.proofs.lemmas.Grind.{flat_map-append}
 use Rattle.reg_facts.specs.Counting.{times, once}
+use Rattle.reg_facts.proofs.lemmas.Times.{times-append}
 use Rattle.reg_claim.specs.declared.views.SeatView.{SeatView}
 use Rattle.reg_claim.specs.Seats.{known}
 use Rattle.reg_regions.specs.declared.stealing.settled_list.SettledList.{SettledList}
 use Rattle.reg_regions.specs.declared.stealing.shift.WorkShift.{WorkShift}
 use Rattle.reg_regions.specs.Settling.{places_in}
 use Rattle.reg_regions.specs.Stealing.{numbers_of, settled_places, shift_workers, times_in_shifts}
-use Rattle.reg_regions.proofs.Tallied.{shifts-more, times-append}
+use Rattle.reg_regions.proofs.Tallied.{shifts-more}
 use Rattle.reg_regions.proofs.stealing.tally.count_up.Goals as goal
 
 pub loop-worker-preserved : goal.loop-worker-preserved

@@ -2,7 +2,7 @@ use Rattle.std.proofs.Common.{◌≡◌, rules, length, take, drop, ◌++◌, sy
 use Rattle.std.specs.Prelude.{IsPermutation}
 use Rattle.std.specs.List.Sorted.{IsNonDecreasingBy}
 use Rattle.std.proofs.lemmas.List.Sorted.{length_permutation}
-use Rattle.reg_regions.proofs.Listed.{written_whole}
+use Rattle.reg_facts.proofs.lemmas.Lists.{written_whole}
 use Rattle.reg_regions.specs.declared.stealing.settled_list.SettledList.{SettledList}
 use Rattle.reg_regions.proofs.stealing.tally.in_order.Goals as goal
 

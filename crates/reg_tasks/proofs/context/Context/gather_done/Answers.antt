@@ -3,15 +3,15 @@ use Rattle.std.specs.Prelude.{IsPermutation}
 use Rattle.std.proofs.Props.{props}
 use Rattle.std.proofs.lemmas.List.Sorted.{length_permutation}
 use mathlib.Core.Logic.{∥∥₁_elim}
+use Rattle.reg_facts.proofs.lemmas.Lists.{written_whole}
+use Rattle.reg_facts.proofs.lemmas.Numbers.{clash}
 use Rattle.reg_base.specs.Rising.{IsRising}
 use Rattle.reg_book.specs.Day.{DayValue}
-use Rattle.reg_schedules.proofs.lemmas.Tails.{clash}
 use Rattle.reg_tasks.specs.Contexts.{the_day}
 use Rattle.reg_tasks.specs.Gathering.{AreOutcomes, are_outcomes, places_of}
 use Rattle.reg_tasks.specs.LastParcels.{parcels_in}
 use Rattle.reg_tasks.specs.Parcels.{names_of}
 use Rattle.reg_tasks.specs.Slots.{opened_accounts}
-use Rattle.reg_tasks.proofs.Names.{written_whole}
 use Rattle.reg_tasks.proofs.lemmas.Placing.{err_more, lack_from}
 use Rattle.reg_tasks.proofs.Collecting.{outcomes_pass}
 use Rattle.reg_tasks.proofs.context.Context.gather_done.Goals as goal

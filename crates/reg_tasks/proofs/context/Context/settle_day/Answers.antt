@@ -1,12 +1,12 @@
 use Rattle.std.proofs.Common.{◌≡◌, rules, ap, sym, subst, ◌∙◌, length, take, drop, ◌++◌, ◌+◌}
 use Rattle.std.specs.Prelude.{IsPermutation}
 use Rattle.std.proofs.lemmas.List.Sorted.{length_permutation}
+use Rattle.reg_facts.proofs.lemmas.Lists.{written_whole}
 use Rattle.reg_base.specs.Rising.{IsRising, count_up}
 use Rattle.reg_rules.specs.State.{State, numbers}
 use Rattle.reg_book.specs.Settled.{IsOfBook, record_numbers}
 use Rattle.reg_book.specs.Day.{day_of, settled_day}
 use Rattle.reg_tasks.specs.Gathering.{gathered}
-use Rattle.reg_tasks.proofs.Names.{written_whole}
 use Rattle.reg_tasks.proofs.lemmas.Gathering.{accounts_are, day_gathered}
 use Rattle.reg_tasks.proofs.context.Context.settle_day.Goals as goal
 use Rattle.reg_tasks.proofs.context.Context.settle_day.Goals.{After-base}

@@ -1,13 +1,13 @@
 use Rattle.std.proofs.Common.{◌≡◌, ℕ, List, length, map, true, false, refl, sym, ap, subst, ◌∙◌, rules}
 use Rattle.std.specs.List.{list_all}
+use Rattle.reg_facts.proofs.lemmas.Lists.{written_whole}
+use Rattle.reg_facts.proofs.lemmas.Numbers.{clash}
 use Rattle.reg_base.specs.Footprint.{is_among}
 use Rattle.reg_book.specs.Day.{DayValue}
 use Rattle.reg_schedules.specs.Pool.{footprint_at}
-use Rattle.reg_schedules.proofs.lemmas.Tails.{clash}
 use Rattle.reg_tasks.specs.Contexts.{the_day}
 use Rattle.reg_tasks.specs.Parcels.{names_of}
 use Rattle.reg_tasks.specs.Slots.{opened_accounts, standing_in, laid_at, have_slots}
-use Rattle.reg_tasks.proofs.Names.{written_whole}
 use Rattle.reg_tasks.proofs.AtEnd.{left_have_slots, slots_touched}
 use Rattle.reg_tasks.proofs.lemmas.Gathering.{no_name}
 use Rattle.reg_tasks.proofs.slots.Slots.lay_for_row.Goals as goal

@@ -2,13 +2,13 @@ use Rattle.std.proofs.Common.{◌≡◌, Some, ap, refl, subst, sym, ◌∙◌, 
 use Rattle.std.specs.Prelude.{nat_eq, IsPermutation}
 use Rattle.std.specs.List.{IsDistinct}
 use Rattle.std.proofs.lemmas.List.Sorted.{length_permutation, IsPermutation-map}
+use Rattle.reg_facts.proofs.lemmas.Lists.{written_whole}
 use Rattle.reg_plan.specs.Plans.{inward}
 use Rattle.reg_book.specs.Day.{day_of}
 use Rattle.reg_schedules.specs.Pool.{footprint_at}
 use Rattle.reg_schedules.specs.Docks.{names_needed}
 use Rattle.reg_tasks.specs.Names.{has_names}
 use Rattle.reg_tasks.specs.Parcels.{names_of, parcels_of}
-use Rattle.reg_tasks.proofs.Names.{written_whole}
 use Rattle.reg_schedules.proofs.lemmas.Known.{footprint_distinct}
 use Rattle.reg_tasks.proofs.Complete.{complete_from}
 use Rattle.reg_schedules.proofs.lemmas.WorldFits.{names_are}

@@ -1,12 +1,13 @@
 use Rattle.std.proofs.Common.{◌≡◌, true, [], length, sym, ap, subst, ◌∙◌}
 use Rattle.std.proofs.lemmas.Bool.{eqb-true}
+use Rattle.std.proofs.lemmas.List.{nil_from_length}
 use Rattle.reg_plan.specs.Plans.{inward}
 use Rattle.reg_schedules.specs.Docks.{names_needed}
 use Rattle.std.specs.Prelude.{is_some, All}
 use Rattle.reg_rules.specs.State.{account}
 use Rattle.reg_book.specs.Day.{day_of}
 use Rattle.reg_tasks.proofs.Complete.{complete_from}
-use Rattle.reg_tasks.proofs.Opening.{all_known, needed_none, no_arrows}
+use Rattle.reg_tasks.proofs.Opening.{all_known, needed_none}
 use Rattle.reg_tasks.proofs.task.Task.open.Goals as goal
 
 pub open_all-requires : goal.open_all-requires
@@ -23,7 +24,7 @@ invariant_of-result g c =
     let plan = c.args.context.now.plan in
     let arrows = c.arrows_to.result.now in
     let touched = c.touched_at.result.now in
-    let none : arrows ≡ [] = no_arrows arrows
+    let none : arrows ≡ [] = nil_from_length arrows
     (eqb-true (length arrows) 0 (sym c.is_empty.ensures ∙ c.if-not-is_empty.false)) in
     record {
       complete = λ d e. complete_from c.tails_are_last_touchers.ensures c.last_toucher_is_last.ensures day plan

@@ -1,5 +1,6 @@
 use Rattle.std.proofs.Common.{◌≡◌, ap, sym, subst, ◌∙◌, length, take, drop, map, ◌++◌, rules, Some}
 use Rattle.std.specs.List.{AllByRecursion}
+use Rattle.reg_facts.proofs.lemmas.Lists.{written_whole}
 use Rattle.reg_book.specs.Day.{DayValue, day_of}
 use Rattle.reg_rules.specs.State.{State, numbers}
 use Rattle.reg_schedules.specs.Pool.{footprint_at, run_at}
@@ -8,7 +9,6 @@ use Rattle.reg_tasks.specs.Parcels.{values_of, names_of}
 use Rattle.reg_schedules.specs.World.{left_by}
 use Rattle.reg_tasks.specs.Parcels.{parcels_of}
 use Rattle.reg_tasks.proofs.lemmas.Values.{left-of}
-use Rattle.reg_tasks.proofs.Names.{written_whole}
 use Rattle.reg_tasks.proofs.Running.{parcels_right, same_names, names_after, ran_named, each_right}
 use Rattle.reg_schedules.proofs.lemmas.Ran.{IsRight}
 use Rattle.reg_tasks.proofs.task.Task.run.Goals as goal

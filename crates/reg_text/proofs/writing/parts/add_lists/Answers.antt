@@ -1,5 +1,4 @@
-use Rattle.std.proofs.Common.{◌++◌, sym, ap, subst, ◌∙◌, ◌∷◌, drop, List, Result, Vec}
-use Rattle.std.specs.Global.{Global}
+use Rattle.std.proofs.Common.{◌++◌, sym, ap, subst, ◌∙◌, ◌∷◌, drop, List, Result}
 use Rattle.reg_base.specs.declared.directory.NoMemory.{NoMemory}
 use Rattle.reg_account.specs.Account.{AccountValue}
 use Rattle.reg_book.specs.declared.totals.BothTotals.{BothTotals}
