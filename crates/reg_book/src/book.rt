@@ -243,30 +243,29 @@ fn replace_accounts(accounts: &mut Vec<Account>, settled: &mut Vec<Account>)
     let mut left = settled.len();
     while left > 0 {
         left -= 1;
-        until = replace_account(accounts, until, &mut settled[left]);
+        let account = &mut settled[left];
+        until = count_not_higher(accounts, until, account.number());
+        replace_last(accounts, until, account);
     }
 }
 
-// Puts the account in the place of the one with its number, if there is one, and that one in its own. From `until` on
-// all numbers are higher. Answers an index from which on none is lower.
-fn replace_account(accounts: &mut Vec<Account>, until: usize, account: &mut Account) -> usize
+// Of the accounts, the first `count` have numbers that are not higher than this one's. If the last of these has its
+// number, the two change places.
+fn replace_last(accounts: &mut Vec<Account>, count: usize, account: &mut Account)
     requires rising { IsRising (numbers accounts.old.items) }
     requires within_limits { All IsAccount accounts.old.items }
-    requires within { until ≤ length accounts.old.items }
-    requires higher { AreHigher (numbers accounts.old.items) until account.old.number }
+    requires within { count ≤ length accounts.old.items }
+    requires higher { AreHigher (numbers accounts.old.items) count account.old.number }
+    requires last { 0 < count → slice_index (numbers accounts.old.items) (count - 1) ≤ account.old.number }
     ensures items { accounts.new.items ≡ overlay accounts.old.items (account.old ∷ []) }
     ensures replaced { account.new ∷ [] ≡ overlay (account.old ∷ []) accounts.old.items }
     ensures within_limits { All IsAccount accounts.new.items }
-    ensures within { result ≤ length accounts.old.items }
-    ensures higher { AreHigher (numbers accounts.old.items) result account.old.number }
 {
     account.is_within_limits();
     let number = account.number();
-    let count = count_not_higher(accounts, until, number);
     if count > 0 && accounts[count - 1].number() == number {
         mem::swap(&mut accounts[count - 1], account);
     }
-    count
 }
 
 // How many of the first accounts have a number that is not higher.

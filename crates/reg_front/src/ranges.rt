@@ -1,7 +1,7 @@
 //! A file that is read in pieces, each a range of its bytes, by several threads at once.
 
-ghost use Rattle.std.specs.Prelude.{◌≡◌, ◌≤◌, ◌<◌, ◌++◌, ℕ, List, Option, IfSome, IsTrue, drop, length, slice_range};
-ghost use Rattle.std.specs.Prelude.{take};
+ghost use Rattle.std.specs.Prelude.{◌≡◌, ◌≤◌, ◌<◌, ◌++◌, ℕ, List, Option, IfOk, IfSome, IsTrue, drop, length};
+ghost use Rattle.std.specs.Prelude.{slice_range, take};
 ghost use Rattle.std.specs.Thread.{IsSync};
 ghost use Rattle.reg_text.specs.Pieces.{text_of_pieces};
 ghost use Rattle.reg_front.specs.Devices.{most_input};
@@ -35,13 +35,21 @@ const WINDOW: usize = 4 * 1024;
 
 const MOST_WINDOWS: u64 = 64;
 
-// Fills the room with the bytes from an offset on, and answers whether they were there.
-fn fill<F: ReadAt>(file: &F, offset: u64, room: &mut [u8]) -> bool
-    ensures { IsTrue result → IfSome (F.contents file.now)
-        (λ bytes. room.new ≡ take (length room.new) (drop offset bytes)) }
+// The file does not fill the room: the call failed, or it has fewer bytes there.
+#[derive(Drop)]
+struct NotFilled;
+
+// Fills the room with the bytes from an offset on.
+fn fill<F: ReadAt>(file: &F, offset: u64, room: &mut [u8]) -> Result<(), NotFilled>
+    ensures { IfOk result (λ done. IfSome (F.contents file.now)
+        (λ bytes. room.new ≡ take (length room.new) (drop offset bytes))) }
 {
     let length = room.len();
-    file.read_at(offset, room) == Some(length)
+    if file.read_at(offset, room) == Some(length) {
+        Ok(())
+    } else {
+        Err(NotFilled)
+    }
 }
 
 // The bytes from one offset up to another.
@@ -52,11 +60,10 @@ fn read_range<F: ReadAt>(alloc: Global, file: &F, from: u64, to: u64) -> Option<
 {
     let length = usize::try_from(to.checked_sub(from)?).ok()?;
     let mut piece = Vec::from_elem(alloc, 0, length).ok()?;
-    if fill(file, from, piece.as_mut_slice()) {
-        Some(piece)
-    } else {
-        None
-    }
+    let Ok(()) = fill(file, from, piece.as_mut_slice()) else {
+        return None;
+    };
+    Some(piece)
 }
 
 // A piece, and behind it others.

@@ -36,8 +36,7 @@ pub(crate) fn are_all_home<R: Threads + Sync>(
     let size = (lists.len() / runs as usize).min(deals.len());
     let (run, rest) = lists.split_at(size);
     let (dealt, later) = deals.split_at(size);
-    let (here, there) = are_both_home(rt, setting, batch, run, dealt, rest, later, runs);
-    here && there
+    are_both_home(rt, setting, batch, run, dealt, rest, later, runs)
 }
 
 // The same of a run of lists, and of those behind it.
@@ -51,13 +50,13 @@ fn are_both_home<R: Threads + Sync>(
     rest: &[Vec<Account>],
     later: &[Deal],
     runs: u32,
-) -> (bool, bool)
+) -> bool
     requires { 2 ≤ runs }
-    ensures home { IsTrue result.0 → AreAllHome setting.now batch.now (numbers (joined_lists run.now)) dealt.now }
-    ensures sizes { IsTrue result.0 → sizes_of run.now ≡ deal_sizes dealt.now }
-    ensures home_later { IsTrue result.1
+    ensures home { IsTrue result → AreAllHome setting.now batch.now (numbers (joined_lists run.now)) dealt.now }
+    ensures sizes { IsTrue result → sizes_of run.now ≡ deal_sizes dealt.now }
+    ensures home_later { IsTrue result
         → AreAllHome setting.now batch.now (numbers (joined_lists rest.now)) later.now }
-    ensures sizes_later { IsTrue result.1 → sizes_of rest.now ≡ deal_sizes later.now }
+    ensures sizes_later { IsTrue result → sizes_of rest.now ≡ deal_sizes later.now }
 {
     let front = move || -> bool
         ensures home { IsTrue result
@@ -72,7 +71,8 @@ fn are_both_home<R: Threads + Sync>(
             later.entry.now }
         ensures sizes { IsTrue result → sizes_of rest.entry.now ≡ deal_sizes later.entry.now }
     { are_all_home(rt, setting, batch, rest, later, runs - 1) };
-    thread::join(rt, front, back)
+    let (here, there) = thread::join(rt, front, back);
+    here && there
 }
 
 // The same by one thread.

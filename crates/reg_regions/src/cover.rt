@@ -17,16 +17,16 @@ pub(crate) fn have_all_places(alloc: Global, count: u32, deals: &[Deal]) -> Resu
         → (place : ℕ) → times place (dealt_places deals.now) ≡ once count place) }
 {
     let mut marks = vec![in alloc; false; count as usize]?;
-    Ok(mark_deals(&mut marks, deals))
+    Ok(are_dealt_once(&mut marks, deals))
 }
 
-// Marks all places of these regions. Answers whether each is marked once, and there is no other.
-fn mark_deals(marks: &mut [bool], deals: &[Deal]) -> bool
+// Marks the places of these regions. Whether each of the places was marked once, and there is no other.
+fn are_dealt_once(marks: &mut [bool], deals: &[Deal]) -> bool
     requires { AreMarked [] marks.old }
     ensures { IsTrue result → (place : ℕ) → times place (dealt_places deals.now) ≡ once (length marks.old) place }
 {
     for deal in deals {
-        if !mark_all(marks, &deal.places) {
+        if !mark_while_new(marks, &deal.places) {
             return false;
         }
     }
@@ -44,21 +44,22 @@ fn are_set(marks: &[bool]) -> bool
     true
 }
 
-// Marks these places, up to the first that is none, or is marked already.
-fn mark_all(marks: &mut [bool], places: &[u32]) -> bool
+// Marks these places, up to the first that is none, or is marked already. Whether there is no such one.
+fn mark_while_new(marks: &mut [bool], places: &[u32]) -> bool
     ensures size { length marks.new ≡ length marks.old }
     ensures marked { IsTrue result
         → (done : List ℕ) → AreMarked done marks.old → AreMarked (done ++ places.now) marks.new }
 {
     for place in places {
-        if !mark(marks, *place) {
+        if !mark_if_new(marks, *place) {
             return false;
         }
     }
     true
 }
 
-fn mark(marks: &mut [bool], place: u32) -> bool
+// Marks a place, if it is one and is not marked already. Whether it was.
+fn mark_if_new(marks: &mut [bool], place: u32) -> bool
     ensures size { length marks.new ≡ length marks.old }
     ensures marked { IsTrue result
         → (done : List ℕ) → AreMarked done marks.old → AreMarked (done ++ place ∷ []) marks.new }

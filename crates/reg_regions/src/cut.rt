@@ -1,6 +1,6 @@
 //! How accounts lie in lists.
 
-use crate::numbers::{number_at, short};
+use crate::numbers::{number_or_zero, short};
 use reg_account::Account;
 use reg_base::{AccountNo, NoMemory};
 use std::alloc::Global;
@@ -67,7 +67,7 @@ impl Cut {
 
     /// The region in which an account stands, counted from 0.
     pub(crate) fn region_of(&self, index: u32) -> u32 {
-        let mut region = number_at(&self.blocks, index / BLOCK);
+        let mut region = number_or_zero(&self.blocks, index / BLOCK);
         for _later in region..self.regions {
             if index < self.end(region) {
                 break;
@@ -91,12 +91,12 @@ impl Cut {
 
     /// Where a region begins.
     pub(crate) fn start(&self, region: u32) -> u32 {
-        number_at(&self.starts, region)
+        number_or_zero(&self.starts, region)
     }
 
     /// Where a region ends.
     pub(crate) fn end(&self, region: u32) -> u32 {
-        number_at(&self.starts, region.saturating_add(1))
+        number_or_zero(&self.starts, region.saturating_add(1))
     }
 
     /// How many accounts a region has.

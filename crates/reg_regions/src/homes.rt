@@ -1,7 +1,7 @@
 //! Which region each bundle goes to.
 
 use crate::cut::{Cut, MOST_REGIONS};
-use crate::numbers::{lower, number_at, put_number, raise};
+use crate::numbers::{lower, number_or_zero, put_number, raise};
 use reg_base::NoMemory;
 use reg_bundles::Touch;
 use std::alloc::Global;
@@ -40,8 +40,8 @@ impl Bundled {
         let mut ends = begins_of(alloc, &sizes)?;
         let mut members = vec![in alloc; 0u32; touched.len()]?;
         for account in &touched {
-            let label = number_at(&owners, *account);
-            put_number(&mut members, number_at(&ends, label), *account);
+            let label = number_or_zero(&owners, *account);
+            put_number(&mut members, number_or_zero(&ends, label), *account);
             raise(&mut ends, label, 1);
         }
         Ok(Bundled {
@@ -53,7 +53,7 @@ impl Bundled {
         })
     }
 
-    /// The region of each bundle, counted from 1. `None` if there is no room for one. The heaviest bundles go first,
+    /// The region of each bundle. `None` if there is no room for one. The heaviest bundles go first,
     /// each to the region that has most of its accounts, as long as that does not get too much.
     ///
     /// # Errors
@@ -67,13 +67,13 @@ impl Bundled {
         let heavy = heaviest_first(alloc, &self.weights)?;
         let mut homes = Homes::new(alloc, cut, self.weights.len(), quota)?;
         for label in &heavy {
-            if !homes.place(cut, self, *label) {
+            if homes.place(cut, self, *label).is_none() {
                 return Ok(None);
             }
         }
         let mut label: u32 = 0;
         for weight in &self.weights {
-            if *weight == 1 && !homes.place(cut, self, label) {
+            if *weight == 1 && homes.place(cut, self, label).is_none() {
                 return Ok(None);
             }
             label = label.saturating_add(1);
@@ -94,8 +94,8 @@ impl Bundled {
 
     // The accounts of a bundle.
     fn members_of(&self, label: u32) -> &[u32] {
-        let end = number_at(&self.ends, label) as usize;
-        let start = end.saturating_sub(number_at(&self.sizes, label) as usize);
+        let end = number_or_zero(&self.ends, label) as usize;
+        let start = end.saturating_sub(number_or_zero(&self.sizes, label) as usize);
         match self.members.get(start..end) {
             Some(members) => members,
             None => &[],
@@ -106,7 +106,7 @@ impl Bundled {
 /// The regions of bundles.
 #[derive(Drop)]
 pub(crate) struct Homes {
-    /// The region of each bundle by its label, counted from 1, or 0 if it has none.
+    /// The region of each bundle by its label. One that has none yet is at the first.
     pub(crate) regions: Vec<u32>,
     /// How many instructions each region has.
     pub(crate) loads: Vec<u32>,
@@ -130,18 +130,16 @@ impl Homes {
         })
     }
 
-    // Finds a region for a bundle. Answers whether there is one.
-    fn place(&mut self, cut: &Cut, bundled: &Bundled, label: u32) -> bool {
-        let weight = number_at(&bundled.weights, label);
-        let size = number_at(&bundled.sizes, label);
+    // Finds a region for a bundle, puts it there, and answers which one that is.
+    fn place(&mut self, cut: &Cut, bundled: &Bundled, label: u32) -> Option<u32> {
+        let weight = number_or_zero(&bundled.weights, label);
+        let size = number_or_zero(&bundled.sizes, label);
         let members = bundled.members_of(label);
-        let Some(region) = self.best(cut, members, weight, size) else {
-            return false;
-        };
-        put_number(&mut self.regions, label, region.saturating_add(1));
+        let region = self.best(cut, members, weight, size)?;
+        put_number(&mut self.regions, label, region);
         raise(&mut self.loads, region, weight);
         lower(&mut self.left, region, size);
-        true
+        Some(region)
     }
 
     // The region for a bundle with these accounts.
@@ -160,9 +158,9 @@ impl Homes {
         for member in members {
             let region = cut.region_of(*member);
             raise(&mut standing, region, 1);
-            let here = number_at(&standing, region);
-            let load = number_at(&self.loads, region).saturating_add(weight);
-            if here > most && load <= self.quota && number_at(&self.left, region) >= size {
+            let here = number_or_zero(&standing, region);
+            let load = number_or_zero(&self.loads, region).saturating_add(weight);
+            if here > most && load <= self.quota && number_or_zero(&self.left, region) >= size {
                 best = Some(region);
                 most = here;
             }
@@ -175,8 +173,8 @@ impl Homes {
         let mut idlest = None;
         let mut least = u32::MAX;
         for region in 0..cut.regions {
-            let load = number_at(&self.loads, region);
-            if load < least && number_at(&self.left, region) >= size {
+            let load = number_or_zero(&self.loads, region);
+            if load < least && number_or_zero(&self.left, region) >= size {
                 idlest = Some(region);
                 least = load;
             }
@@ -201,8 +199,8 @@ fn own_all(
 ) -> Result<Vec<u32>, NoMemory> {
     let mut touched = Vec::with_capacity(alloc, touches.len())?;
     for touch in touches {
-        if number_at(owners, touch.account) == 0 {
-            let label = number_at(labels, touch.place);
+        if number_or_zero(owners, touch.account) == 0 {
+            let label = number_or_zero(labels, touch.place);
             put_number(owners, touch.account, label);
             raise(sizes, label, 1);
             touched.push(touch.account)?;
@@ -232,6 +230,6 @@ fn heaviest_first(alloc: Global, weights: &[u32]) -> Result<Vec<u32>, NoMemory> 
         }
         label = label.saturating_add(1);
     }
-    heavy.sort_unstable_by_key(|label| u32::MAX - number_at(weights, *label));
+    heavy.sort_unstable_by_key(|label| u32::MAX - number_or_zero(weights, *label));
     Ok(heavy)
 }

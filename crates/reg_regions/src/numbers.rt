@@ -1,7 +1,7 @@
 //! Numbers in a list, where an index beyond its end is no fault, and short ones.
 
 /// The number at an index, or 0 beyond the end.
-pub(crate) fn number_at(numbers: &[u32], index: u32) -> u32 {
+pub(crate) fn number_or_zero(numbers: &[u32], index: u32) -> u32 {
     match numbers.get(index as usize) {
         Some(number) => *number,
         None => 0,
@@ -15,15 +15,25 @@ pub(crate) fn put_number(numbers: &mut [u32], index: u32, number: u32) {
     }
 }
 
+/// The index that a list has for this one: it is kept counted from 1, and 0 or the end of the list is `None`.
+pub(crate) fn index_at(numbers: &[u32], index: u32) -> Option<u32> {
+    number_or_zero(numbers, index).checked_sub(1)
+}
+
+/// Puts an index that [`index_at`] answers.
+pub(crate) fn put_index(numbers: &mut [u32], index: u32, kept: u32) {
+    put_number(numbers, index, kept.saturating_add(1));
+}
+
 /// Adds to the number at an index.
 pub(crate) fn raise(numbers: &mut [u32], index: u32, by: u32) {
-    let raised = number_at(numbers, index).saturating_add(by);
+    let raised = number_or_zero(numbers, index).saturating_add(by);
     put_number(numbers, index, raised);
 }
 
 /// Takes from the number at an index.
 pub(crate) fn lower(numbers: &mut [u32], index: u32, by: u32) {
-    let lowered = number_at(numbers, index).saturating_sub(by);
+    let lowered = number_or_zero(numbers, index).saturating_sub(by);
     put_number(numbers, index, lowered);
 }
 

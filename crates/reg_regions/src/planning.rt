@@ -7,7 +7,7 @@ ghost use Rattle.reg_regions.specs.Lists.{joined_lists};
 use crate::cut::Cut;
 use crate::dealing::{Deal, Dealing};
 use crate::homes::{Bundled, Homes};
-use crate::numbers::number_at;
+use crate::numbers::{index_at, number_or_zero};
 use crate::region::Indexes;
 use crate::touching::{are_touches, find_by_runs, find_touches};
 use crate::turning::Turned;
@@ -106,7 +106,7 @@ fn deal_all(
     let mut place: u32 = 0;
     for own in indexes {
         place = place.saturating_add(1);
-        let home = number_at(&homes.regions, number_at(labels, place)).saturating_sub(1);
+        let home = number_or_zero(&homes.regions, number_or_zero(labels, place));
         let here = moved(own, stands, cut.start(home));
         if (home as usize) < deals.len() {
             add_place(&mut deals[home as usize], place, here)?;
@@ -141,11 +141,7 @@ fn moved(own: &Indexes, stands: &[u32], start: u32) -> Indexes {
     let mut here = Indexes::new();
     for index in own.as_slice() {
         if !here.is_full() {
-            here.push(
-                number_at(stands, *index)
-                    .saturating_sub(1)
-                    .saturating_sub(start),
-            );
+            here.push(index_at(stands, *index).unwrap_or(0).saturating_sub(start));
         }
     }
     here

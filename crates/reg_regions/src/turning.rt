@@ -2,7 +2,7 @@
 
 use crate::cut::Cut;
 use crate::homes::Bundled;
-use crate::numbers::{number_at, put_number, short};
+use crate::numbers::{index_at, number_or_zero, put_index, put_number, short};
 use crate::swaps::Swap;
 use reg_base::NoMemory;
 use std::alloc::Global;
@@ -14,28 +14,34 @@ struct Mover {
     account: u32,
     // Where it stands now.
     stands: u32,
-    // The one behind it with the same way, counted from 1, or 0.
-    next: u32,
+    // The index of the one behind it with the same way.
+    next: Option<u32>,
+}
+
+// Whether there is room for accounts in the regions of their bundles.
+#[derive(Clone, Copy, Drop)]
+enum Room {
+    Found,
+    Lacking,
 }
 
 /// Accounts while swaps are looked for.
 #[derive(Drop)]
 pub(crate) struct Turned {
-    /// For each touched account where it stands, counted from 1, and 0 for each other account.
+    /// For each touched account where it stands, and nothing for each other account: see `index_at`.
     pub(crate) stands: Vec<u32>,
     /// The swaps so far.
     pub(crate) swaps: Vec<Swap>,
     movers: Vec<Mover>,
-    // For each region and each other one the first mover from the one to the other, counted from 1, or 0.
-    heads: Vec<u32>,
+    // For each region and each other one the index of the first mover from the one to the other.
+    heads: Vec<Option<u32>>,
     // From which index on each region may have an account that no instruction touches.
     free: Vec<u32>,
     regions: u32,
 }
 
 impl Turned {
-    /// The swaps after which each touched account stands in the region of its bundle, which is counted from 1. `None`
-    /// if there is no room.
+    /// The swaps after which each touched account stands in the region of its bundle. `None` if there is no room.
     ///
     /// # Errors
     /// `NoMemory` if memory ran out.
@@ -48,17 +54,17 @@ impl Turned {
         let (members, owners) = bundled.into_members();
         let mut turned = Turned::new(alloc, cut, owners, members.len())?;
         for account in &members {
-            let home = number_at(homes, number_at(&turned.stands, *account)).saturating_sub(1);
-            put_number(&mut turned.stands, *account, account.saturating_add(1));
+            // Up to here the list of what stands where has the label of its bundle.
+            let home = number_or_zero(homes, number_or_zero(&turned.stands, *account));
+            put_index(&mut turned.stands, *account, *account);
             let here = cut.region_of(*account);
             if here != home {
                 turned.pair(*account, here, home)?;
             }
         }
-        if turned.bring_all_home(cut)? {
-            Ok(Some(turned))
-        } else {
-            Ok(None)
+        match turned.bring_all_home(cut)? {
+            Room::Found => Ok(Some(turned)),
+            Room::Lacking => Ok(None),
         }
     }
 
@@ -72,34 +78,39 @@ impl Turned {
             stands,
             swaps: Vec::with_capacity(alloc, movers)?,
             movers: Vec::with_capacity(alloc, movers)?,
-            heads: vec![in alloc; 0u32; ways as usize]?,
+            heads: vec![in alloc; None; ways as usize]?,
             free,
             regions: cut.regions,
         })
     }
 
-    fn way(&self, here: u32, home: u32) -> u32 {
-        here.saturating_mul(self.regions).saturating_add(home)
+    fn way(&self, here: u32, home: u32) -> usize {
+        here.saturating_mul(self.regions).saturating_add(home) as usize
     }
 
     // Lets what stands at an index of a region wait until something comes for it from another.
     fn wait(&mut self, account: u32, stands: u32, here: u32, home: u32) -> Result<(), NoMemory> {
         let way = self.way(here, home);
-        self.movers.push(Mover {
-            account,
-            stands,
-            next: number_at(&self.heads, way),
-        })?;
-        put_number(&mut self.heads, way, short(self.movers.len()));
+        if way < self.heads.len() {
+            let next = self.heads[way].replace(short(self.movers.len()));
+            self.movers.push(Mover {
+                account,
+                stands,
+                next,
+            })?;
+        }
         Ok(())
     }
 
     // What waits in a region for another.
     fn take(&mut self, here: u32, home: u32) -> Option<Mover> {
         let way = self.way(here, home);
-        let head = number_at(&self.heads, way) as usize;
-        let mover = *self.movers.get(head.checked_sub(1)?)?;
-        put_number(&mut self.heads, way, mover.next);
+        if way >= self.heads.len() {
+            return None;
+        }
+        let first = self.heads[way]?;
+        let mover = *self.movers.get(first as usize)?;
+        self.heads[way] = mover.next;
         Some(mover)
     }
 
@@ -125,8 +136,8 @@ impl Turned {
 
     // Swaps an account, which stands at an index, with one that waits.
     fn exchange(&mut self, account: u32, stands: u32, other: Mover) -> Result<(), NoMemory> {
-        put_number(&mut self.stands, account, other.stands.saturating_add(1));
-        put_number(&mut self.stands, other.account, stands.saturating_add(1));
+        put_index(&mut self.stands, account, other.stands);
+        put_index(&mut self.stands, other.account, stands);
         self.swaps.push(Swap {
             one: stands,
             other: other.stands,
@@ -134,28 +145,30 @@ impl Turned {
         Ok(())
     }
 
-    // Brings each account home that still waits. Answers whether there is room for all.
-    fn bring_all_home(&mut self, cut: &Cut) -> Result<bool, NoMemory> {
+    // Brings each account home that still waits, as long as there is room.
+    fn bring_all_home(&mut self, cut: &Cut) -> Result<Room, NoMemory> {
         for here in 0..self.regions {
             for home in 0..self.regions {
-                if here != home && !self.bring_those_home(cut, here, home)? {
-                    return Ok(false);
+                if here != home {
+                    let Room::Found = self.bring_those_home(cut, here, home)? else {
+                        return Ok(Room::Lacking);
+                    };
                 }
             }
         }
-        Ok(true)
+        Ok(Room::Found)
     }
 
-    fn bring_those_home(&mut self, cut: &Cut, here: u32, home: u32) -> Result<bool, NoMemory> {
+    fn bring_those_home(&mut self, cut: &Cut, here: u32, home: u32) -> Result<Room, NoMemory> {
         for _waiting in 0..cut.accounts {
             let Some(mover) = self.take(here, home) else {
-                return Ok(true);
+                return Ok(Room::Found);
             };
-            if !self.bring_home(cut, mover, here, home)? {
-                return Ok(false);
-            }
+            let Room::Found = self.bring_home(cut, mover, here, home)? else {
+                return Ok(Room::Lacking);
+            };
         }
-        Ok(true)
+        Ok(Room::Found)
     }
 
     // Swaps an account into its region, and what comes for it too, until something comes that may stay.
@@ -165,26 +178,26 @@ impl Turned {
         mover: Mover,
         here: u32,
         home: u32,
-    ) -> Result<bool, NoMemory> {
+    ) -> Result<Room, NoMemory> {
         let mut account = mover.account;
         let mut wanted = home;
         for _swap in 0..cut.accounts {
             if let Some(other) = self.take(wanted, here) {
                 self.exchange(account, mover.stands, other)?;
-                return Ok(true);
+                return Ok(Room::Found);
             }
             if let Some(index) = self.next_free(cut, wanted) {
                 self.change_places(account, mover.stands, index, here)?;
-                return Ok(true);
+                return Ok(Room::Found);
             }
             let Some((other, next)) = self.take_any(wanted) else {
-                return Ok(false);
+                return Ok(Room::Lacking);
             };
             self.exchange(account, mover.stands, other)?;
             account = other.account;
             wanted = next;
         }
-        Ok(false)
+        Ok(Room::Lacking)
     }
 
     // Swaps an account, which stands at an index of a region, with one at another index that no instruction touches.
@@ -196,7 +209,7 @@ impl Turned {
         index: u32,
         here: u32,
     ) -> Result<(), NoMemory> {
-        put_number(&mut self.stands, account, index.saturating_add(1));
+        put_index(&mut self.stands, account, index);
         self.swaps.push(Swap {
             one: stands,
             other: index,
@@ -206,8 +219,8 @@ impl Turned {
 
     // The next index of a region at which an account stands that no instruction touches.
     fn next_free(&mut self, cut: &Cut, region: u32) -> Option<u32> {
-        for index in number_at(&self.free, region)..cut.end(region) {
-            if number_at(&self.stands, index) == 0 {
+        for index in number_or_zero(&self.free, region)..cut.end(region) {
+            if index_at(&self.stands, index).is_none() {
                 put_number(&mut self.free, region, index.saturating_add(1));
                 return Some(index);
             }

@@ -187,12 +187,15 @@ impl Tag {
     }
 }
 
-// The stage of the last row; 0 before the first.
+// The stage before the first row, which is lower than that of each tag.
+const BEFORE_ALL: u8 = 0;
+
+// The stage of the last row.
 fn stage_of(last: Option<Tag>) -> u8
     ensures { result ≡ stage last }
 {
     match last {
-        None => 0,
+        None => BEFORE_ALL,
         Some(tag) => tag.stage(),
     }
 }

@@ -1,6 +1,6 @@
 use Rattle.std.proofs.Common.{◌≡◌, ℕ, List, ◌++◌, length, take}
 use Rattle.reg_regions.specs.Homes.{AreMarked}
-use Rattle.reg_regions.proofs.cover.mark_all.Given as goal
+use Rattle.reg_regions.proofs.cover.mark_while_new.Given as goal
 
 abbrev pub invariant-loop-place : goal.invariant-loop-place
 invariant-loop-place l = record {

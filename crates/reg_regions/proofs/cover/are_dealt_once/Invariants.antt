@@ -1,6 +1,6 @@
 use Rattle.std.proofs.Common.{◌≡◌, length, take}
 use Rattle.reg_regions.specs.Homes.{AreMarked, dealt_places}
-use Rattle.reg_regions.proofs.cover.mark_deals.Given as goal
+use Rattle.reg_regions.proofs.cover.are_dealt_once.Given as goal
 
 abbrev pub invariant-loop-deal : goal.invariant-loop-deal
 invariant-loop-deal l = record {

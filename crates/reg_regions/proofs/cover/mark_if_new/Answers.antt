@@ -1,6 +1,6 @@
 use Rattle.std.proofs.Common.{◌-◌, refl}
 use Rattle.reg_regions.proofs.Marking.{marked-one}
-use Rattle.reg_regions.proofs.cover.mark.Goals as goal
+use Rattle.reg_regions.proofs.cover.mark_if_new.Goals as goal
 
 pub returns-clause-marked : goal.returns-clause-marked
 returns-clause-marked c truth done marked =

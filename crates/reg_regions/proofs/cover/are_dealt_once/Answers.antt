@@ -4,7 +4,7 @@ use Rattle.reg_facts.specs.Counting.{times, once}
 use Rattle.reg_regions.specs.declared.dealing.Deal.{Deal}
 use Rattle.reg_regions.specs.Homes.{AreMarked, dealt_places}
 use Rattle.reg_regions.proofs.Marking.{all-marked, one-more}
-use Rattle.reg_regions.proofs.cover.mark_deals.Goals as goal
+use Rattle.reg_regions.proofs.cover.are_dealt_once.Goals as goal
 
 pub loop-deal-preserved : goal.loop-deal-preserved
 loop-deal-preserved c =
@@ -13,13 +13,13 @@ loop-deal-preserved c =
     let before = c.loop-deal.invariant in
     let done = dealt_places (take k deals) in
     let more = one-more deals k c.deal-item.result c.loop-deal-test.true c.deal-item.is in
-    let truth : c.mark_all.result ≡ true = c.if-not-mark_all.false in
+    let truth : c.mark_while_new.result ≡ true = c.if-not-mark_while_new.false in
     let whole : done ++ c.deref.result.now ≡ dealt_places (take (k + 1) deals) =
     ap (λ (ps : List ℕ). done ++ ps) c.deref.ensures.value ∙ sym more in
     record {
-      size = c.mark_all.ensures.size ∙ before.size;
-      marked = subst (λ ps. AreMarked ps c.mark_all.new.marks) whole
-          (c.mark_all.ensures.marked truth done before.marked);
+      size = c.mark_while_new.ensures.size ∙ before.size;
+      marked = subst (λ ps. AreMarked ps c.mark_while_new.new.marks) whole
+          (c.mark_while_new.ensures.marked truth done before.marked);
     }
 
 pub returns : goal.returns
