@@ -18,11 +18,11 @@ struct Mover {
     next: Option<u32>,
 }
 
-// Whether there is room for accounts in the regions of their bundles.
+// Whether accounts were brought to the regions of their bundles, or found nothing free there.
 #[derive(Clone, Copy, Drop)]
-enum Room {
-    Found,
-    Lacking,
+enum Brought {
+    Home,
+    Nowhere,
 }
 
 /// Accounts while swaps are looked for.
@@ -63,8 +63,8 @@ impl Turned {
             }
         }
         match turned.bring_all_home(cut)? {
-            Room::Found => Ok(Some(turned)),
-            Room::Lacking => Ok(None),
+            Brought::Home => Ok(Some(turned)),
+            Brought::Nowhere => Ok(None),
         }
     }
 
@@ -146,29 +146,29 @@ impl Turned {
     }
 
     // Brings each account home that still waits, as long as there is room.
-    fn bring_all_home(&mut self, cut: &Cut) -> Result<Room, NoMemory> {
+    fn bring_all_home(&mut self, cut: &Cut) -> Result<Brought, NoMemory> {
         for here in 0..self.regions {
             for home in 0..self.regions {
                 if here != home {
-                    let Room::Found = self.bring_those_home(cut, here, home)? else {
-                        return Ok(Room::Lacking);
+                    let Brought::Home = self.bring_those_home(cut, here, home)? else {
+                        return Ok(Brought::Nowhere);
                     };
                 }
             }
         }
-        Ok(Room::Found)
+        Ok(Brought::Home)
     }
 
-    fn bring_those_home(&mut self, cut: &Cut, here: u32, home: u32) -> Result<Room, NoMemory> {
+    fn bring_those_home(&mut self, cut: &Cut, here: u32, home: u32) -> Result<Brought, NoMemory> {
         for _waiting in 0..cut.accounts {
             let Some(mover) = self.take(here, home) else {
-                return Ok(Room::Found);
+                return Ok(Brought::Home);
             };
-            let Room::Found = self.bring_home(cut, mover, here, home)? else {
-                return Ok(Room::Lacking);
+            let Brought::Home = self.bring_home(cut, mover, here, home)? else {
+                return Ok(Brought::Nowhere);
             };
         }
-        Ok(Room::Found)
+        Ok(Brought::Home)
     }
 
     // Swaps an account into its region, and what comes for it too, until something comes that may stay.
@@ -178,26 +178,26 @@ impl Turned {
         mover: Mover,
         here: u32,
         home: u32,
-    ) -> Result<Room, NoMemory> {
+    ) -> Result<Brought, NoMemory> {
         let mut account = mover.account;
         let mut wanted = home;
         for _swap in 0..cut.accounts {
             if let Some(other) = self.take(wanted, here) {
                 self.exchange(account, mover.stands, other)?;
-                return Ok(Room::Found);
+                return Ok(Brought::Home);
             }
             if let Some(index) = self.next_free(cut, wanted) {
                 self.change_places(account, mover.stands, index, here)?;
-                return Ok(Room::Found);
+                return Ok(Brought::Home);
             }
             let Some((other, next)) = self.take_any(wanted) else {
-                return Ok(Room::Lacking);
+                return Ok(Brought::Nowhere);
             };
             self.exchange(account, mover.stands, other)?;
             account = other.account;
             wanted = next;
         }
-        Ok(Room::Lacking)
+        Ok(Brought::Nowhere)
     }
 
     // Swaps an account, which stands at an index of a region, with one at another index that no instruction touches.
