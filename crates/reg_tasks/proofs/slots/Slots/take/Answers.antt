@@ -7,7 +7,7 @@ use Rattle.reg_schedules.specs.Docks.{names_needed}
 use Rattle.reg_tasks.specs.Contexts.{the_day}
 use Rattle.reg_tasks.specs.Parcels.{names_of}
 use Rattle.reg_tasks.specs.Slots.{standing_in, is_there}
-use Rattle.reg_tasks.proofs.Names.{written_whole}
+use Rattle.reg_facts.proofs.lemmas.Lists.{written_whole}
 use Rattle.reg_tasks.proofs.lemmas.Placing.{ready_stands, all_there, taken_needed}
 use Rattle.reg_tasks.proofs.slots.Slots.take.Goals as goal
 
