@@ -182,6 +182,13 @@ FULL = day(
     unknown(8192, 2 * MANY_ACCOUNTS),
     ACCOUNTS + "".join(f"account,{10 + number},trading,12,open,no,no,0,0,0\n" for number in range(MANY_ACCOUNTS)),
 )
+# As many transfers between accounts that stand far apart, which are most of the book: each pair is a bundle, and one of
+# its accounts has to be swapped into the region of the other, where few stand that nobody wants.
+SWAPPED = day(
+    "a long day of 8,192 transfers between accounts far apart",
+    [f"101,102,transfer,{10 + number},{9 + MANY_ACCOUNTS - number},general,1" for number in range(8192)],
+    ACCOUNTS + "".join(f"account,{10 + number},trading,12,open,no,no,0,0,0\n" for number in range(MANY_ACCOUNTS)),
+)
 # A file of it is read in two pieces, of which the second begins with an account in the middle; empty lines say nothing.
 HALF = 72 * 1024
 PADDED = Day(
@@ -530,6 +537,8 @@ def thread_cases(library: str, work: str, registry: str) -> Iterator[tuple[Progr
         # (the lists of accounts are spelled in shares of equally many, and those of six workers make five shares)
         spellers = 4 if workers == 6 else others
         yield settle_case(library, work, registry, workers, FULL), 5 * others + spellers
+        # (where a day is not dealt out to regions, the calling thread alone settles it)
+        yield settle_case(library, work, registry, workers, SWAPPED), 6 * others
         yield settle_case(library, work, registry, workers, FILED, is_file=True), 3 * others
     plan = Program(library, work, registry, ["plan"], LONG.text)
     yield ProgramCase(f"registry plan, {LONG.name}", plan), min(processors(), MOST_WORKERS) - 1
