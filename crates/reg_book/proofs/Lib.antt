@@ -13,7 +13,6 @@ pub mod Orders
 pub mod Overlays
 pub mod Standing
 pub mod Ranks
-pub mod Replacements
 pub mod Singles
 pub mod Turns
 pub mod Values

@@ -10,7 +10,7 @@ use Rattle.std.specs.Cmp.{nat_eq_equiv}
 use Rattle.reg_base.specs.Directory.{DirectoryValue}
 use Rattle.std.proofs.lemmas.Bool.{eq-eqb, ne_eqb, eqb-false, cases_lt}
 use Rattle.std.proofs.Math.Seq.{get_or-append_seam}
-use Rattle.std.proofs.lemmas.List.{take-append-drop, take-take, take_at, take_more, drop_at, get_or-take}
+use Rattle.std.proofs.lemmas.List.{take-append-drop, take_at, drop_at, get_or-take}
 use Rattle.std.proofs.lemmas.List.{get_or_append_left, length-append}
 use Rattle.std.proofs.lemmas.Option.{same_Some}
 use Rattle.reg_base.specs.declared.kinds.AccountKind.{AccountKind}
@@ -132,26 +132,6 @@ popped all cur new w front parts =
       sym (ap (λ (zs : State). take (length new) zs) whole ∙ take_at new (w ∷ drop (length cur) all) (length new) refl),
       ap (λ (zs : State). drop (length new) zs) whole ∙ drop_at new (w ∷ drop (length cur) all) (length new) refl,
     )
-
--- the last of so many accounts is found in a list that has the same first ones
-pub taken_at : (all cur : State) (k : ℕ) (w : AccountValue) → 0 < k → take k cur ≡ take k all → w ≡ get_or cur (k - 1) w
-    → get_or all (k - 1) w ≡ w
-taken_at all cur k w some same at =
-    sym (get_or-take k all (k - 1) w (omega (arith, some))) ∙ ap (λ (zs : State). get_or zs (k - 1) w) (sym same)
-    ∙ get_or-take k cur (k - 1) w (omega (arith, some)) ∙ sym at
-
--- and so the first ones are those before it, and it
-pub last_taken : (all cur : State) (k : ℕ) (w : AccountValue) → 0 < k → k ≤ length all → take k cur ≡ take k all
-    → w ≡ get_or cur (k - 1) w → take k all ≡ take (k - 1) all ++ w ∷ []
-last_taken all cur k w some few same at =
-    let whole : k - 1 + 1 ≡ k = omega (arith, some) in
-    ap (λ (n : ℕ). take n all) (sym whole) ∙ take_more all (k - 1) w (omega (arith, some, few))
-    ∙ ap (λ (o : AccountValue). take (k - 1) all ++ o ∷ []) (taken_at all cur k w some same at)
-
--- one account fewer of both is the same, too
-pub taken_fewer : (cur all : State) (k : ℕ) → take k cur ≡ take k all → take (k - 1) cur ≡ take (k - 1) all
-taken_fewer cur all k same = sym (take-take (k - 1) k cur (omega arith)) ∙ ap (λ (zs : State). take (k - 1) zs) same
-    ∙ take-take (k - 1) k all (omega arith)
 
 -- each of these accounts stands among the others with the same kind and holder
 abbrev pub StandIn : State → State → Type 0

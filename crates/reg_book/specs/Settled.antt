@@ -32,10 +32,6 @@ pub record IsSettled (s : SettledValue) : Type 0 where
 abbrev pub committed : BookValue → SettledValue → BookValue
 committed book s = record { accounts = overlay book.accounts s.accounts; next = s.base + length s.rows + 1 }
 
--- the accounts that a commit replaces: for each settled account the one of the book with its number, in their order
-abbrev pub replaced : BookValue → SettledValue → List AccountValue
-replaced book s = overlay s.accounts book.accounts
-
 -- each settled account is in the book, with the same kind and holder, and its surrenders and deletions are recorded
 -- under numbers up to that of the last log row
 pub record IsOfBook (book : BookValue) (s : SettledValue) : Type 0 where

@@ -1,6 +1,6 @@
 //! The book of all accounts.
 
-ghost use Rattle.std.specs.Prelude.{◌≡◌, ◌≢◌, ◌+◌, ◌-◌, ◌<◌, ◌≤◌, [], ◌∷◌, All, length, slice_index, MatchResult, IfOk};
+ghost use Rattle.std.specs.Prelude.{◌≡◌, ◌≢◌, ◌+◌, ◌-◌, ◌<◌, ◌≤◌, [], ◌∷◌, All, length, slice_index, MatchResult};
 ghost use Rattle.std.specs.Option.{option_copied};
 ghost use Rattle.reg_base.specs.Rising.{IsRising};
 ghost use Rattle.reg_base.specs.declared.kinds.Retirement.TheVariants.{Surrendered, Deleted};
@@ -17,23 +17,6 @@ use reg_base::{AccountNo, AllowanceKind, Day, Directory, Instruction, NoMemory, 
 use reg_rules::{LogRow, Setting, log_row, step_laws};
 use std::alloc::Global;
 use std::marker::Model;
-use std::mem;
-
-/// The accounts that a commit has replaced, as they were before. Nothing is done with them but to free them, or not to.
-/// A contract sees them as a list.
-#[derive(Debug, Drop)]
-pub struct Replaced {
-    accounts: Vec<Account>,
-}
-
-impl Model for Replaced {
-    ghost use Rattle.std.specs.Prelude.{List};
-    ghost use Rattle.reg_account.specs.Account.{AccountValue};
-
-    ghost Value = { List AccountValue };
-
-    ghost view = { λ r. r.accounts.items };
-}
 
 /// The accounts of a registry, by rising number, and the next record number. A contract sees the book as plain data.
 #[derive(Debug, Drop)]
@@ -55,7 +38,7 @@ impl Model for Book {
 
 impl Book {
     ghost use Rattle.reg_book.specs.Book.{directory_of, IsBook, IsBookKept, total_held, total_retired};
-    ghost use Rattle.reg_book.specs.Settled.{IsOfBook, committed, replaced};
+    ghost use Rattle.reg_book.specs.Settled.{IsOfBook, committed};
     ghost use Rattle.reg_book.specs.Single.{IsApplied, IsNotApplied};
 
     /// The book of these accounts, with their directory and the next record number: what [`Book::into_parts`] took
@@ -196,75 +179,47 @@ impl Book {
             × (e.1.next ≡ self.old.next)) }
         ensures directory { directory_of self.new.accounts ≡ directory_of self.old.accounts }
     {
-        let (rows, _) = self.commit_and_keep(settled)?;
-        Ok(rows)
-    }
-
-    /// The same as [`Book::commit`], but the accounts that were replaced are not freed: they are handed back, as they
-    /// were in the book, by rising number.
-    ///
-    /// # Errors
-    /// As [`Book::commit`].
-    pub fn commit_and_keep(
-        &mut self,
-        settled: Settled,
-    ) -> Result<(Vec<LogRow>, Replaced), (Settled, Stale)>
-        requires { settled.base + 1 ≡ self.old.next → IsOfBook self.old settled }
-        ensures answer { MatchResult result
-            (λ kept. (settled.base + 1 ≡ self.old.next) × (self.new ≡ committed self.old settled)
-            × (kept.0.items ≡ settled.rows))
-            (λ e. (settled.base + 1 ≢ self.old.next) × (self.new ≡ self.old) × (e.0 ≡ settled)
-            × (e.1.next ≡ self.old.next)) }
-        ensures replaced { IfOk result (λ kept. kept.1 ≡ replaced self.old settled) }
-        ensures directory { directory_of self.new.accounts ≡ directory_of self.old.accounts }
-    {
         let next = self.next;
         if settled.base() != next - 1 {
             return Err((settled, Stale { next }));
         }
-        let (rows, mut accounts) = settled.into_parts();
+        let (rows, accounts) = settled.into_parts();
         self.next = next + rows.len() as u64;
-        replace_accounts(&mut self.accounts, &mut accounts);
-        Ok((rows, Replaced { accounts }))
+        replace_accounts(&mut self.accounts, accounts);
+        Ok(rows)
     }
 }
 
-// Puts each settled account in the place of the one with its number, and that one in its own. Both lists are walked
-// once, from their ends.
-fn replace_accounts(accounts: &mut Vec<Account>, settled: &mut Vec<Account>)
+// Puts each settled account in the place of the one with its number. Both lists are walked once, from their ends.
+fn replace_accounts(accounts: &mut Vec<Account>, mut settled: Vec<Account>)
     requires rising { IsRising (numbers accounts.old.items) }
-    requires settled_rising { IsRising (numbers settled.old.items) }
+    requires settled_rising { IsRising (numbers settled.items) }
     requires within_limits { All IsAccount accounts.old.items }
-    ensures items { accounts.new.items ≡ overlay accounts.old.items settled.old.items }
-    ensures replaced { settled.new.items ≡ overlay settled.old.items accounts.old.items }
+    ensures items { accounts.new.items ≡ overlay accounts.old.items settled.items }
     ensures within_limits { All IsAccount accounts.new.items }
 {
     let mut until = accounts.len();
-    let mut left = settled.len();
-    while left > 0 {
-        left -= 1;
-        let account = &mut settled[left];
+    while let Some(account) = settled.pop() {
         until = count_not_higher(accounts, until, account.number());
         replace_last(accounts, until, account);
     }
 }
 
 // Of the accounts, the first `count` have numbers that are not higher than this one's. If the last of these has its
-// number, the two change places.
-fn replace_last(accounts: &mut Vec<Account>, count: usize, account: &mut Account)
+// number, it is replaced.
+fn replace_last(accounts: &mut Vec<Account>, count: usize, account: Account)
     requires rising { IsRising (numbers accounts.old.items) }
     requires within_limits { All IsAccount accounts.old.items }
     requires within { count ≤ length accounts.old.items }
-    requires higher { AreHigher (numbers accounts.old.items) count account.old.number }
-    requires last { 0 < count → slice_index (numbers accounts.old.items) (count - 1) ≤ account.old.number }
-    ensures items { accounts.new.items ≡ overlay accounts.old.items (account.old ∷ []) }
-    ensures replaced { account.new ∷ [] ≡ overlay (account.old ∷ []) accounts.old.items }
+    requires higher { AreHigher (numbers accounts.old.items) count account.number }
+    requires last { 0 < count → slice_index (numbers accounts.old.items) (count - 1) ≤ account.number }
+    ensures items { accounts.new.items ≡ overlay accounts.old.items (account ∷ []) }
     ensures within_limits { All IsAccount accounts.new.items }
 {
     account.is_within_limits();
     let number = account.number();
     if count > 0 && accounts[count - 1].number() == number {
-        mem::swap(&mut accounts[count - 1], account);
+        accounts[count - 1] = account;
     }
 }
 

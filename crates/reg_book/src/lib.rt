@@ -86,7 +86,7 @@ mod touched;
 mod turn;
 
 pub use apply::ApplyFault;
-pub use book::{Book, Replaced};
+pub use book::Book;
 pub use closing::{ClosedDay, settle_in_place};
 pub use draft::{BookDraft, BookFault, has_row_ahead};
 pub use indexes::{Indexes, all_indexes, index_of};

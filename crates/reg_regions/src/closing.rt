@@ -18,9 +18,10 @@ use crate::gate::PlaceGate;
 use crate::laws::regions_are_a_day;
 use crate::not_settled::{NotSettled, RegionsFault};
 use crate::replies::{put_replies, replies_for_all};
-use crate::stealing::SettledLists;
 use crate::stealing::shift::WorkShift;
-use crate::turned::{prepare, settle_swapped};
+use crate::stealing::{SettledLists, settle_lists};
+use crate::swapping::swap_back;
+use crate::turned::prepare;
 use crate::whole::settle_whole;
 use reg_account::Account;
 use reg_base::{Batch, NoMemory, Rules};
@@ -166,5 +167,8 @@ fn settle_turned<R: Threads + Sync, G: PlaceGate>(
     let Some(dealing) = found else {
         return settle_whole(rt, alloc, setting, batch, lists, workers, gate);
     };
-    settle_swapped(rt, alloc, setting, batch, &dealing, lists, workers, gate)
+    let deals = &dealing.deals;
+    let mut settled = settle_lists(rt, alloc, setting, batch, deals, lists, workers, gate)?;
+    swap_back(&mut settled.lists, &dealing.swaps);
+    Ok(settled)
 }

@@ -1,23 +1,18 @@
-//! Regions whose accounts are swapped before, and back afterwards.
+//! The regions of a day, and the swaps after which each account stands in its own.
 
-ghost use Rattle.std.specs.Prelude.{◌≡◌, ◌+◌, ◌≤◌, ℕ, All, IfOk, IfSome, false, IsTrue, MatchOption, length};
+ghost use Rattle.std.specs.Prelude.{◌≡◌, ◌≤◌, ℕ, All, IfOk, IfSome, false, IsTrue, MatchOption, length};
 ghost use Rattle.reg_base.specs.Rising.{IsRising};
-ghost use Rattle.reg_base.specs.Rules.{AreRules};
 ghost use Rattle.reg_facts.specs.Counting.{times, once};
-ghost use Rattle.reg_rules.specs.Laws.{IsReady};
-ghost use Rattle.reg_rules.specs.State.{State, numbers};
-ghost use Rattle.reg_regions.specs.Dealing.{IsPrepared, AreTurned};
+ghost use Rattle.reg_rules.specs.State.{numbers};
+ghost use Rattle.reg_regions.specs.Dealing.{IsPrepared};
 ghost use Rattle.reg_regions.specs.Homes.{AreAllHome, dealt_places};
 ghost use Rattle.reg_regions.specs.Lists.{joined_lists, sizes_of, deal_sizes};
-ghost use Rattle.reg_regions.specs.Outcomes.{AreShiftsOf};
 ghost use Rattle.reg_regions.specs.Swaps.{IsSwapWithin, exchanged};
 
 use crate::all_home::are_all_home;
 use crate::cover::have_all_places;
 use crate::dealing::{Deal, Dealing};
-use crate::gate::PlaceGate;
 use crate::planning::{deal_out, runs_of};
-use crate::stealing::{SettledLists, settle_lists};
 use crate::swapping::{swap_all, swap_back};
 use crate::swaps::Swap;
 use reg_account::Account;
@@ -155,34 +150,4 @@ fn swap_home<R: Threads + Sync>(
     }
     swap_back(lists, &dealing.swaps);
     false
-}
-
-/// Carries out the instructions of lists whose accounts were swapped, each a region, and swaps back.
-///
-/// # Errors
-/// `NoMemory` if memory ran out.
-pub(crate) fn settle_swapped<R: Threads + Sync, G: PlaceGate>(
-    rt: &R,
-    alloc: Global,
-    setting: &Setting,
-    batch: &Batch,
-    dealing: &Dealing,
-    lists: Vec<Vec<Account>>,
-    workers: u32,
-    gate: &G,
-) -> Result<SettledLists, NoMemory>
-    requires workers { (1 ≤ workers) × (workers ≤ 8) }
-    requires rules { AreRules setting.now.rules }
-    requires ready { IsReady (batch.now.base + 1) (joined_lists lists.items) }
-    requires prepared { (old : State) × IsPrepared setting.now batch.now dealing.now old (joined_lists lists.items) }
-    requires sizes { sizes_of lists.items ≡ deal_sizes dealing.now.deals.items }
-    ensures turned { IfOk result (λ s. (old : State)
-        → IsPrepared setting.now batch.now dealing.now old (joined_lists lists.items)
-        → AreTurned setting.now batch.now old (joined_lists s.lists.items) s.replies.items) }
-    ensures shifts { IfOk result (λ s. AreShiftsOf workers (length batch.now.instructions) s.shifts.items) }
-{
-    let deals = &dealing.deals;
-    let mut settled = settle_lists(rt, alloc, setting, batch, deals, lists, workers, gate)?;
-    swap_back(&mut settled.lists, &dealing.swaps);
-    Ok(settled)
 }

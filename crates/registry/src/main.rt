@@ -6,7 +6,7 @@ ghost use Rattle.std.specs.Prelude.{◌≡◌};
 ghost use Rattle.reg_front.specs.Counting.{counted_stream};
 ghost use Rattle.reg_front.specs.Lines.{IsTold};
 ghost use Rattle.reg_front.specs.Streams.{CanFail};
-ghost use Rattle.registry.specs.Serving.{IsShown, Obeys, Serves, streams, streams_of};
+ghost use Rattle.registry.specs.Serving.{IsShown, Serves, streams_of};
 ghost use Rattle.registry.specs.Statuses.{exit_status_of};
 
 mod input;
@@ -15,7 +15,7 @@ mod words;
 use crate::input::Input;
 use crate::words::read_words;
 use clap::error::ErrorKind;
-use reg_front::{Command, Counted, FrontFault, Sink, Source, run_without_freeing, tell_fault};
+use reg_front::{Counted, FrontFault, Sink, Source, run_without_freeing, tell_fault};
 use std::alloc::{AllocError, Global};
 use std::convert::AsStr;
 use std::io::Write;
@@ -49,29 +49,11 @@ pub fn serve<T: Threads + Wait + Sync, S: AsStr, R: Source, W: Write, F: Write>(
         (streams_of W.contents F.contents (R.stream reader.new) writer.new faults.new) }
 {
     match read_words(alloc, words) {
-        Ok(command) => carry_out(rt, alloc, command, reader, writer, faults),
+        Ok(command) => match run_without_freeing(rt, alloc, reader, writer, command) {
+            Ok(()) => 0,
+            Err(fault) => tell(fault, faults),
+        },
         Err(error) => show(&error, writer, faults),
-    }
-}
-
-// Runs the command, and answers the status.
-fn carry_out<T: Threads + Wait + Sync, R: Source, W: Sink, F: Sink>(
-    rt: &T,
-    alloc: Global,
-    command: Command,
-    reader: &mut R,
-    writer: &mut W,
-    faults: &mut F,
-) -> u8
-    requires reader { CanFail (R.stream reader.old) }
-    requires writer { CanFail (W.stream writer.old) }
-    requires faults { CanFail (F.stream faults.old) }
-    ensures { Obeys command result (streams (R.stream reader.old) (W.stream writer.old) (F.stream faults.old))
-        (streams (R.stream reader.new) (W.stream writer.new) (F.stream faults.new)) }
-{
-    match run_without_freeing(rt, alloc, reader, writer, command) {
-        Ok(()) => 0,
-        Err(fault) => tell(fault, faults),
     }
 }
 

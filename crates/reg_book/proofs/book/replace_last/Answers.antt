@@ -1,10 +1,6 @@
-use Rattle.std.proofs.Common.{◌-◌, ℕ, [], ◌∷◌, arith, sym, subst, ap, ◌∙◌}
-use Rattle.std.specs.Prelude.{slice_set}
+use Rattle.std.proofs.Common.{ℕ, arith, sym, subst, ◌∙◌}
 use Rattle.std.proofs.lemmas.Bool.{eqb-true}
-use Rattle.std.proofs.lemmas.List.Elements.{All-set}
-use Rattle.reg_account.specs.Account.{AccountValue, IsAccount}
 use Rattle.reg_book.proofs.Overlays.{set_at, not_there, numbers_below, lower_than}
-use Rattle.reg_book.proofs.Replacements.{comes_out, comes_back}
 use Rattle.reg_book.proofs.book.replace_last.Goals as goal
 use Rattle.reg_book.proofs.book.replace_last.Goals.{else-count-gt0-via-then-count-gt0+else-eq}
 use Rattle.reg_book.proofs.book.replace_last.Goals.{else-count-gt0-via-else-count-gt0}
@@ -15,9 +11,7 @@ returns-then-eq-clause-items c =
     let same = sym c.number.ensures ∙ eqb-true c.number.result c.number-number.result (sym c.if-eq.ensures)
     ∙ c.number-number.ensures in
     let some = c.if-count-gt0.true in
-    ap (λ (w : AccountValue). slice_set c.args.accounts.now.items (c.args.count - 1) w)
-    c.swap.ensures.x_after
-    ∙ set_at c.args.accounts.now.items c.args.account.now c.index.result.now _ c.requires.rising
+    set_at c.args.accounts.now.items c.args.account c.index.result.now _ c.requires.rising
     (omega (arith, within, some)) c.index.ensures same
 
 pub returns-else-count-gt0-clause-items : goal.returns-else-count-gt0-clause-items
@@ -27,34 +21,14 @@ returns-else-count-gt0-clause-items c =
     let higher = c.requires.higher in
     elim c.else-count-gt0.branch [
       | else-count-gt0-via-then-count-gt0+else-eq w ↦
-          not_there xs c.args.account.now c.args.count c.requires.rising within higher
-          (λ some. lower_than xs c.args.account.now c.args.count w.index.result.now w.number.result
+          not_there xs c.args.account c.args.count c.requires.rising within higher
+          (λ some. lower_than xs c.args.account c.args.count w.index.result.now w.number.result
           c.number-number.result some within w.index.ensures w.number.ensures c.number-number.ensures
           (sym w.if-eq.ensures) (subst
           (λ (n : ℕ). numbers_below xs c.args.count n)
           (sym c.number-number.ensures) (c.requires.last some)))
       | else-count-gt0-via-else-count-gt0 w ↦
           let none = w.if-count-gt0.false in
-          not_there xs c.args.account.now c.args.count c.requires.rising within higher
+          not_there xs c.args.account c.args.count c.requires.rising within higher
           (λ some. absurd (omega (arith, none, some)))
     ]
-
-pub returns-then-eq-clause-replaced : goal.returns-then-eq-clause-replaced
-returns-then-eq-clause-replaced c =
-    let within = c.requires.within in
-    let same = sym c.number.ensures ∙ eqb-true c.number.result c.number-number.result (sym c.if-eq.ensures)
-    ∙ c.number-number.ensures in
-    let some = c.if-count-gt0.true in
-    ap (λ (v : AccountValue). v ∷ []) c.swap.ensures.y_after
-    ∙ comes_out c.args.accounts.now.items c.args.account.now c.index.result.now c.index_mut.result.now
-    (c.args.count - 1) c.requires.rising (omega (arith, within, some))
-    c.index.ensures same c.index_mut.ensures.value
-
-pub returns-else-count-gt0-clause-replaced : goal.returns-else-count-gt0-clause-replaced
-returns-else-count-gt0-clause-replaced c =
-    comes_back c.args.accounts.now.items c.args.account.now (returns-else-count-gt0-clause-items c)
-
-pub returns-then-eq-clause-within_limits : goal.returns-then-eq-clause-within_limits
-returns-then-eq-clause-within_limits c =
-    All-set IsAccount c.args.accounts.now.items (c.args.count - 1) c.swap.new.x
-    (subst IsAccount (sym c.swap.ensures.x_after) c.is_within_limits.ensures) c.requires.within_limits

@@ -4,7 +4,7 @@ use Rattle.reg_rules.specs.Effect.{IsBehind}
 use Rattle.reg_book.specs.Book.{directory_of, overlay}
 use Rattle.reg_book.specs.Settled.{IsOfBook}
 use Rattle.reg_book.proofs.Overlays.{kept_after, next_fits}
-use Rattle.reg_book.proofs.book.Book.commit_and_keep.Goals as goal
+use Rattle.reg_book.proofs.book.Book.commit.Goals as goal
 
 pub invariant_of-self : goal.invariant_of-self
 invariant_of-self c =
