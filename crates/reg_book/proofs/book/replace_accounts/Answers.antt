@@ -32,7 +32,8 @@ count_not_higher-until-requires-clause-higher c =
     let all = c.args.accounts.now.items in
     let cur = c.loop-account.settled.items in
     let w = c.in-Some.account in
-    let same = ap numbers c.loop-account.invariant.done ∙ numbers-overlay all (drop (length cur) c.args.settled.items) in
+    let same = ap numbers c.loop-account.invariant.done
+    ∙ numbers-overlay all (drop (length cur) c.args.settled.items) in
     let parts : cur ≡ c.pop.new.self.items ++ w ∷ [] = c.in-Some.ensures.items in
     let higher = subst (λ ns. AreHigher ns c.loop-account.until w.number) (sym same)
     (higher-last (numbers all) cur c.pop.new.self.items w c.loop-account.until c.loop-account.invariant.higher parts) in

@@ -1,5 +1,7 @@
-use Rattle.std.proofs.Common.{ℕ, arith, sym, subst, ◌∙◌}
+use Rattle.std.proofs.Common.{◌-◌, ℕ, arith, sym, subst, ◌∙◌}
 use Rattle.std.proofs.lemmas.Bool.{eqb-true}
+use Rattle.std.proofs.lemmas.List.Elements.{All-set}
+use Rattle.reg_account.specs.Account.{IsAccount}
 use Rattle.reg_book.proofs.Overlays.{set_at, not_there, numbers_below, lower_than}
 use Rattle.reg_book.proofs.book.replace_last.Goals as goal
 use Rattle.reg_book.proofs.book.replace_last.Goals.{else-count-gt0-via-then-count-gt0+else-eq}
@@ -32,3 +34,8 @@ returns-else-count-gt0-clause-items c =
           not_there xs c.args.account c.args.count c.requires.rising within higher
           (λ some. absurd (omega (arith, none, some)))
     ]
+
+pub returns-then-eq-clause-within_limits : goal.returns-then-eq-clause-within_limits
+returns-then-eq-clause-within_limits c =
+    All-set IsAccount c.args.accounts.now.items (c.args.count - 1) c.args.account c.is_within_limits.ensures
+    c.requires.within_limits
