@@ -5,7 +5,7 @@ use reg_account::Account;
 use reg_base::{AccountNo, NoMemory};
 use std::alloc::Global;
 
-/// In how many lists accounts may lie, if each is to be a region. Four for each worker are wanted, and each list that
+/// In how many lists accounts may lie, if each is to be a region. Three for each worker are wanted, and each list that
 /// was read may leave one more.
 pub(crate) const MOST_REGIONS: usize = 64;
 

@@ -279,7 +279,8 @@ class Chain:
 
 def run(words: argparse.Namespace) -> int:
     if len(words.files) % 2:
-        raise WordsFault(f"{len(words.files)} files: each DAY needs its REPORT behind it")
+        program = f"; {words.settle} is the program of --settle" if words.settle else ""
+        raise WordsFault(f"{len(words.files)} files: each DAY needs its REPORT behind it{program}")
     pairs = [*zip(words.files[::2], words.files[1::2])]
     settler = None if words.settle is None else settler_of(words.settle, "--settle")
     chain = Chain(Changes(words.changes), settler)

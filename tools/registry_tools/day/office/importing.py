@@ -63,8 +63,8 @@ def date_reader(example: str | None) -> Callable[[str], str]:
 class Table:
     """The rows of a sheet under its columns."""
 
-    def __init__(self, sheet: Sheet, known: list[str], read_date: Callable[[str], str]) -> None:
-        self.sheet, self.known, self.read_date = sheet, known, read_date
+    def __init__(self, sheet: Sheet, known: list[str], dates: str | None) -> None:
+        self.sheet, self.known, self.dates, self.read_date = sheet, known, dates, date_reader(dates)
         self.columns = [row.strip().lower() for row in sheet.rows[0]] if sheet.rows else []
         while self.columns and not self.columns[-1]:
             self.columns.pop()
@@ -123,7 +123,7 @@ def wrong_cells(table: Table, number: int, fields: list[tuple[str, str]]) -> Ite
         try:
             own.read(word)
         except faults.Fault:
-            yield table.fault(number, name, shown(word), expected_of(own.expected, word))
+            yield table.fault(number, name, shown(word), expected_of(table, own.expected, word))
 
 
 def unused(table: Table, number: int, said: dict[str, str], used: set[str]) -> Iterator[FileFault]:
@@ -133,8 +133,10 @@ def unused(table: Table, number: int, said: dict[str, str], used: set[str]) -> I
             yield table.fault(number, name, shown(word), f"nothing: {said['act']} has no {name.upper()}")
 
 
-def expected_of(expected: str, word: str) -> str:
-    """What is expected, and how another form of a date is told."""
+def expected_of(table: Table, expected: str, word: str) -> str:
+    """What is expected: of a date in the form that was told, and else how another form is told."""
+    if table.dates is not None:
+        return expected.replace("YYYY-MM-DD", f"as {table.dates}")
     if "date" in expected and re.fullmatch(r"[0-9]{1,4}[./-][0-9]{1,2}[./-][0-9]{1,4}", word):
         return f"{expected}; --dates tells another form"
     return expected
@@ -206,9 +208,11 @@ def fault_of(table: Table, number: int, said: dict[str, str], row: list[str], fa
         found = tables.BETWEEN_FIELDS.join(row[1:])
         name = f"{fault.name}: " if fault.name else ""
         wrong = row[fault.place - 1] if fault.place else ""
-        return table.fault(number, tables.LISTS[row[0]], shown(found), f"{name}{expected_of(fault.expected, wrong)}")
+        expected = f"{name}{expected_of(table, fault.expected, wrong)}"
+        return table.fault(number, tables.LISTS[row[0]], shown(found), expected)
     name = tables.ACCOUNT_FIELDS[fault.place - 2] if fault.place >= 2 else "no"
-    return table.fault(number, name, shown(said.get(name, "")), expected_of(fault.expected, said.get(name, "")))
+    word = said.get(name, "")
+    return table.fault(number, name, shown(word), expected_of(table, fault.expected, word))
 
 
 def by_number(rows: list[str]) -> list[str]:
@@ -223,7 +227,7 @@ def by_number(rows: list[str]) -> list[str]:
 
 def run(said: argparse.Namespace) -> int:
     known = tables.ACCOUNT_COLUMNS if said.accounts else tables.INSTRUCTION_COLUMNS
-    table = Table(sheets.read(said.file), known, date_reader(said.dates))
+    table = Table(sheets.read(said.file), known, said.dates)
     wrong = [*table.wrong_heading()]
     # (under a heading that is wrong, nobody knows what a cell is)
     made = [] if wrong else [*(accounts_of if said.accounts else instructions_of)(table)]

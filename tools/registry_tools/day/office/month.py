@@ -128,7 +128,7 @@ def refusal_parts(days: list[PastDay]) -> Iterator[Markup]:
         return
     yield REFUSALS.of(
         "By reason",
-        [(name, grouped(often), send.letter_words(checks()[name].meaning)) for name, often in count.most_common()],
+        [(name, grouped(often), send.meaning_of(checks()[name])) for name, often in count.most_common()],
     )
 
 

@@ -48,14 +48,11 @@ def with_paths(name: str, arguments: list[str]) -> list[str]:
     """The words of a command, with the paths of the days that they name by date."""
     if name not in TAKES or {"-h", "--help"} & {*arguments}:
         return arguments
-    arguments = [*parts_of(arguments)]
-    place = arguments.index("--day") if "--day" in arguments else None
-    dates = dates_behind(name, arguments[place + 1 :]) if place is not None else []
-    if place is None or not dates:
-        if "--office" in arguments:
+    dates, rest = taken_dates(name, [*parts_of(arguments)])
+    if not dates:
+        if "--office" in rest:
             raise WordsFault("--office FOLDER stands with --day DATE, in place of paths")
-        return arguments
-    rest = arguments[:place] + arguments[place + 1 + len(dates) :]
+        return rest
     office = folder.opened(taken_office(rest), folder.to_errors)
     days, reports = zip(*(paths_of(office, date) for date in dates))
     if TAKES[name] == REPORTS:
@@ -72,6 +69,21 @@ def parts_of(arguments: list[str]) -> Iterator[str]:
         yield from (option, value) if is_one and option in ("--day", "--office") else (word,)
 
 
+def taken_dates(name: str, arguments: list[str]) -> tuple[list[str], list[str]]:
+    """The dates behind --day, and the other words. A log takes all that are given to it, any other command one."""
+    dates: list[str] = []
+    rest: list[str] = []
+    while "--day" in arguments:
+        place = arguments.index("--day")
+        found = dates_behind(name, arguments[place + 1 :])
+        if dates and TAKES[name] != REPORTS:
+            raise stands_twice("--day", dates[0], found[0])
+        dates += found
+        rest += arguments[: place if found else place + 1]
+        arguments = arguments[place + 1 + len(found) :]
+    return dates, rest + arguments
+
+
 def dates_behind(name: str, behind: list[str]) -> list[str]:
     """The dates that stand behind --day: one, or of logs several. There paths of day texts may stand, too."""
     if TAKES[name] != REPORTS:
@@ -79,6 +91,10 @@ def dates_behind(name: str, behind: list[str]) -> list[str]:
             raise WordsFault(f"--day {behind[0] if behind else 'has nothing behind it, and'} is no date, as 2026-12-14")
         return behind[:1]
     return [*itertools.takewhile(is_date, behind)]
+
+
+def stands_twice(option: str, one: str, other: str) -> WordsFault:
+    return WordsFault(f"{option} stands twice, with {one} and with {other}: which of them?")
 
 
 def known_of(office: Office, date: str, rest: list[str]) -> list[str]:
@@ -100,6 +116,8 @@ def taken_office(rest: list[str]) -> str | None:
         raise WordsFault("--office needs a folder behind it")
     word = rest[place + 1]
     del rest[place : place + 2]
+    if "--office" in rest:
+        raise stands_twice("--office", word, " ".join(rest[rest.index("--office") + 1 :][:1]) or "nothing")
     return word
 
 

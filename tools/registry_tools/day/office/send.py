@@ -17,7 +17,7 @@ from typing import Iterator
 
 from registry_tools import rules
 from registry_tools.day import pending
-from registry_tools.day.checks import plain
+from registry_tools.day.checks import Check, plain
 from registry_tools.day.due import NOT_DUE
 from registry_tools.day.errors import WordsFault
 from registry_tools.day.office import folder, labels, past
@@ -47,6 +47,11 @@ NAMED = re.compile(r"\b(" + "|".join(IN_A_LETTER) + r")\b")
 OF_OFFICE = re.compile(
     r"\s*(An act of administrators: [^.]*\.|For an act of administrators: [^.]*\.|See docs/\S+|: see docs/\S+\.?)"
 )
+# What would not read well by these words.
+MEANING = {
+    "UnknownAccount": "There is no account with one of the numbers in the instruction.",
+    "HoldingTooLarge": "An account that receives would hold more than 10^15 allowances of the kind.",
+}
 ADVICE = {
     "OutsideCalendar": "Ask the registry for more working days, and enter it again.",
     "YearOutsidePeriod": "Check the year.",
@@ -80,15 +85,20 @@ class LetterWords(Rulebook):
     """The words of the rules as they stand in a letter: without links, and without what only the registry does."""
 
     def check_link(self, code: int, root: str = "") -> str:
-        return letter_words(plain(self.checks[code].meaning))
+        return meaning_of(self.checks[code])
 
     def words(self, markdown: str, root: str = "") -> str:
         name = next((check.name for check in self.checks.values() if check.advice == markdown), "")
         return ADVICE.get(name) or letter_words(plain(markdown))
 
 
+def meaning_of(check: Check) -> str:
+    """Why the check refuses, in a letter."""
+    return MEANING.get(check.name) or letter_words(plain(check.meaning))
+
+
 def letter_words(text: str) -> str:
-    words_only = NAMED.sub(lambda found: IN_A_LETTER[found[1]], OF_OFFICE.sub("", text))
+    words_only = NAMED.sub(lambda found: IN_A_LETTER[found[1]], OF_OFFICE.sub("", text)).rstrip(".") + "."
     return re.sub(
         r"(^|[.:] )([a-z])", lambda found: found[1] + found[2].upper() if found[1] != ": " else found[0], words_only
     )
