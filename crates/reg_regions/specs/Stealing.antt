@@ -1,5 +1,5 @@
 -- Workers that take regions from deques: what a region begins with, and what comes of all.
-use Rattle.std.specs.Prelude.{◌≡◌, ℕ, zero, suc, ◌+◌, ◌-◌, ◌<◌, List, [], ◌∷◌, ◌++◌, All, Contains, map, length, Some}
+use Rattle.std.specs.Prelude.{◌≡◌, ℕ, zero, suc, ◌+◌, ◌-◌, ◌<◌, List, [], ◌∷◌, ◌++◌, All, map, length, Some}
 use Rattle.std.specs.Prelude.{slice_get, slice_index_or}
 use Rattle.std.specs.List.{flat_map}
 use Rattle.std.specs.Option.{option_map_or}
@@ -11,7 +11,6 @@ use Rattle.reg_account.specs.Account.{AccountValue}
 use Rattle.reg_rules.specs.State.{State, Setting, numbers}
 use Rattle.reg_rules.specs.Laws.{IsReady}
 use Rattle.reg_book.specs.Indexes.{index_lists}
-use Rattle.reg_claim.specs.declared.views.SeatView.{SeatView}
 use Rattle.reg_facts.specs.Counting.{total, times}
 use Rattle.reg_regions.specs.declared.dealing.Deal.{Deal}
 use Rattle.reg_regions.specs.declared.region.Placed.{Placed}
@@ -58,10 +57,6 @@ numbers_of settled = map (λ s. s.number) settled
 -- the places of their instructions, in the order in which these were carried out
 abbrev pub settled_places : List SettledList → List ℕ
 settled_places settled = flat_map (λ s. places_in s.replies.items) settled
-
--- the seat has claimed the place, and has not finished it
-abbrev pub HasClaimed : ℕ → SeatView → Type 0
-HasClaimed place v = Contains v.claimed place × ¬ Contains v.finished place
 
 -- the workers of shifts
 abbrev pub shift_workers : List WorkShift → List ℕ

@@ -23,9 +23,3 @@ module _ (day : DayValue) (plan : PlanValue) where
           → ((y : WorldValue) → P y → after_events day plan y events ≡ Some x → P x) → P x
       by (Ok y) s f more = more y (keep w y p (step-of day plan event w y s)) f
       by (Err why) s f more = absurd cc
-
-  pub stands-after : (workers : ℕ) → 1 ≤ workers → (events : List Event) (x : WorldValue)
-      → world_after day plan workers events ≡ Some x → Stands (length day.batch.instructions) workers x
-  stands-after workers some events x e = by-steps (Stands (length day.batch.instructions) workers)
-      (step-stands day plan (length day.batch.instructions) workers) events (at_start day plan workers) x
-      (start-stands day plan workers some) e

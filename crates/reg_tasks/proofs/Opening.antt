@@ -45,11 +45,3 @@ pub all_known : EachFootprintIsSound → (day : DayValue) (place : ℕ)
 all_known sound day place =
     All-from_recursion _ _ (all_among (λ a. is_some (account day.book.accounts a) ≡ true) (footprint_at day place)
     (λ a e. touched_known sound day place a (sym (footprint_touches day place a) ∙ e)))
-
--- and some instruction touches each of them
-pub all_touched_at : (day : DayValue) (place : ℕ)
-    → All (λ a. is_touched (directory day) day.batch.instructions a ≡ true) (footprint_at day place)
-all_touched_at day place =
-    All-from_recursion _ _ (all_among (λ a. is_touched (directory day) day.batch.instructions a ≡ true)
-    (footprint_at day place)
-    (λ a e. touched_from (directory day) day.batch.instructions a place (sym (footprint_touches day place a) ∙ e)))

@@ -1,5 +1,5 @@
 -- What a worker's seat shows of the end of the work.
-use Rattle.std.specs.Prelude.{ℕ, ◌/◌, Bool, ◌||◌, nat_le, Contains}
+use Rattle.std.specs.Prelude.{ℕ, ◌/◌, Bool, ◌||◌, nat_le}
 use Rattle.reg_claim.specs.declared.views.SeatView.{SeatView}
 use Rattle.reg_claim.specs.Views.{is_odd}
 
@@ -10,7 +10,3 @@ shows_end places count = is_odd count || nat_le places (count / 2)
 -- the seat has seen such a count
 abbrev pub sees_end : ℕ → SeatView → Bool
 sees_end places v = shows_end places v.seen
-
--- the seat has claimed the place, and has not finished it
-abbrev pub IsToFinish : ℕ → SeatView → Type 0
-IsToFinish place v = Contains v.claimed place × ¬ Contains v.finished place

@@ -1,7 +1,7 @@
 //! A worker: what it has, and its steps.
 
 ghost use Rattle.std.specs.Prelude.{◌≡◌, ◌≤◌, [], length};
-ghost use Rattle.reg_claim.specs.Seats.{known, seat_table};
+ghost use Rattle.reg_claim.specs.Seats.{known, seat_table, IsToFinish};
 ghost use Rattle.reg_tasks.specs.Gathering.{places_of};
 ghost use Rattle.reg_deques.specs.Yards.{deques_of_pass};
 ghost use Rattle.reg_work.specs.Shifts.{places_ran};
@@ -53,7 +53,7 @@ impl<N: Naming, I: SharedIds> Worker<N, I> {
     ghost use Rattle.reg_deques.specs.Passes.{owned};
     ghost use Rattle.reg_deques.specs.Yards.{views, StealsAt};
     ghost use Rattle.reg_yard.specs.Parcels.{parcel_of, goes_to};
-    ghost use Rattle.reg_work.specs.Ends.{sees_end, IsToFinish};
+    ghost use Rattle.reg_work.specs.Ends.{sees_end};
     ghost use Rattle.reg_work.specs.Frames.{OwnerAlone, PassAlone, SeatAlone};
     ghost use Rattle.reg_work.specs.Handing.{IsDelivered, with_task};
     ghost use Rattle.reg_work.specs.Executions.{reply_at};

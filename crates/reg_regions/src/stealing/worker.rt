@@ -1,8 +1,8 @@
 //! A worker that takes regions from deques.
 
 ghost use Rattle.std.specs.Prelude.{◌≡◌, [], ◌∷◌, ◌++◌, length, IfOk, OnOk};
-ghost use Rattle.reg_claim.specs.Seats.{known, seat_table, table_id, places};
-ghost use Rattle.reg_regions.specs.Stealing.{IsGround, IsSettledList, AreSettled, HasClaimed, numbers_of};
+ghost use Rattle.reg_claim.specs.Seats.{known, seat_table, table_id, places, IsToFinish};
+ghost use Rattle.reg_regions.specs.Stealing.{IsGround, IsSettledList, AreSettled, numbers_of};
 
 use crate::dealing::Deal;
 use crate::gate::PlaceGate;
@@ -149,7 +149,7 @@ fn run_claimed<C: Cutting, G: PlaceGate>(
     region: ListRegion<C>,
 ) -> Result<SettledList, NoMemory>
     requires ground { IsGround setting.now batch.now C.openings deals.now }
-    requires claimed { HasClaimed region.number (known busy.now.seat) }
+    requires claimed { IsToFinish region.number (known busy.now.seat) }
     ensures number { IfOk result (λ settled. settled.number ≡ region.number) }
     ensures settled { IfOk result (λ settled. IsSettledList setting.now batch.now C.openings deals.now settled) }
 {
@@ -163,7 +163,7 @@ fn finish<C: Cutting>(
     settled: SettledList,
 ) -> Result<(), NoMemory>
     requires table { table_id table.now ≡ C.table }
-    requires claimed { HasClaimed settled.number (known busy.old.seat) }
+    requires claimed { IsToFinish settled.number (known busy.old.seat) }
     ensures number { busy.new.number ≡ busy.old.number }
     ensures kept { OnOk result (busy.new.settled.items ≡ busy.old.settled.items ++ settled ∷ []) }
 {

@@ -221,12 +221,6 @@ module _ (laws : StepLaws) (sound : EachFootprintIsSound) (tails : TailsAreLastT
       → complete day plan place (came ++ p ∷ []) ≡ o → Reaches (after_delivery worker w ps place (came ++ p ∷ []) o)
   deliver-reaches w worker p ps place came o r h awaits d c = λ j a on. by o c j a on (eqb place j) refl
     where
-      at-open : (n : ℕ × ℕ) → docked w place n ≡ times n came
-      at-open n = rw d refl
-
-      is-open : is_in_dock w place ≡ true
-      is-open = rw d refl
-
       more : (n : ℕ × ℕ) → times n (came ++ p ∷ []) ≡ times n came + (one_if (is_name (name_is p) n) + 0)
       more n = total-append (λ q. one_if (is_name (name_is q) n)) came (p ∷ [])
 

@@ -54,21 +54,6 @@ taken_needed arrows st (a ∷ more) (n ∷ names) there e =
     ap (λ m. m ∷ names) is ∙ ap (λ ms. (a, tail_in arrows a) ∷ ms)
     (taken_needed arrows st more names (λ b e. there b (or_right (eqb a b) (is_among more b) e)) tail)
 
-has_all : (names wanted : List (ℕ × ℕ))
-    → ((w : ℕ × ℕ) → list_any (λ n. is_name n w) wanted ≡ true → list_any (λ n. is_name n w) names ≡ true)
-    → list_all (λ w. list_any (λ n. is_name n w) names) wanted ≡ true
-has_all names [] among = refl
-has_all names (w ∷ wanted) among =
-    and_from (list_any (λ n. is_name n w) names) (list_all (λ w. list_any (λ n. is_name n w) names) wanted)
-    (among w (or_left (is_name w w) (list_any (λ n. is_name n w) wanted) (name_itself w)))
-    (has_all names wanted (λ v e. among v (or_right (is_name w v) (list_any (λ n. is_name n v) wanted) e)))
-
-pub has_themselves : (names wanted : List (ℕ × ℕ)) → names ≡ wanted → has_names names wanted ≡ true
-has_themselves names wanted same =
-    subst (λ ws. has_names names ws ≡ true) same
-    (and_from (eqb (length names) (length names)) (list_all (λ w. list_any (λ n. is_name n w) names) names)
-    (eq-eqb (length names) (length names) refl) (has_all names names (λ w e. e)))
-
 -- what is there
 there_is : (n : ℕ × ℕ) (o : Name) → is_that n o ≡ true → o ≡ Some n
 there_is n None e = absurd cc
