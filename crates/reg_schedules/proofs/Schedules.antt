@@ -1,14 +1,12 @@
 -- What holds after every schedule: it holds at the start, and each step keeps it.
-use Rattle.std.proofs.Common.{◌≡◌, ℕ, ◌≤◌, List, [], ◌∷◌, length, Some, refl, subst}
+use Rattle.std.proofs.Common.{◌≡◌, List, [], ◌∷◌, Some, refl, subst}
 use Rattle.std.specs.Prelude.{Result, Ok, Err}
 use Rattle.reg_plan.specs.Plans.{PlanValue}
 use Rattle.reg_book.specs.Day.{DayValue}
 use Rattle.reg_schedules.specs.declared.event.Event.{Event}
 use Rattle.reg_schedules.specs.declared.event.EventFault.{EventFault}
-use Rattle.reg_schedules.specs.World.{WorldValue, at_start, after_event, after_result, after_events, world_after}
+use Rattle.reg_schedules.specs.World.{WorldValue, after_event, after_result, after_events}
 use Rattle.reg_schedules.proofs.WorldSteps.{Step, step-of}
-use Rattle.reg_schedules.proofs.lemmas.WorldCounts.{Stands, step-stands}
-use Rattle.reg_schedules.proofs.WorldStart.{start-stands}
 
 module _ (day : DayValue) (plan : PlanValue) where
   -- each event of a schedule is a step
