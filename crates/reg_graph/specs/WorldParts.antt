@@ -1,11 +1,12 @@
 -- What the parts of a world hold, as plain data.
-use Rattle.std.specs.Prelude.{◌≡◌, ◌≢◌, ◌≤◌, ◌<◌, ◌==◌, ℕ, List, [], ◌∷◌, ◌++◌, length, map, slice_get, Option, Some}
+use Rattle.std.specs.Prelude.{◌≡◌, ◌≢◌, ◌<◌, ◌==◌, ℕ, List, [], ◌∷◌, ◌++◌, length, map, slice_get, Option, Some}
 use Rattle.std.specs.Prelude.{None, Result, Err, IsOk, vec_capacity, if◌then◌else◌}
 use Rattle.std.specs.Option.{option_map}
 use Rattle.std.specs.declared.vec.Vec.{Vec}
 use Rattle.std.specs.declared.collections.vec_deque.VecDeque.{VecDeque}
 use Rattle.std.proofs.Common.{Global}
 use Rattle.reg_tasks.specs.Parcels.{parcels_of}
+use Rattle.reg_tasks.specs.Places.{IsPlaceOf}
 use Rattle.reg_tasks.specs.Tasks.{task_of}
 use Rattle.reg_tasks.specs.declared.naming.Naming.{Ghosts}
 use Rattle.reg_tasks.specs.declared.parcel.Parcel.{Parcel}
@@ -46,14 +47,10 @@ after_stealing world worker from =
     with_hand world worker (λ hand. with_list world from
     (λ tasks. if worker == from then Err fault.OwnDeque else moved worker from world hand tasks))
 
--- the batch has an instruction at this place
-abbrev pub IsPlace : DayValue → ℕ → Type 0
-IsPlace day place = (1 ≤ place) × (place ≤ length day.batch.instructions)
-
 -- if a worker holds a task, it is that of a place of the batch
 abbrev pub HeldIsOfBatch : DayValue → WorldValue → ℕ → Type 0
 HeldIsOfBatch day world worker =
-    (task : TaskValue) → slice_get world.hands worker ≡ Some (Holds task) → IsPlace day task.place
+    (task : TaskValue) → slice_get world.hands worker ≡ Some (Holds task) → IsPlaceOf day.batch task.place
 
 -- if a task became complete in a worker's hand, the worker's list has fewer tasks than the batch has places
 abbrev pub ListHasRoom : WorldValue → ℕ → Type 0
@@ -68,7 +65,7 @@ first_head plan (p ∷ ps) = head_of plan p.after p.value.number
 
 -- the first of these parcels, if there is one, comes from a place of the batch
 abbrev pub FirstIsSent : DayValue → List ParcelValue → Type 0
-FirstIsSent day parcels = (p : ParcelValue) (ps : List ParcelValue) → parcels ≡ p ∷ ps → IsPlace day p.after
+FirstIsSent day parcels = (p : ParcelValue) (ps : List ParcelValue) → parcels ≡ p ∷ ps → IsPlaceOf day.batch p.after
 
 -- if it goes to a dock that waits, fewer parcels came there than the instruction of the dock touches accounts
 abbrev pub FirstHasRoom : DayValue → PlanValue → WorldValue → List ParcelValue → Type 0

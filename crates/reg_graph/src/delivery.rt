@@ -5,6 +5,7 @@ ghost use Rattle.std.specs.Prelude.{OnOk, OnErr, IfErr, IfSome, vec_len, vec_cap
 ghost use Rattle.std.specs.Option.{option_map, option_map_or};
 ghost use Rattle.reg_book.specs.Day.{DayValue};
 ghost use Rattle.reg_tasks.specs.Contexts.{the_day};
+ghost use Rattle.reg_tasks.specs.Places.{IsPlaceOf};
 ghost use Rattle.reg_schedules.specs.declared.event.EventFault.TheVariants.{NothingToDeliver};
 ghost use Rattle.reg_schedules.specs.Pool.{footprint_at};
 ghost use Rattle.reg_schedules.specs.World.{Carries, at_place, with_place, with_hand, delivered_by};
@@ -73,8 +74,7 @@ fn receive<N: Naming>(
     mut came: Vec<Parcel<N>>,
     parcel: Parcel<N>,
 ) -> Result<Task<N>, Vec<Parcel<N>>>
-    requires from_one { 1 ≤ place }
-    requires within { place ≤ length context.now.batch.now.instructions }
+    requires place { IsPlaceOf context.now.batch.now place }
     requires room { vec_len came < vec_capacity came }
     ensures { MatchResult result
         (λ t. task_with (the_day context.now) context.now.plan place came.items parcel ≡ Some (task_of t))

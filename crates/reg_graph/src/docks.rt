@@ -1,7 +1,8 @@
 //! The docks at the start.
 
-ghost use Rattle.std.specs.Prelude.{◌≡◌, ◌≤◌, length, IfOk, vec_capacity};
+ghost use Rattle.std.specs.Prelude.{◌≡◌, length, IfOk, vec_capacity};
 ghost use Rattle.reg_tasks.specs.Contexts.{the_day};
+ghost use Rattle.reg_tasks.specs.Places.{IsPlaceOf};
 ghost use Rattle.reg_schedules.specs.Pool.{footprint_at};
 ghost use Rattle.reg_schedules.specs.World.{opened_at};
 ghost use Rattle.reg_tasks.specs.Parcels.{parcels_of};
@@ -17,8 +18,7 @@ pub(crate) fn open_dock<N: Naming>(
     context: &Context<N>,
     place: u32,
 ) -> Result<Vec<Parcel<N>>, NoMemory>
-    requires from_one { 1 ≤ place }
-    requires within { place ≤ length context.now.batch.now.instructions }
+    requires place { IsPlaceOf context.now.batch.now place }
     ensures came { IfOk result
         (λ came. parcels_of came.items ≡ opened_at (the_day context.now) context.now.plan place) }
     ensures room { IfOk result (λ came. vec_capacity came ≡ length (footprint_at (the_day context.now) place)) }

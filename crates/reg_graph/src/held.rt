@@ -3,6 +3,7 @@
 ghost use Rattle.std.specs.Prelude.{◌≡◌, ◌+◌, ◌++◌, ◌≤◌, ◌<◌, Ok, not, [], length, map, filter, slice_set, MatchResult};
 ghost use Rattle.std.specs.Prelude.{OnOk, OnErr, IfErr, vec_len, vec_capacity};
 ghost use Rattle.reg_tasks.specs.Contexts.{the_day};
+ghost use Rattle.reg_tasks.specs.Places.{IsPlaceOf};
 ghost use Rattle.reg_schedules.specs.Pool.{leads_on};
 ghost use Rattle.reg_schedules.specs.World.{Holds, with_hand, run_by};
 ghost use Rattle.reg_tasks.specs.Parcels.{parcels_of};
@@ -26,8 +27,7 @@ fn keep_leading<N: Naming>(
     mut kept: Vec<Parcel<N>>,
     closing: &mut Vec<Account>,
 ) -> Vec<Parcel<N>>
-    requires from_one { 1 ≤ place }
-    requires within { place ≤ length context.now.batch.now.instructions }
+    requires place { IsPlaceOf context.now.batch.now place }
     requires empty { kept.items ≡ [] }
     requires fits { length parcels.items ≤ vec_capacity kept }
     requires room { vec_len closing.old + length parcels.items ≤ vec_capacity closing.old }
@@ -61,8 +61,7 @@ impl<N: Naming> Parts<N> {
     ) -> Result<(), EventFault>
         requires there { worker < length self.old.hands.items }
         requires places { length self.old.rows.items ≡ length context.now.batch.now.instructions }
-        requires from_one { 1 ≤ task.place }
-        requires within { task.place ≤ length context.now.batch.now.instructions }
+        requires place { IsPlaceOf context.now.batch.now task.place }
         ensures docks { self.new.docks.items ≡ self.old.docks.items }
         ensures ok { OnOk result
             (run_by (the_day context.now) context.now.plan worker (world_of self.old) (Holds (task_of task))

@@ -1,7 +1,8 @@
 //! Where the instructions of a world are.
 
-ghost use Rattle.std.specs.Prelude.{◌≡◌, ◌==◌, ◌≤◌, length};
+ghost use Rattle.std.specs.Prelude.{◌≡◌, ◌==◌};
 ghost use Rattle.std.specs.List.{list_any};
+ghost use Rattle.reg_tasks.specs.Places.{IsPlaceOf};
 ghost use Rattle.reg_schedules.specs.World.{is_in_hand, is_over, IsAt};
 ghost use Rattle.reg_graph.specs.WorldParts.{hand_of, world_of};
 
@@ -34,8 +35,7 @@ impl<N: Naming> World<'_, '_, N> {
     ///
     /// The time is linear in the tasks of the workers' lists.
     pub fn whereabouts(&self, place: u32) -> Whereabouts
-        requires from_one { 1 ≤ place }
-        requires within { place ≤ length self.now.context.now.batch.now.instructions }
+        requires place { IsPlaceOf self.now.context.now.batch.now place }
         ensures { IsAt (world_of self.now.parts) place result }
     {
         self.knows();

@@ -56,6 +56,7 @@ fn no_rows(alloc: Global, places: u32) -> Result<Vec<Option<LogRow>>, NoMemory>
 impl<N: Naming> Parts<N> {
     ghost use Rattle.std.specs.Prelude.{◌+◌, ◌++◌, ◌∷◌, ◌<◌, length};
     ghost use Rattle.reg_tasks.specs.Contexts.{the_day};
+    ghost use Rattle.reg_tasks.specs.Places.{IsPlaceOf};
     ghost use Rattle.reg_schedules.specs.World.{dock_at, at_start};
     ghost use Rattle.reg_graph.specs.WorldParts.{docks_of, DocksHaveRoom, task_lists, world_of, task_at_start, IsDealt};
 
@@ -92,8 +93,7 @@ impl<N: Naming> Parts<N> {
         place: u32,
         worker: usize,
     ) -> Result<usize, NoMemory>
-        requires from_one { 1 ≤ place }
-        requires within { place ≤ length context.now.batch.now.instructions }
+        requires place { IsPlaceOf context.now.batch.now place }
         requires there { worker < length self.old.lists.items }
         requires next { length self.old.docks.items + 1 ≡ place }
         requires rooms { DocksHaveRoom (the_day context.now) self.old.docks.items }

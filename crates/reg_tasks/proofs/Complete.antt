@@ -1,6 +1,5 @@
 -- A complete task has the values that its instruction needs.
-use Rattle.std.proofs.Common.{◌≡◌, ℕ, ◌-◌, ◌≤◌, true, eqb, List, [], ◌∷◌, length, refl, sym, ap}
-use Rattle.std.proofs.Common.{subst, ◌∙◌}
+use Rattle.std.proofs.Common.{◌≡◌, ℕ, ◌-◌, true, eqb, List, [], ◌∷◌, refl, sym, ap, subst, ◌∙◌}
 use Rattle.std.proofs.lemmas.Bool.{eq-eqb, or_left, or_right}
 use Rattle.std.proofs.Props.{props}
 use mathlib.Core.Logic.{∥∥₁_elim}
@@ -12,6 +11,7 @@ use Rattle.reg_book.specs.Day.{DayValue}
 use Rattle.reg_schedules.specs.Pool.{directory, footprint_at}
 use Rattle.reg_schedules.specs.Docks.{names_needed}
 use Rattle.reg_tasks.specs.Names.{before_place, AreNeeded}
+use Rattle.reg_tasks.specs.Places.{IsPlaceOf}
 use Rattle.reg_schedules.proofs.lemmas.Known.{footprint_touches}
 use Rattle.reg_schedules.proofs.lemmas.Tails.{Touches, tail_is_last}
 
@@ -35,9 +35,8 @@ module _ (tails : TailsAreLastTouchers) (last : LastToucherIsLast) (day : DayVal
       (λ made. needed_of made place (footprint_at day place) (λ a e. sym (footprint_touches day place a) ∙ e))
 
   pub complete_from : ∥ IsPlan (directory day) day.batch.instructions plan ∥₁ → (place : ℕ) (names : List (ℕ × ℕ))
-      → 1 ≤ place → place ≤ length day.batch.instructions
-      → names ≡ names_needed (inward plan.arrows place) (footprint_at day place) → (d : DayValue) → day ≡ d
-      → AreNeeded d place names
-  complete_from planned place names low high is d same =
+      → IsPlaceOf day.batch place → names ≡ names_needed (inward plan.arrows place) (footprint_at day place)
+      → (d : DayValue) → day ≡ d → AreNeeded d place names
+  complete_from planned place names there is d same =
       subst (λ (x : DayValue). AreNeeded x place names) same
-      (record { low = low; high = high; names_are = is ∙ needed_before planned place })
+      (record { low = there.0; high = there.1; names_are = is ∙ needed_before planned place })

@@ -2,6 +2,7 @@ pub mod Contexts
 pub mod LastParcels
 pub mod Names
 pub mod Parcels
+pub mod Places
 pub mod Tasks
 pub mod Gathering
 pub mod Slots

@@ -1,6 +1,6 @@
 //! Where the value of an account comes from, and where it goes on to.
 
-ghost use Rattle.std.specs.Prelude.{◌≡◌, ◌≤◌, true, false, length, MatchResult};
+ghost use Rattle.std.specs.Prelude.{◌≡◌, true, false, MatchResult};
 ghost use Rattle.reg_base.specs.Rising.{IsRising};
 ghost use Rattle.reg_tasks.specs.Contexts.{the_day};
 ghost use Rattle.reg_tasks.specs.Gathering.{is_last};
@@ -47,12 +47,12 @@ impl<N: Naming> Context<'_, N> {
     ghost use Rattle.reg_schedules.specs.Pool.{tail_of, leads_on};
     ghost use Rattle.reg_schedules.specs.World.{head_of};
     ghost use Rattle.reg_tasks.specs.Openings.{first_at};
+    ghost use Rattle.reg_tasks.specs.Places.{IsPlaceOf};
 
     /// The place of the instruction from which the instruction at this place has the value of an account, or 0 if that
     /// is the opening value. Places are counted from 1.
     pub fn tail_of(&self, place: u32, account: AccountNo) -> u32
-        requires from_one { 1 ≤ place }
-        requires within { place ≤ length self.now.batch.now.instructions }
+        requires place { IsPlaceOf self.now.batch.now place }
         ensures { result ≡ tail_of self.now.plan place account }
     {
         tail_in(self.arrows_to(place), account)
@@ -61,8 +61,7 @@ impl<N: Naming> Context<'_, N> {
     /// The place of the instruction that needs the value of an account as the instruction at this place leaves it, if
     /// there is one. Places are counted from 1.
     pub fn head_of(&self, place: u32, account: AccountNo) -> Option<u32>
-        requires from_one { 1 ≤ place }
-        requires within { place ≤ length self.now.batch.now.instructions }
+        requires place { IsPlaceOf self.now.batch.now place }
         ensures { result ≡ head_of self.now.plan place account }
     {
         arrow_at(self.arrows_from(place), account).map(|arrow| arrow.to)
@@ -70,8 +69,7 @@ impl<N: Naming> Context<'_, N> {
 
     /// Whether an arrow leads on from a place at an account. The place is counted from 1.
     pub fn leads_on(&self, place: u32, account: AccountNo) -> bool
-        requires from_one { 1 ≤ place }
-        requires within { place ≤ length self.now.batch.now.instructions }
+        requires place { IsPlaceOf self.now.batch.now place }
         ensures { result ≡ leads_on self.now.plan place account }
     {
         self.arrows_from(place)

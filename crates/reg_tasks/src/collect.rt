@@ -1,8 +1,9 @@
 //! Whether replies and parcels are those from which a settled day is gathered, and the rows of its log.
 
-ghost use Rattle.std.specs.Prelude.{◌≡◌, ◌≤◌, Some, length, map, IfOk, IsPermutation};
+ghost use Rattle.std.specs.Prelude.{◌≡◌, Some, length, map, IfOk, IsPermutation};
 ghost use Rattle.std.specs.List.Sorted.{IsNonDecreasingBy};
 ghost use Rattle.reg_tasks.specs.Contexts.{the_day};
+ghost use Rattle.reg_tasks.specs.Places.{IsPlaceOf};
 ghost use Rattle.reg_tasks.specs.Parcels.{names_of};
 ghost use Rattle.reg_tasks.specs.Gathering.{AreWithin, places_of, row_replied, rows_in, counts_up, are_each};
 ghost use Rattle.reg_tasks.specs.Gathering.{have_accounts, are_outcomes};
@@ -90,8 +91,7 @@ pub(crate) fn are_outcomes<N: Naming>(
 
 // The row in the log of an instruction that was run: the batch has all of it but the reply.
 fn into_row<N: Naming>(context: &Context<N>, done: Done<N>) -> LogRow
-    requires from_one { 1 ≤ done.place }
-    requires within { done.place ≤ length context.now.batch.now.instructions }
+    requires place { IsPlaceOf context.now.batch.now done.place }
     ensures { row_replied (the_day context.now) done.place done.reply ≡ Some result }
 {
     let place = done.place();

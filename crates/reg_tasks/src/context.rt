@@ -37,6 +37,7 @@ pub struct Context<'a, N: Naming> {
 
 impl<'a, N: Naming> Context<'a, N> {
     ghost use Rattle.reg_tasks.specs.Contexts.{the_day};
+    ghost use Rattle.reg_tasks.specs.Places.{IsPlaceOf};
     ghost use Rattle.reg_tasks.specs.Opened.{IsOpeningValue};
 
     /// The context of a day. If a day is named, it must be this one.
@@ -114,8 +115,7 @@ impl<'a, N: Naming> Context<'a, N> {
 
     /// The accounts that the instruction at a place touches. The place is counted from 1.
     pub fn touched_at(&self, place: u32) -> &[AccountNo]
-        requires from_one { 1 ≤ place }
-        requires within { place ≤ length self.now.batch.now.instructions }
+        requires place { IsPlaceOf self.now.batch.now place }
         ensures value { result.now ≡ footprint_at (the_day self.now) place }
         ensures few { length result.now ≤ MOST_TOUCHED }
     {
@@ -137,8 +137,7 @@ impl<'a, N: Naming> Context<'a, N> {
 
     /// The arrows that lead to a place, counted from 1.
     pub fn arrows_to(&self, place: u32) -> &[Arrow]
-        requires from_one { 1 ≤ place }
-        requires within { place ≤ length self.now.batch.now.instructions }
+        requires place { IsPlaceOf self.now.batch.now place }
         ensures { result.now ≡ inward self.now.plan.arrows place }
     {
         self.plan.inward(place)
@@ -146,8 +145,7 @@ impl<'a, N: Naming> Context<'a, N> {
 
     /// The arrows that lead from a place, counted from 1.
     pub(crate) fn arrows_from(&self, place: u32) -> &[Arrow]
-        requires from_one { 1 ≤ place }
-        requires within { place ≤ length self.now.batch.now.instructions }
+        requires place { IsPlaceOf self.now.batch.now place }
         ensures { result.now ≡ outward self.now.plan.arrows place }
     {
         self.plan.outward(place)

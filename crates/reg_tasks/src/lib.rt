@@ -4,13 +4,14 @@
 //! A use of it, proved in `example_uses/src/tasks.rt`:
 //!
 //! ```rust
-//! ghost use Rattle.std.specs.Prelude.{◌≡◌, ◌≤◌, true, length, IfSome, OnSome};
+//! ghost use Rattle.std.specs.Prelude.{◌≡◌, true, IfSome, OnSome};
 //! ghost use Rattle.reg_plan.specs.Plans.{inward};
 //! ghost use Rattle.reg_schedules.specs.Pool.{footprint_at};
 //! ghost use Rattle.reg_schedules.specs.Docks.{names_needed};
 //! ghost use Rattle.reg_tasks.specs.Contexts.{the_day};
 //! ghost use Rattle.reg_tasks.specs.Names.{has_names, IsRowOfDay, AreLeft};
 //! ghost use Rattle.reg_tasks.specs.Parcels.{names_of};
+//! ghost use Rattle.reg_tasks.specs.Places.{IsPlaceOf};
 //!
 //! use reg_tasks::{Context, Naming, Outcome, Parcel, Task};
 //! use std::alloc::Global;
@@ -23,8 +24,7 @@
 //!     place: u32,
 //!     parcels: Vec<Parcel<N>>,
 //! ) -> Option<Outcome<N>>
-//!     requires from_one { 1 ≤ place }
-//!     requires within { place ≤ length context.now.batch.now.instructions }
+//!     requires place { IsPlaceOf context.now.batch.now place }
 //!     ensures needed { IfSome result
 //!         (λ _. has_names (names_of parcels.items)
 //!         (names_needed (inward context.now.plan.arrows place) (footprint_at (the_day context.now) place)) ≡ true) }

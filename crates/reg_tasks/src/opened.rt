@@ -1,6 +1,6 @@
 //! The opening values of accounts.
 
-ghost use Rattle.std.specs.Prelude.{◌≡◌, ◌==◌, ◌<◌, ◌≤◌, true, not, All, Some, is_some, map, length, IfOk};
+ghost use Rattle.std.specs.Prelude.{◌≡◌, ◌==◌, ◌<◌, true, not, All, Some, is_some, map, length, IfOk};
 ghost use Rattle.reg_rules.specs.State.{account};
 ghost use Rattle.reg_tasks.specs.Parcels.{names_of};
 
@@ -37,12 +37,12 @@ impl<N: Naming> Context<'_, N> {
     ghost use Rattle.reg_plan.specs.Plans.{inward};
     ghost use Rattle.reg_schedules.specs.Pool.{footprint_at};
     ghost use Rattle.reg_tasks.specs.Contexts.{the_day};
+    ghost use Rattle.reg_tasks.specs.Places.{IsPlaceOf};
     ghost use Rattle.reg_tasks.specs.Opened.{IsOpeningAt};
 
     /// Whether the instruction at a place waits for another: an arrow leads there. The place is counted from 1.
     pub fn waits(&self, place: u32) -> bool
-        requires from_one { 1 ≤ place }
-        requires within { place ≤ length self.now.batch.now.instructions }
+        requires place { IsPlaceOf self.now.batch.now place }
         ensures { result ≡ not (length (inward self.now.plan.arrows place) == 0) }
     {
         !self.arrows_to(place).is_empty()
@@ -61,8 +61,7 @@ impl<N: Naming> Context<'_, N> {
         arrows: &[Arrow],
         index: usize,
     ) -> Result<Option<Parcel<N>>, NoMemory>
-        requires from_one { 1 ≤ place }
-        requires within { place ≤ length self.now.batch.now.instructions }
+        requires place { IsPlaceOf self.now.batch.now place }
         requires arrows { arrows.now ≡ inward self.now.plan.arrows place }
         requires there { index < length (footprint_at (the_day self.now) place) }
         ensures { IfOk result (IsOpeningAt (the_day self.now) self.now.plan place index) }

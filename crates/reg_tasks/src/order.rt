@@ -1,9 +1,10 @@
 //! Running a batch in an order of its instructions.
 
-ghost use Rattle.std.specs.Prelude.{◌≡◌, ◌≤◌, Some, None, [], length, IfOk, IfErr, IfSome, OnOk};
+ghost use Rattle.std.specs.Prelude.{◌≡◌, Some, None, [], IfOk, IfErr, IfSome, OnOk};
 ghost use Rattle.reg_plan.specs.Orders.{first_order_fault};
 ghost use Rattle.reg_book.specs.Day.{settled_day};
 ghost use Rattle.reg_tasks.specs.Contexts.{the_day};
+ghost use Rattle.reg_tasks.specs.Places.{IsPlaceOf};
 ghost use Rattle.reg_book.specs.Settled.{IsOfBook};
 ghost use Rattle.reg_tasks.specs.Gathering.{places_of};
 ghost use Rattle.reg_tasks.specs.Slots.{IsLack, AreReady, IsLaidBack, AreStanding, IsRunFault, run_fault};
@@ -52,8 +53,7 @@ fn run_place<N: Naming>(
     slots: &mut Slots<'_, '_, N>,
     place: u32,
 ) -> Result<Done<N>, Lack>
-    requires from_one { 1 ≤ place }
-    requires within { place ≤ length slots.old.context.now.batch.now.instructions }
+    requires place { IsPlaceOf slots.old.context.now.batch.now place }
     requires ready { AreReady N.day (the_day slots.old.context.now) slots.old.context.now.plan place
         (stands slots.old) }
     ensures context { slots.new.context.now ≡ slots.old.context.now }

@@ -7,6 +7,7 @@ ghost use Rattle.reg_rules.specs.Effect.{IsBehind};
 ghost use Rattle.reg_rules.specs.State.{numbers};
 ghost use Rattle.reg_book.specs.Book.{has_row_ahead};
 ghost use Rattle.reg_tasks.specs.Contexts.{the_day};
+ghost use Rattle.reg_tasks.specs.Places.{IsPlaceOf};
 ghost use Rattle.reg_schedules.specs.Pool.{footprint_at, run_at};
 ghost use Rattle.reg_tasks.specs.Names.{IsValue, AreValues};
 ghost use Rattle.reg_tasks.specs.Parcels.{values_of, afters_of};
@@ -39,8 +40,7 @@ pub(crate) fn are_behind<N: Naming>(number: RecordNo, parcels: &[Parcel<N>]) -> 
 
 // The record number of a place.
 pub(crate) fn number_of<N: Naming>(context: &Context<N>, place: u32) -> RecordNo
-    requires from_one { 1 ≤ place }
-    requires within { place ≤ length context.now.batch.now.instructions }
+    requires place { IsPlaceOf context.now.batch.now place }
     ensures { result ≡ context.now.batch.now.base + place }
 {
     RecordNo::new(context.batch().base() + u64::from(place)).unwrap()
@@ -54,8 +54,7 @@ pub(crate) fn carry_out<N: Naming>(
     place: u32,
     own: &mut [Account],
 ) -> Result<LogRow, NoMemory>
-    requires from_one { 1 ≤ place }
-    requires within { place ≤ length context.now.batch.now.instructions }
+    requires place { IsPlaceOf context.now.batch.now place }
     requires touched { numbers own.old ≡ footprint_at (the_day context.now) place }
     requires behind { All (IsBehind (context.now.batch.now.base + place)) own.old }
     ensures ok { IfOk result (λ row. run_at (the_day context.now) place own.old ≡ Some (own.new, row)) }

@@ -28,10 +28,11 @@ pub struct Slots<'c, 'a, N: Naming> {
 }
 
 impl<'c, 'a, N: Naming> Slots<'c, 'a, N> {
-    ghost use Rattle.std.specs.Prelude.{ℕ, ◌≤◌, Some, IfOk, IfErr, IfSome};
+    ghost use Rattle.std.specs.Prelude.{ℕ, Some, IfOk, IfErr, IfSome};
     ghost use Rattle.reg_book.specs.Day.{DayValue, settled_day};
     ghost use Rattle.reg_book.specs.Settled.{IsOfBook};
     ghost use Rattle.reg_tasks.specs.Contexts.{the_day};
+    ghost use Rattle.reg_tasks.specs.Places.{IsPlaceOf};
     ghost use Rattle.reg_base.specs.Rising.{count_up};
     ghost use Rattle.reg_tasks.specs.Gathering.{places_of, AreFirstRows};
     ghost use Rattle.reg_tasks.specs.Slots.{AreOpened, IsAtEnd, LacksFor};
@@ -67,8 +68,7 @@ impl<'c, 'a, N: Naming> Slots<'c, 'a, N> {
     /// # Errors
     /// `Foreign` if one of them is not there. Otherwise `Memory` if memory ran out. Nothing is taken then.
     pub fn take(&mut self, alloc: Global, place: u32) -> Result<Task<N>, Lack>
-        requires from_one { 1 ≤ place }
-        requires within { place ≤ length self.old.context.now.batch.now.instructions }
+        requires place { IsPlaceOf self.old.context.now.batch.now place }
         ensures { TakesTask place self.old self.new result }
     {
         each_footprint_is_sound();

@@ -33,6 +33,7 @@ impl<N: Naming> Task<N> {
     ghost use Rattle.reg_plan.specs.Plans.{inward};
     ghost use Rattle.reg_book.specs.Day.{DayValue};
     ghost use Rattle.reg_tasks.specs.Contexts.{the_day};
+    ghost use Rattle.reg_tasks.specs.Places.{IsPlaceOf};
     ghost use Rattle.reg_schedules.specs.Pool.{footprint_at, run_at};
     ghost use Rattle.reg_tasks.specs.Parcels.{values_of, afters_of, parcels_of};
     ghost use Rattle.reg_schedules.specs.Docks.{names_needed};
@@ -52,8 +53,7 @@ impl<N: Naming> Task<N> {
         place: u32,
         parcels: Vec<Parcel<N>>,
     ) -> Result<Task<N>, Vec<Parcel<N>>>
-        requires from_one { 1 ≤ place }
-        requires within { place ≤ length context.now.batch.now.instructions }
+        requires place { IsPlaceOf context.now.batch.now place }
         ensures { Assembles (the_day context.now) context.now.plan place parcels result }
     {
         let touched = context.touched_at(place);
@@ -67,8 +67,7 @@ impl<N: Naming> Task<N> {
     /// The task of a place with just the parcels that its instruction needs, in any order. Tests nothing: for a dock,
     /// which has tested each of them when it came. The place is counted from 1. Takes no memory.
     pub fn of_unordered(context: &Context<N>, place: u32, mut parcels: Vec<Parcel<N>>) -> Task<N>
-        requires from_one { 1 ≤ place }
-        requires within { place ≤ length context.now.batch.now.instructions }
+        requires place { IsPlaceOf context.now.batch.now place }
         requires needed { are_all (the_day context.now) context.now.plan place parcels.items ≡ true }
         ensures { IsTaskOf (the_day context.now) context.now.plan place parcels.items result }
     {
@@ -86,8 +85,7 @@ impl<N: Naming> Task<N> {
     /// The task of a place with just the parcels that its instruction needs, in the order of its footprint. Tests
     /// nothing: for the slots, which have tested what they take.
     pub(crate) fn of_needed(context: &Context<N>, place: u32, parcels: Vec<Parcel<N>>) -> Task<N>
-        requires from_one { 1 ≤ place }
-        requires within { place ≤ length context.now.batch.now.instructions }
+        requires place { IsPlaceOf context.now.batch.now place }
         requires needed { names_of parcels.items
             ≡ names_needed (inward context.now.plan.arrows place) (footprint_at (the_day context.now) place) }
         ensures place { result.place ≡ place }
@@ -109,8 +107,7 @@ impl<N: Naming> Task<N> {
         context: &Context<N>,
         place: u32,
     ) -> Result<Option<Task<N>>, NoMemory>
-        requires from_one { 1 ≤ place }
-        requires within { place ≤ length context.now.batch.now.instructions }
+        requires place { IsPlaceOf context.now.batch.now place }
         ensures waits { IfOk result (λ t. is_some t ≡ (length (inward context.now.plan.arrows place) == 0)) }
         ensures place { IfOk result (λ t. IfSome t (λ t. t.place ≡ place)) }
         ensures names { IfOk result

@@ -1,9 +1,10 @@
 //! Running one instruction on what stands in the slots.
 
-ghost use Rattle.std.specs.Prelude.{◌≡◌, ◌≤◌, Some, false, length, IfOk, IfErr, OnOk};
+ghost use Rattle.std.specs.Prelude.{◌≡◌, Some, false, IfOk, IfErr, OnOk};
 ghost use Rattle.reg_book.specs.Day.{DayValue};
 ghost use Rattle.reg_tasks.specs.Contexts.{the_day};
 ghost use Rattle.reg_tasks.specs.Names.{IsRowOfDay};
+ghost use Rattle.reg_tasks.specs.Places.{IsPlaceOf};
 ghost use Rattle.reg_tasks.specs.Slots.{IsLaidBack, LacksFor, is_ready};
 ghost use Rattle.reg_tasks.specs.Standing.{stands};
 
@@ -27,8 +28,7 @@ pub fn run_at<N: Naming, G: Gate>(
     gate: &G,
     place: u32,
 ) -> Result<(Ran<N>, LogRow), Lack>
-    requires from_one { 1 ≤ place }
-    requires within { place ≤ length slots.old.context.now.batch.now.instructions }
+    requires place { IsPlaceOf slots.old.context.now.batch.now place }
     ensures context { slots.new.context.now ≡ slots.old.context.now }
     ensures place { IfOk result (λ kept. kept.0.place ≡ place) }
     ensures row { IfOk result (λ kept. IsRowOfDay N.day place kept.1) }

@@ -1,6 +1,6 @@
 //! A worker: what it has, and its steps.
 
-ghost use Rattle.std.specs.Prelude.{◌≡◌, ◌≤◌, [], length};
+ghost use Rattle.std.specs.Prelude.{◌≡◌, [], length};
 ghost use Rattle.reg_claim.specs.Seats.{known, seat_table, IsToFinish};
 ghost use Rattle.reg_tasks.specs.Gathering.{places_of};
 ghost use Rattle.reg_deques.specs.Yards.{deques_of_pass};
@@ -43,6 +43,7 @@ impl<N: Naming, I: SharedIds> Worker<N, I> {
     ghost use Rattle.std.specs.Option.{option_map};
     ghost use Rattle.reg_plan.specs.Plans.{inward};
     ghost use Rattle.reg_tasks.specs.Contexts.{the_day};
+    ghost use Rattle.reg_tasks.specs.Places.{IsPlaceOf};
     ghost use Rattle.reg_tasks.specs.Gathering.{is_last};
     ghost use Rattle.reg_tasks.specs.LastParcels.{parcels_in};
     ghost use Rattle.reg_tasks.specs.Parcels.{values_of};
@@ -128,8 +129,7 @@ impl<N: Naming, I: SharedIds> Worker<N, I> {
         shared: &Shared<'_, N, I>,
         place: u32,
     ) -> Result<(), Lack>
-        requires from_one { 1 ≤ place }
-        requires within { place ≤ length shared.now.context.now.batch.now.instructions }
+        requires place { IsPlaceOf shared.now.context.now.batch.now place }
         ensures rest { OwnerAlone self.old self.new }
         ensures task { OnOk result
             (length (inward shared.now.context.now.plan.arrows place) ≡ 0

@@ -1,9 +1,10 @@
 //! The task of a place, if its parcels are there.
 
-ghost use Rattle.std.specs.Prelude.{◌≡◌, ◌≤◌, length, IfSome, IsPermutation, vec_capacity};
+ghost use Rattle.std.specs.Prelude.{◌≡◌, length, IfSome, IsPermutation, vec_capacity};
 ghost use Rattle.std.specs.Option.{option_map};
 ghost use Rattle.reg_schedules.specs.Pool.{footprint_at};
 ghost use Rattle.reg_tasks.specs.Contexts.{the_day};
+ghost use Rattle.reg_tasks.specs.Places.{IsPlaceOf};
 ghost use Rattle.reg_tasks.specs.Parcels.{parcels_of};
 ghost use Rattle.reg_tasks.specs.Tasks.{task_of};
 ghost use Rattle.reg_yard.specs.Held.{left_at, waiting_of, FitInDock, FewWait, HaveRoom};
@@ -18,8 +19,7 @@ pub(crate) fn try_assemble<N: Naming>(
     place: u32,
     parcels: Vec<Parcel<N>>,
 ) -> (Option<Vec<Parcel<N>>>, Option<Task<N>>)
-    requires from_one { 1 ≤ place }
-    requires within { place ≤ length context.now.batch.now.instructions }
+    requires place { IsPlaceOf context.now.batch.now place }
     requires few { FitInDock (the_day context.now) context.now.plan place (parcels_of parcels.items) }
     requires room { vec_capacity parcels ≡ length (footprint_at (the_day context.now) place) }
     ensures left { (waiting_of result.0, option_map task_of result.1)

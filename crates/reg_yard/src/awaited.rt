@@ -1,10 +1,11 @@
 //! The parcels that a place awaits.
 
-ghost use Rattle.std.specs.Prelude.{◌≡◌, ◌==◌, ◌≤◌, ◌&&◌, not, length, is_some};
+ghost use Rattle.std.specs.Prelude.{◌≡◌, ◌==◌, ◌&&◌, not, is_some};
 ghost use Rattle.std.specs.List.{list_any};
 ghost use Rattle.reg_schedules.specs.Pool.{footprint_at};
 ghost use Rattle.reg_schedules.specs.Docks.{awaited, of_name, is_name, is_not_awaited};
 ghost use Rattle.reg_tasks.specs.Contexts.{the_day};
+ghost use Rattle.reg_tasks.specs.Places.{IsPlaceOf};
 ghost use Rattle.reg_tasks.specs.Parcels.{parcels_of};
 ghost use Rattle.reg_yard.specs.Parcels.{parcel_of};
 
@@ -16,8 +17,7 @@ pub(crate) fn awaited_accounts<'c, N: Naming>(
     context: &'c Context<N>,
     place: u32,
 ) -> &'c [AccountNo]
-    requires from_one { 1 ≤ place }
-    requires within { place ≤ length context.now.batch.now.instructions }
+    requires place { IsPlaceOf context.now.batch.now place }
     ensures { result.now ≡ footprint_at (the_day context.now) place }
 {
     context.touched_at(place)
@@ -32,8 +32,7 @@ fn is_of(accounts: &[AccountNo], account: AccountNo) -> bool
 
 // Whether the instruction at a place needs the parcel.
 fn is_needed<N: Naming>(context: &Context<N>, place: u32, parcel: &Parcel<N>) -> bool
-    requires from_one { 1 ≤ place }
-    requires within { place ≤ length context.now.batch.now.instructions }
+    requires place { IsPlaceOf context.now.batch.now place }
     ensures { result ≡ list_any (is_name (parcel.now.value.number, parcel.now.after))
         (awaited (the_day context.now) context.now.plan place) }
 {
@@ -68,8 +67,7 @@ pub(crate) fn is_awaited<N: Naming>(
     came: &[Parcel<N>],
     parcel: &Parcel<N>,
 ) -> bool
-    requires from_one { 1 ≤ place }
-    requires within { place ≤ length context.now.batch.now.instructions }
+    requires place { IsPlaceOf context.now.batch.now place }
     ensures { result ≡ not (is_not_awaited (the_day context.now) context.now.plan place (parcels_of came.now)
         (parcel_of parcel.now)) }
 {

@@ -1,7 +1,8 @@
 //! Where the parcels of an instruction come together.
 
-ghost use Rattle.std.specs.Prelude.{◌≡◌, ◌≤◌, length};
+ghost use Rattle.std.specs.Prelude.{◌≡◌};
 ghost use Rattle.reg_tasks.specs.Contexts.{the_day};
+ghost use Rattle.reg_tasks.specs.Places.{IsPlaceOf};
 ghost use Rattle.reg_yard.specs.Held.{FewWait, HaveRoom};
 
 use crate::assemble::try_assemble;
@@ -17,8 +18,7 @@ pub struct Dock<'c, 'a, N: Naming> {
     context: &'c Context<'a, N>,
     place: u32,
     waiting: Option<Vec<Parcel<N>>>,
-    pub ghost from_one: { 1 ≤ place },
-    pub ghost within: { place ≤ length context.now.batch.now.instructions },
+    pub ghost place_is: { IsPlaceOf context.now.batch.now place },
     pub ghost few: { FewWait (the_day context.now) context.now.plan place waiting },
     pub ghost room: { HaveRoom (the_day context.now) place waiting },
 }
@@ -43,8 +43,7 @@ impl<'c, 'a, N: Naming> Dock<'c, 'a, N> {
         context: &'c Context<'a, N>,
         place: u32,
     ) -> Result<(Dock<'c, 'a, N>, Option<Task<N>>), NoMemory>
-        requires from_one { 1 ≤ place }
-        requires within { place ≤ length context.now.batch.now.instructions }
+        requires place { IsPlaceOf context.now.batch.now place }
         ensures context { IfOk result (λ r. r.0.context.now ≡ context.now) }
         ensures place { IfOk result (λ r. r.0.place ≡ place) }
         ensures left { IfOk result
@@ -71,8 +70,7 @@ impl<'c, 'a, N: Naming> Dock<'c, 'a, N> {
         context: &'c Context<'a, N>,
         place: u32,
     ) -> Result<Dock<'c, 'a, N>, NoMemory>
-        requires from_one { 1 ≤ place }
-        requires within { place ≤ length context.now.batch.now.instructions }
+        requires place { IsPlaceOf context.now.batch.now place }
         ensures place { IfOk result (λ dock. dock.place ≡ place) }
         ensures came { IfOk result (λ dock. came_to dock ≡ Some []) }
     {
@@ -86,8 +84,7 @@ impl<'c, 'a, N: Naming> Dock<'c, 'a, N> {
 
     /// The dock of a place whose task has gone out. The place is counted from 1.
     pub(crate) fn emptied(context: &'c Context<'a, N>, place: u32) -> Dock<'c, 'a, N>
-        requires from_one { 1 ≤ place }
-        requires within { place ≤ length context.now.batch.now.instructions }
+        requires place { IsPlaceOf context.now.batch.now place }
         ensures place { result.place ≡ place }
         ensures out { came_to result ≡ None }
     {

@@ -1,9 +1,10 @@
 //! The docks at the start.
 
-ghost use Rattle.std.specs.Prelude.{◌≡◌, ◌==◌, ◌++◌, ◌≤◌, [], Some, None, length, map, IfOk, if◌then◌else◌};
+ghost use Rattle.std.specs.Prelude.{◌≡◌, ◌==◌, ◌++◌, [], Some, None, length, map, IfOk, if◌then◌else◌};
 ghost use Rattle.reg_base.specs.Rising.{count_up};
 ghost use Rattle.reg_plan.specs.Plans.{inward};
 ghost use Rattle.reg_tasks.specs.Contexts.{the_day};
+ghost use Rattle.reg_tasks.specs.Places.{IsPlaceOf};
 ghost use Rattle.reg_tasks.specs.Tasks.{task_of};
 ghost use Rattle.reg_yard.specs.AtOnce.{tasks_from, tasks_at_once};
 ghost use Rattle.reg_yard.specs.Dock.{came_to};
@@ -22,8 +23,7 @@ fn open_dock<'c, 'a, N: Naming>(
     place: u32,
     tasks: &mut Vec<Task<N>>,
 ) -> Result<LockedDock<'c, 'a, N>, NoMemory>
-    requires from_one { 1 ≤ place }
-    requires within { place ≤ length context.now.batch.now.instructions }
+    requires place { IsPlaceOf context.now.batch.now place }
     ensures place { IfOk result (λ dock. dock.place ≡ place) }
     ensures tasks { IfOk result
         (λ dock. map task_of tasks.new.items
@@ -60,8 +60,7 @@ fn waiting_dock<'c, 'a, N: Naming>(
     context: &'c Context<'a, N>,
     place: u32,
 ) -> Result<Dock<'c, 'a, N>, NoMemory>
-    requires from_one { 1 ≤ place }
-    requires within { place ≤ length context.now.batch.now.instructions }
+    requires place { IsPlaceOf context.now.batch.now place }
     ensures place { IfOk result (λ dock. dock.place ≡ place) }
     ensures came { IfOk result
         (λ dock. came_to dock ≡ (if length (inward context.now.plan.arrows place) == 0 then None else Some [])) }

@@ -20,6 +20,7 @@ use Rattle.reg_plan.specs.Orders.{first_fault_after, first_order_fault}
 use Rattle.reg_plan.specs.Laws.{TailsAreLastTouchers, NoFaultIsALegalOrder}
 use Rattle.reg_book.specs.Day.{DayValue}
 use Rattle.reg_schedules.specs.Pool.{directory, footprint_at, tail_of}
+use Rattle.reg_tasks.specs.Places.{IsPlaceOf}
 use Rattle.reg_tasks.specs.Slots.{opened_accounts, last_of, StandAfter, is_ready, IsAtEnd}
 use Rattle.reg_schedules.proofs.lemmas.Known.{footprint_touches}
 use Rattle.reg_schedules.proofs.lemmas.Tails.{touched_from, touched_somewhere}
@@ -59,9 +60,11 @@ module _ (tails : TailsAreLastTouchers) (last : LastToucherIsLast) (day : DayVal
   faultless_order order none =
       subst (λ n. first_fault_after plan.arrows n [] order ≡ None) places_are (no_fault plan order none)
 
-  pub within_at : (order : List ℕ) (k : ℕ) → k < length order → first_order_fault plan order ≡ None
-      → get_or order k 0 ≤ length day.batch.instructions
-  within_at order k lt none = let one = faultless_at plan order k lt none in omega (arith, one.high, places_are)
+  -- each number of a legal order is a place of the batch
+  pub place_at : (order : List ℕ) (k : ℕ) → k < length order → first_order_fault plan order ≡ None
+      → IsPlaceOf day.batch (get_or order k 0)
+  place_at order k lt none =
+      let one = faultless_at plan order k lt none in (one.low, omega (arith, one.high, places_are))
 
   -- what the next instruction needs stands in the slots
   pub ready_at : (order : List ℕ) (k : ℕ) (standing : ℕ → Name) → k < length order → first_order_fault plan order ≡ None

@@ -5,18 +5,13 @@ use Rattle.reg_tasks.specs.Contexts.{the_day}
 use Rattle.reg_tasks.specs.Gathering.{places_of}
 use Rattle.reg_tasks.specs.Slots.{StandAfter}
 use Rattle.reg_tasks.specs.Standing.{stands}
-use Rattle.reg_tasks.proofs.lemmas.OrderSteps.{faultless_at, within_at, is_ready_at, standing_more}
+use Rattle.reg_tasks.proofs.lemmas.OrderSteps.{place_at, is_ready_at, standing_more}
 use Rattle.reg_tasks.proofs.order.run_places.Goals as goal
 
-pub run_place-requires-clause-from_one : goal.run_place-requires-clause-from_one
-run_place-requires-clause-from_one g c =
-    (faultless_at c.args.slots.now.context.now.plan c.args.order.now c.loop-place.place-index c.loop-place-test.true
-    c.requires.legal).low
-
-pub run_place-requires-clause-within : goal.run_place-requires-clause-within
-run_place-requires-clause-within g c =
+pub run_place-requires-clause-place : goal.run_place-requires-clause-place
+run_place-requires-clause-place g c =
     let context = c.loop-place.slots.context.now in
-    within_at c.tails_are_last_touchers.ensures c.last_toucher_is_last.ensures
+    place_at c.tails_are_last_touchers.ensures c.last_toucher_is_last.ensures
     (the_day context) context.plan context.planned c.args.order.now c.loop-place.place-index c.loop-place-test.true
     (ap (λ x. first_order_fault x.plan c.args.order.now) c.loop-place.invariant.context ∙ c.requires.legal)
 

@@ -23,6 +23,6 @@ returns-clause-ok g c =
     } in
     ran_at day c.args.place number c.args.own.now c.execute.new.accounts c.at-instruction.result.now c.in_ok-reply.reply
     c.log_row.result
-    c.requires.from_one (search rules) c.number_of-number.ensures
+    c.requires.place.0 (search rules) c.number_of-number.ensures
     ((c.in_ok-reply.ensures {u = tt}).ok
     ∙ ap (λ (s : Setting). step s c.args.own.now number c.at-instruction.result.now) same) (search rules)

@@ -30,16 +30,13 @@ returns-in_default-take_dock-clause-back g c =
     ∙ ap (λ hs. record w { hands = hs })
     (map-set hand_of c.args.self.now.hands.items c.args.worker (hand.Carries None c.args.parcels))
 
-pub receive-requires-clause-within : goal.receive-requires-clause-within
-receive-requires-clause-within g c =
+pub receive-requires-clause-place : goal.receive-requires-clause-place
+receive-requires-clause-place g c =
     let w = world_of c.args.self.now in
-    omega (
-      arith,
-      (at_within w.docks c.in-Some.place _
-          (dock-of w c.in-Some.place _ (sym c.in-Some-take_dock.ensures.came))).1,
-      length-map c.args.self.now.docks.items (option_map (λ came. parcels_of came.items)),
-      c.requires.places,
-    )
+    let there = at_within w.docks c.in-Some.place _
+    (dock-of w c.in-Some.place _ (sym c.in-Some-take_dock.ensures.came)) in
+    let docks = length-map c.args.self.now.docks.items (option_map (λ came. parcels_of came.items)) in
+    (there.0, omega (arith, there.1, docks, c.requires.places))
 
 pub receive-requires-clause-room : goal.receive-requires-clause-room
 receive-requires-clause-room g c =

@@ -82,7 +82,7 @@ returns-in-Ok-run-clause-ok g c =
     ∙ sym (map-set hand_of p.hands.items k (hand.Carries None c.keep_leading-kept.result)) in
     let rows : with_place w.rows t (Some c.in-Ok-run.outcome.row) ≡ slice_set p.rows.items (place - 1) (Some row)
     = ap (λ r. with_place w.rows t (Some r)) (sym c.into_parts-row.ensures.row.0)
-    ∙ placed w.rows t (Some row) c.requires.from_one
+    ∙ placed w.rows t (Some row) c.requires.place.0
     ∙ ap (λ q. slice_set p.rows.items (q - 1) (Some row)) (sym place_is) in
     let closing : w.closing ++ map (λ p. p.value) (filter (λ p. not (goes_on plan p)) (left_by t vs))
     ≡ c.keep_leading-kept.new.closing.items

@@ -11,21 +11,13 @@ use Rattle.reg_graph.specs.WorldParts.{hand_of, world_of}
 use Rattle.reg_graph.proofs.PartFacts.{with-one, set-twice, set-back, run-anew, can-run, why-run}
 use Rattle.reg_graph.proofs.parts.Parts.run_task.Goals as goal
 
-pub run_held-requires-clause-from_one : goal.run_held-requires-clause-from_one
-run_held-requires-clause-from_one g c =
+pub run_held-requires-clause-place : goal.run_held-requires-clause-place
+run_held-requires-clause-place g c =
     let here : c.args.worker < length c.args.self.now.hands.items = search rules in
-    (c.requires.within (task_of c.in-Holds.task)
+    c.requires.within (task_of c.in-Holds.task)
     (slice_get-view hand_of c.args.self.now.hands.items c.args.worker c.index_mut.result.now here
     c.index_mut.ensures.value
-    ∙ ap (λ h. Some (hand_of h)) (sym c.replace.ensures.value ∙ c.in-Holds.is))).0
-
-pub run_held-requires-clause-within : goal.run_held-requires-clause-within
-run_held-requires-clause-within g c =
-    let here : c.args.worker < length c.args.self.now.hands.items = search rules in
-    (c.requires.within (task_of c.in-Holds.task)
-    (slice_get-view hand_of c.args.self.now.hands.items c.args.worker c.index_mut.result.now here
-    c.index_mut.ensures.value
-    ∙ ap (λ h. Some (hand_of h)) (sym c.replace.ensures.value ∙ c.in-Holds.is))).1
+    ∙ ap (λ h. Some (hand_of h)) (sym c.replace.ensures.value ∙ c.in-Holds.is))
 
 pub returns-in-Holds-clause-answer : goal.returns-in-Holds-clause-answer
 returns-in-Holds-clause-answer g c =

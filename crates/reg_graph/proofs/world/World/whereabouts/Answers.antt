@@ -19,8 +19,8 @@ read : (g : Over) (c : After-is_some g) → is_in_dock (world_of c.args.self.now
 read g c =
     let p = c.args.self.now.parts in
     let here : c.args.place - 1 < length p.docks.items =
-    omega (arith, c.requires.from_one, c.requires.within, c.knows.ensures.docks) in
-    dock-there (λ came. parcels_of came.items) (world_of p) c.args.place c.index.result.now c.requires.from_one
+    omega (arith, c.requires.place.0, c.requires.place.1, c.knows.ensures.docks) in
+    dock-there (λ came. parcels_of came.items) (world_of p) c.args.place c.index.result.now c.requires.place.0
     (slice_get-view (option_map (λ came. parcels_of came.items)) p.docks.items (c.args.place - 1) c.index.result.now
     here c.index.ensures)
     ∙ sym c.is_some.ensures
@@ -89,7 +89,7 @@ returns g c =
       length-map p.hands.items hand_of,
       length-map p.lists.items (λ tasks. map task_of tasks.items),
     ) in
-    done-then (world_of p) q (c.knows.ensures.once q c.requires.from_one c.requires.within)
+    done-then (world_of p) q (c.knows.ensures.once q c.requires.place.0 c.requires.place.1)
     (read g (goal.at.returns g c).After-is_some ∙ c.is_some.ensures ∙ sym c.if-is_some.ensures)
     (none-at-all (total (in_list q)) (task_lists p.lists.items) k lists c.loop-worker.invariant.listed)
     (none-at-all (in_hand_once q) (map hand_of p.hands.items) k hands c.loop-worker.invariant.held)

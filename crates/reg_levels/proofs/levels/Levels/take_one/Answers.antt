@@ -1,35 +1,30 @@
-use Rattle.std.proofs.Common.{◌≡◌, ◌+◌, ◌≤◌, take, length, get_or, false, None, arith, sym, subst, ◌∙◌}
+use Rattle.std.proofs.Common.{◌≡◌, ◌+◌, take, get_or, false, None, arith, sym, subst, ◌∙◌}
 use Rattle.std.proofs.lemmas.Grind.{get_or_default_zero}
 use Rattle.reg_facts.proofs.lemmas.Numbers.{clash}
 use Rattle.reg_plan.specs.Orders.{first_order_fault}
 use Rattle.reg_tasks.specs.Contexts.{the_day}
+use Rattle.reg_tasks.specs.Places.{IsPlaceOf}
 use Rattle.reg_tasks.specs.Slots.{IsLack, AreTaken, is_ready}
 use Rattle.reg_tasks.specs.Standing.{stands}
 use Rattle.reg_tasks.proofs.lemmas.Gathering.{no_name}
 use Rattle.reg_tasks.proofs.lemmas.Placing.{lack_from, err_from}
-use Rattle.reg_tasks.proofs.lemmas.OrderSteps.{faultless_at, within_at}
+use Rattle.reg_tasks.proofs.lemmas.OrderSteps.{place_at}
 use Rattle.reg_levels.specs.Levels.{StandsBetween, IsByLevel, IsOneLevel, places_between}
 use Rattle.reg_levels.proofs.Between.{between_more, taken_more}
 use Rattle.reg_levels.proofs.Apart.{ready_next}
 use Rattle.reg_levels.proofs.levels.Levels.take_one.Goals as goal
 
-pub take-requires-clause-from_one : goal.take-requires-clause-from_one
-take-requires-clause-from_one g c =
-    let l = c.args.self.now in
-    let is : c.index-place.result.now ≡ get_or l.order.items l.taken 0 =
-    c.index-place.ensures ∙ get_or_default_zero l.order.items l.taken c.index-place.result.now c.requires.left in
-    subst (λ place. 1 ≤ place) (sym is)
-    (faultless_at l.slots.context.now.plan l.order.items l.taken c.requires.left l.legal).low
-
-pub take-requires-clause-within : goal.take-requires-clause-within
-take-requires-clause-within g c =
+pub take-requires : goal.take-requires
+take-requires g c =
     let l = c.args.self.now in
     let context = l.slots.context.now in
     let is : c.index-place.result.now ≡ get_or l.order.items l.taken 0 =
     c.index-place.ensures ∙ get_or_default_zero l.order.items l.taken c.index-place.result.now c.requires.left in
-    subst (λ place. place ≤ length context.batch.now.instructions) (sym is)
-    (within_at c.tails_are_last_touchers.ensures c.last_toucher_is_last.ensures
-    (the_day context) context.plan context.planned l.order.items l.taken c.requires.left l.legal)
+    record {
+      place = subst (IsPlaceOf context.batch.now) (sym is)
+          (place_at c.tails_are_last_touchers.ensures c.last_toucher_is_last.ensures
+          (the_day context) context.plan context.planned l.order.items l.taken c.requires.left l.legal);
+    }
 
 pub returns-in_err-task-clause-lack : goal.returns-in_err-task-clause-lack
 returns-in_err-task-clause-lack g c =

@@ -9,4 +9,4 @@ pub returns-clause-value : goal.returns-clause-value
 returns-clause-value g c =
     ∥∥₁_elim c.args.self.now.planned (Prim.hlevel props) (λ made.
     c.touched_at.ensures.value ∙ ap (λ ls. get_or ls (c.args.place - 1) []) made.footprints
-    ∙ kept_at (the_day c.args.self.now) c.args.place c.requires.from_one)
+    ∙ kept_at (the_day c.args.self.now) c.args.place c.requires.place.0)

@@ -8,6 +8,6 @@ invariant_of-result g c = record {
       complete_from c.tails_are_last_touchers.ensures c.last_toucher_is_last.ensures
       (day_of c.args.context.now.book.now c.args.context.now.rules.now c.args.context.now.batch.now)
       c.args.context.now.plan
-      c.args.context.now.planned c.args.place _ c.requires.from_one c.requires.within c.requires.needed d
+      c.args.context.now.planned c.args.place _ c.requires.place c.requires.needed d
       (c.args.context.now.named d e);
 }

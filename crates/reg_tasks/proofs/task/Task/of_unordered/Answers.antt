@@ -41,7 +41,7 @@ invariant_of-result g c =
           complete_from c.tails_are_last_touchers.ensures c.last_toucher_is_last.ensures
           (day_of c.args.context.now.book.now c.args.context.now.rules.now c.args.context.now.batch.now)
           c.args.context.now.plan
-          c.args.context.now.planned c.args.place _ c.requires.from_one c.requires.within
+          c.args.context.now.planned c.args.place _ c.requires.place
           (ap names_of (written_whole c.args.parcels.items c.put_in_order.new.parcels c.args.parcels.len size kept)
           ∙ c.put_in_order.ensures.names
           ∙ ap (λ ws. names_needed ws c.touched_at.result.now) c.arrows_to.ensures

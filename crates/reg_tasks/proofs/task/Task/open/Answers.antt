@@ -28,7 +28,7 @@ invariant_of-result g c =
     (eqb-true (length arrows) 0 (sym c.is_empty.ensures ∙ c.if-not-is_empty.false)) in
     record {
       complete = λ d e. complete_from c.tails_are_last_touchers.ensures c.last_toucher_is_last.ensures day plan
-          c.args.context.now.planned c.args.place _ c.requires.from_one c.requires.within
+          c.args.context.now.planned c.args.place _ c.requires.place
           (c.in_ok-parcels.ensures.names
           ∙ sym (needed_none touched)
           ∙ ap (λ ws. names_needed ws touched) (sym none ∙ c.arrows_to.ensures)
