@@ -48,7 +48,8 @@ enum registry_status {
   REGISTRY_NO_MEMORY = 4   /* memory ran out: all that the call took was given back */
 };
 
-/* What is wrong with the first faulty row: the first of these that applies to it. */
+/* What is wrong with the first faulty row. If several apply to it, the first of: END, TAG, FIELDS, the first faulty field
+   from the left, ORDER, and a LIMIT of how many there may be, or of a sum. */
 enum registry_cause {
   REGISTRY_END = 1,     /* the text ends although a row must follow, or a row follows the row `end` */
   REGISTRY_TAG = 2,     /* the tag is unknown or not allowed here */

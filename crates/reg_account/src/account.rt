@@ -120,7 +120,7 @@ impl Account {
         self.parts.status
     }
 
-    /// Whether it allows transfers to accounts that are not on its trusted account list.
+    /// Whether it allows transfers to accounts that it does not trust.
     pub fn outside(&self) -> bool
         ensures { result ≡ self.now.outside }
     {

@@ -24,7 +24,7 @@ pub struct AccountParts {
     pub holder: HolderNo,
     /// Its status.
     pub status: Status,
-    /// Whether it allows transfers to accounts that are not on its trusted account list.
+    /// Whether it allows transfers to accounts that it does not trust.
     pub outside: bool,
     /// Whether a transfer to a trusted account needs no approval.
     pub waiver: bool,

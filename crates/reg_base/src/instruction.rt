@@ -1,4 +1,4 @@
-//! Due instructions.
+//! Instructions.
 
 ghost use Rattle.std.specs.Prelude.{◌≡◌, ◌&&◌, ◌++◌, true, All};
 ghost use Rattle.std.specs.Option.{option_map_or, option_to_list};
@@ -15,7 +15,7 @@ use crate::movement::Movement;
 use crate::numbers::{AccountNo, Day, UserNo};
 use crate::shares::Share;
 
-/// A due instruction: proposed by one representative, and approved by another if it needs that.
+/// An instruction: which user proposed which act, on which date, and which user approved it, if one did.
 #[derive(Clone, Copy, Debug, PartialEq, Eq)]
 pub struct Instruction {
     /// The date on which it was proposed.

@@ -22,7 +22,7 @@ use std::alloc::Global;
 /// The touched accounts are moved to the front and then back, so none is copied and no memory is needed for them.
 ///
 /// # Errors
-/// `NoMemory` if there was no memory for what its accounts then hold.
+/// `NoMemory` if there was no memory for what its accounts then hold, or for what the act adds to its first account.
 pub fn take_turn(
     alloc: Global,
     setting: &Setting,

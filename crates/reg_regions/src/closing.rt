@@ -39,10 +39,11 @@ const MOST_WORKERS: u32 = 8;
 const REGIONS_EACH: u32 = 3;
 
 /// Settles a batch on the book's own accounts, by workers. Each list of the book becomes a region; if there are fewer
-/// than three for each of several workers, the lists are cut before. Instructions that touch an account in common,
-/// directly or over others, are carried out in one region, and accounts that stand in another are swapped for this, and
-/// swapped back. A worker takes a region whole, and when it has none left, it takes one from another worker. The book
-/// after the day is the one that `settle_plain` and then `Book::commit` give, and the replies are those in the log.
+/// than three for each of several workers, and fewer than instructions, the lists are cut before. Instructions that
+/// touch an account in common, directly or over others, are carried out in one region, and accounts that stand in
+/// another are swapped for this, and swapped back. A worker takes a region whole, and when it has none left, it takes
+/// one from another worker. The book after the day is the one that `settle_plain` and then `Book::commit` give, and the
+/// replies are those in the log.
 ///
 /// If the day can't be dealt out so, as with one worker, or if no list has room for the accounts of some instructions,
 /// worker 0, which is the calling thread, carries out all instructions in the order of the batch, and the book has one

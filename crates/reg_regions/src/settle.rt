@@ -8,75 +8,17 @@ ghost use Rattle.reg_book.specs.Indexes.{index_lists};
 ghost use Rattle.reg_regions.specs.Homes.{IsHome, AreHome};
 ghost use Rattle.reg_regions.specs.Settling.{IsCarriedOut, IsRun, places_in};
 
-use crate::fault::RegionFault;
-use crate::gate::{FreePlaces, PlaceGate};
-use crate::home::{are_home, widened};
-use crate::region::{Indexes, Placed, Region, SettledRegion};
+use crate::gate::PlaceGate;
+use crate::home::widened;
+use crate::region::{Indexes, Placed};
 use reg_account::Account;
 use reg_base::{Batch, NoMemory, RecordNo};
 use reg_book::take_turn;
 use reg_rules::{Reply, Setting, step_laws};
 use std::alloc::Global;
 
-/// Carries out the instructions of a region on its accounts, in their order.
-///
-/// # Errors
-/// `Stray` if an instruction does not belong to the region. `NoMemory` if memory ran out. The region is dropped then.
-pub fn settle_region(
-    alloc: Global,
-    setting: &Setting,
-    batch: &Batch,
-    region: Region,
-) -> Result<SettledRegion, RegionFault>
-    requires rules { AreRules setting.now.rules }
-    requires ready { IsReady (batch.now.base + 1) region.accounts.items }
-    ensures { IfOk result
-        (λ s. IsRun setting.now batch.now region.accounts.items s.accounts.items s.replies.items) }
-{
-    let Region {
-        mut accounts,
-        places,
-        indexes,
-    } = region;
-    if !are_home(setting, batch, &accounts, &places, &indexes) {
-        return Err(RegionFault::Stray);
-    }
-    let replies = settle_home(alloc, setting, batch, &places, &indexes, &mut accounts)?;
-    Ok(SettledRegion { accounts, replies })
-}
-
 /// Carries out the instructions at these places, one after another, on accounts that have those that they touch at
-/// these indexes.
-///
-/// # Errors
-/// `NoMemory` if memory ran out.
-pub(crate) fn settle_home(
-    alloc: Global,
-    setting: &Setting,
-    batch: &Batch,
-    places: &[u32],
-    indexes: &[Indexes],
-    accounts: &mut [Account],
-) -> Result<Vec<Placed>, NoMemory>
-    requires rules { AreRules setting.now.rules }
-    requires ready { IsReady (batch.now.base + 1) accounts.old }
-    requires home { AreHome setting.now batch.now (numbers accounts.old) places.now (index_lists indexes.now) }
-    ensures run { IfOk result (λ replies. IsRun setting.now batch.now accounts.old accounts.new replies.items) }
-    ensures places { IfOk result (λ replies. places_in replies.items ≡ places.now) }
-{
-    settle_gated(
-        alloc,
-        setting,
-        batch,
-        places,
-        indexes,
-        accounts,
-        &FreePlaces,
-        0,
-    )
-}
-
-/// The same by a worker, which passes the gate before each instruction.
+/// these indexes. The worker passes the gate before each instruction.
 ///
 /// # Errors
 /// `NoMemory` if memory ran out.

@@ -15,7 +15,7 @@ use crate::rule::{
 use reg_account::Account;
 use reg_base::{AccountKind, AccountNo, Movement, Share};
 
-/// Whether the act names an account twice.
+/// Whether two of the accounts that must be known are the same.
 pub(crate) fn names_one_twice(movement: &Movement) -> bool
     ensures { result ≡ has_repeat
         ((movement.now.first ∷ map (λ share. share.to) movement.now.shares)

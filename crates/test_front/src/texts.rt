@@ -27,15 +27,15 @@ fn faults_of_the_base_have_their_texts(rt: HostRuntime) {
     );
     let wanted = "\
 out of memory
-the working day at place 3 is not later than the one before it
+the working day at position 3 is not later than the one before it
 there are more than 16,384 instructions
 the last record number would be above 10^15
 there are more than 64 administrators
-the administrator at place 3 has no higher number than the one before
+the administrator at position 3 has no higher number than the one before
 a lag or the reversal window is longer than 1,000 working days
 there are not 1 to 8 periods
 the last year of a period is before its first
-the period at place 2 does not begin after the one before has ended
+the period at position 2 does not begin after the one before has ended
 the current period is none of the periods
 ";
     assert_eq!(rt; text.expect(&rt, "memory").as_str(), wanted);

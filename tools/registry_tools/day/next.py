@@ -21,7 +21,7 @@ import sys
 from typing import Iterator
 
 from registry_tools import faults, rules
-from registry_tools.day import pending, weekdays
+from registry_tools.day import dates, pending, weekdays
 from registry_tools.day.accounts import Accounts, Block
 from registry_tools.day.books import open_by_late_begin
 from registry_tools.day.by_hand import refusals
@@ -242,10 +242,7 @@ def heading_of(day: DayText, date: datetime.date, next_record: int, calendar: li
 
 
 def date_of(word: str, day: DayText) -> datetime.date:
-    try:
-        date = datetime.date.fromisoformat(faults.date("DATE").read(word))
-    except faults.Fault:
-        raise WordsFault(f"--date {word} is not {faults.date('DATE').expected}") from None
+    date = dates.date_of("--date", word)
     if date <= day.head.date:
         raise WordsFault(f"--date {date} is not later than {day.head.date}, the day of {day.path}")
     return date

@@ -8,6 +8,7 @@ from pathlib import Path
 from types import TracebackType
 
 from registry_tools.day.errors import FileFault
+from registry_tools.day.office.layout import must_not_be_of_folder
 
 ANYBODY_WRITES = stat.S_IWUSR | stat.S_IWGRP | stat.S_IWOTH
 
@@ -23,6 +24,7 @@ def write_all(file: int, content: bytes) -> None:
 
 def must_be_writable(path: str | Path) -> None:
     """Ends the command if a file may not be written, before any work is done for it."""
+    must_not_be_of_folder(path)
     real = Path(os.path.realpath(path))
     if real.exists() and not real.is_file():
         raise FileFault(path, 0, "", f"it cannot be written: it is {'a folder' if real.is_dir() else 'no file'}", "")
@@ -53,6 +55,7 @@ class NewFolder:
         self.beside = self.path / name if self.is_there else self.path.parent / name
 
     def __enter__(self) -> "NewFolder":
+        must_not_be_of_folder(self.path)
         if self.is_there and any(self.path.iterdir()):
             raise FileFault(
                 self.path, 0, "", "a folder with files in it", "a folder that is not there yet, or is empty"

@@ -22,21 +22,20 @@ from pathlib import Path
 from typing import Iterator
 
 from registry_tools.day.day_text import DayText, read_day
-from registry_tools.day.errors import FOUND, FileFault, WordsFault, shown
+from registry_tools.day.errors import FOUND, FileFault, shown
 from registry_tools.day.follows import differences
-from registry_tools.day.office import composing, files, folder, handed, journal, settling, showing, words
+from registry_tools.day.office import composing, files, folder, handed, journal, past, settling, showing, words
 from registry_tools.day.office.composing import NextDay
 from registry_tools.day.office.folder import Office
 from registry_tools.day.office.handed import FIRST, HandedIn
-from registry_tools.day.office.journal import FILES, Event, Journal
+from registry_tools.day.office.journal import Event, Journal
+from registry_tools.day.office.layout import DAYS, JOURNAL, SETTINGS
 from registry_tools.day.output import cannot, write_answer
 from registry_tools.day.progress import progress
 from registry_tools.day.report import Report, read_report
 from registry_tools.day.rows import bytes_of
 
 EXAMPLE = "./day audit --second --office out/office"
-# What may lie beside the files of a day: it is made of them.
-PAPERS = {"statements", "pages"}
 
 
 def add_words(parser: argparse.ArgumentParser) -> None:
@@ -61,9 +60,9 @@ class Audit:
 
 def run(said: argparse.Namespace) -> int:
     path = folder.folder_of(said.office)
-    begin = date_of(said.begin)
-    settings = folder.read_settings(path / folder.SETTINGS)
-    there = Journal(path / folder.JOURNAL, files.bytes_in(path / folder.JOURNAL).decode("utf-8", "surrogateescape"))
+    begin = past.date_of("--from", said.begin, datetime.date.min)
+    settings = folder.read_settings(path / SETTINGS)
+    there = Journal(path / JOURNAL, files.bytes_in(path / JOURNAL).decode("utf-8", "surrogateescape"))
     audit = Audit(Office(path, settings, there))
     for fault in journal.faults_of(there):
         audit.add(fault)
@@ -85,13 +84,6 @@ def summary(audit: Audit) -> str:
     return f"{path}: {counts}: {len(audit.found)} differences"
 
 
-def date_of(word: str | None) -> datetime.date:
-    try:
-        return datetime.date.fromisoformat(word) if word else datetime.date.min
-    except ValueError:
-        raise WordsFault(f"--from {word} is no date, as 2026-12-14") from None
-
-
 # Files.
 
 
@@ -99,36 +91,12 @@ def look_at_files(audit: Audit) -> None:
     office = audit.office
     filed = office.journal.filed()
     for event in progress.over(filed, "looking at the files", len(filed), step=10):
-        for fault in faults_of_files(office, event):
-            audit.add(fault)
+        audit.found += [*office.changed_files(event), *office.strange_files(event)]
     named = {str(event.date) for event in filed}
-    for path in listed(office.path / folder.DAYS):
+    for path in files.listed(office.path / DAYS):
         if path.name not in named:
             found = "something that the journal does not name"
             audit.add(FileFault(path, 0, "", found, "the days of the journal alone"))
-
-
-def faults_of_files(office: Office, event: Event) -> Iterator[FileFault]:
-    place = office.day_folder(event.date)
-    for key, name in FILES.items():
-        path = place / name
-        try:
-            there = files.sum_of(files.bytes_in(path))
-        except FileFault as fault:
-            yield fault
-            continue
-        if there != event.sums.get(key):
-            yield FileFault(path, 0, "SHA-256", there, f"{event.sums.get(key)}, as {office.journal.path} says")
-    for path in listed(place):
-        if path.name not in PAPERS and path.name not in FILES.values():
-            yield FileFault(path, 0, "", "a file that does not belong here", "no such file")
-
-
-def listed(path: Path) -> list[Path]:
-    try:
-        return sorted(path.iterdir())
-    except OSError as error:
-        raise FileFault(path, 0, "", f"it cannot be read: {error.strerror}", "") from None
 
 
 def look_at_next(audit: Audit) -> None:
@@ -154,6 +122,20 @@ def look_at_days(audit: Audit, begin: datetime.date, by_program: bool, by_second
         except FileFault as fault:
             audit.add(fault)
             before = None
+    look_at_waits(audit, before)
+
+
+def look_at_waits(audit: Audit, last: tuple[Event, DayText, Report] | None) -> None:
+    """Whether next/ has what waits behind the last day, as the command wrote it that filed or undid a day."""
+    if last is None:
+        return
+    event, day, report = last
+    path = audit.office.next_folder / handed.WAITS
+    try:
+        expected = composing.waits_text(day, report, str(audit.office.file(event, "waiting")))
+        compare(audit, path, files.bytes_in(path), expected, f"the day {event.date}")
+    except FileFault as fault:
+        audit.add(fault)
 
 
 def look_at_day(

@@ -26,7 +26,7 @@ def run(said: argparse.Namespace) -> int:
     on = past.date_of("--on", said.on, datetime.date.max)
     last = last_day(past.paths_of(said), on)
     if last is None:
-        raise WordsFault(f"no day was settled up to {on}" if said.on else "no day is settled yet")
+        raise WordsFault(f"no day was settled up to {on}" if said.on is not None else "no day is settled yet")
     block = last.report.book.get(said.account)
     if block is None:
         raise WordsFault(f"there is no account {said.account} after {last.date}")

@@ -20,7 +20,7 @@ from typing import Iterator
 
 from registry_tools import faults
 from registry_tools.day import next as next_day
-from registry_tools.day.day_text import DayText
+from registry_tools.day.accounts import Block
 from registry_tools.day.errors import FOUND, WordsFault
 from registry_tools.day.notes import Notes
 from registry_tools.day.office import composing, edits, folder, handed, words
@@ -38,6 +38,7 @@ LAGS = ("trusted", "other", "list", "reversal")
 FIRST_PERIOD = "1"
 # How a fault names the text that would come of it.
 NEXT = "the next day"
+NOTHING = "nothing would be changed: it is so already"
 
 
 def add_words(parser: argparse.ArgumentParser) -> None:
@@ -81,10 +82,14 @@ def signed(option: str, word: str) -> tuple[bool, str]:
 def account_edits(said: argparse.Namespace, number: int) -> Iterator[Edit]:
     for asked in said.user:
         is_added, word = signed("--user", asked)
-        user, _, right = word.partition(":")
+        user, has_right, right = word.partition(":")
+        if is_added != bool(has_right):
+            raise WordsFault(f"--user {asked}: +USER:RIGHT or -USER")
         yield Edit(number, ADD, ("user", user, right)) if is_added else Edit(number, DROP, ("user", user))
     for factor in said.correction:
-        period, _, value = factor.partition(":")
+        period, has_value, value = factor.partition(":")
+        if not has_value:
+            raise WordsFault(f"--correction {factor}: PERIOD:VALUE")
         if period == FIRST_PERIOD:
             yield Edit(number, PUT, ("CORRECTION", value or "0"))
         else:
@@ -156,6 +161,7 @@ def edits_of(said: argparse.Namespace, lags: dict[str, int]) -> list[Edit]:
 
 
 def run(said: argparse.Namespace) -> int:
+    words.look_at_places(said)
     if said.pairs:
         return on_paths(said)
     if said.why is None:
@@ -185,19 +191,19 @@ def on_paths(said: argparse.Namespace) -> int:
     with tempfile.TemporaryDirectory() as work:
         path = Path(work) / "changes.csv"
         path.write_bytes(text)
-        next_day.book_with_changes(day, report, str(path), Notes())
-    for number, rows in blocks.items():
-        old = report.book.get(number)
-        for difference in edits.differences(old.rows if old else [], rows):
-            print(f"{number}: {difference}", file=sys.stderr)
+        after = next_day.book_with_changes(day, report, str(path), Notes())
+    differences = [*account_differences(report.book, {number: after[number] for number in blocks})]
+    if not differences:
+        raise WordsFault(NOTHING)
+    print("\n".join(differences), file=sys.stderr)
     write_answer(text.decode("utf-8", "surrogateescape"), said.to)
     return 0
 
 
-def account_differences(before: DayText, after: DayText) -> Iterator[str]:
+def account_differences(before: dict[int, Block], after: dict[int, Block]) -> Iterator[str]:
     """The rows of accounts that went and came, each with its account."""
-    for number, block in after.book.items():
-        old = before.book.get(number)
+    for number, block in after.items():
+        old = before.get(number)
         yield from (f"{number}: {difference}" for difference in edits.differences(old.rows if old else [], block.rows))
 
 
@@ -211,7 +217,11 @@ def show(
         part = handed.put(handed_in, handed.EDITS, content, len(made), why, who)
         changed = composing.compose(office, handed_in.until(date), date)
         after = changed.day(office.next_folder / NEXT)
-        print("\n".join([*edits.differences(before.heading, after.heading), *account_differences(before, after)]))
+        rules = edits.differences(before.heading, after.heading)
+        differences = [*rules, *account_differences(before.book, after.book)]
+        if not differences:
+            raise WordsFault(NOTHING)
+        print("\n".join(differences))
         new = [note for note in changed.notes if note.startswith("LOOK AT THIS") and note not in composed.notes]
         print("".join(f"{note}\n" for note in new), end="")
         if counts:

@@ -58,7 +58,7 @@ def changes_of_day(path: Path, date: str) -> Iterator[list[Cell]]:
     for part in filed.parts:
         if part.kind in left:
             for _ in range(sum(place not in gone for place in range(part.start, part.end))):
-                yield row_of(date, part, next(left[part.kind]))
+                yield row_of(date, part, handed.next_item(left[part.kind], path / FILES[part.kind]))
 
 
 def row_of(day: str, part: Part, rows: list[str]) -> list[Cell]:

@@ -90,10 +90,11 @@ def left_for_later(handed_in: HandedIn, date: datetime.date) -> list[str]:
 
 def settle(office: Office, composed: NextDay, by_second: bool) -> Settled:
     """Settles the day, and looks whether the report is that of the day and what the rules make of it."""
-    path = office.day_folder(composed.date)
-    day = composed.day(path / FILES["day"])
-    text = settling.by_rules(day) if by_second else settling.by_engine(office.settings.program, composed.text)
-    source = rows_of_text(str(path / FILES["report"]), text.decode("utf-8", "surrogateescape"))
+    day = composed.day(office.day_folder(composed.date) / FILES["day"])
+    program = office.settings.program
+    text = settling.by_rules(day) if by_second else settling.by_engine(program, composed.text)
+    whose = "the second answer" if by_second else program or "the program"
+    source = rows_of_text(f"the report of {whose}", text.decode("utf-8", "surrogateescape"))
     report = report_of(source, day)
     must_follow(day, report)
     if not by_second:

@@ -12,7 +12,7 @@ from typing import Iterator
 
 from registry_tools import faults, rules
 from registry_tools.day import next as next_day
-from registry_tools.day import pending, weekdays
+from registry_tools.day import dates, pending, weekdays
 from registry_tools.day.accounts import Accounts, Reader
 from registry_tools.day.day_text import DayText, day_of
 from registry_tools.day.due import due_day_after, head_after
@@ -29,8 +29,12 @@ from registry_tools.day.report import Report
 from registry_tools.day.rows import Rows, rows_of_text
 
 
-# What is merged into one file of a filed day.
+# What is merged into one file of a filed day, and what it is called as a whole.
 MERGED = (DO, CHANGES, EDITS, WORK)
+WHAT = {
+    DO: "the instructions handed in", CHANGES: "the accounts handed in", EDITS: "the changes handed in",
+    WORK: "the working days handed in",
+}  # fmt: skip
 
 
 @dataclass
@@ -62,10 +66,7 @@ def date_of(word: str | None, office: Office, handed_in: HandedIn) -> datetime.d
     """The settlement day: the named one, or the first working day behind the last day."""
     first = handed_in.first_text()
     if word is not None:
-        try:
-            return datetime.date.fromisoformat(word)
-        except ValueError:
-            raise WordsFault(f"--date {word} is no date, as 2026-12-14") from None
+        return dates.date_of("--date", word)
     if first:
         return first.head.date
     last = office.last()
@@ -89,6 +90,8 @@ def last_pair(office: Office) -> tuple[DayText, Report]:
     last = office.last()
     if last is None:
         raise WordsFault(f"{office.path} has no settled day yet: ./day init puts another first text there")
+    for fault in office.changed_files(last):
+        raise fault
     return read_pair(str(office.file(last, "day")), str(office.file(last, "report")))
 
 
@@ -142,16 +145,40 @@ def later_day(office: Office, handed_in: HandedIn, date: datetime.date) -> NextD
     contents = contents_of(handed_in)
     with tempfile.TemporaryDirectory() as work:
         paths = {kind: written(Path(work) / f"{kind}.csv", content) for kind, content in contents.items()}
+        merged = Merged(work, handed_in)
         try:
-            composed = later_text(day, report, date, paths, str(office.file(last, "waiting")))
+            composed = later_text(day, report, date, paths, str(office.file(last, "waiting")), work)
         except FileFault as fault:
-            # (nobody finds a file of this command later)
-            if str(fault.path).startswith(f"{tempfile.gettempdir()}/"):
-                fault.path, fault.line = f"{Path(fault.path).stem} that were handed in, row {fault.line}", 0
+            if str(fault.path).startswith(f"{work}/"):
+                fault.path, fault.line = merged.origin(str(fault.path), fault.line)
             raise
-        merged = re.compile(rf"{re.escape(tempfile.gettempdir())}/[^/]+/(\w+)\.csv:")
-        composed.notes = [merged.sub(r"\1 that were handed in, row ", note) for note in composed.notes]
+        composed.notes = [*map(merged.with_origins, composed.notes)]
     return replace(composed, new=[*handed_in.items(DO)], contents=contents)
+
+
+class Merged:
+    """The files that are merged of what was handed in. Nobody finds them later: a message names the file that was
+    handed in, with its line."""
+
+    def __init__(self, work: str, handed_in: HandedIn) -> None:
+        self.work = work
+        self.rows = {
+            f"{work}/{kind}.csv": [(item.part.name, line) for item in handed_in.items(kind) for line in item.lines]
+            for kind in (DO, CHANGES, WORK)
+        }
+        self.path = re.compile(rf"({re.escape(work)}/(?:\w+/)?\w+\.csv)(?::([0-9]+))?")
+
+    def origin(self, path: str, line: int) -> tuple[str, int]:
+        """Where a row of a merged file came from. A block of several changes has no single line."""
+        rows = self.rows.get(path, [])
+        return rows[line - 1] if 0 < line <= len(rows) else (WHAT[Path(path).stem], 0)
+
+    def with_origins(self, note: str) -> str:
+        return self.path.sub(self.named, note)
+
+    def named(self, found: re.Match[str]) -> str:
+        name, line = self.origin(found[1], int(found[2] or 0))
+        return f"{name}:{line}" if line else name
 
 
 def written(path: Path, content: bytes) -> str | None:
@@ -162,13 +189,16 @@ def written(path: Path, content: bytes) -> str | None:
     return str(path)
 
 
-def later_text(day: DayText, report: Report, date: datetime.date, paths: dict[str, str | None], waits: str) -> NextDay:
+def later_text(
+    day: DayText, report: Report, date: datetime.date, paths: dict[str, str | None], waits: str, work: str | None = None
+) -> NextDay:
+    """The text of a later day. What is made on the way lies in the folder `work`, if one is named."""
     notes = Notes()
     calendar = next_day.calendar_of(day, paths[WORK], notes)
     made = edits_in(paths[EDITS])
     heading = edits.edited_heading(made, [*next_day.heading_of(day, date, report.next_record, calendar)])
     head = head_of(heading)
-    with edited_changes(made, report, paths[CHANGES]) as changes:
+    with edited_changes(made, report, paths[CHANGES], work) as changes:
         book = next_day.book_with_changes(day, report, changes, notes, head.periods)
     notes.lines += [
         f"by hand: the rules: {difference}"
@@ -221,7 +251,9 @@ def edits_in(path: str | None) -> list[Edit]:
 
 
 @contextlib.contextmanager
-def edited_changes(made: list[Edit], report: Report, path: str | None) -> Iterator[str | None]:
+def edited_changes(
+    made: list[Edit], report: Report, path: str | None, work: str | None
+) -> Iterator[str | None]:
     """A file of the accounts that are changed by hand: by whole blocks, and by differences. Without differences, the
     file of blocks, if its accounts rise."""
     numbers = [int(row.split(",")[1]) for row in rows_in(path) if row.startswith("account,")]
@@ -235,9 +267,9 @@ def edited_changes(made: list[Edit], report: Report, path: str | None) -> Iterat
         if row != "end":
             blocks[next(reversed(blocks))].append(row)
     changed = edits.edited_blocks(made, report, blocks)
-    with tempfile.TemporaryDirectory() as work:
+    with tempfile.TemporaryDirectory(dir=work) as inner:
         yield written(
-            Path(work) / "changes.csv", handed.text_of_rows([row for rows in changed.values() for row in rows])
+            Path(inner) / "changes.csv", handed.text_of_rows([row for rows in changed.values() for row in rows])
         )
 
 
@@ -270,14 +302,19 @@ def waits_of(office: Office) -> list[pending.Waiting]:
 
 
 def write_waits(folder: Path, day: DayText, report: Report, waits: str) -> None:
-    """Puts what waits behind a day into the next/ that is made, with the due days by the calendar and the accounts
-    after the day. `waits` is the pending file of the day."""
+    """Puts what waits behind a day into the next/ that is made."""
+    files.write_synced(folder / handed.WAITS, waits_text(day, report, waits))
+
+
+def waits_text(day: DayText, report: Report, waits: str) -> bytes:
+    """What waits behind a day, with the due days by the calendar and the accounts after the day. `waits` is the pending
+    file of the day."""
     waiting = next_day.waiting_after(day, report, pending.read_pending(waits), datetime.date.max, Notes())
     head = head_after(day, report)
     for own in waiting:
         own.due, own.entered = due_day_after(head, own.instruction), None
     made = pending.Made(day.head.date, report.next_record)
-    files.write_synced(folder / handed.WAITS, pending.text_of(waiting, made).encode("utf-8", "surrogateescape"))
+    return pending.text_of(waiting, made).encode("utf-8", "surrogateescape")
 
 
 def asked_rules(day: DayText) -> list[rules.Logged]:

@@ -13,6 +13,7 @@ from typing import Iterator
 from registry_tools.day.accounts import Block
 from registry_tools.day.errors import FileFault
 from registry_tools.day.office import files, past
+from registry_tools.day.office.layout import must_not_be_of_folder
 from registry_tools.day.office.past import PastDay
 from registry_tools.day.report import LogRow
 from registry_tools.day.rows import bytes_of
@@ -28,6 +29,7 @@ def add_words(parser: argparse.ArgumentParser) -> None:
 
 
 def run(said: argparse.Namespace) -> int:
+    must_not_be_of_folder(said.file)
     paths = past.paths_of(said)
     is_new = not Path(said.file).exists()
     try:

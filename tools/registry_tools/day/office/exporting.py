@@ -3,7 +3,7 @@
   --instructions  the instructions of the day; ./day import makes the same rows of it
   --accounts      the accounts after the day; ./day import --accounts makes the same rows of it
   --log           what came of each instruction, as ./day log
-  --compliance    how operators stand, as ./day compliance --csv
+  --compliance    how operators stand, as ./day compliance --csv; --year names the year, as there
   --figures       the figures that were determined
 """
 import argparse
@@ -32,6 +32,7 @@ def add_words(parser: argparse.ArgumentParser) -> None:
     what = parser.add_mutually_exclusive_group(required=True)
     for name in WHAT:
         what.add_argument(f"--{name}", dest="what", action="store_const", const=name, help=f"the table of {name}")
+    parser.add_argument("--year", type=int, metavar="Y", help="the year of --compliance")
     parser.add_argument("--xlsx", metavar="FILE", help="write a workbook")
     add_to(parser)
 
@@ -58,6 +59,7 @@ def figures_of(report: Report) -> Iterator[list[str]]:
 def written_table(module: object, said: argparse.Namespace) -> tuple[Sequence[str], Iterator[Sequence[str]]]:
     """The table that another command writes."""
     words = [said.report, "--day", said.day] if module is log else [said.day, said.report, "--csv"]
+    words += [] if said.year is None else [f"--year={said.year}"]
     parser = Words()
     module.add_words(parser)  # type: ignore[attr-defined]
     output = io.StringIO()
@@ -68,6 +70,8 @@ def written_table(module: object, said: argparse.Namespace) -> tuple[Sequence[st
 
 
 def run(said: argparse.Namespace) -> int:
+    if said.year is not None and said.what != "compliance":
+        raise WordsFault("--year is for --compliance")
     if said.xlsx and said.to:
         raise WordsFault("--xlsx names the file already: --to is for csv")
     if said.xlsx and any(is_same_file(path, said.xlsx) for path in (said.day, said.report)):

@@ -44,6 +44,14 @@ def bytes_in(path: Path) -> bytes:
         raise FileFault(path, 0, "", f"it cannot be read: {error.strerror}", "") from None
 
 
+def listed(path: Path) -> list[Path]:
+    """What lies in a folder, by name."""
+    try:
+        return sorted(path.iterdir())
+    except OSError as error:
+        raise FileFault(path, 0, "", f"it cannot be read: {error.strerror}", "") from None
+
+
 def sync_folder(path: Path) -> None:
     """Has the names of a folder kept, also if the machine stops."""
     folder = os.open(path, os.O_RDONLY | os.O_DIRECTORY)

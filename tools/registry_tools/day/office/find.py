@@ -1,7 +1,7 @@
 """Finds log rows over all days of a folder: of an account, of a user, of an act, what was refused, between two days.
 
-A distribution has a row for each account that receives. The amount of an entry of emissions are its tonnes. JSON and
-csv have the columns of the table.
+A distribution has a row for each account that receives; with --account of an account that does, only its own. The
+amount of an entry of emissions are its tonnes. JSON and csv have the columns of the table.
 
 exit status: 0 if something was found, 1 if nothing was.
 """
@@ -30,6 +30,7 @@ COLUMNS = (
     "amount",
     "year",
     "outcome",
+    "status",
 )
 NUMBERS = {"record", "proposer", "approver", "from", "to", "amount", "year"}
 
@@ -61,7 +62,7 @@ def run(said: argparse.Namespace) -> int:
 def rows_of_day(said: argparse.Namespace, past_day: PastDay) -> Iterator[list[Cell]]:
     for logged in past_day.report.log:
         if is_wanted(said, logged):
-            yield from cells_of(logged)
+            yield from cells_of(logged, said.account)
 
 
 def is_wanted(said: argparse.Namespace, logged: LogRow) -> bool:
@@ -75,15 +76,16 @@ def is_wanted(said: argparse.Namespace, logged: LogRow) -> bool:
     )
 
 
-def cells_of(logged: LogRow) -> Iterator[list[Cell]]:
-    """The row of an instruction, or one for each account that receives."""
+def cells_of(logged: LogRow, account: int | None) -> Iterator[list[Cell]]:
+    """The row of an instruction, or one for each account that receives, as far as it names the account."""
     i = logged.instruction
     outcome = "done" if logged.is_done else logged.name
     start: list[Cell] = [str(logged.date), logged.record, str(i.proposed), i.proposer, i.approver, i.act]
     if i.shares:
-        yield from ([*start, i.first, to, i.kind, amount, None, outcome] for to, amount in i.shares)
+        own = [(to, amount) for to, amount in i.shares if account in (None, i.first, to)]
+        yield from ([*start, i.first, to, i.kind, amount, None, outcome, None] for to, amount in own)
     elif i.act == "create":
-        yield [*start, None, i.first, i.kind, i.amounts[0], None, outcome]
+        yield [*start, None, i.first, i.kind, i.amounts[0], None, outcome, None]
     else:
         amount = i.tonnes if i.act == "emissions" else i.amounts[0] if i.amounts else None
-        yield [*start, i.first, i.other, i.kind or i.status, amount, i.year, outcome]
+        yield [*start, i.first, i.other, i.kind, amount, i.year, outcome, i.status]

@@ -22,12 +22,12 @@ from typing import Callable, Iterator
 from registry_tools.day.errors import FileFault, WordsFault, shown
 from registry_tools.day.office import files, handed, journal, lock
 from registry_tools.day.office.journal import Event, Journal
+from registry_tools.day.office.layout import DAYS, JOURNAL, NEXT, PAPERS, PREPARED, SETTINGS
 
-SETTINGS, JOURNAL, DAYS, NEXT, PREPARED = "office.ini", "journal.csv", "days", "next", "prepared"
 # The line behind which what is prepared is valid, and the folders that wait in it.
 VALID, NEW_DAY, NEW_NEXT, OLD_DAY, OLD_NEXT = "valid", "day", "next", "old-day", "old-next"
 BUILT, DONE = ".building", ".done"
-LAYOUT = "1"
+LAYOUT, SECTION = "1", "office"
 # What office.ini names.
 NAMES = ("layout", "program", "statements", "pages")
 
@@ -36,7 +36,7 @@ NAMES = ("layout", "program", "statements", "pages")
 class Settings:
     """What office.ini says."""
 
-    # The program that settles; empty: the one that ./run starts.
+    # The program that settles; empty: the library if it was built, else the one that ./run starts.
     program: str
     makes_statements: bool
     makes_pages: bool
@@ -57,10 +57,12 @@ def words_of(is_so: bool) -> str:
 def read_settings(path: Path) -> Settings:
     parser = configparser.ConfigParser(interpolation=None)
     try:
-        parser.read_string(files.bytes_in(path).decode("utf-8", "surrogateescape"), str(path))
-        section = parser["office"]
-    except (configparser.Error, KeyError) as error:
+        parser.read_string(files.bytes_in(path).decode("utf-8-sig", "surrogateescape"), str(path))
+    except configparser.Error as error:
         raise FileFault(path, 0, "", f"these are no settings: {error}".replace("\n", " "), "") from None
+    if SECTION not in parser:
+        raise FileFault(path, 0, "", f"no row [{SECTION}]", f"[{SECTION}], and below it {', '.join(NAMES)}")
+    section = parser[SECTION]
     unknown = next((name for name in section if name not in NAMES), None)
     if unknown is not None:
         raise FileFault(path, 0, "name", shown(unknown), f"one of {', '.join(NAMES)}")
@@ -106,6 +108,24 @@ class Office:
         filed = self.journal.filed()
         return filed[-1] if filed else None
 
+    def changed_files(self, event: Event) -> Iterator[FileFault]:
+        """The files of a day that are not as they were filed."""
+        for key, name in journal.FILES.items():
+            path = self.day_folder(event.date) / name
+            try:
+                there = files.sum_of(files.bytes_in(path))
+            except FileFault as fault:
+                yield fault
+                continue
+            if there != event.sums.get(key):
+                yield FileFault(path, 0, "SHA-256", there, f"{event.sums.get(key)}, as {self.journal.path} says")
+
+    def strange_files(self, event: Event) -> Iterator[FileFault]:
+        """What lies among the files of a day and is none of them."""
+        for path in files.listed(self.day_folder(event.date)):
+            if path.name not in PAPERS and path.name not in journal.FILES.values():
+                yield FileFault(path, 0, "", "a file that does not belong here", "no such file")
+
     def handed_in(self) -> handed.HandedIn:
         there = handed.read(self.next_folder)
         if there.base != self.journal.last_change:
@@ -136,8 +156,11 @@ def opened(word: str | None, tell: Callable[[str], None]) -> Office:
     now."""
     path = folder_of(word)
     if has_leftovers(path) and not lock.is_held(path / lock.NAME):
-        with contextlib.suppress(FileFault), lock.held(path, "look", user_name()):
-            put_right(path, tell)
+        try:
+            with lock.held(path, "look", user_name()):
+                put_right(path, tell)
+        except FileFault as fault:
+            tell(f"{path}: what an interrupted command left is still there: {fault}")
     return read_office(path)
 
 
@@ -178,6 +201,7 @@ class Change:
         files.write_synced(self.folder / VALID, f"{event.line}\n{event.event} {event.date}\n".encode())
         with telling(self.folder):
             files.sync_tree(self.folder)
+        must_be_movable(office, event)
         files.move(self.folder, prepared)
         files.replace(office.path / JOURNAL, office.journal.with_event(event).encode("utf-8", "surrogateescape"))
         carry_out(office.path, event.event, str(event.date))
@@ -185,6 +209,19 @@ class Change:
 
     def __exit__(self, *_error: object) -> None:
         files.remove_tree(self.folder)
+
+
+def must_be_movable(office: Office, event: Event) -> None:
+    """Ends the command if what is prepared could not be moved into its place: before the journal says that it is
+    there."""
+    day, done = office.day_folder(event.date), office.path / DONE
+    files.remove_tree(done)
+    for path in (done, day) if event.event == journal.FILED else (done,):
+        if os.path.lexists(path):
+            raise FileFault(path, 0, "", "something that the journal does not name", "no such file: take it away first")
+    for path in (office.path, office.path / DAYS, office.next_folder, day):
+        if path.exists() and not os.access(path, os.W_OK | os.X_OK):
+            raise FileFault(path, 0, "", "it cannot be written: Permission denied", "")
 
 
 @contextlib.contextmanager

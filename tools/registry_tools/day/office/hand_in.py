@@ -11,6 +11,7 @@ exit status: 0 if nothing of it would be refused, 1 if something would.
 """
 import argparse
 import os
+from dataclasses import dataclass, field
 
 from registry_tools.day.errors import FileFault
 from registry_tools.day.office import composing, files, folder, handed, trial, words
@@ -33,8 +34,9 @@ def run(said: argparse.Namespace) -> int:
     with folder.locked(said.office, "hand-in", who, folder.to_errors) as office:
         handed_in = office.handed_in()
         handed_in.remove_unnamed()
+        here = Here(handed_in)
         try:
-            parts = [add(office, handed_in, path, who, said.again) for path in said.files]
+            parts = [add(office, here, path, who, said.again) for path in said.files]
             # (a fault of the next day as a whole is found before anything counts)
             date = composing.date_of(None, office, handed_in)
             next_day = composing.compose(office, handed_in.until(date), date)
@@ -60,28 +62,41 @@ def words_of_count(part: Part) -> str:
     return f"{names[part.kind]} {part.count}"
 
 
-def add(office: Office, handed_in: HandedIn, path: str, who: str, is_again: bool) -> Part:
+@dataclass
+class Here:
+    """What was handed in, and by which of the files that this command names, of which nothing counts yet."""
+
+    handed_in: HandedIn
+    named: list[tuple[Part, str]] = field(default_factory=list)
+
+    def named_as(self, part: Part) -> str:
+        """The file of this command that a part is, in words; nothing, if it was handed in before."""
+        return next((f"{path}, named in this command" for own, path in self.named if own is part), "")
+
+
+def add(office: Office, here: Here, path: str, who: str, is_again: bool) -> Part:
     """Puts a file into next/, where it does not count yet."""
     content = bytes_of(path)
     kind = handed.kind_of(rows_of(path))
     count = handed.checked_count(path, kind)
     if not is_again:
-        refuse_file(office, handed_in, path, content)
+        refuse_file(office, here, path, content)
     if kind == DO and not is_again:
-        refuse_instructions(office, handed_in, path)
+        refuse_instructions(office, here, path)
     if kind == CHANGES:
-        refuse_accounts(handed_in, path)
-    return handed.put(handed_in, kind, content, count, os.path.basename(path), who)
+        refuse_accounts(here, path)
+    part = handed.put(here.handed_in, kind, content, count, os.path.basename(path), who)
+    here.named.append((part, path))
+    return part
 
 
-def refuse_file(office: Office, handed_in: HandedIn, path: str, content: bytes) -> None:
-    checksum = files.sum_of(content)
-    here = next((part for part in handed_in.parts if part.sum == checksum and is_there(handed_in, part)), None)
-    when = f"by {here.who} at {here.at} as {here.name}" if here else composing.had_before(office, checksum)
+def refuse_file(office: Office, here: Here, path: str, content: bytes) -> None:
+    checksum, there = files.sum_of(content), here.handed_in
+    same = next((part for part in there.parts if part.sum == checksum and is_there(there, part)), None)
+    when = f"by {same.who} at {same.at} as {same.name}" if same else composing.had_before(office, checksum)
     if when:
-        raise FileFault(
-            path, 0, "file", f"the same as was handed in {when}", "another file; --again hands it in once more"
-        )
+        found = (same and here.named_as(same)) or f"was handed in {when}"
+        raise FileFault(path, 0, "file", f"the same as {found}", "another file; --again hands it in once more")
 
 
 def is_there(handed_in: HandedIn, part: Part) -> bool:
@@ -90,18 +105,17 @@ def is_there(handed_in: HandedIn, part: Part) -> bool:
     return any(place not in gone for place in range(part.start, part.end))
 
 
-def refuse_instructions(office: Office, handed_in: HandedIn, path: str) -> None:
+def refuse_instructions(office: Office, here: Here, path: str) -> None:
     """Ends the command at an instruction that is there already."""
     source = rows_of(path)
     rows = {row for row in source.rows if row != "end"}
     had = {row: f"that {date} has had" for row, date in composing.instructions_had(office, rows).items()}
     waits = {waits.do_row() for waits in composing.waits_of(office)}
     had |= {row: "that waits for its due day, and comes by itself" for row in waits & rows}
-    had |= {
-        item.rows[0]: f"that was handed in, place {item.place}"
-        for item in handed_in.items(handed.FIRST, DO)
-        if item.rows[0] in rows
-    }
+    for item in here.handed_in.items(handed.FIRST, DO):
+        if item.rows[0] in rows:
+            named = here.named_as(item.part)
+            had[item.rows[0]] = f"that stands in {named}" if named else f"that was handed in, place {item.place}"
     seen: dict[str, int] = {}
     for place, row in enumerate(source.rows):
         if row == "end":
@@ -114,14 +128,16 @@ def refuse_instructions(office: Office, handed_in: HandedIn, path: str) -> None:
         seen[row] = source.line(place)
 
 
-def refuse_accounts(handed_in: HandedIn, path: str) -> None:
+def refuse_accounts(here: Here, path: str) -> None:
     """Ends the command at an account that was handed in before: nobody knows which of its blocks is meant."""
-    there = {item.rows[0].split(",")[1]: item.place for item in handed_in.items(CHANGES)}
+    there = {item.rows[0].split(",")[1]: item for item in here.handed_in.items(CHANGES)}
     source = rows_of(path)
     for place, row in enumerate(source.rows):
         tag, _, rest = row.partition(",")
         number = rest.partition(",")[0]
         if tag == "account" and number in there:
-            found = f"account {number}, which was handed in at place {there[number]}"
-            expected = "another account; ./day take-back takes that one back"
+            item, expected = there[number], "another account; ./day take-back takes that one back"
+            found, named = f"account {number}, which was handed in at place {item.place}", here.named_as(item.part)
+            if named:
+                found, expected = f"account {number}, which stands in {named}", "another account"
             raise FileFault(path, source.line(place), "NO", found, expected)

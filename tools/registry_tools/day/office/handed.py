@@ -8,11 +8,13 @@
 KIND says what the items are: `first` instructions of the first day text, `do` instructions, `changes` accounts, `edits`
 differences (day/office/edits.py), whose NAME is the reason, `work` working days. Places count the items of all files
 from 1, also of those that were taken back, so a place stays what it is. DAY is that of an undone day of which the file
-was: it comes into no earlier one. A file that the journal does not name does not count, and is removed.
+was: it comes into no earlier one. A file of such a name, NUMBER-KIND.csv, that the journal does not name is of a
+command that was interrupted: it does not count, and is removed. Any other file is refused, and stays as it is.
 """
 import contextlib
 import csv
 import datetime
+import re
 from dataclasses import dataclass, field
 from pathlib import Path
 from typing import Iterable, Iterator
@@ -20,7 +22,7 @@ from typing import Iterable, Iterator
 from registry_tools import faults
 from registry_tools.day.day_text import DayText, day_of, read_blocks, read_rows_of
 from registry_tools.day.errors import FileFault, shown
-from registry_tools.day.office import journal
+from registry_tools.day.office import files, journal
 from registry_tools.day.office.files import bytes_in, replace, sum_of, write_synced
 from registry_tools.day.office.journal import row_of
 from registry_tools.day.rows import Rows, rows_of, rows_of_text
@@ -96,7 +98,8 @@ class Item:
     place: int
     part: Part
     rows: list[str]
-    line: int
+    # The line of each row in the file.
+    lines: list[int]
 
 
 @dataclass
@@ -143,15 +146,27 @@ class HandedIn:
         """Makes what is said here count: in one step."""
         replace(self.folder / NAME, self.text().encode("utf-8", "surrogateescape"))
 
+    def unnamed(self) -> Iterator[Path]:
+        """The files that do not count."""
+        named = {NAME, LOOKED, WAITS, *(part.file for part in self.parts)}
+        return (path for path in files.listed(self.folder) if path.name not in named)
+
     def remove_unnamed(self) -> None:
         """Removes files that do not count: they are of a command that did not come to its end."""
-        named = {NAME, LOOKED, WAITS, *(part.file for part in self.parts)}
-        with contextlib.suppress(OSError):
-            for path in self.folder.iterdir():
-                if path.name not in named:
-                    path.unlink(missing_ok=True)
+        for path in self.unnamed():
+            with contextlib.suppress(OSError):
+                path.unlink(missing_ok=True)
+
+    def must_be_of_commands(self) -> None:
+        """Ends the command if a file lies here that no command has made: with the next day it would be gone."""
+        for path in self.unnamed():
+            if not OWN_FILE.fullmatch(path.name):
+                expected = "no such file: move it to another folder, and ./day hand-in takes it from there"
+                raise FileFault(path, 0, "", "a file that nobody handed in", expected)
 
 
+# The files that a command makes here, or begins to make.
+OWN_FILE = re.compile(r"[0-9]{4,}-[a-z]+\.csv|\..*\.new")
 # The outcome of each instruction at the last look, so that the next one can say what is new; and what waits behind the
 # last day.
 LOOKED, WAITS = "looked.csv", "waits.csv"
@@ -167,8 +182,9 @@ def items_of(folder: Path, part: Part) -> Iterator[Item]:
         starts = [place for place, row in enumerate(source.rows) if begins_item(part.kind, row)]
     ends = [*starts[1:], None]
     for place, (start, end) in enumerate(zip(starts, ends), part.start):
-        rows = source.rows[start:end] if part.kind == CHANGES else [source.rows[start]]
-        yield Item(place, part, [row for row in rows if row != "end"], source.line(start))
+        behind = (end or len(source.rows)) if part.kind == CHANGES else start + 1
+        own = [index for index in range(start, behind) if source.rows[index] != "end"]
+        yield Item(place, part, [source.rows[index] for index in own], [source.line(index) for index in own])
 
 
 def begins_item(kind: str, row: str) -> bool:
@@ -241,14 +257,14 @@ def read(folder: Path) -> HandedIn:
             raise FileFault(
                 folder / part.file, 0, "SHA-256", there, f"{part.sum}: somebody changed it after it was handed in"
             )
+    handed.must_be_of_commands()
     return handed
 
 
 def from_text(folder: Path, path: Path, content: bytes) -> HandedIn:
     """What a journal of next/ says."""
     handed: HandedIn | None = None
-    text = content.decode("utf-8", "surrogateescape")
-    for number, fields in enumerate(csv.reader(text.splitlines()), 1):
+    for number, fields in enumerate(rows_of_journal(path, content), 1):
         try:
             if handed is None:
                 tag, base = fields
@@ -272,6 +288,14 @@ def from_text(folder: Path, path: Path, content: bytes) -> HandedIn:
     return handed
 
 
+def rows_of_journal(path: Path, content: bytes) -> Iterator[list[str]]:
+    reader = csv.reader(content.decode("utf-8", "surrogateescape").splitlines())
+    try:
+        yield from reader
+    except csv.Error as error:
+        raise FileFault(path, reader.line_num, "row", str(error), "a row of csv") from None
+
+
 def again(folder: Path, base: str, filed: HandedIn, contents: dict[str, bytes], day: datetime.date) -> HandedIn:
     """Puts into an empty next/ what an undone day was made of: what was not taken back, with who handed in each
     file."""
@@ -285,7 +309,7 @@ def again(folder: Path, base: str, filed: HandedIn, contents: dict[str, bytes], 
             put_again(handed, part, contents[FIRST], part.count, day)
             continue
         count = sum(place not in gone for place in range(part.start, part.end))
-        rows = [row for _ in range(count) for row in next(left[part.kind])]
+        rows = [row for _ in range(count) for row in next_item(left[part.kind], filed.folder / f"{part.kind}.csv")]
         if count:
             put_again(handed, part, text_of_rows(rows), count, day)
     return handed
@@ -297,6 +321,14 @@ def items_of_text(path: Path, kind: str, content: bytes) -> Iterator[list[str]]:
     starts = [place for place, row in enumerate(source.rows) if begins_item(kind, row)]
     for start, end in zip(starts, [*starts[1:], None]):
         yield [row for row in source.rows[start:end] if row != "end"]
+
+
+def next_item(items: Iterator[list[str]], path: Path) -> list[str]:
+    """The next item of a filed text, which the journal of what was handed in counts."""
+    rows = next(items, None)
+    if rows is None:
+        raise FileFault(path, 0, "", "fewer rows than were handed in", "all of them: it was changed")
+    return rows
 
 
 def text_of_rows(rows: list[str]) -> bytes:

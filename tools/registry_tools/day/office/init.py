@@ -13,6 +13,7 @@ from registry_tools.day.day_text import DayText, day_of
 from registry_tools.day.errors import FileFault, WordsFault
 from registry_tools.day.office import files, folder, handed, journal, lock, words
 from registry_tools.day.office.folder import Settings
+from registry_tools.day.office.layout import DAYS, JOURNAL, NEXT, SETTINGS
 from registry_tools.day.output import NewFolder
 from registry_tools.day.rows import bytes_of, rows_of_text
 
@@ -22,7 +23,8 @@ EXAMPLE = "./day init out/office examples/week/monday.csv"
 def add_words(parser: argparse.ArgumentParser) -> None:
     parser.add_argument("folder", metavar="FOLDER", help="the folder that is made")
     parser.add_argument("first", metavar="FIRST_DAY", help="the first day text")
-    parser.add_argument("--program", metavar="PATH", default="", help="the program that settles; without it, ./run")
+    without = "the program that settles; without it, the library if it was built, else ./run"
+    parser.add_argument("--program", metavar="PATH", default="", help=without)
     parser.add_argument("--statements", action="store_true", help="close makes statements, too")
     parser.add_argument("--pages", action="store_true", help="close makes pages, too")
     words.add_who(parser)
@@ -37,7 +39,7 @@ def run(said: argparse.Namespace) -> int:
     program = program_of(said.program)
     settings = Settings(program, said.statements, said.pages)
     path = Path(said.folder)
-    if (path / folder.SETTINGS).is_file():
+    if (path / SETTINGS).is_file():
         change_first(path, said, who, first, content)
     else:
         make(path, said, who, first, content, settings)
@@ -55,12 +57,12 @@ def program_of(word: str) -> str:
 
 def make(path: Path, said: argparse.Namespace, who: str, first: DayText, content: bytes, settings: Settings) -> None:
     with NewFolder(path) as made:
-        for name in (folder.DAYS, folder.NEXT):
+        for name in (DAYS, NEXT):
             made.make(name)
-        made.write(folder.SETTINGS, settings.text())
-        made.write(folder.JOURNAL, journal.empty_text())
+        made.write(SETTINGS, settings.text())
+        made.write(JOURNAL, journal.empty_text())
         made.write(lock.NAME, "")
-        there = handed.begin(made.beside / folder.NEXT, journal.BEGINNING)
+        there = handed.begin(made.beside / NEXT, journal.BEGINNING)
         handed.put(there, handed.FIRST, content, len(first.instructions), os.path.basename(said.first), who)
         there.keep()
         with folder.telling(path):
@@ -75,7 +77,7 @@ def change_first(path: Path, said: argparse.Namespace, who: str, first: DayText,
         if office.last():
             raise FileFault(path, 0, "", "a folder with settled days", "a folder without settled days, or a new one")
         if said.program or said.statements or said.pages:
-            raise WordsFault(f"{path} is there: change its {folder.SETTINGS} with an editor")
+            raise WordsFault(f"{path} is there: change its {SETTINGS} with an editor")
         old = office.handed_in()
         there = handed.begin(office.next_folder, old.base)
         # (the file gets a name that the old text does not have: it counts only when the journal says so)

@@ -169,7 +169,10 @@ def faults_of(journal: Journal) -> Iterator[FileFault]:
 
 def event_of(line: str) -> Event | str:
     """What a line says, or what it should be."""
-    fields: list[str] = next(csv.reader([line]), [])
+    try:
+        fields: list[str] = next(csv.reader([line]), [])
+    except csv.Error:
+        fields = []
     if len(fields) != len(COLUMNS):
         return f"{len(COLUMNS)} fields: {HEADING}"
     said = dict(zip(COLUMNS, fields))

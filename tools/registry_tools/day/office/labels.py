@@ -1,6 +1,7 @@
 """Names of users and holders, which the administrator keeps in a file, for what is sent to people: rows
 user,NUMBER,NAME and holder,NUMBER,NAME.
 """
+import re
 from dataclasses import dataclass, field
 from pathlib import Path
 
@@ -9,6 +10,8 @@ from registry_tools.day.rows import rows_of
 
 USER, HOLDER = "user", "holder"
 FILE = "labels.csv"
+# A byte that is no UTF-8, as it is read: the pages in which a name stands are UTF-8.
+NO_UTF_8 = re.compile("[\udc80-\udcff]")
 
 
 @dataclass
@@ -29,14 +32,19 @@ def with_name(number: str, names: dict[str, str]) -> str:
     return f"{names[number]} ({number})" if number in names else number
 
 
-def read(path: Path) -> Labels:
-    """The names of a file; none, if it is not there."""
-    labels = Labels()
-    if not path.exists():
-        return labels
-    source = rows_of(str(path))
+def of_folder(path: Path) -> Labels:
+    """The names that a folder of days has; none, if there is no such file."""
+    own = path / FILE
+    return read(own) if own.exists() else Labels()
+
+
+def read(path: str | Path) -> Labels:
+    """The names of a file."""
+    labels, source = Labels(), rows_of(path)
     for index in range(len(source)):
         fields = source.fields(index)
+        if NO_UTF_8.search(source.rows[index]):
+            raise source.fault(index, "row", shown(",".join(fields)), "UTF-8")
         if len(fields) != 3 or fields[0] not in (USER, HOLDER) or not fields[1].isdigit() or not fields[2].strip():
             raise source.fault(index, "row", shown(",".join(fields)), "user,NUMBER,NAME or holder,NUMBER,NAME")
         names = labels.users if fields[0] == USER else labels.holders

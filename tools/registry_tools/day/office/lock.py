@@ -8,9 +8,10 @@ from typing import Iterator
 
 from registry_tools.day.errors import FileFault
 from registry_tools.day.office import journal
+from registry_tools.day.office.layout import LOCK
 from registry_tools.day.output import cannot
 
-NAME = "lock"
+NAME = LOCK
 
 
 def holder_of(path: Path) -> str:

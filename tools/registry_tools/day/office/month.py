@@ -17,6 +17,7 @@ from registry_tools.day.compliance import COMPLIANT, MISSING, NO_EMISSIONS, Stan
 from registry_tools.day.errors import WordsFault
 from registry_tools.day.office import past, send
 from registry_tools.day.office.past import PastDay
+from registry_tools.day.options import is_same_file
 from registry_tools.day.output import NewFile
 from registry_tools.day.pages.account import chart
 from registry_tools.day.pages.compliance import bar
@@ -154,10 +155,13 @@ def hand_parts(days: list[PastDay]) -> Iterator[Markup]:
 def run(said: argparse.Namespace) -> int:
     begin = past.date_of("--from", said.begin, datetime.date.min)
     end = past.date_of("--to", said.end, datetime.date.max)
-    days = [past_day for past_day in past.read_all(past.paths_of(said)) if begin <= past_day.date <= end]
+    paths = past.paths_of(said)
+    if any(is_same_file(path, said.file) for pair in paths for path in pair):
+        raise WordsFault(f"{said.file} is one of the files that the command reads")
+    days = [past_day for past_day in past.read_all(paths) if begin <= past_day.date <= end]
     if not days:
         raise WordsFault("no day was settled in this time")
-    deadline = past.date_of("--deadline", said.deadline, datetime.date.max) if said.deadline else None
+    deadline = past.date_of("--deadline", said.deadline, datetime.date.max) if said.deadline is not None else None
     parts = [*compliance_parts(days[-1], deadline), *totals_parts(days), *refusal_parts(days), *hand_parts(days)]
     title = f"{long_date(days[0].date)} to {long_date(days[-1].date)}"
     NewFile(said.file, send.page_of(title, f"Days: {len(days)}.", parts)).keep()

@@ -1,10 +1,12 @@
 """The words `--day DATE` of the commands that take a day and its report: they name a day of a folder in place of two
 paths."""
 import argparse
-import datetime
 import itertools
+import os
+import re
 from typing import Iterator
 
+from registry_tools.day.dates import DATE, date_of, is_date
 from registry_tools.day.errors import WordsFault
 from registry_tools.day.office import folder
 from registry_tools.day.office.folder import Office
@@ -23,13 +25,8 @@ TAKES = {
 }
 # Words that are only told: they are taken out before the others are read.
 NAMED = "named"
-
-
-def is_date(word: str) -> bool:
-    try:
-        return bool(datetime.date.fromisoformat(word))
-    except ValueError:
-        return False
+# How other forms of a date look: digits, and what stands between them.
+LIKE_A_DATE = re.compile("[0-9][0-9./W-]*")
 
 
 def add_words(name: str, parser: argparse.ArgumentParser) -> None:
@@ -75,7 +72,7 @@ def taken_dates(name: str, arguments: list[str]) -> tuple[list[str], list[str]]:
     rest: list[str] = []
     while "--day" in arguments:
         place = arguments.index("--day")
-        found = dates_behind(name, arguments[place + 1 :])
+        found = dates_behind(name, arguments[place + 1 :], "--office" in rest + arguments)
         if dates and TAKES[name] != REPORTS:
             raise stands_twice("--day", dates[0], found[0])
         dates += found
@@ -84,13 +81,23 @@ def taken_dates(name: str, arguments: list[str]) -> tuple[list[str], list[str]]:
     return dates, rest + arguments
 
 
-def dates_behind(name: str, behind: list[str]) -> list[str]:
+def dates_behind(name: str, behind: list[str], is_of_folder: bool) -> list[str]:
     """The dates that stand behind --day: one, or of logs several. There paths of day texts may stand, too."""
-    if TAKES[name] != REPORTS:
-        if not behind or not is_date(behind[0]):
-            raise WordsFault(f"--day {behind[0] if behind else 'has nothing behind it, and'} is no date, as 2026-12-14")
-        return behind[:1]
-    return [*itertools.takewhile(is_date, behind)]
+    found = behind[:1]
+    if TAKES[name] == REPORTS:
+        found = [*itertools.takewhile(lambda word: not word.startswith("-"), behind)]
+        if not is_of_folder and not (found and is_meant_as_date(found[0])):
+            return []
+    if not found:
+        raise WordsFault(f"--day has nothing behind it; expected {DATE.expected}")
+    for word in found:
+        date_of("--day", word)
+    return found
+
+
+def is_meant_as_date(word: str) -> bool:
+    """Whether a word is a date, or a slip in one, and no path."""
+    return is_date(word) or bool(LIKE_A_DATE.fullmatch(word) and not os.path.exists(word))
 
 
 def stands_twice(option: str, one: str, other: str) -> WordsFault:

@@ -5,11 +5,11 @@ import datetime
 from dataclasses import dataclass
 from typing import Iterator
 
-from registry_tools.day import hand_changes
+from registry_tools.day import dates, hand_changes
 from registry_tools.day.day_text import DayText, read_day
 from registry_tools.day.errors import WordsFault
 from registry_tools.day.hand_changes import HandChange
-from registry_tools.day.office import folder
+from registry_tools.day.office import folder, words
 from registry_tools.day.pairs import must_follow
 from registry_tools.day.progress import progress
 from registry_tools.day.report import Report, read_report
@@ -49,6 +49,7 @@ def add_words(parser: argparse.ArgumentParser) -> None:
 
 def paths_of(said: argparse.Namespace) -> list[tuple[str, str]]:
     """The paths of the days, by rising date."""
+    words.look_at_places(said)
     if said.pairs:
         if len(said.pairs) % 2:
             raise WordsFault(f"--pairs has {len(said.pairs)} files: each DAY needs its REPORT behind it")
@@ -72,8 +73,5 @@ def read_all(paths: list[tuple[str, str]]) -> Iterator[PastDay]:
 
 
 def date_of(name: str, word: str | None, otherwise: datetime.date) -> datetime.date:
-    """A date that a word says."""
-    try:
-        return datetime.date.fromisoformat(word) if word else otherwise
-    except ValueError:
-        raise WordsFault(f"{name} {word} is no date, as 2026-12-14") from None
+    """The date that the word behind an option says, if it stands there."""
+    return otherwise if word is None else dates.date_of(name, word)

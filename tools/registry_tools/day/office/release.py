@@ -5,8 +5,8 @@ import argparse
 
 from registry_tools.day.errors import WordsFault
 from registry_tools.day.office import files, folder, journal, words
-from registry_tools.day.office.folder import JOURNAL
 from registry_tools.day.office.journal import RELEASED, Event
+from registry_tools.day.office.layout import JOURNAL
 
 EXAMPLE = './day release --why "statements were sent" --office out/office'
 

@@ -4,15 +4,14 @@ statement of each as csv.
 FOLDER gets HOLDER.html and HOLDER-ACCOUNT.csv, and must not be there before. What others own, decide or tried is in
 none of them, and no page leads to another one. Each account begins with what waits and what was refused. With --from
 the statements begin on an earlier day: what was not due or was refused then, and was done later, is told as done later.
-Names of users and holders are read from labels.csv in the folder of days, or from the file of --labels: rows
-user,NUMBER,NAME and holder,NUMBER,NAME. With --pairs the days are those of paths, and the file of --pending says what
-waits since earlier ones.
+Names of users and holders are read from labels.csv in the folder of days, if it is there, or from the file of --labels:
+rows user,NUMBER,NAME and holder,NUMBER,NAME, in UTF-8. With --pairs the days are those of paths, and the file of
+--pending says what waits since earlier ones.
 """
 import argparse
 import datetime
 import re
 from dataclasses import dataclass
-from pathlib import Path
 from typing import Iterator
 
 from registry_tools import rules
@@ -194,6 +193,8 @@ def days_of(
     known = dates or [day.date for day in read]
     last = past.date_of("--day", end, known[-1])
     first = past.date_of("--from", begin, last)
+    if first > last:
+        raise WordsFault(f"--from {first} is later than {last}, the last day of the statements")
     places = [place for place, date in enumerate(known) if first <= date <= last]
     if last not in known or not places:
         raise WordsFault(f"--day {last}: there are days from {known[0]} to {known[-1]}, and not this one")
@@ -229,7 +230,7 @@ class Source:
 def source_of(said: argparse.Namespace) -> Source:
     if said.pairs:
         days = days_of(past.paths_of(said), None, said.begin, said.day)
-        names = labels.read(Path(said.labels)) if said.labels else Labels()
+        names = Labels() if said.labels is None else labels.read(said.labels)
         return Source(days, waiting_of(said.pending, days[-1]), names)
     if said.pending:
         raise WordsFault("--pending is for --pairs: a folder knows what waits")
@@ -238,7 +239,7 @@ def source_of(said: argparse.Namespace) -> Source:
     paths = [(str(office.file(closed, "day")), str(office.file(closed, "report"))) for closed in filed]
     days = days_of(paths, [closed.date for closed in filed], said.begin, said.day)
     event = next(closed for closed in filed if closed.date == days[-1].date)
-    names = labels.read(Path(said.labels) if said.labels else office.path / labels.FILE)
+    names = labels.of_folder(office.path) if said.labels is None else labels.read(said.labels)
     return Source(days, waiting_of(str(office.file(event, "waiting")), days[-1]), names)
 
 

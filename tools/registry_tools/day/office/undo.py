@@ -39,6 +39,9 @@ def run(said: argparse.Namespace) -> int:
             raise WordsFault(
                 f"{last.date} was released, and is not undone: enter an instruction that corrects what was done"
             )
+        for fault in (*office.changed_files(last), *office.strange_files(last)):
+            # (what comes back has to be what was filed, and nothing else is taken away with it)
+            raise fault
         event = Event(
             UNDONE, journal.now(), who, last.date, last.first, last.next, last.sums, why, office.journal.last_line
         )

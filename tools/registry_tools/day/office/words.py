@@ -21,6 +21,12 @@ def add_why(parser: argparse.ArgumentParser) -> None:
     parser.add_argument("--why", metavar="WORDS", required=True, help="the reason, which is kept")
 
 
+def look_at_places(said: argparse.Namespace) -> None:
+    """Ends the command if it is told two places where the days are: only one of them would be looked at."""
+    if said.pairs and said.office is not None:
+        raise WordsFault("--pairs stands in place of --office")
+
+
 def one_line(name: str, word: str) -> str:
     """A word that is kept in a line of a journal."""
     if not word.strip() or any(not letter.isprintable() for letter in word):

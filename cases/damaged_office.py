@@ -1,0 +1,192 @@
+"""Trials of folders whose files somebody has changed, moved or put there by hand: each command that would build on such
+a file, or take it away, says which it is, and leaves all as it was."""
+import gzip
+import os
+import shutil
+from pathlib import Path
+from typing import Callable, Iterator
+
+from harness import Said
+from offices import FIRST, must_do, new_office, told
+
+ROW = "do,2025-04-01,101,102,transfer,1,2,general,{}\n"
+DAY = "2025-04-01"
+CLOSE, UNDO = ["close", "--second", "--date"], ["undo", "--why", "a slip"]
+Trial = tuple[str, object]
+Words = list[object]
+
+
+def content_of(office: Path) -> dict[str, bytes]:
+    """All files of a folder but the lock."""
+    return {
+        str(path.relative_to(office)): path.read_bytes()
+        for path in sorted(office.rglob("*"))
+        if path.is_file() and path.name != "lock"
+    }
+
+
+def unchanged(office: Path, status: int, has: list[str], *words: object) -> object:
+    """What is wrong with a command that must leave all files as they are, if something is."""
+    before = content_of(office)
+    wrong = told(status, has, *words)
+    now = content_of(office)
+    others = sorted(name for name in {*before, *now} if before.get(name) != now.get(name))
+    return wrong or (f"other files than before: {others}" if others else None)
+
+
+def two_days(work: Path, name: str) -> tuple[Path, list[str]]:
+    """A folder with two days, of whose second two instructions were handed in."""
+    office, own = new_office(work, name)
+    rows = work / "two.csv"
+    rows.write_text(ROW.format(7) + ROW.format(1))
+    must_do(["hand-in", str(rows), *own], [*CLOSE, DAY, *own])
+    return office, own
+
+
+def damaged_trials(work: Path) -> Iterator[Trial]:
+    work.mkdir()
+    yield from strange_day_trials(work)
+    yield from strange_next_trials(work)
+    yield from changed_file_trials(work)
+    yield from target_trials(work)
+    yield from message_trials(work)
+    yield from settings_trials(work)
+
+
+def strange_day_trials(work: Path) -> Iterator[Trial]:
+    """Something stands where a day comes, or among the files of one."""
+    office, own = new_office(work, "strange")
+    stranger = office / "days" / DAY
+    stranger.mkdir()
+    has = [f"days/{DAY}: found something that the journal does not name; expected no such file"]
+    yield "close where something stands", unchanged(office, 3, has, *CLOSE, DAY, *own)
+    stranger.rmdir()
+    yield "close when it is gone", told(0, [f"{DAY} is settled"], *CLOSE, DAY, *own)
+    note = stranger / "note.txt"
+    note.write_text("mine\n")
+    has = ["note.txt: found a file that does not belong"]
+    yield "undo of a day with a note", unchanged(office, 3, has, *UNDO, *own)
+    note.unlink()
+    left = office / ".done"
+    shutil.rmtree(left, ignore_errors=True)
+    yield "undo of a day without it", told(0, [f"{DAY} is undone"], *UNDO, *own)
+    if os.getuid():
+        for closed in (office / "days", office / "next"):
+            closed.chmod(0o555)
+            has = [f"{closed}: it cannot be written"]
+            yield f"close below {closed.name} of another", unchanged(office, 3, has, *CLOSE, DAY, *own)
+            closed.chmod(0o755)
+
+
+def strange_next_trials(work: Path) -> Iterator[Trial]:
+    """A file that somebody put into next/ is not taken away, and each command says so."""
+    office, own = new_office(work, "next")
+    mine = office / "next" / "mine.csv"
+    mine.write_text(ROW.format(7))
+    has = ["next/mine.csv: found a file that nobody handed in; expected no such file: move it"]
+    change: Words = ["change", "2", "--holder", "7", "--why", "a letter", "--yes"]
+    commands: list[Words] = [["hand-in", mine], [*CLOSE, DAY], change, [*UNDO], ["status"], ["try"]]
+    for words in commands:
+        yield f"{words[0]} beside a file that nobody handed in", unchanged(office, 3, has, *words, *own)
+    yield "audit beside it", unchanged(office, 1, [*has, "1 differences"], "audit", *own)
+    moved = work / "mine.csv"
+    mine.rename(moved)
+    yield "hand-in of it from elsewhere", told(0, ["instructions 1, place 1"], "hand-in", moved, *own)
+    begun = office / "next" / "0002-do.csv"
+    begun.write_text(ROW.format(1))
+    yield "close behind a hand-in that was ended", told(0, ["done 1"], *CLOSE, DAY, *own)
+
+
+def changed_file_trials(work: Path) -> Iterator[Trial]:
+    """Files of the last day, of which another day or next/ would be made."""
+    office, own = two_days(work, "changed")
+    rows = work / "more.csv"
+    rows.write_text(ROW.format(3))
+    make: dict[str, Callable[[bytes], bytes]] = {
+        "do.csv": lambda content: content.replace(b"general,7", b"general,6"),
+        "edits.csv": lambda content: content + b"junk\n",
+        "waiting.csv": lambda content: b"",
+        "report.csv.gz": lambda content: gzip.compress(gzip.decompress(content).replace(b"general,7", b"general,6")),
+    }
+    for name, change in make.items():
+        path = office / "days" / DAY / name
+        content = path.read_bytes()
+        path.write_bytes(change(content))
+        has = [f"{name}: SHA-256: found", "journal.csv says"]
+        commands: list[Words] = [[*CLOSE, "2025-04-02"], [*UNDO], ["try"], ["hand-in", rows]]
+        for words in commands:
+            yield f"{words[0]} behind another {name}", unchanged(office, 3, has, *words, *own)
+        path.write_bytes(content)
+    edits = ["change", "2", "--outside", "yes", "--why", "a letter", "--yes", *own]
+    must_do([*UNDO, *own], edits, [*CLOSE, DAY, *own])
+    path = office / "days" / DAY / "edits.csv"
+    path.write_bytes(b"")
+    yield "changes that are gone", told(3, ["edits.csv: found fewer rows than were handed in"], "changes", *own)
+    office, own = two_days(work, "line")
+    with open(office / "journal.csv", "a", encoding="utf-8", newline="") as stream:
+        stream.write("a\rb\n")
+    yield "a line that is no csv", told(3, ["journal.csv:4: line: found 'a<carriage return>b'"], "status", *own)
+
+
+def target_trials(work: Path) -> Iterator[Trial]:
+    """No answer is written over a file of the folder, nor over one that is read."""
+    office, own = two_days(work, "target")
+    journal, day = office / "journal.csv", office / "days" / "2025-03-31"
+    has = ["found a name of a folder of days itself; expected another name"]
+    commands: list[Words] = [
+        ["month", journal], ["balance", "1", "--to", journal], ["history", "1", "--to", day / "report.csv.gz"],
+        ["status", "--to", office / "office.ini"], ["db", office / "next" / "days.sqlite"],
+        ["export", "--log", "--day", DAY, "--xlsx", office / "lock"],
+        ["statements", "--day", DAY, office / "days" / "2025-04-02"],
+    ]  # fmt: skip
+    for words in commands:
+        yield f"{words[0]} into the folder's own", unchanged(office, 3, has, *words, *own)
+    report = day / "report.csv.gz"
+    is_read = [f"{report} is one of the files that the command reads"]
+    yield "month over what it reads", unchanged(office, 2, is_read, "month", report, *own)
+    text, own_report = work / "day.csv", work / "day.report"
+    text.write_bytes(FIRST.read_bytes())
+    own_report.write_bytes(gzip.decompress(report.read_bytes()))
+    is_read = [f"{text} is one of the files that the command reads"]
+    yield "month over a pair", unchanged(work, 2, is_read, "month", text, "--pairs", text, own_report)
+    papers = office / "days" / DAY / "statements"
+    yield "papers of a day beside it", told(0, [], "statements", "--day", DAY, papers, *own)
+    yield "audit of them", told(0, [": 0 differences"], "audit", *own)
+    yield "a page at the top", told(0, ["days 2"], "month", office / "month.html", *own)
+
+
+def message_trials(work: Path) -> Iterator[Trial]:
+    """A fault of something that was handed in names its file and line, and one of a report whose it is."""
+    office, own = new_office(work, "messages")
+    new, wrong = work / "new.csv", work / "wrong.csv"
+    new.write_text("account,11,trading,78,open,no,no,0,0,0\nuser,101,both\n")
+    wrong.write_text("account,12,trading,78,open,no,no,0,5,0\nuser,101,both\n")
+    must_do(["hand-in", str(new), *own])
+    yield "the second file has a fault", told(3, ["wrong.csv:1: GENERAL of account 12"], "hand-in", wrong, *own)
+    late = work / "late.csv"
+    late.write_text("".join(f"do,2025-04-0{day},101,102,transfer,1,2,general,9\n" for day in range(2, 8)))
+    has = ["late.csv:1: PROPOSED: found 2025-04-02", "more rows of the instructions handed in that were proposed later"]
+    said = Said("hand-in", late, *own)
+    lacking = [part for part in has if part not in said.errors + said.output]
+    yield "rows that are late", str(said) if lacking or "/tmp" in said.errors + said.output else None
+    settings = office / "office.ini"
+    settings.write_text(settings.read_text().replace("program =", "program = /bin/true"))
+    close = ["close", "--date", DAY, *own]
+    yield "a program without a report", unchanged(office, 3, ["the report of /bin/true:1: book: found"], *close)
+
+
+def settings_trials(work: Path) -> Iterator[Trial]:
+    """office.ini as an editor leaves it, and what waits."""
+    office, own = two_days(work, "settings")
+    settings = office / "office.ini"
+    content = settings.read_bytes()
+    settings.write_bytes(b"\xef\xbb\xbf" + content)
+    yield "settings with a byte order mark", told(0, ["last day: "], "status", *own)
+    settings.write_bytes(b"")
+    yield "settings without a word", told(3, ["office.ini: found no row [office]; expected"], "status", *own)
+    settings.write_bytes(content)
+    waits = office / "next" / "waits.csv"
+    waits.write_bytes(waits.read_bytes().replace(b"end\n", b"waits,9,2025-04-03,2025-04-01,101,102,x\nend\n"))
+    yield "something more that waits", told(1, ["waits.csv:2: row: found", f"by the day {DAY}"], "audit", *own)
+    waits.unlink()
+    yield "nothing that waits", told(1, ["waits.csv: it cannot be read"], "audit", *own)

@@ -1,0 +1,248 @@
+"""Trials of spreadsheets: the instructions and the accounts of drawn days as csv and as .xlsx, read again; tables as
+others write them; and cells that are wrong."""
+import csv
+import io
+import random
+import re
+import subprocess
+import zipfile
+from collections.abc import Iterator
+from pathlib import Path
+
+from harness import TOP, Said
+
+from registry_tools import rules
+from registry_tools.day.office import sheets, tables
+
+from drawing import drawn_rows
+
+DRAWN_DAYS = 12
+
+
+def drawn_pair(work: Path, seed: int) -> tuple[Path, Path]:
+    """A drawn day and its report by the second answer."""
+    day, report = work / f"{seed}.csv", work / f"{seed}.report"
+    day.write_text("\n".join([*drawn_rows(seed), ""]))
+    report.write_text(rules.answers(day.read_bytes())["settle"])
+    return day, report
+
+
+def round_trips(work: Path) -> Iterator[tuple[str, object]]:
+    for seed in range(DRAWN_DAYS):
+        day, report = drawn_pair(work, seed)
+        for what, path, tags in (("instructions", day, ("do",)), ("accounts", report, ("account", *tables.LISTS))):
+            expected = [row for row in path.read_text().splitlines() if row.split(",")[0] in tags]
+            for ending in ("csv", "xlsx"):
+                table = work / f"table.{ending}"
+                said = Said("export", day, report, f"--{what}", *(["--xlsx", table] if ending == "xlsx" else []))
+                if ending == "csv":
+                    table.write_text(said.output)
+                again = Said("import", table, f"--{what}")
+                yield (
+                    f"day {seed}, {what} as {ending}",
+                    None if again.output.splitlines() == expected and not again.status else again,
+                )
+
+
+def shuffled_trips(work: Path) -> Iterator[tuple[str, object]]:
+    """As offices elsewhere keep a table: columns in another order, empty rows, semicolons, UTF-16, dates of another
+    form."""
+    chance = random.Random(1)
+    for seed in range(DRAWN_DAYS):
+        day, report = drawn_pair(work, seed)
+        for what, path, tags in (("instructions", day, ("do",)), ("accounts", report, ("account", *tables.LISTS))):
+            expected = [row for row in path.read_text().splitlines() if row.split(",")[0] in tags]
+            columns, *rows = csv.reader(io.StringIO(Said("export", day, report, f"--{what}").output))
+            places = chance.sample(range(len(columns)), len(columns))
+            dates, encoding, separator = chance.choice(OTHER_FORMS)
+            written = [[as_others(row[place], dates) for place in places] for row in rows]
+            # (accounts may stand in any order, and are sorted)
+            written = chance.sample(written, len(written)) if what == "accounts" else written
+            stream = io.StringIO()
+            writer = csv.writer(stream, delimiter=separator)
+            writer.writerows([[columns[place] for place in places], [], *written, [""] * len(places)])
+            table = work / "shuffled.csv"
+            table.write_bytes(stream.getvalue().encode(encoding))
+            said = Said("import", table, f"--{what}", "--dates", dates)
+            yield (
+                f"day {seed}, {what}, {encoding}, {dates}",
+                None if said.output.splitlines() == expected and not said.status else said,
+            )
+
+
+OTHER_FORMS = (
+    ("31.12.2026", "utf-16", ";"), ("12/31/2026", "utf-16", "\t"), ("31/12/2026", "utf-8-sig", ","),
+    ("2026.12.31", "utf-8", ";"),
+)  # fmt: skip
+ISO = re.compile(r"\b([0-9]{4})-([0-9]{2})-([0-9]{2})\b")
+
+
+def as_others(cell: str, dates: str) -> str:
+    """A cell whose dates are written as this form shows."""
+    return ISO.sub(lambda each: dates.replace("2026", each[1]).replace("12", each[2]).replace("31", each[3]), cell)
+
+
+def as_others_write_it(work: Path) -> Iterator[tuple[str, object]]:
+    """A table with semicolons, in UTF-16, with its columns the other way round, with dates of another form, and as
+    spreadsheets keep it."""
+    rows = [
+        ["2025-09-23", "901", "902", "assess", "100210", "2024"],
+        ["2025-09-24", "5101", "5102", "surrender", "100210", "general", "5"],
+    ]
+    expected = "do,2025-09-23,901,902,assess,100210,2024\ndo,2025-09-24,5101,5102,surrender,100210,general,5\n"
+    columns = ["amount", "kind", "from", "year", "account", "act", "approver", "proposer", "proposed"]
+    table = [
+        ["", "", "", "2024", "100210", "assess", "902", "901", "23.9.2025"],
+        ["5", "general", "100210", "", "", "surrender", "5102", "5101", "24.09.2025"],
+    ]
+    assert len(rows) == len(table)
+    text = "\r\n".join(";".join(row) for row in [columns, *table]) + "\r\n"
+    path = work / "other.csv"
+    for encoding in ("utf-8-sig", "utf-16", "utf-8"):
+        path.write_bytes(text.encode(encoding))
+        said = Said("import", path, "--dates", "31.12.2026")
+        yield f"semicolons, {encoding}", None if said.output == expected and not said.status else said
+    path = work / "kept.xlsx"
+    write_kept(path)
+    said = Said("import", path)
+    yield "a workbook with dates, shared texts and a formula", None if said.output == expected.splitlines()[
+        1
+    ] + "\n" else said
+
+
+def write_kept(path: Path, approver: str = '<c r="C2"><v>5102</v></c>') -> None:
+    """A workbook as a spreadsheet keeps it: a date as a number with a style, shared texts, and a formula with its
+    value."""
+    sheets.write_workbook(str(path), "in", [], iter(()))
+    main_space = 'xmlns="http://schemas.openxmlformats.org/spreadsheetml/2006/main"'
+    names = ["proposed", "proposer", "approver", "act", "from", "kind", "amount", "surrender", "general"]
+    texts = "".join(f"<si><t>{name}</t></si>" for name in names)
+    head = "".join(f'<c r="{chr(65 + place)}1" t="s"><v>{place}</v></c>' for place in range(7))
+    cells = f'<c r="A2" s="1"><v>45924</v></c><c r="B2"><v>5101</v></c>{approver}<c r="D2" t="s"><v>7</v></c>'
+    cells += '<c r="E2"><v>100210</v></c><c r="F2" t="s"><v>8</v></c><c r="G2"><f>2+3</f><v>5</v></c>'
+    with zipfile.ZipFile(path) as archive:
+        parts = {name: archive.read(name).decode() for name in archive.namelist()}
+    parts["xl/sharedStrings.xml"] = f"<sst {main_space}>{texts}</sst>"
+    parts[
+        "xl/styles.xml"
+    ] = f'<styleSheet {main_space}><cellXfs><xf numFmtId="0"/><xf numFmtId="14"/></cellXfs></styleSheet>'
+    parts[
+        "xl/worksheets/sheet1.xml"
+    ] = f'<worksheet {main_space}><sheetData><row r="1">{head}</row><row r="2">{cells}</row></sheetData></worksheet>'
+    with zipfile.ZipFile(path, "w") as archive:
+        for name, text in parts.items():
+            archive.writestr(name, text)
+
+
+GOOD = {
+    "proposed": "2025-09-23",
+    "proposer": "901",
+    "approver": "902",
+    "act": "emissions",
+    "account": "100210",
+    "year": "2024",
+    "tonnes": "5",
+}
+# Cells that are wrong, by what is told of them.
+WRONG_CELLS = {
+    "cell G2: tonnes: found '1,000'": {"tonnes": "1,000"},
+    "cell A2: proposed: found '23.9.2025'": {"proposed": "23.9.2025"},
+    "cell D2: act: found 'emission'": {"act": "emission"}, "cell B2: proposer: found 'x'": {"proposer": "x"},
+    "cell F2: year: found '2019'": {"year": "2019"},
+    "cell H2: kind: found 'general'; expected nothing": {"kind": "general"},
+    "cell E2: account: found nothing": {"account": ""}, "found 'colour'; expected one of": {"colour": "red"},
+}  # fmt: skip
+
+
+def wrong_cells(work: Path) -> Iterator[tuple[str, object]]:
+    path = work / "wrong.csv"
+    for told, changed in WRONG_CELLS.items():
+        row = {**GOOD, **changed}
+        path.write_text(sheets.as_csv([*row], iter([[*row.values()]])))
+        said = Said("import", path)
+        yield f"told: {told}", None if said.status == 3 and told in said.errors and not said.output else said
+    path.write_text(sheets.as_csv([*GOOD], iter([["31.2.2026", *[*GOOD.values()][1:]]])))
+    said, wanted_form = Said("import", path, "--dates", "31.12.2026"), "expected a date as 31.12.2026 that exists"
+    yield "a date that does not exist", None if said.status == 3 and wanted_form in said.errors else said
+    for what, kind, columns, rows, places in ALL_AT_ONCE:
+        path.write_text(sheets.as_csv(columns, iter(rows)))
+        said = Said("import", path, kind)
+        cells = re.findall(r"cell ([A-Z]+[0-9]+): ", said.errors)
+        yield f"all at once: {what}", None if cells == places and said.status == 3 and not said.output else said
+    lacking = {name: word for name, word in GOOD.items() if name not in ("account", "tonnes")}
+    path.write_text(sheets.as_csv([*lacking], iter([[*lacking.values()]])))
+    wanted = [f"wrong.csv, row 2: {name}: found no such column; expected a number" for name in ("account", "tonnes")]
+    said = Said("import", path)
+    is_so = all(line in said.errors for line in wanted) and not said.output
+    yield "columns that are not there", None if is_so else said
+    path.write_text(sheets.as_csv([*GOOD], iter([[*{**GOOD, "year": "x"}.values()]] * 102)))
+    said = Said("import", path)
+    many = said.errors.splitlines()
+    is_so = len(many) == 102 and many[-2:] == ["and 2 more", "cells that are wrong: 102; nothing was written"]
+    yield "many wrong cells", None if is_so else said
+    good = work / "good.csv"
+    good.write_text(sheets.as_csv([*GOOD], iter([[*GOOD.values()]])))
+    order = subprocess.run(
+        [TOP / "day", "import", good], stdout=subprocess.PIPE, stderr=subprocess.STDOUT, text=True, check=False
+    ).stdout
+    piped = subprocess.run([TOP / "day", "import", "-"], input=good.read_bytes(), capture_output=True, check=False)
+    yield "from standard input", None if piped.stdout.decode() == order.splitlines(True)[-1] else piped
+    yield "the preview comes first", None if re.fullmatch("emissions .*\ninstructions 1\ndo,.*\n", order) else order
+    for cell, told in CELLS_OF_WORKBOOKS.items():
+        write_kept(work / "cells.xlsx", cell)
+        said = Said("import", work / "cells.xlsx")
+        yield f"a cell {cell}", None if said.status == 3 and told in said.errors and not said.output else said
+    day, report = drawn_pair(work, 3)
+    before = day.read_bytes()
+    said = Said("export", day, report, "--log", "--xlsx", day)
+    yield "never over a file that is read", None if said.status == 2 and day.read_bytes() == before else said
+
+
+ACCOUNT = [
+    "no",
+    "kind",
+    "holder",
+    "status",
+    "outside",
+    "waiver",
+    "correction",
+    "general",
+    "aviation",
+    "users",
+    "trusted",
+]
+ALL_AT_ONCE = (
+    (
+        "four cells of two rows", "--instructions", [*GOOD],
+        [[*{**GOOD, "tonnes": "x", "year": "y"}.values()]] * 2, ["F2", "G2", "F3", "G3"],
+    ),
+    (
+        "an act that is none, and a date", "--instructions", [*GOOD],
+        [[*{**GOOD, "act": "x", "proposed": "y"}.values()]], ["A2", "D2"],
+    ),
+    (
+        "headings", "--instructions", ["colour", "act", "act", "size"],
+        [["1", "2", "3", "4", "5"]], ["A1", "C1", "D1", "E2"],
+    ),
+    (
+        "cells of an account", "--accounts", ACCOUNT,
+        [
+            ["1", "x", "11", "open", "maybe", "no", "0", "1.000", "0", "5:all 6:both 7:none", "2:1.2.2027"],
+            ["2", "trading", *"123456789"],
+        ],
+        ["B2", "E2", "H2", "J2", "J2", "K2", "D3", "E3", "F3", "J3", "K3"],
+    ),
+    (
+        "rows that do not rise", "--accounts", ACCOUNT,
+        [["1", "trading", "11", "open", "no", "no", "0", "0", "0", "6:both 5:both 5:both", ""]], ["J2", "J2"],
+    ),
+)  # fmt: skip
+# What stands in a cell of a workbook where an approver or an amount is expected, and what is told of it.
+CELLS_OF_WORKBOOKS = {
+    '<c r="C2"><f>B2+1</f></c>': "cell C2: approver: found '=B2+1'",
+    '<c r="C2" t="b"><v>1</v></c>': "cell C2: approver: found 'TRUE'",
+    '<c r="C2" t="e"><v>#REF!</v></c>': "cell C2: approver: found '#REF!'",
+    '<c r="C2"><v>5102.5</v></c>': "cell C2: approver: found '5102.5'",
+    '<c r="C2" s="1"><v>45924</v></c>': "cell C2: approver: found '2025-09-24'",
+    '<c r="C2" s="1"><v>45924.5</v></c>': "found '2025-09-24 12:00:00'",
+}
