@@ -636,14 +636,18 @@ def tell(stream: TextIO | None, text: str) -> bool:
         return False
 
 
-def is_account(word: str) -> bool:
-    """Whether a word is the number of an account, as the program takes it."""
+def account_named(word: str) -> int | None:
+    """The account whose number a word is, as the program takes it; None if it is no such number."""
     digits = word.removeprefix("+")
-    return digits.isascii() and digits.isdecimal() and 1 <= int(digits) <= MOST_NUMBER
+    # (Python does not read numbers of thousands of digits, of which most may be zeros)
+    number = digits.lstrip("0")
+    if not (digits.isascii() and digits.isdecimal()) or len(number) > len(str(MOST_NUMBER)):
+        return None
+    return int(number) if 1 <= int(number or "0") <= MOST_NUMBER else None
 
 
 def are_taken(command: str, words: list[str]) -> bool:
-    return command in COMMANDS and len(words) == (command == "statement") and all(map(is_account, words))
+    return command in COMMANDS and len(words) == (command == "statement") and all(map(account_named, words))
 
 
 def refuse(words: list[str]) -> int:
@@ -683,7 +687,7 @@ def main(words: list[str]) -> int:
     if fault:
         tell(sys.stderr, fault)
         return FAULTY
-    written = answers(text).get(" ".join([command, *(str(int(number)) for number in account)]))
+    written = answers(text).get(" ".join([command, *(str(account_named(word)) for word in account)]))
     if written is None:
         tell(sys.stderr, "no such account\n")
         return NOT_TAKEN

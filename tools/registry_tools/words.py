@@ -27,6 +27,8 @@ LONG_OPTIONS: dict[str | None, list[str]] = {None: ["help", "version"], "settle"
 NEEDED: dict[str | None, str] = {None: "<COMMAND>", "statement": "<ACCOUNT>"}
 ASKS_THE_PROGRAM = 10
 NOT_TAKEN = 2
+# No number of so many digits is read.
+MOST_DIGITS = 21
 # A name is told as similar to a word above this similarity.
 LEAST_SIMILARITY = 0.7
 
@@ -141,11 +143,19 @@ class Value:
             return "cannot parse integer from empty string"
         if not re.fullmatch(r"[+-]?[0-9]+", self.word):
             return "invalid digit found in string"
-        if int(self.word) not in self.read:
-            return f"number too {'large' if int(self.word) > 0 else 'small'} to fit in target type"
-        if int(self.word) not in self.taken:
-            return f"{int(self.word)} is not in {self.taken[0]}..={self.taken[-1]}"
+        number = number_of(self.word)
+        if number not in self.read:
+            return f"number too {'large' if number > 0 else 'small'} to fit in target type"
+        if number not in self.taken:
+            return f"{number} is not in {self.taken[0]}..={self.taken[-1]}"
         return None
+
+
+def number_of(word: str) -> int:
+    """The number that a word spells. Of one that is far too large the first digits stand for it: Python does not read
+    numbers of thousands of digits."""
+    digits = word.lstrip("+-").lstrip("0")[:MOST_DIGITS]
+    return int(f"-{digits}" if word.startswith("-") and digits else digits or "0")
 
 
 def workers_of(word: str) -> Value:
