@@ -127,6 +127,7 @@ def table(head: Sequence[str], rows: Sequence[Sequence[str]], right: Collection[
 def draw(name: str, help_text: str, drawing: Callable[..., list[str]], most: int = 0) -> int:
     """Runs a tool, and answers its exit status: writes the lines that `drawing` makes of standard input and of the
     tool's arguments, of which there are at most so many."""
+    streams.make_ready(name, 1)
     arguments = sys.argv[1:]
     if {"-h", "--help"} & {*arguments}:
         return streams.write(name, help_text, 1)
