@@ -1,17 +1,23 @@
 """Trials of folders whose files somebody has changed, moved or put there by hand: each command that would build on such
 a file, or take it away, says which it is, and leaves all as it was."""
+import datetime
 import gzip
 import os
 import shutil
+import time
 from pathlib import Path
 from typing import Callable, Iterator
 
 from harness import Said
 from offices import FIRST, must_do, new_office, told
 
+from registry_tools.day.office import journal
+
 ROW = "do,2025-04-01,101,102,transfer,1,2,general,{}\n"
 DAY = "2025-04-01"
 CLOSE, UNDO = ["close", "--second", "--date"], ["undo", "--why", "a slip"]
+# More days than a century has: to look at all earlier ones for each of them takes a minute.
+MANY_EVENTS, MOST_SECONDS = 40_000, 20
 Trial = tuple[str, object]
 Words = list[object]
 
@@ -51,6 +57,8 @@ def damaged_trials(work: Path) -> Iterator[Trial]:
     yield from target_trials(work)
     yield from message_trials(work)
     yield from settings_trials(work)
+    yield from name_trials(work)
+    yield from long_journal_trials(work)
 
 
 def strange_day_trials(work: Path) -> Iterator[Trial]:
@@ -117,6 +125,12 @@ def changed_file_trials(work: Path) -> Iterator[Trial]:
         for words in commands:
             yield f"{words[0]} behind another {name}", unchanged(office, 3, has, *words, *own)
         path.write_bytes(content)
+    path = office / "days" / DAY / "do.csv"
+    content = path.read_bytes()
+    path.unlink()
+    has = ["last day: 2025-04-01", "LOOK AT THIS: ", "do.csv: it cannot be read"]
+    yield "status without do.csv", unchanged(office, 1, has, "status", *own)
+    path.write_bytes(content)
     edits = ["change", "2", "--outside", "yes", "--why", "a letter", "--yes", *own]
     must_do([*UNDO, *own], edits, [*CLOSE, DAY, *own])
     path = office / "days" / DAY / "edits.csv"
@@ -190,3 +204,33 @@ def settings_trials(work: Path) -> Iterator[Trial]:
     yield "something more that waits", told(1, ["waits.csv:2: row: found", f"by the day {DAY}"], "audit", *own)
     waits.unlink()
     yield "nothing that waits", told(1, ["waits.csv: it cannot be read"], "audit", *own)
+
+
+def name_trials(work: Path) -> Iterator[Trial]:
+    """Files that are handed in by names with line ends: the folder is read on, and tells the names."""
+    _, own = new_office(work, "names")
+    names = {"two\nlines.csv": "two<line feed>lines.csv", "a\x0bpage.csv": "a<U+000B>page.csv"}
+    names["no\u2028line.csv"] = "no<U+2028>line.csv"
+    for amount, (name, shown) in enumerate(names.items(), 1):
+        rows = work / name
+        rows.write_text(ROW.format(amount))
+        yield f"hand-in of {shown}", told(0, [f"handed in: {shown}: instructions 1, "], "hand-in", rows, *own)
+        yield f"status behind {shown}", told(0, [f"({shown}, "], "status", *own)
+    yield "close of all of them", told(0, ["done 3"], *CLOSE, DAY, *own)
+
+
+def long_journal_trials(work: Path) -> Iterator[Trial]:
+    """A journal of a century is read in a time that grows as the journal does."""
+    first, lines = datetime.date(2021, 1, 1), [journal.HEADING]
+    before, sums = journal.BEGINNING, dict.fromkeys(journal.FILES, "0" * 64)
+    for place in range(MANY_EVENTS):
+        date = first + datetime.timedelta(place)
+        event = journal.Event(journal.FILED, journal.now(), "me", date, 1, 1, sums, "", before)
+        before = event.line
+        lines.append(event.row())
+    path = work / "long-journal.csv"
+    path.write_text("\n".join([*lines, ""]))
+    began = time.process_time()
+    count, passed = len(journal.read(path).filed()), time.process_time() - began
+    is_so = count == MANY_EVENTS and passed < MOST_SECONDS
+    yield "a journal of a century", None if is_so else f"{count} days in {passed:.1f} seconds"

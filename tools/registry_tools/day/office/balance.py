@@ -24,7 +24,8 @@ def add_words(parser: argparse.ArgumentParser) -> None:
 
 def run(said: argparse.Namespace) -> int:
     on = past.date_of("--on", said.on, datetime.date.max)
-    last = last_day(past.paths_of(said), on)
+    paths = past.paths_of(said)
+    last = last_of_pairs(paths, on) if said.pairs else last_of_folder(paths, on)
     if last is None:
         raise WordsFault(f"no day was settled up to {on}" if said.on is not None else "no day is settled yet")
     block = last.report.book.get(said.account)
@@ -36,7 +37,15 @@ def run(said: argparse.Namespace) -> int:
     return 0
 
 
-def last_day(paths: list[tuple[str, str]], on: datetime.date) -> PastDay | None:
+def last_of_pairs(paths: list[tuple[str, str]], on: datetime.date) -> PastDay | None:
+    """The last day up to a date. All are read: nobody knows before that they rise."""
+    last = None
+    for past_day in past.read_all(paths):
+        last = past_day if past_day.date <= on else last
+    return last
+
+
+def last_of_folder(paths: list[tuple[str, str]], on: datetime.date) -> PastDay | None:
     """The last day up to a date. Days are looked at from the last one back, since most ask for a late one."""
     for pair in reversed(paths):
         past_day = next(past.read_all([pair]))

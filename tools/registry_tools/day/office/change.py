@@ -114,9 +114,9 @@ def account_of(said: argparse.Namespace) -> int:
 
 def opened(word: str) -> Edit:
     number, *rest = word.split(",")
-    if len(rest) != 2 or not number.isdigit():
+    if len(rest) != 2:
         raise WordsFault(f"--open-account {word}: NUMBER,KIND,HOLDER")
-    return Edit(int(number), OPEN, tuple(rest))
+    return Edit(edits.account_number(number), OPEN, tuple(rest))
 
 
 def rule_edits(said: argparse.Namespace, lags: dict[str, int]) -> Iterator[Edit]:

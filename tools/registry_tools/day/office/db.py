@@ -38,13 +38,11 @@ def run(said: argparse.Namespace) -> int:
             added = fill(database, said.file, paths, is_new)
         finally:
             database.close()
-    except sqlite3.Error as error:
+    except BaseException as error:
         if is_new:
             Path(said.file).unlink(missing_ok=True)
-        raise FileFault(said.file, 0, "", f"this database cannot be written: {error}", "") from None
-    except FileFault:
-        if is_new:
-            Path(said.file).unlink(missing_ok=True)
+        if isinstance(error, sqlite3.Error):
+            raise FileFault(said.file, 0, "", f"this database cannot be written: {error}", "") from None
         raise
     print(f"{said.file}: days {len(paths)}, of which {added} are new")
     return 0

@@ -9,7 +9,7 @@
 
 A difference stays right if the day before it is undone and closed again: it is laid over what that day then leaves.
 """
-from typing import Iterable, NamedTuple
+from typing import Any, Iterable, NamedTuple
 
 from registry_tools import faults, rules
 from registry_tools.day.errors import WordsFault, shown
@@ -48,11 +48,23 @@ class Edit(NamedTuple):
 def edit_of(row: str) -> Edit:
     """The difference that a row says."""
     what, *words = row.split(",")
-    if what == ACCOUNT and len(words) >= 3 and words[0].isdigit() and words[1] in (OPEN, PUT, ADD, DROP):
-        return Edit(int(words[0]), words[1], tuple(words[2:]))
+    if what == ACCOUNT and len(words) >= 3 and words[1] in (OPEN, PUT, ADD, DROP):
+        return Edit(account_number(words[0]), words[1], tuple(words[2:]))
     if what == RULES and len(words) >= 2 and words[0] in (PUT, ADD, DROP):
         return Edit(0, words[0], tuple(words[1:]))
     raise WordsFault(f"{row} is no change by hand: see ./day change --help")
+
+
+def account_number(word: str) -> int:
+    return int(value_of(ACCOUNT_FIELDS["NO"], word))
+
+
+def value_of(field: faults.Field, word: str) -> Any:
+    """What a field says. Ends the command if it is no such field."""
+    try:
+        return field.read(word)
+    except faults.Fault:
+        raise WordsFault(f"{field.name}: found {shown(word)}; expected {field.expected}") from None
 
 
 def must_be_readable(edit: Edit) -> None:
@@ -74,10 +86,7 @@ def must_be_readable(edit: Edit) -> None:
             f"{', '.join(field.name for field in fields)}"
         )
     for field, word in zip(fields, words):
-        try:
-            field.read(word)
-        except faults.Fault:
-            raise WordsFault(f"{field.name}: found {shown(word)}; expected {field.expected}") from None
+        value_of(field, word)
 
 
 # Accounts.

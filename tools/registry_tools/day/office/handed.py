@@ -21,7 +21,7 @@ from typing import Iterable, Iterator
 
 from registry_tools import faults
 from registry_tools.day.day_text import DayText, day_of, read_blocks, read_rows_of
-from registry_tools.day.errors import FileFault, shown
+from registry_tools.day.errors import FileFault, shown, visible
 from registry_tools.day.office import files, journal
 from registry_tools.day.office.files import bytes_in, replace, sum_of, write_synced
 from registry_tools.day.office.journal import row_of
@@ -224,6 +224,8 @@ def begin(folder: Path, base: str) -> HandedIn:
 
 def put(handed: HandedIn, kind: str, content: bytes, count: int, name: str, who: str) -> Part:
     """Puts a file into next/. It counts as soon as the journal is kept."""
+    # (a file may have a line end in its name, and a row of the journal is one line)
+    name = "".join(map(visible, name))
     number = 1 + max((int(part.file.partition("-")[0]) for part in handed.parts), default=0)
     file = f"{number:04}-{kind}.csv"
     part = Part(journal.now(), who, kind, handed.end, count, None, file, sum_of(content), name)

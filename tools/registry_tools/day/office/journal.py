@@ -93,6 +93,16 @@ class Journal:
     path: Path
     text: str
     events: list[Event] = field(default_factory=list)
+    # The days that are in the folder behind these events, by rising date.
+    days: list[Event] = field(default_factory=list)
+
+    def add(self, event: Event) -> None:
+        """Adds an event behind the others."""
+        self.events.append(event)
+        if event.event == FILED:
+            self.days.append(event)
+        elif event.event == UNDONE and self.days:
+            self.days.pop()
 
     @property
     def last_line(self) -> str:
@@ -102,18 +112,11 @@ class Journal:
     @property
     def last_change(self) -> str:
         """The line of the last event that filed or undid a day: behind it stands what was handed in since."""
-        changes = [event.line for event in self.events if event.event != RELEASED]
-        return changes[-1] if changes else BEGINNING
+        return next((event.line for event in reversed(self.events) if event.event != RELEASED), BEGINNING)
 
     def filed(self) -> list[Event]:
         """The days that are in the folder, by rising date."""
-        days: list[Event] = []
-        for event in self.events:
-            if event.event == FILED:
-                days.append(event)
-            elif event.event == UNDONE and days:
-                days.pop()
-        return days
+        return self.days
 
     def is_released(self) -> bool:
         """Whether the last day may not be undone any more. Later days may have been filed and undone since it was
@@ -164,7 +167,7 @@ def faults_of(journal: Journal) -> Iterator[FileFault]:
         wrong = does_not_follow(journal, event)
         if wrong:
             yield FileFault(path, number, "event", f"{event.event} {event.date}", wrong)
-        journal.events.append(event)
+        journal.add(event)
 
 
 def event_of(line: str) -> Event | str:

@@ -13,10 +13,9 @@ from typing import Iterator
 
 from registry_tools.day import weekdays
 from registry_tools.day.errors import FOUND, FileFault
-from registry_tools.day.office import composing, files, folder, lock, showing, words
+from registry_tools.day.office import composing, folder, lock, showing, words
 from registry_tools.day.office.folder import Office
 from registry_tools.day.office.handed import KINDS, HandedIn, Item
-from registry_tools.day.office.journal import FILES
 from registry_tools.day.office.showing import Cell
 from registry_tools.day.output import write_answer
 
@@ -138,10 +137,4 @@ def lock_lines(office: Office) -> Iterator[tuple[str, str]]:
 def faults_of_last(office: Office) -> Iterator[FileFault]:
     """Which files of the last day are not those that the journal names."""
     last = office.last()
-    if last is None:
-        return
-    for key, name in FILES.items():
-        path = office.day_folder(last.date) / name
-        there = files.sum_of(files.bytes_in(path))
-        if there != last.sums.get(key):
-            yield FileFault(path, 0, "SHA-256", there, f"{last.sums.get(key)}, as {office.journal.path} says")
+    return office.changed_files(last) if last else iter(())
