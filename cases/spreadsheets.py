@@ -110,6 +110,47 @@ def as_others_write_it(work: Path) -> Iterator[tuple[str, object]]:
     ] + "\n" else said
 
 
+def damaged_workbooks(work: Path) -> Iterator[tuple[str, object]]:
+    """Workbooks that are damaged, locked, or packed or spelled in a way that nobody knows: each is told."""
+    path = work / "damaged.xlsx"
+    write_kept(path)
+    with zipfile.ZipFile(path) as archive:
+        parts = {name: archive.read(name) for name in archive.namelist()}
+    content = path.read_bytes()
+    for what, place, byte in (("locked", 6, 1), ("packed in an unknown way", 8, 97), ("no packed bytes", 8, 8)):
+        path.write_bytes(with_byte_of_headers(content, place, byte))
+        yield f"a workbook: {what}", told_of_workbook(path)
+    for name, old, new in OTHER_PARTS:
+        with zipfile.ZipFile(path, "w") as archive:
+            for part, text in parts.items():
+                archive.writestr(part, text.replace(old, new) if part == name else text)
+        yield f"a workbook with {new.decode()}", told_of_workbook(path)
+
+
+def told_of_workbook(path: Path) -> object:
+    """What is wrong with how a workbook that cannot be read is told, if something is."""
+    said = Said("import", path)
+    return None if said.status == 3 and f"{path}: this is no workbook that can be read: " in said.errors else said
+
+
+def with_byte_of_headers(content: bytes, place: int, byte: int) -> bytes:
+    """An archive with another byte in the header of each part, and in its copy at the end."""
+    made = bytearray(content)
+    for start, shift in ((b"PK\x03\x04", 0), (b"PK\x01\x02", 2)):
+        for found in re.finditer(start, content):
+            made[found.start() + place + shift] = byte
+    return bytes(made)
+
+
+SHEET_PART = "xl/worksheets/sheet1.xml"
+# A part of a workbook, what stands in it, and what stands in its place that no spreadsheet writes.
+OTHER_PARTS = (
+    ("xl/workbook.xml", b'encoding="UTF-8"', b'encoding="none-such"'),
+    (SHEET_PART, b'<row r="2">', b'<row r="1048577">'),
+    (SHEET_PART, b'<c r="B2">', b'<c r="XFE2">'),
+)
+
+
 def write_kept(path: Path, approver: str = '<c r="C2"><v>5102</v></c>') -> None:
     """A workbook as a spreadsheet keeps it: a date as a number with a style, shared texts, and a formula with its
     value."""
@@ -127,7 +168,7 @@ def write_kept(path: Path, approver: str = '<c r="C2"><v>5102</v></c>') -> None:
         "xl/styles.xml"
     ] = f'<styleSheet {main_space}><cellXfs><xf numFmtId="0"/><xf numFmtId="14"/></cellXfs></styleSheet>'
     parts[
-        "xl/worksheets/sheet1.xml"
+        SHEET_PART
     ] = f'<worksheet {main_space}><sheetData><row r="1">{head}</row><row r="2">{cells}</row></sheetData></worksheet>'
     with zipfile.ZipFile(path, "w") as archive:
         for name, text in parts.items():
@@ -192,6 +233,7 @@ def wrong_cells(work: Path) -> Iterator[tuple[str, object]]:
         write_kept(work / "cells.xlsx", cell)
         said = Said("import", work / "cells.xlsx")
         yield f"a cell {cell}", None if said.status == 3 and told in said.errors and not said.output else said
+    yield from damaged_workbooks(work)
     day, report = drawn_pair(work, 3)
     before = day.read_bytes()
     said = Said("export", day, report, "--log", "--xlsx", day)

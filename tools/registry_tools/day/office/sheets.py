@@ -10,6 +10,7 @@ import datetime
 import io
 import re
 import zipfile
+import zlib
 from dataclasses import dataclass
 from typing import Iterator, Sequence
 from xml.etree import ElementTree
@@ -29,8 +30,13 @@ QUOTED = re.compile(r'"[^"]*"|\[[^]]*\]|\\.')
 FIRST_DAYS = {False: datetime.date(1899, 12, 30), True: datetime.date(1904, 1, 1)}
 SEPARATORS = ",;\t"
 TRUE_FALSE = {"0": "FALSE", "1": "TRUE"}
-# A cell of a spreadsheet has no more letters.
-MOST_LETTERS = 32_767
+# A sheet has no more rows and columns, and a cell of it no more letters.
+MOST_ROWS, MOST_COLUMNS, MOST_LETTERS = 1_048_576, 16_384, 32_767
+# What reading a workbook raises that is damaged, locked, or packed or spelled in a way that nobody knows.
+DAMAGED = (
+    zipfile.BadZipFile, zlib.error, EOFError, RuntimeError, ElementTree.ParseError, LookupError, ValueError,
+    OverflowError,
+)  # fmt: skip
 
 
 @dataclass
@@ -95,7 +101,7 @@ def read_workbook(path: str, content: bytes) -> Sheet:
     try:
         with zipfile.ZipFile(io.BytesIO(content)) as archive:
             return Workbook(path, archive).first_sheet()
-    except (zipfile.BadZipFile, KeyError, ElementTree.ParseError, ValueError, IndexError, OverflowError) as error:
+    except DAMAGED as error:
         raise FileFault(path, 0, "", f"this is no workbook that can be read: {error}", "") from None
 
 
@@ -139,6 +145,8 @@ class Workbook:
         rows: list[list[str]] = []
         for row in self.part(name).iter(f"{MAIN}row"):
             number = int(row.get("r", len(rows) + 1))
+            if number > MOST_ROWS:
+                raise ValueError(f"a row {number}")
             rows += [[] for _ in range(number - 1 - len(rows))]
             rows.append(self.cells_of(row))
         return Sheet(self.path, sheet.get("name", ""), rows)
@@ -147,6 +155,8 @@ class Workbook:
         cells: list[str] = []
         for cell in row.iter(f"{MAIN}c"):
             column = column_of(cell.get("r", "")) if cell.get("r") else len(cells)
+            if column >= MOST_COLUMNS:
+                raise ValueError(f"a cell {cell.get('r')}")
             cells += [""] * (column - len(cells))
             cells.append(self.value_of(cell))
         return cells
