@@ -13,6 +13,7 @@ from harness import TOP, Said
 
 from registry_tools import rules
 from registry_tools.day.office import sheets, tables
+from registry_tools.day.office.showing import as_csv
 
 from drawing import drawn_rows
 
@@ -199,30 +200,30 @@ def wrong_cells(work: Path) -> Iterator[tuple[str, object]]:
     path = work / "wrong.csv"
     for told, changed in WRONG_CELLS.items():
         row = {**GOOD, **changed}
-        path.write_text(sheets.as_csv([*row], iter([[*row.values()]])))
+        path.write_text(as_csv([*row], iter([[*row.values()]])))
         said = Said("import", path)
         yield f"told: {told}", None if said.status == 3 and told in said.errors and not said.output else said
-    path.write_text(sheets.as_csv([*GOOD], iter([["31.2.2026", *[*GOOD.values()][1:]]])))
+    path.write_text(as_csv([*GOOD], iter([["31.2.2026", *[*GOOD.values()][1:]]])))
     said, wanted_form = Said("import", path, "--dates", "31.12.2026"), "expected a date as 31.12.2026 that exists"
     yield "a date that does not exist", None if said.status == 3 and wanted_form in said.errors else said
     for what, kind, columns, rows, places in ALL_AT_ONCE:
-        path.write_text(sheets.as_csv(columns, iter(rows)))
+        path.write_text(as_csv(columns, iter(rows)))
         said = Said("import", path, kind)
         cells = re.findall(r"cell ([A-Z]+[0-9]+): ", said.errors)
         yield f"all at once: {what}", None if cells == places and said.status == 3 and not said.output else said
     lacking = {name: word for name, word in GOOD.items() if name not in ("account", "tonnes")}
-    path.write_text(sheets.as_csv([*lacking], iter([[*lacking.values()]])))
+    path.write_text(as_csv([*lacking], iter([[*lacking.values()]])))
     wanted = [f"wrong.csv, row 2: {name}: found no such column; expected a number" for name in ("account", "tonnes")]
     said = Said("import", path)
     is_so = all(line in said.errors for line in wanted) and not said.output
     yield "columns that are not there", None if is_so else said
-    path.write_text(sheets.as_csv([*GOOD], iter([[*{**GOOD, "year": "x"}.values()]] * 102)))
+    path.write_text(as_csv([*GOOD], iter([[*{**GOOD, "year": "x"}.values()]] * 102)))
     said = Said("import", path)
     many = said.errors.splitlines()
     is_so = len(many) == 102 and many[-2:] == ["and 2 more", "cells that are wrong: 102; nothing was written"]
     yield "many wrong cells", None if is_so else said
     good = work / "good.csv"
-    good.write_text(sheets.as_csv([*GOOD], iter([[*GOOD.values()]])))
+    good.write_text(as_csv([*GOOD], iter([[*GOOD.values()]])))
     order = subprocess.run(
         [TOP / "day", "import", good], stdout=subprocess.PIPE, stderr=subprocess.STDOUT, text=True, check=False
     ).stdout

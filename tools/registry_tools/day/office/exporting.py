@@ -15,7 +15,7 @@ from typing import Iterator, Sequence
 from registry_tools.day import compliance, log
 from registry_tools.day.errors import WordsFault
 from registry_tools.day.day_text import DayText
-from registry_tools.day.office import sheets, tables
+from registry_tools.day.office import sheets, showing, tables
 from registry_tools.day.options import Words, add_to, is_same_file
 from registry_tools.day.output import write_answer
 from registry_tools.day.pairs import read_pair
@@ -81,5 +81,5 @@ def run(said: argparse.Namespace) -> int:
     if said.xlsx:
         sheets.write_workbook(said.xlsx, said.what, columns, rows)
     else:
-        write_answer(sheets.as_csv(columns, rows), said.to)
+        write_answer(showing.as_csv(columns, rows), said.to)
     return 0

@@ -4,7 +4,7 @@ import argparse
 import csv
 import io
 import json
-from typing import Sequence
+from typing import Iterable, Sequence
 
 from registry_tools import texts
 from registry_tools.day.errors import FileFault
@@ -32,7 +32,7 @@ def is_for_programs(said: argparse.Namespace) -> bool:
     return bool(said.csv or said.json)
 
 
-def as_csv(columns: Sequence[str], rows: Sequence[Sequence[object]]) -> str:
+def as_csv(columns: Sequence[str], rows: Iterable[Sequence[object]]) -> str:
     stream = io.StringIO()
     writer = csv.writer(stream, lineterminator="\n")
     writer.writerow(columns)
