@@ -127,9 +127,11 @@ class NewFile:
             self.beside.write_bytes(text if isinstance(text, bytes) else text.encode("utf-8", "surrogateescape"))
             if self.real.exists():
                 os.chmod(self.beside, stat.S_IMODE(self.real.stat().st_mode))
-        except OSError as error:
+        except BaseException as error:
             self.forget()
-            raise cannot(self.path, error) from None
+            if isinstance(error, OSError):
+                raise cannot(self.path, error) from None
+            raise
 
     def keep(self) -> None:
         try:
@@ -146,16 +148,17 @@ class NewFile:
 def write_answer(text: str, to: str | None, *others: NewFile) -> None:
     """Writes what a command answers: to standard output, or whole to a file. The other files get their names if that
     could be written, and else stay as they were."""
+    files = [*others]
     try:
         if to is None:
             sys.stdout.write(text)
             sys.stdout.flush()
-            files = []
         else:
-            files = [NewFile(to, text)]
+            files.append(NewFile(to, text))
+        for file in files:
+            file.keep()
     except BaseException:
-        for other in others:
-            other.forget()
+        # (of a file that has its name already, nothing is left beside it)
+        for file in files:
+            file.forget()
         raise
-    for open_file in [*others, *files]:
-        open_file.keep()
