@@ -1,12 +1,14 @@
 """Trials of folders whose files somebody has changed, moved or put there by hand: each command that would build on such
 a file, or take it away, says which it is, and leaves all as it was."""
 import datetime
+import fcntl
 import gzip
 import os
 import shutil
 import time
 from pathlib import Path
 from typing import Callable, Iterator
+from unittest import mock
 
 from harness import Said
 from offices import FIRST, must_do, new_office, told
@@ -59,6 +61,7 @@ def damaged_trials(work: Path) -> Iterator[Trial]:
     yield from settings_trials(work)
     yield from name_trials(work)
     yield from long_journal_trials(work)
+    yield "a look at the lock", looked_at_fault(work)
 
 
 def strange_day_trials(work: Path) -> Iterator[Trial]:
@@ -234,3 +237,17 @@ def long_journal_trials(work: Path) -> Iterator[Trial]:
     count, passed = len(journal.read(path).filed()), time.process_time() - began
     is_so = count == MANY_EVENTS and passed < MOST_SECONDS
     yield "a journal of a century", None if is_so else f"{count} days in {passed:.1f} seconds"
+
+
+def looked_at_fault(work: Path) -> object:
+    """What is wrong with a command that asks for the lock while another one looks whether somebody holds it."""
+    office, own = new_office(work, "looked-at")
+    looker = open(office / "lock", "rb")
+    fcntl.flock(looker, fcntl.LOCK_SH)
+
+    def pass_time(seconds: float) -> None:
+        if seconds:
+            looker.close()
+
+    with mock.patch.object(time, "sleep", pass_time):
+        return told(0, ["2025-03-31 is released"], "release", "--why", "it was sent", *own)

@@ -3,6 +3,7 @@ ends."""
 import contextlib
 import fcntl
 import os
+import time
 from pathlib import Path
 from typing import Iterator
 
@@ -12,6 +13,8 @@ from registry_tools.day.office.layout import LOCK
 from registry_tools.day.output import cannot
 
 NAME = LOCK
+# So often the lock is asked for, with a pause between: who looks whether somebody holds it has it for a moment.
+TIMES, PAUSE = 10, 0.02
 
 
 def holder_of(path: Path) -> str:
@@ -38,6 +41,16 @@ def is_held(path: Path) -> bool:
     return False
 
 
+def take(file: int) -> bool:
+    """Takes the lock for this command, if no other one holds it."""
+    for place in range(TIMES):
+        time.sleep(PAUSE if place else 0)
+        with contextlib.suppress(BlockingIOError):
+            fcntl.flock(file, fcntl.LOCK_EX | fcntl.LOCK_NB)
+            return True
+    return False
+
+
 def write_holder(file: int, path: Path, holder: str) -> None:
     try:
         os.ftruncate(file, 0)
@@ -55,10 +68,8 @@ def held(folder: Path, command: str, who: str) -> Iterator[None]:
     except OSError as error:
         raise cannot(path, error) from None
     try:
-        try:
-            fcntl.flock(file, fcntl.LOCK_EX | fcntl.LOCK_NB)
-        except BlockingIOError:
-            raise FileFault(folder, 0, "", f"another command holds its lock: {holder_of(path)}", "") from None
+        if not take(file):
+            raise FileFault(folder, 0, "", f"another command holds its lock: {holder_of(path)}", "")
         write_holder(file, path, f"./day {command} of {who}, process {os.getpid()}, since {journal.now()}\n")
         yield
     finally:
