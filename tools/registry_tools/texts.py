@@ -90,6 +90,10 @@ def words_of(act: str, fields: Sequence[str]) -> str:
     return words.format(*(grouped(word) if place in amounts else word for place, word in enumerate(fields)))
 
 
+def instruction_in_words(i: rules.Instruction) -> str:
+    return words_of(i.act, i.fields[4:])
+
+
 def box_lines(name: object, i: rules.Instruction) -> list[str]:
     """An instruction in the lines of a box: its place or record number with its act, its accounts, and what it is
     about."""

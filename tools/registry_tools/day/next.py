@@ -21,7 +21,7 @@ import sys
 from typing import Iterator
 
 from registry_tools import faults, rules
-from registry_tools.day import dates, pending, weekdays
+from registry_tools.day import dates, hand_changes, pending, weekdays
 from registry_tools.day.accounts import Accounts, Block
 from registry_tools.day.books import open_by_late_begin
 from registry_tools.day.by_hand import refusals
@@ -169,9 +169,7 @@ def tell_change(report: Report, old: Block | None, new: Block, notes: Notes) -> 
         notes.add(f"by hand: {where}: account {new.number} stays as it is")
     else:
         notes.add(f"by hand: {where}: account {new.number}, which stands in {report.path}:{old.line}")
-        before, after = {*old.rows}, {*new.rows}
-        notes.lines += [f"  - {row}" for row in old.rows if row not in after]
-        notes.lines += [f"  + {row}" for row in new.rows if row not in before]
+        notes.lines += [f"  {change.words}" for change in hand_changes.of_rows(new.number, old.rows, new.rows)]
 
 
 # The instructions.

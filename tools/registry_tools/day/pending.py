@@ -111,8 +111,9 @@ def waiting_of(source: Rows, index: int) -> Waiting:
         raise source.fault(index, "DATE", shown(day), "the day into whose text it was entered")
     check_instruction(source, index, fields[3:])
     date = datetime.date.fromisoformat(day) if day else None
-    instruction, place = rules.read_instruction(fields[3:]), f"{source.path}:{source.line(index)}"
-    return Waiting(int(record) if record else None, instruction, date if fields[0] == ENTERED else None, place=place)
+    entered, due = (date, None) if fields[0] == ENTERED else (None, date)
+    place = f"{source.path}:{source.line(index)}"
+    return Waiting(int(record) if record else None, rules.read_instruction(fields[3:]), entered, due, place)
 
 
 def read_field(source: Rows, index: int, own: faults.Field, word: str) -> Any:
@@ -154,12 +155,7 @@ def read_pending(path: str) -> PendingFile:
 
 def read_waits(path: str) -> list[Waiting]:
     """What waits by a pending file, with the due days that it says."""
-    source = rows_of(path)
-    waiting = [waits for waits, _ in read_pending(path).rows if waits.entered is None]
-    dues = [row.split(",", 3)[2] for row in source.rows if row.startswith(f"{WAITS},")]
-    for waits, due in zip(waiting, dues):
-        waits.due = datetime.date.fromisoformat(due) if due else None
-    return waiting
+    return [waits for waits, _ in read_pending(path).rows if waits.entered is None]
 
 
 # What waits.

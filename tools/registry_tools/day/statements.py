@@ -15,6 +15,7 @@ FOLDER must not be there yet, or be empty. What it gets appears only when all of
 follows from DAY.
 """
 import argparse
+import datetime
 
 from registry_tools.day.accounts import Block
 from registry_tools.day.day_text import DayText
@@ -53,6 +54,12 @@ def edge(tag: str, block: Block) -> str:
     return f"{tag},{block.number},{','.join(block.held_fields)}"
 
 
+def own_start(date: datetime.date, block: Block) -> str:
+    """The first row of the own statement of an account, as it is after a day."""
+    _, _, kind, holder, status, *_ = block.rows[0].split(",")
+    return f"statement,{date},{block.number},{kind},{holder},{status}"
+
+
 def rows_by_account(day: DayText, report: Report, is_own: bool) -> dict[int, list[str]]:
     """The log rows of the statements, by account."""
     if not is_own:
@@ -67,8 +74,7 @@ def rows_by_account(day: DayText, report: Report, is_own: bool) -> dict[int, lis
 def statement_of(day: DayText, report: Report, number: int, rows: list[str], is_own: bool) -> str:
     """The text of the statement of an account."""
     before, after = day.book[number], report.book[number]
-    _, _, kind, holder, status, *_ = after.rows[0].split(",")
-    start = [f"statement,{day.head.date},{number},{kind},{holder},{status}"] if is_own else []
+    start = [own_start(day.head.date, after)] if is_own else []
     return "\n".join([*start, edge("opening", before), *rows, edge("closing", after), "end", ""])
 
 
@@ -77,10 +83,8 @@ def statement_over(days: list[tuple[DayText, Report]], number: int, rows: list[s
     which it is there."""
     first = next(day for day, _ in days if number in day.book)
     day, report = days[-1]
-    _, _, kind, holder, status, *_ = report.book[number].rows[0].split(",")
-    start = f"statement,{day.head.date},{number},{kind},{holder},{status}"
-    opening, closing = edge("opening", first.book[number]), edge("closing", report.book[number])
-    return "\n".join([start, opening, *rows, closing, "end", ""])
+    start, after = own_start(day.head.date, report.book[number]), report.book[number]
+    return "\n".join([start, edge("opening", first.book[number]), *rows, edge("closing", after), "end", ""])
 
 
 def run(words: argparse.Namespace) -> int:

@@ -12,6 +12,7 @@ A difference stays right if the day before it is undone and closed again: it is 
 from typing import Any, Iterable, NamedTuple
 
 from registry_tools import faults, rules
+from registry_tools.day import hand_changes
 from registry_tools.day.errors import WordsFault, shown
 from registry_tools.day.report import Report
 
@@ -202,5 +203,4 @@ def drop_rule(edit: Edit, rows: list[str]) -> list[str]:
 
 def differences(before: list[str], after: list[str]) -> list[str]:
     """The rows that went and those that came, each with its sign."""
-    old, new = {*before}, {*after}
-    return [*(f"- {row}" for row in before if row not in new), *(f"+ {row}" for row in after if row not in old)]
+    return [change.words for change in hand_changes.of_rows(None, before, after)]

@@ -62,7 +62,7 @@ def log_of(past_day: PastDay, number: int) -> Iterator[list[Cell]]:
             yield [
                 str(past_day.date),
                 logged.record,
-                texts.words_of(i.act, i.fields[4:]),
+                texts.instruction_in_words(i),
                 "done" if logged.is_done else logged.name,
                 *amounts,
             ]

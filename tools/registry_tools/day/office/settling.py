@@ -2,7 +2,6 @@
 import subprocess
 from pathlib import Path
 
-from registry_tools import rules
 from registry_tools.day.day_text import DayText
 from registry_tools.day.errors import FileFault
 from registry_tools.day.progress import progress
@@ -43,13 +42,3 @@ def by_program(program: str, text: bytes) -> bytes:
         raise FileFault(words[0], 0, "", f"settle ends with status {run.returncode}: {said}\n{more}", "")
     tell_once(run.stderr)
     return run.stdout
-
-
-def refusals(logged: list[rules.Logged]) -> dict[str, int]:
-    """How many instructions each check refused, by its name."""
-    counts: dict[str, int] = {}
-    for row in logged:
-        fields = row.line.split(",")
-        if "refused" in fields:
-            counts[fields[-1]] = counts.get(fields[-1], 0) + 1
-    return counts

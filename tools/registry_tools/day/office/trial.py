@@ -68,17 +68,9 @@ def look(next_day: NextDay, day: DayText) -> list[Looked]:
     places = [*(None for _ in next_day.entered), *(item.place for item in next_day.new)]
     looked = []
     for place, instruction, logged in zip(places, day.instructions, composing.asked_rules(day)):
-        own = ",".join(["do", *instruction.fields])
-        looked.append(
-            Looked(
-                place, own, words_of(instruction), outcome_of(logged, instruction), str(logged.due or ""), logged.line
-            )
-        )
+        own, said = ",".join(["do", *instruction.fields]), texts.instruction_in_words(instruction)
+        looked.append(Looked(place, own, said, outcome_of(logged, instruction), str(logged.due or ""), logged.line))
     return looked
-
-
-def words_of(i: rules.Instruction) -> str:
-    return texts.words_of(i.act, i.fields[4:])
 
 
 def outcome_of(logged: rules.Logged, i: rules.Instruction) -> str:

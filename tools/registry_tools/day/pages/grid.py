@@ -262,7 +262,6 @@ def line_of(text: str, x: float, y: float, kind: str | None) -> str:
 def bands_of(boxes: dict[int, Box], arrows: Sequence[Arrow], most_columns: int, names: Names) -> Iterator[Band]:
     """The bands of a picture: so many columns stand in each."""
     last = max(box.column for box in boxes.values())
-    said = [Arrow(arrow.tail, arrow.head, arrow.label, arrow.note) for arrow in arrows]
     for first in range(0, last + 1, most_columns):
         columns = range(first, min(first + most_columns, last + 1))
         own = {key: box for key, box in boxes.items() if box.column in columns}
@@ -271,7 +270,7 @@ def bands_of(boxes: dict[int, Box], arrows: Sequence[Arrow], most_columns: int, 
                 arrow
                 if arrow.tail in own
                 else Arrow(arrow.tail, arrow.head, f"from {boxes[arrow.tail].name}", arrow.note)
-                for arrow in said
+                for arrow in arrows
             ]
             yield Band(own, crossing, columns, names)
 

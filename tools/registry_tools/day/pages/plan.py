@@ -2,6 +2,7 @@
 from collections import Counter
 from collections.abc import Collection, Iterable, Iterator, Sequence
 from dataclasses import dataclass, field
+
 from registry_tools.day.pages import grid
 from registry_tools.day.pages.html import Markup, joined, markup, paragraph, table, tag
 from registry_tools.day.pages.settled import Settled, count_of, in_words, outcome_in_words
@@ -96,7 +97,7 @@ def waits_in_words(task: Task) -> str:
     return "; ".join(f"{tail} ({', '.join(own)})" for tail, own in sorted(accounts.items()))
 
 
-def plan_table(settled: Settled, tasks: Iterable[Task], caption: str) -> Markup:
+def plan_table(tasks: Iterable[Task], caption: str) -> Markup:
     """What the picture shows, a row for each instruction, by levels."""
     rows = (
         (task.logged.record, task.level, in_words(task.logged), outcome_in_words(task.logged), waits_in_words(task))
@@ -114,7 +115,7 @@ def whole_plan(settled: Settled, tasks: dict[int, Task]) -> list[Markup]:
     title = f"The plan of {settled.head.date}: {count} in columns, a column for each level"
     return [
         figure("The plan, a column for each level", both(title, boxes, [*arrows_of(tasks, tasks)], names)),
-        plan_table(settled, tasks.values(), "The plan in words"),
+        plan_table(tasks.values(), "The plan in words"),
     ]
 
 
@@ -128,7 +129,7 @@ def longest_chain(tasks: dict[int, Task]) -> list[int]:
     return chain[::-1]
 
 
-def chain_parts(settled: Settled, tasks: dict[int, Task]) -> list[Markup]:
+def chain_parts(tasks: dict[int, Task]) -> list[Markup]:
     """The longest chain as a picture and a table; of a long one, its first and its last instructions."""
     chain = longest_chain(tasks)
     if len(chain) == 1:
@@ -151,7 +152,7 @@ def chain_parts(settled: Settled, tasks: dict[int, Task]) -> list[Markup]:
         said += f". Its first {CHAIN_ENDS} and its last {CHAIN_ENDS} are shown"
     return [
         figure(said, both(said, boxes, arrows)),
-        plan_table(settled, [tasks[record] for record in drawn], "The chain in words"),
+        plan_table([tasks[record] for record in drawn], "The chain in words"),
     ]
 
 
@@ -208,4 +209,4 @@ def plan_parts(settled: Settled) -> list[Markup]:
     )
     if len(tasks) <= MOST_BOXES:
         return [lead, *whole_plan(settled, tasks)]
-    return [lead, *chain_parts(settled, tasks), *busiest_parts(settled)]
+    return [lead, *chain_parts(tasks), *busiest_parts(settled)]

@@ -12,7 +12,7 @@ from registry_tools.day.pages.html import Cells, Frame, Markup, Table, joined, l
 from registry_tools.day.pages.rulebook import Rulebook
 from registry_tools.day.pending import Waiting
 from registry_tools.day.report import LogRow, Report
-from registry_tools.texts import grouped, words_of
+from registry_tools.texts import grouped, instruction_in_words
 
 Row = TypeVar("Row")
 # In how many rows a table is cut into pages.
@@ -22,8 +22,7 @@ NO_DUE_DAY = "none in the calendar"
 
 def in_words(logged: LogRow) -> str:
     """An instruction in words."""
-    act, *fields = logged.instruction.fields[3:]
-    return words_of(act, fields)
+    return instruction_in_words(logged.instruction)
 
 
 def outcome_in_words(logged: LogRow) -> str:

@@ -10,10 +10,9 @@ from registry_tools.day.pages.html import Cells, Markup, Table, link, paragraph,
 from registry_tools.day.pages.plan import plan_parts
 from registry_tools.day.pages.rulebook import ACTS
 from registry_tools.day.pages.settled import NO_DUE_DAY, LongTable, Settled, count_of, in_words, long_date
-from registry_tools.day.pending import Waiting
 from registry_tools.day.report import LogRow
 from registry_tools.rules import KINDS
-from registry_tools.texts import grouped, words_of
+from registry_tools.texts import grouped, instruction_in_words
 
 # Of a check with more refusals, the page of the day shows the first ones, and pages of their own show all; so of what
 # was done.
@@ -21,6 +20,8 @@ MOST_REFUSED = MOST_DONE = 100
 LOG_COLUMNS = ["Record", "Accounts", "Instruction", "Proposed", "Proposer", "Approver"]
 DONE, DONE_CAPTION = "done.html", "Instructions that were done"
 WAITING, WAITING_COLUMNS = "waiting.html", ["Record", "Instruction", "Proposed", "Due"]
+WAITING_CAPTION = "Instructions that wait for their due day"
+WAY_BACK = "The page of the day"
 ENTERED_AGAIN = "./day next and ./day close enter each of them again on its due day, with its old date of proposal."
 ELSEWHERE = "What waits since earlier days stands in the pending file of ./day next."
 
@@ -127,7 +128,7 @@ def done_pages(settled: Settled, files: dict[str, str], note: str) -> Iterator[t
     """The pages of all instructions that were done, if the page of the day does not show all of them."""
     rows = done_rows(settled)
     if len(rows) > MOST_DONE:
-        first = [paragraph(link(files["day"], "The page of the day"))]
+        first = [paragraph(link(files["day"], WAY_BACK))]
         title = f"Done on {settled.head.date}"
         yield from LongTable(DONE, title, Table(LOG_COLUMNS), DONE_CAPTION, rows, first).pages(settled.frame, note=note)
 
@@ -187,15 +188,8 @@ def waiting_note(settled: Settled) -> str:
 
 def waiting_rows(settled: Settled) -> list[Cells]:
     """The instructions that wait, those first that are due first."""
-    return [
-        (waits.record or "", words_of_waiting(waits), waits.instruction.proposed, waits.due or NO_DUE_DAY)
-        for waits in settled.waiting
-    ]
-
-
-def words_of_waiting(waiting: Waiting) -> str:
-    act, *fields = waiting.instruction.fields[3:]
-    return words_of(act, fields)
+    pairs = ((waits, waits.instruction) for waits in settled.waiting)
+    return [(waits.record or "", instruction_in_words(i), i.proposed, waits.due or NO_DUE_DAY) for waits, i in pairs]
 
 
 def waiting_parts(settled: Settled) -> list[Markup]:
@@ -207,10 +201,11 @@ def waiting_parts(settled: Settled) -> list[Markup]:
                 "No instruction waits." if settled.has_pending else f"No instruction of this day waits. {ELSEWHERE}"
             )
         ]
-    caption, note = "Instructions that wait for their due day", paragraph(waiting_note(settled))
+    note = paragraph(waiting_note(settled))
     if len(rows) <= MOST_REFUSED:
-        return [note, table(caption, WAITING_COLUMNS, rows)]
-    shown = table(f"{caption}: the first {MOST_REFUSED} of {grouped(len(rows))}", WAITING_COLUMNS, rows[:MOST_REFUSED])
+        return [note, table(WAITING_CAPTION, WAITING_COLUMNS, rows)]
+    first = f"{WAITING_CAPTION}: the first {MOST_REFUSED} of {grouped(len(rows))}"
+    shown = table(first, WAITING_COLUMNS, rows[:MOST_REFUSED])
     return [note, shown, paragraph(link(WAITING, f"All {grouped(len(rows))} that wait"))]
 
 
@@ -218,10 +213,9 @@ def waiting_pages(settled: Settled, files: dict[str, str], note: str) -> Iterato
     """The pages of all instructions that wait, if the page of the day does not show all of them."""
     rows = waiting_rows(settled)
     if len(rows) > MOST_REFUSED:
-        first = [paragraph(link(files["day"], "The page of the day")), paragraph(waiting_note(settled))]
+        first = [paragraph(link(files["day"], WAY_BACK)), paragraph(waiting_note(settled))]
         title = f"Waiting after {settled.head.date}"
-        caption = "Instructions that wait for their due day"
-        yield from LongTable(WAITING, title, Table(WAITING_COLUMNS), caption, rows, first).pages(
+        yield from LongTable(WAITING, title, Table(WAITING_COLUMNS), WAITING_CAPTION, rows, first).pages(
             settled.frame, note=note
         )
 
@@ -232,7 +226,7 @@ def refused_pages(settled: Settled, files: dict[str, str], note: str) -> Iterato
         if len(own) > MOST_REFUSED:
             check = settled.rulebook.checks[code]
             rows = [log_row(settled, logged) for logged in own]
-            first = [paragraph(link(f"{files['day']}#refused-{code}", "The page of the day")), *meaning(settled, check)]
+            first = [paragraph(link(f"{files['day']}#refused-{code}", WAY_BACK)), *meaning(settled, check)]
             title = f"Refused as {check.name} on {settled.head.date}"
             own_table = LongTable(
                 refused_page(code), title, Table(LOG_COLUMNS), f"Refused as {check.name}", rows, first

@@ -50,9 +50,7 @@ def name_of(worker: int) -> str:
     return f"worker {worker}"
 
 
-def lanes_parts(
-    settled: Settled, tasks: dict[int, Task], records: list[list[int]], column: dict[int, int]
-) -> Iterator[Markup]:
+def lanes_parts(tasks: dict[int, Task], records: list[list[int]], column: dict[int, int]) -> Iterator[Markup]:
     """The lanes as a picture, with the arrows of the plan, and as a table."""
     boxes = {
         record: box_of(tasks[record].logged, column[record], worker)
@@ -97,6 +95,6 @@ def workers_page(settled: Settled, files: dict[str, str], path: str, note: str) 
     )
     parts = [*shares_parts(tasks, records)] if tasks else []
     if 0 < len(tasks) <= MOST_BOXES:
-        parts += [tag("h2", "Lanes"), *lanes_parts(settled, tasks, records, column)]
+        parts += [tag("h2", "Lanes"), *lanes_parts(tasks, records, column)]
     title = f"Who executed what on {settled.head.date}"
     return settled.frame.page(title, lead, *parts, current=files["workers"], note=note)
