@@ -172,7 +172,7 @@ def run(said: argparse.Namespace) -> int:
     with folder.locked(said.office, "change", who, folder.to_errors) as office:
         handed_in = office.handed_in()
         handed_in.remove_unnamed()
-        composing.last_pair(office)
+        composing.last_day(office)
         date = composing.date_of(None, office, handed_in)
         composed = composing.compose(office, handed_in.until(date), date)
         lags = composed.day(office.next_folder / NEXT).head.lags

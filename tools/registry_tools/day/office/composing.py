@@ -85,11 +85,17 @@ def working_days(office: Office, last: Event, handed_in: HandedIn) -> list[datet
     return sorted({*calendar_of(office, last), *new})
 
 
-def last_pair(office: Office) -> tuple[DayText, Report]:
-    """The last day of a folder, and its report."""
+def last_day(office: Office) -> Event:
+    """The last day of a folder. Ends the command if no day is settled yet."""
     last = office.last()
     if last is None:
         raise WordsFault(f"{office.path} has no settled day yet: ./day init puts another first text there")
+    return last
+
+
+def last_pair(office: Office) -> tuple[DayText, Report]:
+    """The last day of a folder, and its report."""
+    last = last_day(office)
     for fault in office.changed_files(last):
         raise fault
     return read_pair(str(office.file(last, "day")), str(office.file(last, "report")))
@@ -137,9 +143,8 @@ def first_day(first: DayText, handed_in: HandedIn, date: datetime.date) -> NextD
 
 def later_day(office: Office, handed_in: HandedIn, date: datetime.date) -> NextDay:
     """A later day, as `./day next` writes it."""
-    last = office.last()
+    last = last_day(office)
     day, report = last_pair(office)
-    assert last is not None
     if date <= last.date:
         raise WordsFault(f"--date {date} is not later than {last.date}, the last day")
     contents = contents_of(handed_in)
