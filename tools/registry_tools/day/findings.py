@@ -4,7 +4,7 @@ import re
 from dataclasses import dataclass, field
 
 from registry_tools.day.errors import FileFault
-from registry_tools.day.notes import MOST_TOLD
+from registry_tools.day.notes import BY_HAND, MOST_TOLD
 
 # What equal differences may have that is not equal: numbers, and what stands between quotes.
 OWN = re.compile(r"'[^']*'|[0-9]+")
@@ -39,10 +39,10 @@ class Findings:
     def add_by_hand(self, fault: FileFault, agreed_in: str = "") -> None:
         if agreed_in:
             self.agreed += 1
-            self.tell(f"by hand, as {agreed_in} says: ", fault)
+            self.tell(f"{BY_HAND}, as {agreed_in} says: ", fault)
         else:
             self.by_hand += 1
-            self.tell("by hand: ", fault)
+            self.tell(f"{BY_HAND}: ", fault)
 
     def tell(self, start: str, fault: FileFault) -> None:
         parts = (start, str(fault.field), str(fault.found), str(fault.expected))

@@ -28,7 +28,7 @@ from registry_tools.day.by_hand import refusals
 from registry_tools.day.day_text import DayText, read_blocks, read_rows_of
 from registry_tools.day.due import NOT_DUE, due_day_after, is_due
 from registry_tools.day.errors import FOUND, FileFault, RowFault, WordsFault
-from registry_tools.day.notes import Notes
+from registry_tools.day.notes import BY_HAND, ROW, Notes
 from registry_tools.day.options import add_to
 from registry_tools.day.output import NewFile, write_answer
 from registry_tools.day.pairs import read_pair
@@ -164,12 +164,12 @@ def tell_change(report: Report, old: Block | None, new: Block, notes: Notes) -> 
     """Tells what a block of the changes changes, row by row."""
     where = f"{new.source.path}:{new.line}"
     if old is None:
-        notes.add(f"by hand: {where}: account {new.number} is new")
+        notes.add(f"{BY_HAND}: {where}: account {new.number} is new")
     elif old.rows == new.rows:
-        notes.add(f"by hand: {where}: account {new.number} stays as it is")
+        notes.add(f"{BY_HAND}: {where}: account {new.number} stays as it is")
     else:
-        notes.add(f"by hand: {where}: account {new.number}, which stands in {report.path}:{old.line}")
-        notes.lines += [f"  {change.words}" for change in hand_changes.of_rows(new.number, old.rows, new.rows)]
+        notes.add(f"{BY_HAND}: {where}: account {new.number}, which stands in {report.path}:{old.line}")
+        notes.lines += [f"{ROW}{change.words}" for change in hand_changes.of_rows(new.number, old.rows, new.rows)]
 
 
 # The instructions.

@@ -3,6 +3,8 @@ from typing import Iterable
 
 # Of more lines about the same thing the first ones are told, and the others counted.
 MOST_TOLD = 3
+# How a line begins that somebody has to look at, and one that tells a change by hand. Its rows stand behind it.
+LOOK, BY_HAND, ROW = "LOOK AT THIS", "by hand", "  "
 
 
 def first_ones(lines: Iterable[str], more: str) -> list[str]:
@@ -10,6 +12,11 @@ def first_ones(lines: Iterable[str], more: str) -> list[str]:
     every = [*lines]
     left = len(every) - MOST_TOLD
     return every if left <= 0 else [*every[:MOST_TOLD], f"and {left:,} more {more}"]
+
+
+def worth_telling(lines: Iterable[str]) -> list[str]:
+    """Of the lines about a text, those that whoever settles it has to know."""
+    return [line for line in lines if line.startswith((LOOK, BY_HAND, ROW))]
 
 
 class Notes:
@@ -25,5 +32,5 @@ class Notes:
 
     def warn(self, *lines: str) -> None:
         for line in lines:
-            self.lines.append(f"LOOK AT THIS: {line}")
+            self.lines.append(f"{LOOK}: {line}")
             self.has_warnings = True

@@ -22,7 +22,7 @@ from registry_tools import faults
 from registry_tools.day import next as next_day
 from registry_tools.day.accounts import Block
 from registry_tools.day.errors import FOUND, WordsFault
-from registry_tools.day.notes import Notes
+from registry_tools.day.notes import LOOK, Notes
 from registry_tools.day.office import composing, edits, folder, handed, words
 from registry_tools.day.office.composing import NextDay
 from registry_tools.day.office.edits import ADD, DROP, OPEN, PUT, Edit
@@ -222,7 +222,7 @@ def show(
         if not differences:
             raise WordsFault(NOTHING)
         print("\n".join(differences))
-        new = [note for note in changed.notes if note.startswith("LOOK AT THIS") and note not in composed.notes]
+        new = [note for note in changed.notes if note.startswith(LOOK) and note not in composed.notes]
         print("".join(f"{note}\n" for note in new), end="")
         if counts:
             handed_in.keep()

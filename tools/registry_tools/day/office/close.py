@@ -27,6 +27,7 @@ from registry_tools.day.compliance import COMPLIANT, last_year_over, standings
 from registry_tools.day.day_text import DayText
 from registry_tools.day.due import NOT_DUE
 from registry_tools.day.errors import WordsFault
+from registry_tools.day.notes import LOOK, worth_telling
 from registry_tools.day.office import composing, files, folder, handed, journal, settling, words
 from registry_tools.day.office.composing import NextDay
 from registry_tools.day.office.folder import Change, Office
@@ -85,7 +86,7 @@ def left_for_later(handed_in: HandedIn, date: datetime.date) -> list[str]:
     if not items:
         return []
     first = min(item.part.day for item in items if item.part.day)
-    return [f"LOOK AT THIS: not in this day, and handed in for {first} or later: {len(items)}; ./day status shows them"]
+    return [f"{LOOK}: not in this day, and handed in for {first} or later: {len(items)}; ./day status shows them"]
 
 
 def settle(office: Office, composed: NextDay, by_second: bool) -> Settled:
@@ -159,7 +160,7 @@ def summary(settled: Settled, by_second: bool) -> list[str]:
     for logged in report.log:
         if not logged.is_done and logged.name != NOT_DUE:
             refused[logged.name] = refused.get(logged.name, 0) + 1
-    lines = [note for note in settled.composed.notes if note.startswith(("LOOK AT THIS", "by hand", "  "))]
+    lines = worth_telling(settled.composed.notes)
     first, last = day.head.next_record, report.next_record - 1
     records = "no records" if first > last else f"record {first}" if first == last else f"records {first} to {last}"
     how = " by the second answer" if by_second else ""

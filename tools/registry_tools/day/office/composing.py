@@ -22,7 +22,7 @@ from registry_tools.day.office.folder import Office
 from registry_tools.day.office.journal import Event
 from registry_tools.day.office.edits import Edit
 from registry_tools.day.office.handed import CHANGES, DO, EDITS, FIRST, WORK, HandedIn, Item
-from registry_tools.day.notes import Notes
+from registry_tools.day.notes import BY_HAND, Notes
 from registry_tools.day.pairs import read_pair
 from registry_tools.day.repeated import tell_dates
 from registry_tools.day.report import Report
@@ -206,7 +206,7 @@ def later_text(
     with edited_changes(made, report, paths[CHANGES], work) as changes:
         book = next_day.book_with_changes(day, report, changes, notes, head.periods)
     notes.lines += [
-        f"by hand: the rules: {difference}"
+        f"{BY_HAND}: the rules: {difference}"
         for difference in edits.differences(day.heading, heading)
         if not difference[2:].startswith(("day,", "work,"))
     ]

@@ -7,6 +7,7 @@ from typing import Iterator
 from registry_tools import texts
 from registry_tools.day import hand_changes
 from registry_tools.day.errors import WordsFault
+from registry_tools.day.notes import BY_HAND
 from registry_tools.day.office import past, showing
 from registry_tools.day.office.past import PastDay
 from registry_tools.day.office.showing import Cell
@@ -14,7 +15,6 @@ from registry_tools.day.office.showing import Cell
 EXAMPLE = "./day history 100377 --office out/office"
 COLUMNS = ("date", "record", "what", "outcome", "general", "aviation")
 NUMBERS = {"record", "general", "aviation"}
-BY_HAND = "by hand"
 
 
 def add_words(parser: argparse.ArgumentParser) -> None:

@@ -13,6 +13,7 @@ from typing import Iterator
 
 from registry_tools.day import weekdays
 from registry_tools.day.errors import FOUND, FileFault
+from registry_tools.day.notes import LOOK
 from registry_tools.day.office import composing, folder, lock, showing, words
 from registry_tools.day.office.folder import Office
 from registry_tools.day.office.handed import KINDS, HandedIn, Item
@@ -51,7 +52,7 @@ def run(said: argparse.Namespace) -> int:
     lines = [*last_lines(office), *waiting_lines(office), *handed_lines(handed_in), *lock_lines(office)]
     bold, red, plain = (BOLD, RED, PLAIN) if is_coloured() and said.to is None else ("", "", "")
     told = [f"{bold}{name}:{plain} {what}" if name else f"  {what}" for name, what in lines]
-    told += [f"{red}LOOK AT THIS:{plain} {fault}" for fault in faults]
+    told += [f"{red}{LOOK}:{plain} {fault}" for fault in faults]
     write_answer("\n".join([*told, ""]), said.to)
     return FOUND if faults else 0
 

@@ -18,6 +18,7 @@ from registry_tools.day.checks import advice_for, checks
 from registry_tools.day.day_text import DayText
 from registry_tools.day.due import NOT_DUE
 from registry_tools.day.errors import FOUND, FileFault
+from registry_tools.day.notes import LOOK, worth_telling
 from registry_tools.day.office import composing, files, folder, handed, words
 from registry_tools.day.office.composing import NextDay
 from registry_tools.day.settling import NotSettled, find_library
@@ -92,9 +93,8 @@ def tell(looked: list[Looked], next_day: NextDay, places: set[int] | None = None
     status."""
     shown = [tried for tried in looked if places is None or tried.place in places]
     refused = [tried for tried in shown if tried.is_refused]
-    for note in next_day.notes:
-        if note.startswith(("LOOK AT THIS", "by hand", "  ")):
-            print(note)
+    for note in worth_telling(next_day.notes):
+        print(note)
     if any(tried.outcome != "done" for tried in shown):
         print("\n".join(table_of([tried for tried in shown if tried.outcome != "done"])))
     for name in dict.fromkeys(tried.outcome for tried in refused):
@@ -142,11 +142,11 @@ def ask_library(next_day: NextDay, looked: list[Looked]) -> int:
     try:
         rows = library.log(next_day.text)
     except NotSettled as fault:
-        print(f"LOOK AT THIS: {fault}")
+        print(f"{LOOK}: {fault}")
         return FOUND
     pairs = itertools.zip_longest((tried.log_row for tried in looked), rows, fillvalue="no row")
     differences = [
-        f"LOOK AT THIS: the library says {row}; expected {expected}" for expected, row in pairs if row != expected
+        f"{LOOK}: the library says {row}; expected {expected}" for expected, row in pairs if row != expected
     ]
     more = len(differences) - MOST_SHOWN
     for line in [*differences[:MOST_SHOWN], *([f"and {more} more"] if more > 0 else [])]:
