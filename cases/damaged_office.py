@@ -62,6 +62,7 @@ def damaged_trials(work: Path) -> Iterator[Trial]:
     yield from name_trials(work)
     yield from long_journal_trials(work)
     yield "a look at the lock", looked_at_fault(work)
+    yield from later_day_trials(work)
 
 
 def strange_day_trials(work: Path) -> Iterator[Trial]:
@@ -251,3 +252,15 @@ def looked_at_fault(work: Path) -> object:
 
     with mock.patch.object(time, "sleep", pass_time):
         return told(0, ["2025-03-31 is released"], "release", "--why", "it was sent", *own)
+
+
+def later_day_trials(work: Path) -> Iterator[Trial]:
+    """Questions about later days read only these, and the day before them."""
+    office, own = two_days(work, "later")
+    must_do([*CLOSE, "2025-04-02", *own], [*CLOSE, "2025-04-03", *own])
+    (office / "days" / "2025-03-31" / "report.csv.gz").write_bytes(b"")
+    yield "find over all days", told(3, ["2025-03-31/report.csv.gz:1: book"], "find", "--account", 1, *own)
+    yield "find from a later day", told(1, ["outcome  status"], "find", "--from", "2025-04-02", *own)
+    month = ["month", office / "month.html", "--from", "2025-04-02"]
+    yield "month from a later day", told(0, ["days 2"], *month, *own)
+    yield "month from the day behind it", told(3, ["2025-03-31/report.csv.gz:1: book"], *month[:-1], DAY, *own)

@@ -3,7 +3,7 @@ import re
 from collections import deque
 from collections.abc import Iterable
 
-LANE = re.compile(r"([0-9]+):((?: [0-9]+)*) *")
+LANE = re.compile(r"([0-9]{1,20}):((?: [0-9]{1,20})*) *")
 
 
 class LanesFault(ValueError):

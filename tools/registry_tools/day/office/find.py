@@ -52,7 +52,7 @@ def run(said: argparse.Namespace) -> int:
     begin = past.date_of("--from", said.begin, datetime.date.min)
     end = past.date_of("--to", said.end, datetime.date.max)
     rows: list[list[Cell]] = []
-    for past_day in past.read_all(past.paths_of(said)):
+    for past_day in past.read_all(past.paths_of(said, begin, end)):
         if begin <= past_day.date <= end:
             rows += rows_of_day(said, past_day)
     showing.show(said, COLUMNS, rows, NUMBERS)

@@ -1,6 +1,7 @@
 """The days of the past, one after another: those of a folder, or pairs of paths. All commands that ask over years read
 by this module."""
 import argparse
+import bisect
 import datetime
 from dataclasses import dataclass
 from typing import Iterator
@@ -47,15 +48,21 @@ def add_words(parser: argparse.ArgumentParser) -> None:
     )
 
 
-def paths_of(said: argparse.Namespace) -> list[tuple[str, str]]:
-    """The paths of the days, by rising date."""
+def paths_of(
+    said: argparse.Namespace, begin: datetime.date = datetime.date.min, end: datetime.date = datetime.date.max
+) -> list[tuple[str, str]]:
+    """The paths of the days, by rising date. Of a folder, whose dates are known, those from `begin` to `end` and the
+    one before them, from which what people changed is seen."""
     words.look_at_places(said)
     if said.pairs:
         if len(said.pairs) % 2:
             raise WordsFault(f"--pairs has {len(said.pairs)} files: each DAY needs its REPORT behind it")
         return [*zip(said.pairs[::2], said.pairs[1::2])]
     office = folder.opened(said.office, folder.to_errors)
-    return [(str(office.file(event, "day")), str(office.file(event, "report"))) for event in office.journal.filed()]
+    filed = office.journal.filed()
+    known = [event.date for event in filed]
+    asked = filed[max(bisect.bisect_left(known, begin) - 1, 0) : bisect.bisect_right(known, end)]
+    return [(str(office.file(event, "day")), str(office.file(event, "report"))) for event in asked]
 
 
 def read_all(paths: list[tuple[str, str]]) -> Iterator[PastDay]:
