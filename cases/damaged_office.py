@@ -63,6 +63,7 @@ def damaged_trials(work: Path) -> Iterator[Trial]:
     yield from long_journal_trials(work)
     yield "a look at the lock", looked_at_fault(work)
     yield from later_day_trials(work)
+    yield from audited_trials(work)
 
 
 def strange_day_trials(work: Path) -> Iterator[Trial]:
@@ -264,3 +265,28 @@ def later_day_trials(work: Path) -> Iterator[Trial]:
     month = ["month", office / "month.html", "--from", "2025-04-02"]
     yield "month from a later day", told(0, ["days 2"], *month, *own)
     yield "month from the day behind it", told(3, ["2025-03-31/report.csv.gz:1: book"], *month[:-1], DAY, *own)
+
+
+def audited_trials(work: Path) -> Iterator[Trial]:
+    """An audit goes on behind files of changes that no command has written, and tells which row it is."""
+    office, own = new_office(work, "audited")
+    new = work / "account-11.csv"
+    new.write_text("account,11,trading,78,open,no,no,0,0,0\nuser,101,both\n")
+    change = ["change", "2", "--outside", "yes", "--why", "a letter", "--yes"]
+    must_do(["hand-in", str(new), *own], [*change, *own], [*CLOSE, DAY, *own])
+    for name, content, told_so in (
+        ("edits.csv", "account,2,put,OUTSIDE", "edits.csv:1: row: found"),
+        ("edits.csv", "account,2,put,outside,yes", "edits.csv:1: row: found"),
+        ("edits.csv", "account,2,drop,user", "edits.csv:1: row: found"),
+        ("edits.csv", "account,2,add,work,2025-04-01", "edits.csv:1: row: found"),
+        ("edits.csv", "rules,add,admin,x", "edits.csv:1: row: found"),
+        ("edits.csv", "account,2,drop,user,999", f"{DAY}: account 2 has no row user,999"),
+        ("changes.csv", "user,101,both", "changes.csv:1: row: found"),
+        ("changes.csv", "account,x,trading,78,open,no,no,0,0,0", "changes.csv:1: row: found"),
+    ):
+        path = office / "days" / DAY / name
+        before = path.read_bytes()
+        path.write_text(f"{content}\n")
+        yield f"audit of {content}", told(1, [f"{name}: SHA-256: found", told_so, ": 2 differences"], "audit", *own)
+        path.write_bytes(before)
+    yield "audit of what it was", told(0, [": 0 differences"], "audit", *own)

@@ -22,7 +22,7 @@ from pathlib import Path
 from typing import Iterator
 
 from registry_tools.day.day_text import DayText, read_day
-from registry_tools.day.errors import FOUND, FileFault, shown
+from registry_tools.day.errors import FOUND, FileFault, WordsFault, shown
 from registry_tools.day.follows import differences
 from registry_tools.day.office import composing, files, folder, handed, journal, past, settling, showing, words
 from registry_tools.day.office.composing import NextDay
@@ -192,7 +192,10 @@ def later_again(office: Office, event: Event, before: tuple[Event, DayText, Repo
     assert before is not None
     last, day, report = before
     paths = {kind: path_of_rows(office.file(event, kind)) for kind in composing.MERGED}
-    return composing.later_text(day, report, event.date, paths, str(office.file(last, "waiting")))
+    try:
+        return composing.later_text(day, report, event.date, paths, str(office.file(last, "waiting")))
+    except WordsFault as fault:
+        raise FileFault(office.day_folder(event.date), 0, "", str(fault), "") from None
 
 
 def path_of_rows(path: Path) -> str | None:

@@ -37,6 +37,10 @@ WHAT = {
 }  # fmt: skip
 
 
+# How a row begins behind which the rows of an account stand.
+ACCOUNT = re.compile("account,([0-9]{1,9}),")
+
+
 @dataclass
 class NextDay:
     """The next day as it stands: its text, what waits behind it, and what is to be told."""
@@ -250,9 +254,24 @@ def edits_in(path: str | None) -> list[Edit]:
     for line, row in enumerate(rows_in(path), 1):
         try:
             made.append(edits.edit_of(row))
+            edits.must_be_readable(made[-1])
         except WordsFault:
             raise FileFault(str(path), line, "row", shown(row), "a change by hand, as ./day change writes it") from None
     return made
+
+
+def blocks_in(path: str | None) -> dict[int, list[str]]:
+    """The rows of each account of a file of accounts, which need not rise."""
+    blocks: dict[int, list[str]] = {}
+    own: list[str] | None = None
+    for line, row in enumerate(rows_in(path), 1):
+        begins = ACCOUNT.match(row)
+        if begins:
+            own = blocks[int(begins[1])] = []
+        if own is None or (row.startswith("account,") and not begins):
+            raise FileFault(str(path), line, "row", shown(row), "accounts, as they were handed in")
+        own.append(row)
+    return blocks
 
 
 @contextlib.contextmanager
@@ -261,16 +280,10 @@ def edited_changes(
 ) -> Iterator[str | None]:
     """A file of the accounts that are changed by hand: by whole blocks, and by differences. Without differences, the
     file of blocks, if its accounts rise."""
-    numbers = [int(row.split(",")[1]) for row in rows_in(path) if row.startswith("account,")]
-    if not any(edit.number for edit in made) and numbers == sorted(numbers):
+    blocks = blocks_in(path)
+    if not any(edit.number for edit in made) and [*blocks] == sorted(blocks):
         yield path
         return
-    blocks: dict[int, list[str]] = {}
-    for row in rows_in(path):
-        if row.startswith("account,"):
-            blocks[int(row.split(",")[1])] = []
-        if row != "end":
-            blocks[next(reversed(blocks))].append(row)
     changed = edits.edited_blocks(made, report, blocks)
     with tempfile.TemporaryDirectory(dir=work) as inner:
         yield written(

@@ -74,13 +74,16 @@ def must_be_readable(edit: Edit) -> None:
         fields = [ACCOUNT_FIELDS["KIND"], ACCOUNT_FIELDS["HOLDER"]]
         words: tuple[str, ...] = edit.words
     elif edit.how == PUT and edit.number:
-        fields, words = [ACCOUNT_FIELDS[edit.words[0]]], edit.words[1:]
+        name, words = edit.words[0], edit.words[1:]
+        if name not in ACCOUNT_FIELDS:
+            raise WordsFault(f"no account has a field {name}")
+        fields = [ACCOUNT_FIELDS[name]]
     else:
         tag, words = edit.words[0], edit.words[1:]
-        if tag not in FIELDS:
+        if tag not in (faults.BLOCK[1:] if edit.number else FIELDS):
             raise WordsFault(f"there are no rows {tag} that can be changed by hand")
         # (of a row that is left out, the first field is enough)
-        fields = FIELDS[tag][: len(words)] if edit.how == DROP and edit.number else FIELDS[tag]
+        fields = FIELDS[tag][: max(len(words), 1)] if edit.how == DROP and edit.number else FIELDS[tag]
     if len(fields) != len(words):
         raise WordsFault(
             f"{edit.row()} has {len(words)} fields where {len(fields)} are wanted: "
