@@ -130,7 +130,7 @@ def main(arguments: list[str]) -> int:
     if arguments[:1] in (["-h"], ["--help"]):
         return streams.write("./day", help_text(), NOT_WRITTEN)
     if arguments[:1] in (["-V"], ["--version"]):
-        return streams.write("./day", f"./day of {VERSION.read_text()}", NOT_WRITTEN)
+        return streams.write("./day", f"./day of {VERSION.read_text(encoding='utf-8')}", NOT_WRITTEN)
     if not arguments:
         print(help_text(), end="", file=sys.stderr)
         return 2

@@ -12,6 +12,8 @@ USER, HOLDER = "user", "holder"
 FILE = "labels.csv"
 # A byte that is no UTF-8, as it is read: the pages in which a name stands are UTF-8.
 NO_UTF_8 = re.compile("[\udc80-\udcff]")
+# A number as texts spell it: the name of another spelling would stand nowhere.
+NUMBER = re.compile("[1-9][0-9]{0,8}")
 
 
 @dataclass
@@ -45,7 +47,8 @@ def read(path: str | Path) -> Labels:
         fields = source.fields(index)
         if NO_UTF_8.search(source.rows[index]):
             raise source.fault(index, "row", shown(",".join(fields)), "UTF-8")
-        if len(fields) != 3 or fields[0] not in (USER, HOLDER) or not fields[1].isdigit() or not fields[2].strip():
+        is_so = len(fields) == 3 and fields[0] in (USER, HOLDER) and NUMBER.fullmatch(fields[1])
+        if not is_so or not fields[2].strip():
             raise source.fault(index, "row", shown(",".join(fields)), "user,NUMBER,NAME or holder,NUMBER,NAME")
         names = labels.users if fields[0] == USER else labels.holders
         names[fields[1]] = fields[2]
