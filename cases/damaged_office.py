@@ -5,9 +5,13 @@ import os
 import shutil
 from pathlib import Path
 from typing import Callable, Iterator
+from unittest import mock
 
 from harness import Said
 from offices import FIRST, must_do, new_office, told
+
+from registry_tools.day import main
+from registry_tools.day.office import audit, folder
 
 ROW = "do,2025-04-01,101,102,transfer,1,2,general,{}\n"
 DAY = "2025-04-01"
@@ -51,6 +55,10 @@ def damaged_trials(work: Path) -> Iterator[Trial]:
     yield from target_trials(work)
     yield from message_trials(work)
     yield from settings_trials(work)
+    yield from missing_trials(work)
+    yield from interrupted_trials(work)
+    yield from name_trials(work)
+    yield from journal_trials(work)
 
 
 def strange_day_trials(work: Path) -> Iterator[Trial]:
@@ -190,3 +198,83 @@ def settings_trials(work: Path) -> Iterator[Trial]:
     yield "something more that waits", told(1, ["waits.csv:2: row: found", f"by the day {DAY}"], "audit", *own)
     waits.unlink()
     yield "nothing that waits", told(1, ["waits.csv: it cannot be read"], "audit", *own)
+
+
+def missing_trials(work: Path) -> Iterator[Trial]:
+    """Files and whole days that are gone are differences like others: audit tells each once and goes on, and status
+    tells them too."""
+    office, own = two_days(work, "missing")
+    gone, kept = office / "days" / "2025-03-31", work / "kept"
+    gone.rename(kept)
+    has = [f"{gone}: found no folder; expected the files of a day", "pairs read 1: 1 differences"]
+    yield "audit of a day that is gone", unchanged(office, 1, has, "audit", *own)
+    yield "audit of it as JSON", unchanged(office, 1, ['"found": "no folder"'], "audit", "--json", *own)
+    kept.rename(gone)
+    days = office / "days"
+    days.rename(kept)
+    has = [f"{days}: it cannot be read", "pairs read 0: 3 differences"]
+    yield "audit without days", unchanged(office, 1, has, "audit", *own)
+    kept.rename(days)
+    for name in ("day.csv.gz", "report.csv.gz", "edits.csv"):
+        path = office / "days" / DAY / name
+        content = path.read_bytes()
+        path.unlink()
+        has = [f"{path}: it cannot be read: No such file"]
+        yield f"audit without {name}", unchanged(office, 1, [*has, ": 1 differences"], "audit", *own)
+        yield f"status without {name}", unchanged(office, 1, ["last day: ", *has], "status", *own)
+        yield f"status as csv without {name}", unchanged(office, 1, ["fault,", *has], "status", "--csv", *own)
+        yield f"release without {name}", unchanged(office, 3, has, "release", "--why", "sent", *own)
+        path.write_bytes(content)
+
+
+def interrupted_trials(work: Path) -> Iterator[Trial]:
+    """An audit ends what an interrupted command began, as any other command does; and of what another one changes
+    meanwhile it says so."""
+    office, own = new_office(work, "interrupted")
+    with mock.patch.object(folder, "carry_out", side_effect=KeyboardInterrupt):
+        status = main.main([*CLOSE, DAY, *own])
+    yield "close that is interrupted", None if status == 130 and (office / "prepared").is_dir() else status
+    has = [f"{DAY} is filed, and all is in its place now", "days 2, pairs read 2: 0 differences"]
+    yield "audit behind it", told(0, has, "audit", *own)
+    look = audit.look_at_files
+
+    def meanwhile(seen: audit.Audit) -> None:
+        must_do([*CLOSE, "2025-04-02", *own])
+        look(seen)
+
+    has = ["days/2025-04-02: found something that the journal does not name", "LOOK AT THIS: another command changed"]
+    with mock.patch.object(audit, "look_at_files", meanwhile):
+        yield "audit while a day is closed", told(1, has, "audit", *own)
+    yield "audit again", told(0, [": 0 differences"], "audit", *own)
+
+
+def name_trials(work: Path) -> Iterator[Trial]:
+    """Names of files that have line ends, or what other readers take for them, do no harm to a folder."""
+    for number, name in enumerate(("a\nb.csv", "a\r\nb.csv", "a\rb.csv", "a\u2028b.csv", "a\x85b.csv", 'a\v",b.csv')):
+        path, office = work / name, work / f"named-{number}"
+        path.write_bytes(FIRST.read_bytes())
+        own = ["--office", str(office)]
+        must_do(["init", str(office), str(path)], ["close", "--date", "2025-03-31", "--second", *own])
+        path.write_text(ROW.format(7))
+        must_do(["hand-in", str(path), *own], [*CLOSE, DAY, *own], [*UNDO, *own], ["status", *own], [*CLOSE, DAY, *own])
+        yield f"a file {name!r}", told(0, [": 0 differences"], "audit", *own)
+
+
+def journal_trials(work: Path) -> Iterator[Trial]:
+    """The journal of what was handed in, which somebody edited: nothing is lost, or kept so that no undo reads it."""
+    office, own = new_office(work, "edited")
+    rows = work / "edited.csv"
+    rows.write_text(ROW.format(7))
+    must_do(["hand-in", str(rows), *own])
+    path = office / "next" / "journal.csv"
+    content = path.read_bytes()
+    for old, new, has in (
+        (b",do,1,1,", b",dog,1,1,", "journal.csv:2: row: found 'handed,"),
+        (b",0001-do.csv,", b",mine.csv,", "journal.csv:2: row: found 'handed,"),
+        (b",do,1,1,", b",work,1,1,", "journal.csv: COUNT: found 1 for 0001-do.csv; expected 0"),
+        (b",do,1,1,", b",do,1,7,", "journal.csv: COUNT: found 7 for 0001-do.csv; expected 1"),
+    ):
+        path.write_bytes(content.replace(old, new))
+        for words in (["status"], [*CLOSE, DAY]):
+            yield f"{words[0]} behind {new.decode()}", unchanged(office, 3, [has], *words, *own)
+        yield f"audit behind {new.decode()}", unchanged(office, 1, [has], "audit", *own)

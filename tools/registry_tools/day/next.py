@@ -90,17 +90,18 @@ def calendar_of(day: DayText, path: str | None, notes: Notes) -> list[datetime.d
 MORE_WORK = "add work rows (./day next --work, ./day hand-in)"
 
 
-def look_at_calendar(head: rules.Day, book: dict[int, Block], notes: Notes) -> None:
-    """Warns where the calendar is too short for what may be proposed or done on the day."""
+def look_at_calendar(head: rules.Day, book: dict[int, Block], notes: Notes, more: str = MORE_WORK) -> None:
+    """Warns where the calendar is too short for what may be proposed or done on the day; `more` says how it gets more
+    days."""
     last = head.working_days[-1] if head.working_days else None
     end = f"the calendar ends on {last}" if last else "the calendar is empty"
     lag, name = max((head.lags[key], name) for key, name in LAGS.items())
     if head.due(head.date, lag) is None:
-        notes.warn(f"{end}, before the due day of {head.date} with the lag {name} of {lag}: {MORE_WORK}")
+        notes.warn(f"{end}, before the due day of {head.date} with the lag {name} of {lag}: {more}")
     window = head.lags["reversal"]
     if head.due(head.date, window) is None:
         window_ends = f"the window REVERSAL of {window} working days from {head.date} is over"
-        notes.warn(f"{end}, before {window_ends}: {MORE_WORK}")
+        notes.warn(f"{end}, before {window_ends}: {more}")
     begins_late(head, book, notes)
 
 
@@ -256,10 +257,15 @@ def in_order(first: str, second: str, notes: Notes) -> tuple[str, str]:
     return first, second
 
 
-def about_date(before: DayText, head: rules.Day) -> Iterator[str]:
-    """Tells if the day is no working day, and which working days lie between."""
+def about_weekday(head: rules.Day) -> Iterator[str]:
+    """Tells if the day is no working day."""
     if head.date not in head.working_days:
         yield f"{head.date:%A} {head.date} is no working day by the calendar"
+
+
+def about_date(before: DayText, head: rules.Day) -> Iterator[str]:
+    """Tells if the day is no working day, and which working days lie between."""
+    yield from about_weekday(head)
     between = [skipped for skipped in head.working_days if before.head.date < skipped < head.date]
     if between:
         yield f"working days that have no text: {weekdays.in_words(between)}"

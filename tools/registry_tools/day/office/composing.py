@@ -75,8 +75,13 @@ def date_of(word: str | None, office: Office, handed_in: HandedIn) -> datetime.d
     if undone:
         return min(undone)
     later = [date for date in working_days(office, last, handed_in) if date > last.date]
+    if later:
+        return later[0]
     # (behind the end of the calendar, the next day serves to show what would come of it)
-    return later[0] if later else last.date + datetime.timedelta(1)
+    following = last.date + datetime.timedelta(1)
+    if following.year > faults.LAST_YEAR:
+        raise WordsFault(f"{last.date} is settled, and no text has a later date: {office.path} has no next day")
+    return following
 
 
 def working_days(office: Office, last: Event, handed_in: HandedIn) -> list[datetime.date]:
@@ -131,8 +136,21 @@ def first_day(first: DayText, handed_in: HandedIn, date: datetime.date) -> NextD
             )
     new = [*handed_in.items(DO)]
     rows = [*first.source.rows[:-1], *(row for item in new for row in item.rows), "end"]
-    items = [*handed_in.items(FIRST), *new]
-    return NextDay(date, first.head.next_record, handed.text_of_rows(rows), [], [], items, contents_of(handed_in))
+    items, notes = [*handed_in.items(FIRST), *new], [*about_first(first, new)]
+    text = handed.text_of_rows(rows)
+    return NextDay(date, first.head.next_record, text, [], [], items, contents_of(handed_in), notes)
+
+
+def about_first(first: DayText, new: list[Item]) -> Iterator[str]:
+    """What is to be told of the first day, as of a later one: of its date, its calendar, and what was handed in."""
+    notes = Notes()
+    notes.warn(*next_day.about_weekday(first.head))
+    next_day.look_at_calendar(first.head, first.book, notes, "./day init takes a first text with more work rows")
+    for name, items in itertools.groupby(new, lambda item: item.part.name):
+        own = [*items]
+        rows = [row for item in own for row in item.rows], [line for item in own for line in item.lines]
+        tell_dates(Rows(name, *rows), first.head, notes)
+    yield from notes.lines
 
 
 def later_day(office: Office, handed_in: HandedIn, date: datetime.date) -> NextDay:
