@@ -109,14 +109,14 @@ def account_of(said: argparse.Namespace) -> int:
     """The account that is changed: the named one, or the only one that is opened; 0 if there is none."""
     if said.account is None and len(said.open_account) == 1:
         return opened(said.open_account[0]).number
-    return int(said.account or 0)
+    return 0 if said.account is None else edits.number_of(str(said.account))
 
 
 def opened(word: str) -> Edit:
     number, *rest = word.split(",")
-    if len(rest) != 2 or not number.isdigit():
+    if len(rest) != 2:
         raise WordsFault(f"--open-account {word}: NUMBER,KIND,HOLDER")
-    return Edit(int(number), OPEN, tuple(rest))
+    return Edit(edits.number_of(number), OPEN, tuple(rest))
 
 
 def rule_edits(said: argparse.Namespace, lags: dict[str, int]) -> Iterator[Edit]:

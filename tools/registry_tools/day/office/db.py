@@ -6,6 +6,7 @@ database with other days is refused. Nothing of it is changed if something is wr
 """
 import argparse
 import datetime
+import os
 import sqlite3
 from pathlib import Path
 from typing import Iterator
@@ -38,13 +39,11 @@ def run(said: argparse.Namespace) -> int:
             added = fill(database, said.file, paths, is_new)
         finally:
             database.close()
-    except sqlite3.Error as error:
+    except BaseException as error:
         if is_new:
-            Path(said.file).unlink(missing_ok=True)
-        raise FileFault(said.file, 0, "", f"this database cannot be written: {error}", "") from None
-    except FileFault:
-        if is_new:
-            Path(said.file).unlink(missing_ok=True)
+            Path(os.path.realpath(said.file)).unlink(missing_ok=True)
+        if isinstance(error, sqlite3.Error):
+            raise FileFault(said.file, 0, "", f"this database cannot be written: {error}", "") from None
         raise
     print(f"{said.file}: days {len(paths)}, of which {added} are new")
     return 0
@@ -56,6 +55,8 @@ def fill(database: sqlite3.Connection, path: str, paths: list[tuple[str, str]], 
     if is_new:
         # (each statement of a script ends a transaction, so a schema comes first)
         database.executescript(SCHEMA.read_text(encoding="utf-8"))
+    elif not database.execute("SELECT 1 FROM sqlite_master WHERE type = 'table' AND name = 'days'").fetchone():
+        raise FileFault(path, 0, "", "a file that ./day db has not made", "one that it has made, or no such file")
     database.execute("BEGIN IMMEDIATE")
     there = database.execute("SELECT date, day_sum, report_sum FROM days ORDER BY date").fetchall()
     compare(path, there, paths)

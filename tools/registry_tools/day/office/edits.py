@@ -9,7 +9,7 @@
 
 A difference stays right if the day before it is undone and closed again: it is laid over what that day then leaves.
 """
-from typing import Iterable, NamedTuple
+from typing import Any, Iterable, NamedTuple
 
 from registry_tools import faults, rules
 from registry_tools.day.errors import WordsFault, shown
@@ -74,10 +74,20 @@ def must_be_readable(edit: Edit) -> None:
             f"{', '.join(field.name for field in fields)}"
         )
     for field, word in zip(fields, words):
-        try:
-            field.read(word)
-        except faults.Fault:
-            raise WordsFault(f"{field.name}: found {shown(word)}; expected {field.expected}") from None
+        read(field, word)
+
+
+def read(field: faults.Field, word: str) -> Any:
+    """What a word says as a field. Ends the command if it is no such field."""
+    try:
+        return field.read(word)
+    except faults.Fault:
+        raise WordsFault(f"{field.name}: found {shown(word)}; expected {field.expected}") from None
+
+
+def number_of(word: str) -> int:
+    """The number of an account that a word says."""
+    return int(read(ACCOUNT_FIELDS["NO"], word))
 
 
 # Accounts.

@@ -10,6 +10,7 @@ from registry_tools.day.rows import rows_of
 
 USER, HOLDER = "user", "holder"
 FILE = "labels.csv"
+NUMBER = re.compile("[1-9][0-9]*")
 # A byte that is no UTF-8, as it is read: the pages in which a name stands are UTF-8.
 NO_UTF_8 = re.compile("[\udc80-\udcff]")
 
@@ -45,8 +46,14 @@ def read(path: str | Path) -> Labels:
         fields = source.fields(index)
         if NO_UTF_8.search(source.rows[index]):
             raise source.fault(index, "row", shown(",".join(fields)), "UTF-8")
-        if len(fields) != 3 or fields[0] not in (USER, HOLDER) or not fields[1].isdigit() or not fields[2].strip():
+        if len(fields) != 3 or fields[0] not in (USER, HOLDER) or not fields[2].strip():
             raise source.fault(index, "row", shown(",".join(fields)), "user,NUMBER,NAME or holder,NUMBER,NAME")
-        names = labels.users if fields[0] == USER else labels.holders
-        names[fields[1]] = fields[2]
+        number, names = fields[1], labels.users if fields[0] == USER else labels.holders
+        if not NUMBER.fullmatch(number):
+            # (another spelling would stand for nobody)
+            raise source.fault(index, "NUMBER", shown(number), "a number in plain digits, as a day text has it")
+        if number in names:
+            expected = f"another {fields[0]}: this one is named {names[number]}"
+            raise source.fault(index, "NUMBER", shown(number), expected)
+        names[number] = fields[2]
     return labels

@@ -9,6 +9,7 @@ import csv
 import datetime
 import io
 import re
+import sys
 import zipfile
 from dataclasses import dataclass
 from typing import Iterator, Sequence
@@ -85,6 +86,8 @@ def read_csv(path: str, content: bytes) -> Sheet:
         raise FileFault(path, 0, "", f"found {found}; expected UTF-8, or UTF-16 with a byte order mark", "") from None
     first = text.split("\n", 1)[0]
     separator = max(SEPARATORS, key=first.count)
+    # (a cell may have all 4,096 surrenders of an account)
+    csv.field_size_limit(sys.maxsize)
     try:
         return Sheet(path, "", [*csv.reader(io.StringIO(text, newline=""), delimiter=separator, strict=True)])
     except csv.Error as error:
@@ -95,7 +98,7 @@ def read_workbook(path: str, content: bytes) -> Sheet:
     try:
         with zipfile.ZipFile(io.BytesIO(content)) as archive:
             return Workbook(path, archive).first_sheet()
-    except (zipfile.BadZipFile, KeyError, ElementTree.ParseError, ValueError, IndexError, OverflowError) as error:
+    except (zipfile.BadZipFile, LookupError, ElementTree.ParseError, ValueError, OverflowError) as error:
         raise FileFault(path, 0, "", f"this is no workbook that can be read: {error}", "") from None
 
 
