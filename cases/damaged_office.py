@@ -181,6 +181,14 @@ def message_trials(work: Path) -> Iterator[Trial]:
     settings.write_text(settings.read_text().replace("program =", "program = /bin/true"))
     close = ["close", "--date", DAY, *own]
     yield "a program without a report", unchanged(office, 3, ["the report of /bin/true:1: book: found"], *close)
+    settings.write_text(settings.read_text().replace("/bin/true", "/bin/false"))
+    must_do([*CLOSE, DAY, *own])
+    days = [office / "days" / date / "day.csv.gz" for date in ("2025-03-31", DAY)]
+    has = [*(f"/bin/false: settle of {path} ends with status 1" for path in days), ": 2 differences"]
+    yield "audit by a program that fails", unchanged(office, 1, has, "audit", "--settle", *own)
+    waiting = office / "days" / DAY / "waiting.csv"
+    waiting.write_bytes(b"")
+    yield "audit by it, and of what waits", told(1, [f"{waiting}:1: row"], "audit", "--settle", *own)
 
 
 def settings_trials(work: Path) -> Iterator[Trial]:

@@ -183,9 +183,12 @@ def look_at_day(
     look_at_seam(audit, event, day, before)
     text = bytes_of(report.path)
     if by_program:
-        compare(
-            audit, report.path, text, settling.by_engine(office.settings.program, bytes_of(day.path)), "the program"
-        )
+        try:
+            settled = settling.by_engine(office.settings.program, bytes_of(day.path), day.path)
+            compare(audit, report.path, text, settled, "the program")
+        except FileFault as fault:
+            # (the pair was read: the next day is looked at behind it)
+            audit.add(fault)
     if by_second:
         compare(audit, report.path, text, settling.by_rules(day), "the second answer")
     return event, day, report
