@@ -300,7 +300,7 @@ def run(words: argparse.Namespace) -> int:
     new = new_instructions(words.do, report, len(entered))
     tell_repeated(Handed(new, day, report, waiting), words.again, notes)
     tell_dates(new, head, notes)
-    check_count(report, len(entered) + len(new))
+    check_count(report.next_record, len(entered) + len(new))
     tell_refused(report, notes)
     notes.add(f"accounts: {len(book)}")
     counts = f"{len(entered)} waited and {len(new)} are new; {left} go on waiting"
@@ -317,12 +317,12 @@ def run(words: argparse.Namespace) -> int:
     return FOUND if notes.has_warnings else 0
 
 
-def check_count(report: Report, count: int) -> None:
-    """Ends the command if the day would have more instructions than it may."""
+def check_count(first: int, count: int) -> None:
+    """Ends the command if the day would have more instructions than it may, or records above the last one."""
     if count > faults.MOST["do"]:
         most = faults.MOST["do"]
         raise WordsFault(
             f"the day would have {count} instructions, and at most {most} may be: move some to another day"
         )
-    if count and report.next_record + count - 1 > faults.MOST_RECORD:
+    if count and first + count - 1 > faults.MOST_RECORD:
         raise WordsFault(f"the day would need records above {faults.MOST_RECORD}")

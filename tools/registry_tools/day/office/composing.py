@@ -135,6 +135,7 @@ def first_day(first: DayText, handed_in: HandedIn, date: datetime.date) -> NextD
                 f"place {item.place}: {kind} are for later days; correct the first text by ./day init in its place"
             )
     new = [*handed_in.items(DO)]
+    next_day.check_count(first.head.next_record, len(first.instructions) + len(new))
     rows = [*first.source.rows[:-1], *(row for item in new for row in item.rows), "end"]
     items, notes = [*handed_in.items(FIRST), *new], [*about_first(first, new)]
     text = handed.text_of_rows(rows)
@@ -230,7 +231,7 @@ def later_text(
     entered = next_day.enter_due(head, waiting, notes)
     new = next_day.new_instructions(paths[DO], report, len(entered))
     tell_dates(new, head, notes)
-    next_day.check_count(report, len(entered) + len(new))
+    next_day.check_count(report.next_record, len(entered) + len(new))
     rows = heading
     for block in book.values():
         rows += block.rows

@@ -11,6 +11,7 @@ from registry_tools.day.errors import WordsFault
 from registry_tools.day.office import folder
 from registry_tools.day.office.folder import Office
 from registry_tools.day.office.journal import Event
+from registry_tools.day.options import nothing_behind
 
 # The commands that take them, and what each takes of a day.
 PAIR, REPORTS, TEXT = "pair", "reports", "text"
@@ -119,8 +120,8 @@ def taken_office(rest: list[str]) -> str | None:
     if "--office" not in rest:
         return None
     place = rest.index("--office")
-    if place + 1 == len(rest):
-        raise WordsFault("--office needs a folder behind it")
+    if not "".join(rest[place + 1 : place + 2]):
+        raise nothing_behind("--office")
     word = rest[place + 1]
     del rest[place : place + 2]
     if "--office" in rest:
