@@ -83,10 +83,11 @@ def calendar_of(day: DayText, path: str | None, notes: Notes) -> list[datetime.d
     every = sorted([*old, *added])
     left_out = [missing for missing in weekdays.left_out(every) if not old or missing > old[-1]]
     if left_out:
-        notes.add(f"calendar: weekdays without a work row: {weekdays.in_words(left_out)}")
+        notes.add(f"{LEFT_OUT}: {weekdays.in_words(left_out)}")
     return every
 
 
+LEFT_OUT = "calendar: weekdays without a work row"
 MORE_WORK = "add work rows (./day next --work, ./day hand-in)"
 
 

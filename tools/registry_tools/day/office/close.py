@@ -159,7 +159,7 @@ def summary(settled: Settled, by_second: bool) -> list[str]:
     for logged in report.log:
         if not logged.is_done and logged.name != NOT_DUE:
             refused[logged.name] = refused.get(logged.name, 0) + 1
-    lines = [note for note in settled.composed.notes if note.startswith(("LOOK AT THIS", "by hand", "  "))]
+    lines = settled.composed.told()
     first, last = day.head.next_record, report.next_record - 1
     records = "no records" if first > last else f"record {first}" if first == last else f"records {first} to {last}"
     how = " by the second answer" if by_second else ""

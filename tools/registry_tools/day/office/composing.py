@@ -29,6 +29,8 @@ from registry_tools.day.report import Report
 from registry_tools.day.rows import Rows, rows_of_text
 
 
+# How the notes begin that are told.
+TOLD = ("LOOK AT THIS", "by hand", "  ", next_day.LEFT_OUT)
 # What is merged into one file of a filed day, and what it is called as a whole.
 MERGED = (DO, CHANGES, EDITS, WORK)
 WHAT = {
@@ -53,6 +55,10 @@ class NextDay:
     # The merged contents of what was handed in, by kind.
     contents: dict[str, bytes]
     notes: list[str] = field(default_factory=list)
+
+    def told(self) -> list[str]:
+        """The notes that a folder tells: all but counts."""
+        return [note for note in self.notes if note.startswith(TOLD)]
 
     def waiting_text(self) -> bytes:
         return pending.text_of(self.waiting, pending.Made(self.date, self.first)).encode("utf-8", "surrogateescape")

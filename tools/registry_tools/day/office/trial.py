@@ -100,9 +100,7 @@ def tell(looked: list[Looked], next_day: NextDay, places: set[int] | None = None
     status."""
     shown = [tried for tried in looked if places is None or tried.place in places]
     refused = [tried for tried in shown if tried.is_refused]
-    for note in next_day.notes:
-        if note.startswith(("LOOK AT THIS", "by hand", "  ")):
-            print(note)
+    print("".join(f"{note}\n" for note in next_day.told()), end="")
     if any(tried.outcome != "done" for tried in shown):
         print("\n".join(table_of([tried for tried in shown if tried.outcome != "done"])))
     for name in dict.fromkeys(tried.outcome for tried in refused):
