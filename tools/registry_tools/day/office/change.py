@@ -25,7 +25,7 @@ from registry_tools.day.errors import FOUND, WordsFault
 from registry_tools.day.notes import Notes
 from registry_tools.day.office import composing, edits, folder, handed, words
 from registry_tools.day.office.composing import NextDay
-from registry_tools.day.office.edits import ADD, DROP, OPEN, PUT, Edit
+from registry_tools.day.office.edits import ADD, DROP, OPEN, PUT, Edit, EditFault
 from registry_tools.day.office.folder import Office
 from registry_tools.day.office.handed import HandedIn
 from registry_tools.day.options import add_to
@@ -226,6 +226,9 @@ def show(
         print("".join(f"{note}\n" for note in new), end="")
         if counts:
             handed_in.keep()
+    except EditFault as fault:
+        # (it has no place yet)
+        raise WordsFault(fault.why) from None
     finally:
         # (what does not count is taken away at once)
         office.handed_in().remove_unnamed()

@@ -20,7 +20,7 @@ from registry_tools.day.errors import FileFault, WordsFault, shown
 from registry_tools.day.office import edits, files, handed
 from registry_tools.day.office.folder import Office
 from registry_tools.day.office.journal import Event
-from registry_tools.day.office.edits import Edit
+from registry_tools.day.office.edits import Edit, EditFault
 from registry_tools.day.office.handed import CHANGES, DO, EDITS, FIRST, WORK, HandedIn, Item
 from registry_tools.day.notes import Notes
 from registry_tools.day.pairs import read_pair
@@ -177,6 +177,9 @@ def later_day(office: Office, handed_in: HandedIn, date: datetime.date) -> NextD
             if str(fault.path).startswith(f"{work}/"):
                 fault.path, fault.line = merged.origin(str(fault.path), fault.line)
             raise
+        except EditFault as fault:
+            place = next((item.place for item in handed_in.items(EDITS) if item.rows[0] == fault.edit.row()), None)
+            raise EditFault(fault.edit, fault.why, place) from None
         composed.notes = [*map(merged.with_origins, composed.notes)]
     return replace(composed, new=[*handed_in.items(DO)], contents=contents)
 
