@@ -59,6 +59,7 @@ def damaged_trials(work: Path) -> Iterator[Trial]:
     yield from interrupted_trials(work)
     yield from name_trials(work)
     yield from journal_trials(work)
+    yield from first_text_trials(work)
 
 
 def strange_day_trials(work: Path) -> Iterator[Trial]:
@@ -286,3 +287,20 @@ def journal_trials(work: Path) -> Iterator[Trial]:
         for words in (["status"], [*CLOSE, DAY]):
             yield f"{words[0]} behind {new.decode()}", unchanged(office, 3, [has], *words, *own)
         yield f"audit behind {new.decode()}", unchanged(office, 1, [has], "audit", *own)
+
+
+def first_text_trials(work: Path) -> Iterator[Trial]:
+    """Another first text takes nothing away that was handed in since, of whatever kind it is."""
+    office, own = new_office(work, "first")
+    rows, blocks, calendar = (work / f"{name}.csv" for name in ("rows", "blocks", "calendar"))
+    rows.write_text(ROW.format(7))
+    blocks.write_text("account,11,trading,78,open,no,no,0,0,0\n")
+    calendar.write_text("work,2025-04-07\n")
+    change: Words = ["change", "2", "--holder", "7", "--why", "a letter", "--yes"]
+    commands: list[Words] = [["hand-in", rows], ["hand-in", blocks], ["hand-in", calendar], change]
+    for words in commands:
+        said = [Said(*words, *own), Said(*UNDO, *own)]
+        yield f"{words[0]} and undo", next((str(each) for each in said if each.status), None)
+        has = ["take back first what was handed in"]
+        yield "init behind it", unchanged(office, 2, has, "init", office, FIRST)
+        must_do(["take-back", "2", "--why", "a slip", *own], ["close", "--date", "2025-03-31", "--second", *own])
