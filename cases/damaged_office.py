@@ -1,8 +1,10 @@
 """Trials of folders whose files somebody has changed, moved or put there by hand: each command that would build on such
 a file, or take it away, says which it is, and leaves all as it was."""
+import fcntl
 import gzip
 import os
 import shutil
+import threading
 from pathlib import Path
 from typing import Callable, Iterator
 from unittest import mock
@@ -16,6 +18,7 @@ from registry_tools.day.office import audit, folder
 ROW = "do,2025-04-01,101,102,transfer,1,2,general,{}\n"
 DAY = "2025-04-01"
 CLOSE, UNDO = ["close", "--second", "--date"], ["undo", "--why", "a slip"]
+TAKE_BACK = ["take-back", "1", "--why", "a slip"]
 Trial = tuple[str, object]
 Words = list[object]
 
@@ -245,6 +248,10 @@ def interrupted_trials(work: Path) -> Iterator[Trial]:
     yield "close that is interrupted", None if status == 130 and (office / "prepared").is_dir() else status
     has = [f"{DAY} is filed, and all is in its place now", "days 2, pairs read 2: 0 differences"]
     yield "audit behind it", told(0, has, "audit", *own)
+    with open(office / "lock", encoding="utf-8") as looked:
+        fcntl.flock(looked, fcntl.LOCK_SH)
+        threading.Timer(0.05, looked.close).start()
+        yield "take-back while another command looks at the lock", told(2, ["place 1: "], *TAKE_BACK, *own)
     look = audit.look_at_files
 
     def meanwhile(seen: audit.Audit) -> None:

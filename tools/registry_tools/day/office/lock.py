@@ -3,6 +3,7 @@ ends."""
 import contextlib
 import fcntl
 import os
+import time
 from pathlib import Path
 from typing import Iterator
 
@@ -12,6 +13,8 @@ from registry_tools.day.office.layout import LOCK
 from registry_tools.day.output import cannot
 
 NAME = LOCK
+# How often a lock is tried, and how many seconds lie between.
+TRIES, BETWEEN = 20, 0.01
 
 
 def holder_of(path: Path) -> str:
@@ -38,6 +41,16 @@ def is_held(path: Path) -> bool:
     return False
 
 
+def is_taken(file: int) -> bool:
+    """Whether this command gets the lock. Another one that only looks whether it is held has it for a moment, too."""
+    for _ in range(TRIES):
+        with contextlib.suppress(BlockingIOError):
+            fcntl.flock(file, fcntl.LOCK_EX | fcntl.LOCK_NB)
+            return True
+        time.sleep(BETWEEN)
+    return False
+
+
 def write_holder(file: int, path: Path, holder: str) -> None:
     try:
         os.ftruncate(file, 0)
@@ -55,10 +68,8 @@ def held(folder: Path, command: str, who: str) -> Iterator[None]:
     except OSError as error:
         raise cannot(path, error) from None
     try:
-        try:
-            fcntl.flock(file, fcntl.LOCK_EX | fcntl.LOCK_NB)
-        except BlockingIOError:
-            raise FileFault(folder, 0, "", f"another command holds its lock: {holder_of(path)}", "") from None
+        if not is_taken(file):
+            raise FileFault(folder, 0, "", f"another command holds its lock: {holder_of(path)}", "")
         write_holder(file, path, f"./day {command} of {who}, process {os.getpid()}, since {journal.now()}\n")
         yield
     finally:
