@@ -149,7 +149,7 @@ def target_trials(work: Path) -> Iterator[Trial]:
         ["month", journal], ["balance", "1", "--to", journal], ["history", "1", "--to", day / "report.csv.gz"],
         ["status", "--to", office / "office.ini"], ["db", office / "next" / "days.sqlite"],
         ["export", "--log", "--day", DAY, "--xlsx", office / "lock"],
-        ["statements", "--day", DAY, office / "days" / "2025-04-02"],
+        ["statements", "--day", DAY, office / "days" / "2025-04-02"], ["month", office / "labels.csv"],
     ]  # fmt: skip
     for words in commands:
         yield f"{words[0]} into the folder's own", unchanged(office, 3, has, *words, *own)

@@ -6,10 +6,10 @@ from dataclasses import dataclass, field
 from pathlib import Path
 
 from registry_tools.day.errors import shown
+from registry_tools.day.office.layout import LABELS
 from registry_tools.day.rows import rows_of
 
 USER, HOLDER = "user", "holder"
-FILE = "labels.csv"
 NUMBER = re.compile("[1-9][0-9]*")
 # A byte that is no UTF-8, as it is read: the pages in which a name stands are UTF-8.
 NO_UTF_8 = re.compile("[\udc80-\udcff]")
@@ -35,7 +35,7 @@ def with_name(number: str, names: dict[str, str]) -> str:
 
 def of_folder(path: Path) -> Labels:
     """The names that a folder of days has; none, if there is no such file."""
-    own = path / FILE
+    own = path / LABELS
     return read(own) if own.exists() else Labels()
 
 
