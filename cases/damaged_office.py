@@ -14,6 +14,7 @@ from offices import FIRST, must_do, new_office, told
 
 from registry_tools.day import main
 from registry_tools.day.office import audit, folder
+from registry_tools.day.office.close import inside
 
 ROW = "do,2025-04-01,101,102,transfer,1,2,general,{}\n"
 DAY = "2025-04-01"
@@ -63,6 +64,8 @@ def damaged_trials(work: Path) -> Iterator[Trial]:
     yield from name_trials(work)
     yield from journal_trials(work)
     yield from first_text_trials(work)
+    with inside(work):
+        yield from dash_trials()
 
 
 def strange_day_trials(work: Path) -> Iterator[Trial]:
@@ -274,6 +277,21 @@ def name_trials(work: Path) -> Iterator[Trial]:
         path.write_text(ROW.format(7))
         must_do(["hand-in", str(path), *own], [*CLOSE, DAY, *own], [*UNDO, *own], ["status", *own], [*CLOSE, DAY, *own])
         yield f"a file {name!r}", told(0, [": 0 differences"], "audit", *own)
+
+
+def dash_trials() -> Iterator[Trial]:
+    """Names that begin with a dash are no options, in whatever order the words stand."""
+    own, day = ["--office=-office"], ["--day", "2025-03-31"]
+    must_do(["init", "--", "-office", str(FIRST)], ["close", "--date", "2025-03-31", "--second", *own])
+    for words in (["log"], ["verify"], ["explain"], ["export", "--log"]):
+        yield f"{words} of such a folder", told(0, [], *words, *day, *own)
+    for name in ("-pages", "-statements"):
+        yield f"{name} of it", told(0, [], name[1:].replace("pages", "page"), *day, *own, "--", name)
+    shutil.copyfile(FIRST, "-day.csv")
+    report = gzip.decompress(Path("-office/days/2025-03-31/report.csv.gz").read_bytes())
+    Path("-report.csv").write_bytes(report)
+    for table, has in (("--log", "1,2025-03-31,"), ("--compliance --year=2024", "1,operator,")):
+        yield f"a table of {table}", told(0, [has], "export", *table.split(), "--", "-day.csv", "-report.csv")
 
 
 def journal_trials(work: Path) -> Iterator[Trial]:

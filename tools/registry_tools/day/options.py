@@ -3,6 +3,7 @@ import argparse
 import os
 import re
 import sys
+from pathlib import Path
 from typing import IO, Any, Iterator
 
 from registry_tools.day.errors import WordsFault
@@ -69,6 +70,11 @@ class Words(argparse.ArgumentParser):
         stream = file or sys.stderr
         stream.write(message)
         stream.flush()
+
+
+def word_of(path: str | Path) -> str:
+    """A path as a word that is no option."""
+    return f"./{path}" if str(path).startswith("-") and str(path) != STANDARD_INPUT else str(path)
 
 
 def add_to(parser: argparse.ArgumentParser) -> None:
