@@ -1,6 +1,5 @@
 """Trials of folders whose files somebody has changed, moved or put there by hand: each command that would build on such
 a file, or take it away, says which it is, and leaves all as it was."""
-import datetime
 import fcntl
 import gzip
 import os
@@ -13,13 +12,13 @@ from unittest import mock
 from harness import Said
 from offices import FIRST, must_do, new_office, told
 
-from registry_tools.day.office import journal
+from registry_tools.day import main
+from registry_tools.day.office import audit, folder
+from registry_tools.day.office.close import inside
 
 ROW = "do,2025-04-01,101,102,transfer,1,2,general,{}\n"
 DAY = "2025-04-01"
 CLOSE, UNDO = ["close", "--second", "--date"], ["undo", "--why", "a slip"]
-# More days than a century has: to look at all earlier ones for each of them takes a minute.
-MANY_EVENTS, MOST_SECONDS = 40_000, 20
 Trial = tuple[str, object]
 Words = list[object]
 
@@ -59,11 +58,17 @@ def damaged_trials(work: Path) -> Iterator[Trial]:
     yield from target_trials(work)
     yield from message_trials(work)
     yield from settings_trials(work)
-    yield from name_trials(work)
-    yield from long_journal_trials(work)
+    yield from shown_name_trials(work)
     yield "a look at the lock", looked_at_fault(work)
     yield from later_day_trials(work)
     yield from audited_trials(work)
+    yield from missing_trials(work)
+    yield from interrupted_trials(work)
+    yield from name_trials(work)
+    yield from journal_trials(work)
+    yield from first_text_trials(work)
+    with inside(work):
+        yield from dash_trials()
 
 
 def strange_day_trials(work: Path) -> Iterator[Trial]:
@@ -156,7 +161,7 @@ def target_trials(work: Path) -> Iterator[Trial]:
         ["month", journal], ["balance", "1", "--to", journal], ["history", "1", "--to", day / "report.csv.gz"],
         ["status", "--to", office / "office.ini"], ["db", office / "next" / "days.sqlite"],
         ["export", "--log", "--day", DAY, "--xlsx", office / "lock"],
-        ["statements", "--day", DAY, office / "days" / "2025-04-02"],
+        ["statements", "--day", DAY, office / "days" / "2025-04-02"], ["month", office / "labels.csv"],
     ]  # fmt: skip
     for words in commands:
         yield f"{words[0]} into the folder's own", unchanged(office, 3, has, *words, *own)
@@ -192,6 +197,14 @@ def message_trials(work: Path) -> Iterator[Trial]:
     settings.write_text(settings.read_text().replace("program =", "program = /bin/true"))
     close = ["close", "--date", DAY, *own]
     yield "a program without a report", unchanged(office, 3, ["the report of /bin/true:1: book: found"], *close)
+    settings.write_text(settings.read_text().replace("/bin/true", "/bin/false"))
+    must_do([*CLOSE, DAY, *own])
+    days = [office / "days" / date / "day.csv.gz" for date in ("2025-03-31", DAY)]
+    has = [*(f"/bin/false: settle of {path} ends with status 1" for path in days), ": 2 differences"]
+    yield "audit by a program that fails", unchanged(office, 1, has, "audit", "--settle", *own)
+    waiting = office / "days" / DAY / "waiting.csv"
+    waiting.write_bytes(b"")
+    yield "audit by it, and of what waits", told(1, [f"{waiting}:1: row"], "audit", "--settle", *own)
 
 
 def settings_trials(work: Path) -> Iterator[Trial]:
@@ -211,7 +224,7 @@ def settings_trials(work: Path) -> Iterator[Trial]:
     yield "nothing that waits", told(1, ["waits.csv: it cannot be read"], "audit", *own)
 
 
-def name_trials(work: Path) -> Iterator[Trial]:
+def shown_name_trials(work: Path) -> Iterator[Trial]:
     """Files that are handed in by names with line ends: the folder is read on, and tells the names."""
     _, own = new_office(work, "names")
     names = {"two\nlines.csv": "two<line feed>lines.csv", "a\x0bpage.csv": "a<U+000B>page.csv"}
@@ -222,23 +235,6 @@ def name_trials(work: Path) -> Iterator[Trial]:
         yield f"hand-in of {shown}", told(0, [f"handed in: {shown}: instructions 1, "], "hand-in", rows, *own)
         yield f"status behind {shown}", told(0, [f"({shown}, "], "status", *own)
     yield "close of all of them", told(0, ["done 3"], *CLOSE, DAY, *own)
-
-
-def long_journal_trials(work: Path) -> Iterator[Trial]:
-    """A journal of a century is read in a time that grows as the journal does."""
-    first, lines = datetime.date(2021, 1, 1), [journal.HEADING]
-    before, sums = journal.BEGINNING, dict.fromkeys(journal.FILES, "0" * 64)
-    for place in range(MANY_EVENTS):
-        date = first + datetime.timedelta(place)
-        event = journal.Event(journal.FILED, journal.now(), "me", date, 1, 1, sums, "", before)
-        before = event.line
-        lines.append(event.row())
-    path = work / "long-journal.csv"
-    path.write_text("\n".join([*lines, ""]))
-    began = time.process_time()
-    count, passed = len(journal.read(path).filed()), time.process_time() - began
-    is_so = count == MANY_EVENTS and passed < MOST_SECONDS
-    yield "a journal of a century", None if is_so else f"{count} days in {passed:.1f} seconds"
 
 
 def looked_at_fault(work: Path) -> object:
@@ -290,3 +286,115 @@ def audited_trials(work: Path) -> Iterator[Trial]:
         yield f"audit of {content}", told(1, [f"{name}: SHA-256: found", told_so, ": 2 differences"], "audit", *own)
         path.write_bytes(before)
     yield "audit of what it was", told(0, [": 0 differences"], "audit", *own)
+
+
+def missing_trials(work: Path) -> Iterator[Trial]:
+    """Files and whole days that are gone are differences like others: audit tells each once and goes on, and status
+    tells them too."""
+    office, own = two_days(work, "missing")
+    gone, kept = office / "days" / "2025-03-31", work / "kept"
+    gone.rename(kept)
+    has = [f"{gone}: found no folder; expected the files of a day", "pairs read 1: 1 differences"]
+    yield "audit of a day that is gone", unchanged(office, 1, has, "audit", *own)
+    yield "audit of it as JSON", unchanged(office, 1, ['"found": "no folder"'], "audit", "--json", *own)
+    kept.rename(gone)
+    days = office / "days"
+    days.rename(kept)
+    has = [f"{days}: it cannot be read", "pairs read 0: 3 differences"]
+    yield "audit without days", unchanged(office, 1, has, "audit", *own)
+    kept.rename(days)
+    for name in ("day.csv.gz", "report.csv.gz", "edits.csv"):
+        path = office / "days" / DAY / name
+        content = path.read_bytes()
+        path.unlink()
+        has = [f"{path}: it cannot be read: No such file"]
+        yield f"audit without {name}", unchanged(office, 1, [*has, ": 1 differences"], "audit", *own)
+        yield f"status without {name}", unchanged(office, 1, ["last day: ", *has], "status", *own)
+        yield f"status as csv without {name}", unchanged(office, 1, ["fault,", *has], "status", "--csv", *own)
+        yield f"release without {name}", unchanged(office, 3, has, "release", "--why", "sent", *own)
+        path.write_bytes(content)
+
+
+def interrupted_trials(work: Path) -> Iterator[Trial]:
+    """An audit ends what an interrupted command began, as any other command does; and of what another one changes
+    meanwhile it says so."""
+    office, own = new_office(work, "interrupted")
+    with mock.patch.object(folder, "carry_out", side_effect=KeyboardInterrupt):
+        status = main.main([*CLOSE, DAY, *own])
+    yield "close that is interrupted", None if status == 130 and (office / "prepared").is_dir() else status
+    has = [f"{DAY} is filed, and all is in its place now", "days 2, pairs read 2: 0 differences"]
+    yield "audit behind it", told(0, has, "audit", *own)
+    look = audit.look_at_files
+
+    def meanwhile(seen: audit.Audit) -> None:
+        must_do([*CLOSE, "2025-04-02", *own])
+        look(seen)
+
+    has = ["days/2025-04-02: found something that the journal does not name", "LOOK AT THIS: another command changed"]
+    with mock.patch.object(audit, "look_at_files", meanwhile):
+        yield "audit while a day is closed", told(1, has, "audit", *own)
+    yield "audit again", told(0, [": 0 differences"], "audit", *own)
+
+
+def name_trials(work: Path) -> Iterator[Trial]:
+    """Names of files that have line ends, or what other readers take for them, do no harm to a folder."""
+    for number, name in enumerate(("a\nb.csv", "a\r\nb.csv", "a\rb.csv", "a\u2028b.csv", "a\x85b.csv", 'a\v",b.csv')):
+        path, office = work / name, work / f"named-{number}"
+        path.write_bytes(FIRST.read_bytes())
+        own = ["--office", str(office)]
+        must_do(["init", str(office), str(path)], ["close", "--date", "2025-03-31", "--second", *own])
+        path.write_text(ROW.format(7))
+        must_do(["hand-in", str(path), *own], [*CLOSE, DAY, *own], [*UNDO, *own], ["status", *own], [*CLOSE, DAY, *own])
+        yield f"a file {name!r}", told(0, [": 0 differences"], "audit", *own)
+
+
+def dash_trials() -> Iterator[Trial]:
+    """Names that begin with a dash are no options, in whatever order the words stand."""
+    own, day = ["--office=-office"], ["--day", "2025-03-31"]
+    must_do(["init", "--", "-office", str(FIRST)], ["close", "--date", "2025-03-31", "--second", *own])
+    for words in (["log"], ["verify"], ["explain"], ["export", "--log"]):
+        yield f"{words} of such a folder", told(0, [], *words, *day, *own)
+    for name in ("-pages", "-statements"):
+        yield f"{name} of it", told(0, [], name[1:].replace("pages", "page"), *day, *own, "--", name)
+    shutil.copyfile(FIRST, "-day.csv")
+    report = gzip.decompress(Path("-office/days/2025-03-31/report.csv.gz").read_bytes())
+    Path("-report.csv").write_bytes(report)
+    for table, has in (("--log", "1,2025-03-31,"), ("--compliance --year=2024", "1,operator,")):
+        yield f"a table of {table}", told(0, [has], "export", *table.split(), "--", "-day.csv", "-report.csv")
+
+
+def journal_trials(work: Path) -> Iterator[Trial]:
+    """The journal of what was handed in, which somebody edited: nothing is lost, or kept so that no undo reads it."""
+    office, own = new_office(work, "edited")
+    rows = work / "edited.csv"
+    rows.write_text(ROW.format(7))
+    must_do(["hand-in", str(rows), *own])
+    path = office / "next" / "journal.csv"
+    content = path.read_bytes()
+    for old, new, has in (
+        (b",do,1,1,", b",dog,1,1,", "journal.csv:2: row: found 'handed,"),
+        (b",0001-do.csv,", b",mine.csv,", "journal.csv:2: row: found 'handed,"),
+        (b",do,1,1,", b",work,1,1,", "journal.csv: COUNT: found 1 for 0001-do.csv; expected 0"),
+        (b",do,1,1,", b",do,1,7,", "journal.csv: COUNT: found 7 for 0001-do.csv; expected 1"),
+    ):
+        path.write_bytes(content.replace(old, new))
+        for words in (["status"], [*CLOSE, DAY]):
+            yield f"{words[0]} behind {new.decode()}", unchanged(office, 3, [has], *words, *own)
+        yield f"audit behind {new.decode()}", unchanged(office, 1, [has], "audit", *own)
+
+
+def first_text_trials(work: Path) -> Iterator[Trial]:
+    """Another first text takes nothing away that was handed in since, of whatever kind it is."""
+    office, own = new_office(work, "first")
+    rows, blocks, calendar = (work / f"{name}.csv" for name in ("rows", "blocks", "calendar"))
+    rows.write_text(ROW.format(7))
+    blocks.write_text("account,11,trading,78,open,no,no,0,0,0\n")
+    calendar.write_text("work,2025-04-07\n")
+    change: Words = ["change", "2", "--holder", "7", "--why", "a letter", "--yes"]
+    commands: list[Words] = [["hand-in", rows], ["hand-in", blocks], ["hand-in", calendar], change]
+    for words in commands:
+        said = [Said(*words, *own), Said(*UNDO, *own)]
+        yield f"{words[0]} and undo", next((str(each) for each in said if each.status), None)
+        has = ["take back first what was handed in"]
+        yield "init behind it", unchanged(office, 2, has, "init", office, FIRST)
+        must_do(["take-back", "2", "--why", "a slip", *own], ["close", "--date", "2025-03-31", "--second", *own])

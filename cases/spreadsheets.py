@@ -152,7 +152,7 @@ OTHER_PARTS = (
 )
 
 
-def write_kept(path: Path, approver: str = '<c r="C2"><v>5102</v></c>') -> None:
+def write_kept(path: Path, approver: str = '<c r="C2"><v>5102</v></c>', start: str = "") -> None:
     """A workbook as a spreadsheet keeps it: a date as a number with a style, shared texts, and a formula with its
     value."""
     sheets.write_workbook(str(path), "in", [], iter(()))
@@ -164,7 +164,7 @@ def write_kept(path: Path, approver: str = '<c r="C2"><v>5102</v></c>') -> None:
     cells += '<c r="E2"><v>100210</v></c><c r="F2" t="s"><v>8</v></c><c r="G2"><f>2+3</f><v>5</v></c>'
     with zipfile.ZipFile(path) as archive:
         parts = {name: archive.read(name).decode() for name in archive.namelist()}
-    parts["xl/sharedStrings.xml"] = f"<sst {main_space}>{texts}</sst>"
+    parts["xl/sharedStrings.xml"] = f"{start}<sst {main_space}>{texts}</sst>"
     parts[
         "xl/styles.xml"
     ] = f'<styleSheet {main_space}><cellXfs><xf numFmtId="0"/><xf numFmtId="14"/></cellXfs></styleSheet>'
@@ -235,10 +235,26 @@ def wrong_cells(work: Path) -> Iterator[tuple[str, object]]:
         said = Said("import", work / "cells.xlsx")
         yield f"a cell {cell}", None if said.status == 3 and told in said.errors and not said.output else said
     yield from damaged_workbooks(work)
+    write_kept(work / "cells.xlsx", start='<?xml version="1.0" encoding="none"?>')
+    said = Said("import", work / "cells.xlsx")
+    yield "letters that nobody knows", None if said.status == 3 and "this is no workbook" in said.errors else said
+    yield "an account of many rows", many_rows(work)
     day, report = drawn_pair(work, 3)
     before = day.read_bytes()
     said = Said("export", day, report, "--log", "--xlsx", day)
     yield "never over a file that is read", None if said.status == 2 and day.read_bytes() == before else said
+
+
+def many_rows(work: Path) -> str | None:
+    """Whether an account with the most surrenders is read from the table that was written of it."""
+    day, report, table = work / "many.csv", work / "many-report.csv", work / "many-accounts.csv"
+    own = "".join(f"retired,{number},surrender,general,1,2024-09-25,no\n" for number in range(1, 4097))
+    text = (TOP / "examples" / "first-transfer.csv").read_text().replace("day,2025-03-31,1", "day,2025-03-31,5000")
+    day.write_text(text.replace("account,2,", f"{own}account,2,"))
+    report.write_text(rules.answers(day.read_bytes())["settle"])
+    written = Said("export", day, report, "--accounts", "--to", table)
+    read = Said("import", "--accounts", table)
+    return None if not written.status and not read.status and own in read.output else f"{written}{read}"
 
 
 ACCOUNT = [

@@ -28,7 +28,7 @@ from registry_tools.day.by_hand import refusals
 from registry_tools.day.day_text import DayText, read_blocks, read_rows_of
 from registry_tools.day.due import NOT_DUE, due_day_after, is_due
 from registry_tools.day.errors import FOUND, FileFault, RowFault, WordsFault
-from registry_tools.day.notes import BY_HAND, ROW, Notes
+from registry_tools.day.notes import BY_HAND, LEFT_OUT, ROW, Notes
 from registry_tools.day.options import add_to
 from registry_tools.day.output import NewFile, write_answer
 from registry_tools.day.pairs import read_pair
@@ -83,24 +83,25 @@ def calendar_of(day: DayText, path: str | None, notes: Notes) -> list[datetime.d
     every = sorted([*old, *added])
     left_out = [missing for missing in weekdays.left_out(every) if not old or missing > old[-1]]
     if left_out:
-        notes.add(f"calendar: weekdays without a work row: {weekdays.in_words(left_out)}")
+        notes.add(f"{LEFT_OUT}: {weekdays.in_words(left_out)}")
     return every
 
 
 MORE_WORK = "add work rows (./day next --work, ./day hand-in)"
 
 
-def look_at_calendar(head: rules.Day, book: dict[int, Block], notes: Notes) -> None:
-    """Warns where the calendar is too short for what may be proposed or done on the day."""
+def look_at_calendar(head: rules.Day, book: dict[int, Block], notes: Notes, more: str = MORE_WORK) -> None:
+    """Warns where the calendar is too short for what may be proposed or done on the day; `more` says how it gets more
+    days."""
     last = head.working_days[-1] if head.working_days else None
     end = f"the calendar ends on {last}" if last else "the calendar is empty"
     lag, name = max((head.lags[key], name) for key, name in LAGS.items())
     if head.due(head.date, lag) is None:
-        notes.warn(f"{end}, before the due day of {head.date} with the lag {name} of {lag}: {MORE_WORK}")
+        notes.warn(f"{end}, before the due day of {head.date} with the lag {name} of {lag}: {more}")
     window = head.lags["reversal"]
     if head.due(head.date, window) is None:
         window_ends = f"the window REVERSAL of {window} working days from {head.date} is over"
-        notes.warn(f"{end}, before {window_ends}: {MORE_WORK}")
+        notes.warn(f"{end}, before {window_ends}: {more}")
     begins_late(head, book, notes)
 
 
@@ -254,10 +255,15 @@ def in_order(first: str, second: str, notes: Notes) -> tuple[str, str]:
     return first, second
 
 
-def about_date(before: DayText, head: rules.Day) -> Iterator[str]:
-    """Tells if the day is no working day, and which working days lie between."""
+def about_weekday(head: rules.Day) -> Iterator[str]:
+    """Tells if the day is no working day."""
     if head.date not in head.working_days:
         yield f"{head.date:%A} {head.date} is no working day by the calendar"
+
+
+def about_date(before: DayText, head: rules.Day) -> Iterator[str]:
+    """Tells if the day is no working day, and which working days lie between."""
+    yield from about_weekday(head)
     between = [skipped for skipped in head.working_days if before.head.date < skipped < head.date]
     if between:
         yield f"working days that have no text: {weekdays.in_words(between)}"
@@ -292,7 +298,7 @@ def run(words: argparse.Namespace) -> int:
     new = new_instructions(words.do, report, len(entered))
     tell_repeated(Handed(new, day, report, waiting), words.again, notes)
     tell_dates(new, head, notes)
-    check_count(report, len(entered) + len(new))
+    check_count(report.next_record, len(entered) + len(new))
     tell_refused(report, notes)
     notes.add(f"accounts: {len(book)}")
     counts = f"{len(entered)} waited and {len(new)} are new; {left} go on waiting"
@@ -309,12 +315,12 @@ def run(words: argparse.Namespace) -> int:
     return FOUND if notes.has_warnings else 0
 
 
-def check_count(report: Report, count: int) -> None:
-    """Ends the command if the day would have more instructions than it may."""
+def check_count(first: int, count: int) -> None:
+    """Ends the command if the day would have more instructions than it may, or records above the last one."""
     if count > faults.MOST["do"]:
         most = faults.MOST["do"]
         raise WordsFault(
             f"the day would have {count} instructions, and at most {most} may be: move some to another day"
         )
-    if count and report.next_record + count - 1 > faults.MOST_RECORD:
+    if count and first + count - 1 > faults.MOST_RECORD:
         raise WordsFault(f"the day would need records above {faults.MOST_RECORD}")

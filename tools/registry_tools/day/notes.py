@@ -5,6 +5,8 @@ from typing import Iterable
 MOST_TOLD = 3
 # How a line begins that somebody has to look at, and one that tells a change by hand. Its rows stand behind it.
 LOOK, BY_HAND, ROW = "LOOK AT THIS", "by hand", "  "
+# How the line begins about weekdays that a new calendar leaves out.
+LEFT_OUT = "calendar: weekdays without a work row"
 
 
 def first_ones(lines: Iterable[str], more: str) -> list[str]:
@@ -16,7 +18,7 @@ def first_ones(lines: Iterable[str], more: str) -> list[str]:
 
 def worth_telling(lines: Iterable[str]) -> list[str]:
     """Of the lines about a text, those that whoever settles it has to know."""
-    return [line for line in lines if line.startswith((LOOK, BY_HAND, ROW))]
+    return [line for line in lines if line.startswith((LOOK, BY_HAND, ROW, LEFT_OUT))]
 
 
 class Notes:

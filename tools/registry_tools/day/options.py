@@ -3,6 +3,7 @@ import argparse
 import os
 import re
 import sys
+from pathlib import Path
 from typing import IO, Any, Iterator
 
 from registry_tools.day.errors import WordsFault
@@ -10,11 +11,14 @@ from registry_tools.day.output import must_be_writable
 
 # In place of a file that is read.
 STANDARD_INPUT = "-"
+# What stands for a date in a help: whoever reads one tells its form, also if it is empty.
+A_DATE = "DATE"
 
 
 class Given(argparse.Action):
     """An option with a value. Given twice, one that takes several values has all of them, and any other one is refused:
-    the first value would be lost without a word."""
+    the first value would be lost without a word. So is an empty value, such as a shell gives for a variable that is not
+    set: it would stand for no option at all."""
 
     def __call__(
         self,
@@ -24,12 +28,18 @@ class Given(argparse.Action):
         option_string: str | None = None,
     ) -> None:
         before = given_before(namespace).get(self.dest)
+        if option_string and self.metavar != A_DATE and "" in (values if isinstance(values, list) else [values]):
+            raise nothing_behind(option_string)
         if option_string and self.nargs is not None and before is not None:
             values = [*before, *values]
         elif option_string and before is not None:
             parser.error(f"{option_string} stands twice, with {before} and with {values}: which of them?")
         given_before(namespace)[self.dest] = values
         setattr(namespace, self.dest, values)
+
+
+def nothing_behind(option: str) -> WordsFault:
+    return WordsFault(f"{option} has nothing behind it")
 
 
 def given_before(namespace: argparse.Namespace) -> dict[str, Any]:
@@ -60,6 +70,11 @@ class Words(argparse.ArgumentParser):
         stream = file or sys.stderr
         stream.write(message)
         stream.flush()
+
+
+def word_of(path: str | Path) -> str:
+    """A path as a word that is no option."""
+    return f"./{path}" if str(path).startswith("-") and str(path) != STANDARD_INPUT else str(path)
 
 
 def add_to(parser: argparse.ArgumentParser) -> None:

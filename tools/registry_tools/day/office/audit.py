@@ -24,13 +24,14 @@ from typing import Iterator
 from registry_tools.day.day_text import DayText, read_day
 from registry_tools.day.errors import FOUND, FileFault, WordsFault, shown
 from registry_tools.day.follows import differences
-from registry_tools.day.office import composing, files, folder, handed, journal, past, settling, showing, words
+from registry_tools.day.notes import LOOK
+from registry_tools.day.office import composing, files, folder, handed, journal, lock, past, settling, showing, words
 from registry_tools.day.office.composing import NextDay
 from registry_tools.day.office.folder import Office
 from registry_tools.day.office.handed import FIRST, HandedIn
 from registry_tools.day.office.journal import Event, Journal
 from registry_tools.day.office.layout import DAYS, JOURNAL, SETTINGS
-from registry_tools.day.output import cannot, write_answer
+from registry_tools.day.output import write_answer
 from registry_tools.day.progress import progress
 from registry_tools.day.report import Report, read_report
 from registry_tools.day.rows import bytes_of
@@ -52,17 +53,24 @@ class Audit:
 
     office: Office
     found: list[FileFault] = field(default_factory=list)
+    told: set[str] = field(default_factory=set)
     days: int = 0
 
-    def add(self, fault: FileFault) -> None:
-        self.found.append(fault)
+    def add(self, *faults: FileFault) -> None:
+        """Adds what was found, each once: a file that lacks is missed by each that reads it."""
+        for fault in faults:
+            if str(fault) not in self.told:
+                self.told.add(str(fault))
+                self.found.append(fault)
 
 
 def run(said: argparse.Namespace) -> int:
     path = folder.folder_of(said.office)
+    folder.put_right_if_free(path, folder.to_errors)
     begin = past.date_of("--from", said.begin, datetime.date.min)
     settings = folder.read_settings(path / SETTINGS)
     there = Journal(path / JOURNAL, files.bytes_in(path / JOURNAL).decode("utf-8", "surrogateescape"))
+    is_changing = lock.is_held(path / lock.NAME)
     audit = Audit(Office(path, settings, there))
     for fault in journal.faults_of(there):
         audit.add(fault)
@@ -75,7 +83,14 @@ def run(said: argparse.Namespace) -> int:
         )
     else:
         write_answer("\n".join([*map(str, audit.found), summary(audit), ""]), said.to)
+    if audit.found and (is_changing or has_changed(there)):
+        folder.to_errors(f"{LOOK}: another command changed {path} meanwhile, of which this may come: audit again")
     return FOUND if audit.found else 0
+
+
+def has_changed(there: Journal) -> bool:
+    """Whether a command has written the journal since it was read."""
+    return files.bytes_in(there.path).decode("utf-8", "surrogateescape") != there.text
 
 
 def summary(audit: Audit) -> str:
@@ -91,12 +106,19 @@ def look_at_files(audit: Audit) -> None:
     office = audit.office
     filed = office.journal.filed()
     for event in progress.over(filed, "looking at the files", len(filed), step=10):
-        audit.found += [*office.changed_files(event), *office.strange_files(event)]
-    named = {str(event.date) for event in filed}
+        audit.add(*office.changed_files(event), *office.strange_files(event))
+    try:
+        audit.add(*strange_days(office, {str(event.date) for event in filed}))
+    except FileFault as fault:
+        audit.add(fault)
+
+
+def strange_days(office: Office, named: set[str]) -> Iterator[FileFault]:
+    """What lies among the days, and is none."""
     for path in files.listed(office.path / DAYS):
         if path.name not in named:
             found = "something that the journal does not name"
-            audit.add(FileFault(path, 0, "", found, "the days of the journal alone"))
+            yield FileFault(path, 0, "", found, "the days of the journal alone")
 
 
 def look_at_next(audit: Audit) -> None:
@@ -116,6 +138,10 @@ def look_at_days(audit: Audit, begin: datetime.date, by_program: bool, by_second
     filed = audit.office.journal.filed()
     for event in progress.over(filed, "looking at the days", len(filed), step=1):
         if event.date < begin:
+            continue
+        if not audit.office.day_folder(event.date).is_dir():
+            # (it was told with the files)
+            before = None
             continue
         try:
             before = look_at_day(audit, event, before, by_program, by_second)
@@ -145,7 +171,7 @@ def look_at_day(
     day = read_day(str(office.file(event, "day")), before and before[2].known(before[1]))
     report = read_report(str(office.file(event, "report")), day)
     audit.days += 1
-    audit.found += differences(day, report)
+    audit.add(*differences(day, report))
     for name, there, expected in (
         ("date", day.head.date, event.date),
         ("first", day.head.next_record, event.first),
@@ -158,9 +184,12 @@ def look_at_day(
     look_at_seam(audit, event, day, before)
     text = bytes_of(report.path)
     if by_program:
-        compare(
-            audit, report.path, text, settling.by_engine(office.settings.program, bytes_of(day.path)), "the program"
-        )
+        try:
+            settled = settling.by_engine(office.settings.program, bytes_of(day.path), day.path)
+            compare(audit, report.path, text, settled, "the program")
+        except FileFault as fault:
+            # (the pair was read: the next day is looked at behind it)
+            audit.add(fault)
     if by_second:
         compare(audit, report.path, text, settling.by_rules(day), "the second answer")
     return event, day, report
@@ -200,10 +229,7 @@ def later_again(office: Office, event: Event, before: tuple[Event, DayText, Repo
 
 def path_of_rows(path: Path) -> str | None:
     """A file of rows; none, if nothing is in it."""
-    try:
-        return str(path) if path.stat().st_size else None
-    except OSError as error:
-        raise cannot(path, error) from None
+    return str(path) if files.bytes_in(path) else None
 
 
 def compare(audit: Audit, path: str | Path, text: bytes, expected: bytes, whose: str) -> None:

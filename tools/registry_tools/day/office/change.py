@@ -25,7 +25,7 @@ from registry_tools.day.errors import FOUND, WordsFault
 from registry_tools.day.notes import LOOK, Notes
 from registry_tools.day.office import composing, edits, folder, handed, words
 from registry_tools.day.office.composing import NextDay
-from registry_tools.day.office.edits import ADD, DROP, OPEN, PUT, Edit
+from registry_tools.day.office.edits import ADD, DROP, OPEN, PUT, Edit, EditFault
 from registry_tools.day.office.folder import Office
 from registry_tools.day.office.handed import HandedIn
 from registry_tools.day.options import add_to
@@ -109,7 +109,7 @@ def account_of(said: argparse.Namespace) -> int:
     """The account that is changed: the named one, or the only one that is opened; 0 if there is none."""
     if said.account is None and len(said.open_account) == 1:
         return opened(said.open_account[0]).number
-    return int(said.account or 0)
+    return 0 if said.account is None else edits.account_number(str(said.account))
 
 
 def opened(word: str) -> Edit:
@@ -226,6 +226,9 @@ def show(
         print("".join(f"{note}\n" for note in new), end="")
         if counts:
             handed_in.keep()
+    except EditFault as fault:
+        # (it has no place yet)
+        raise WordsFault(fault.why) from None
     finally:
         # (what does not count is taken away at once)
         office.handed_in().remove_unnamed()

@@ -20,7 +20,7 @@ from registry_tools.day.errors import FileFault, WordsFault, shown
 from registry_tools.day.office import edits, files, handed
 from registry_tools.day.office.folder import Office
 from registry_tools.day.office.journal import Event
-from registry_tools.day.office.edits import Edit
+from registry_tools.day.office.edits import Edit, EditFault
 from registry_tools.day.office.handed import CHANGES, DO, EDITS, FIRST, WORK, HandedIn, Item
 from registry_tools.day.notes import BY_HAND, Notes
 from registry_tools.day.pairs import read_pair
@@ -79,8 +79,13 @@ def date_of(word: str | None, office: Office, handed_in: HandedIn) -> datetime.d
     if undone:
         return min(undone)
     later = [date for date in working_days(office, last, handed_in) if date > last.date]
+    if later:
+        return later[0]
     # (behind the end of the calendar, the next day serves to show what would come of it)
-    return later[0] if later else last.date + datetime.timedelta(1)
+    following = last.date + datetime.timedelta(1)
+    if following.year > faults.LAST_YEAR:
+        raise WordsFault(f"{last.date} is settled, and no text has a later date: {office.path} has no next day")
+    return following
 
 
 def working_days(office: Office, last: Event, handed_in: HandedIn) -> list[datetime.date]:
@@ -140,9 +145,23 @@ def first_day(first: DayText, handed_in: HandedIn, date: datetime.date) -> NextD
                 f"place {item.place}: {kind} are for later days; correct the first text by ./day init in its place"
             )
     new = [*handed_in.items(DO)]
+    next_day.check_count(first.head.next_record, len(first.instructions) + len(new))
     rows = [*first.source.rows[:-1], *(row for item in new for row in item.rows), "end"]
-    items = [*handed_in.items(FIRST), *new]
-    return NextDay(date, first.head.next_record, handed.text_of_rows(rows), [], [], items, contents_of(handed_in))
+    items, notes = [*handed_in.items(FIRST), *new], [*about_first(first, new)]
+    text = handed.text_of_rows(rows)
+    return NextDay(date, first.head.next_record, text, [], [], items, contents_of(handed_in), notes)
+
+
+def about_first(first: DayText, new: list[Item]) -> Iterator[str]:
+    """What is to be told of the first day, as of a later one: of its date, its calendar, and what was handed in."""
+    notes = Notes()
+    notes.warn(*next_day.about_weekday(first.head))
+    next_day.look_at_calendar(first.head, first.book, notes, "./day init takes a first text with more work rows")
+    for name, items in itertools.groupby(new, lambda item: item.part.name):
+        own = [*items]
+        rows = [row for item in own for row in item.rows], [line for item in own for line in item.lines]
+        tell_dates(Rows(name, *rows), first.head, notes)
+    yield from notes.lines
 
 
 def later_day(office: Office, handed_in: HandedIn, date: datetime.date) -> NextDay:
@@ -161,6 +180,9 @@ def later_day(office: Office, handed_in: HandedIn, date: datetime.date) -> NextD
             if str(fault.path).startswith(f"{work}/"):
                 fault.path, fault.line = merged.origin(str(fault.path), fault.line)
             raise
+        except EditFault as fault:
+            place = next((item.place for item in handed_in.items(EDITS) if item.rows[0] == fault.edit.row()), None)
+            raise EditFault(fault.edit, fault.why, place) from None
         composed.notes = [*map(merged.with_origins, composed.notes)]
     return replace(composed, new=[*handed_in.items(DO)], contents=contents)
 
@@ -221,7 +243,7 @@ def later_text(
     entered = next_day.enter_due(head, waiting, notes)
     new = next_day.new_instructions(paths[DO], report, len(entered))
     tell_dates(new, head, notes)
-    next_day.check_count(report, len(entered) + len(new))
+    next_day.check_count(report.next_record, len(entered) + len(new))
     rows = heading
     for block in book.values():
         rows += block.rows

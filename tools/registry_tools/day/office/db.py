@@ -6,6 +6,7 @@ database with other days is refused. Nothing of it is changed if something is wr
 """
 import argparse
 import datetime
+import os
 import sqlite3
 from pathlib import Path
 from typing import Iterator
@@ -40,7 +41,7 @@ def run(said: argparse.Namespace) -> int:
             database.close()
     except BaseException as error:
         if is_new:
-            Path(said.file).unlink(missing_ok=True)
+            Path(os.path.realpath(said.file)).unlink(missing_ok=True)
         if isinstance(error, sqlite3.Error):
             raise FileFault(said.file, 0, "", f"this database cannot be written: {error}", "") from None
         raise
@@ -54,6 +55,8 @@ def fill(database: sqlite3.Connection, path: str, paths: list[tuple[str, str]], 
     if is_new:
         # (each statement of a script ends a transaction, so a schema comes first)
         database.executescript(SCHEMA.read_text(encoding="utf-8"))
+    elif not database.execute("SELECT 1 FROM sqlite_master WHERE type = 'table' AND name = 'days'").fetchone():
+        raise FileFault(path, 0, "", "a file that ./day db has not made", "one that it has made, or no such file")
     database.execute("BEGIN IMMEDIATE")
     there = database.execute("SELECT date, day_sum, report_sum FROM days ORDER BY date").fetchall()
     compare(path, there, paths)

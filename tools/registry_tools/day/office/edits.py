@@ -46,6 +46,15 @@ class Edit(NamedTuple):
         return ",".join([*start, self.how, *self.words])
 
 
+class EditFault(WordsFault):
+    """A difference cannot be laid over what is there: which, why, and the place at which it was handed in, if it
+    was."""
+
+    def __init__(self, edit: Edit, why: str, place: int | None = None) -> None:
+        super().__init__(why if place is None else f"place {place}: {why}; ./day take-back {place} takes it back")
+        self.edit, self.why = edit, why
+
+
 def edit_of(row: str) -> Edit:
     """The difference that a row says."""
     what, *words = row.split(",")
@@ -104,7 +113,10 @@ def edited_blocks(edits: Iterable[Edit], report: Report, changes: dict[int, list
             before = blocks.get(edit.number)
             if before is None and edit.number in report.book:
                 before = report.book[edit.number].rows
-            blocks[edit.number] = edited(edit, before)
+            try:
+                blocks[edit.number] = edited(edit, before)
+            except WordsFault as fault:
+                raise EditFault(edit, str(fault)) from None
     return dict(sorted(blocks.items()))
 
 
@@ -155,7 +167,10 @@ def edited_heading(edits: Iterable[Edit], heading: list[str]) -> list[str]:
     rows = list(heading)
     for edit in edits:
         if edit.number == 0:
-            rows = {PUT: put_rule, ADD: add_rule, DROP: drop_rule}[edit.how](edit, rows)
+            try:
+                rows = {PUT: put_rule, ADD: add_rule, DROP: drop_rule}[edit.how](edit, rows)
+            except WordsFault as fault:
+                raise EditFault(edit, str(fault)) from None
     periods = sum(row.startswith("period,") for row in rows)
     named = any(row.startswith("current,") for row in rows)
     if periods > 1 and "format,1" in rows:

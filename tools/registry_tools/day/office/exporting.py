@@ -16,7 +16,7 @@ from registry_tools.day import compliance, log
 from registry_tools.day.errors import WordsFault
 from registry_tools.day.day_text import DayText
 from registry_tools.day.office import sheets, showing, tables
-from registry_tools.day.options import Words, add_to, is_same_file
+from registry_tools.day.options import Words, add_to, is_same_file, word_of
 from registry_tools.day.output import write_answer
 from registry_tools.day.pairs import read_pair
 from registry_tools.day.report import Report
@@ -58,7 +58,8 @@ def figures_of(report: Report) -> Iterator[list[str]]:
 
 def written_table(module: object, said: argparse.Namespace) -> tuple[Sequence[str], Iterator[Sequence[str]]]:
     """The table that another command writes."""
-    words = [said.report, "--day", said.day] if module is log else [said.day, said.report, "--csv"]
+    day, report = word_of(said.day), word_of(said.report)
+    words = [report, "--day", day] if module is log else [day, report, "--csv"]
     words += [] if said.year is None else [f"--year={said.year}"]
     parser = Words()
     module.add_words(parser)  # type: ignore[attr-defined]

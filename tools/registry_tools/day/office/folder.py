@@ -110,8 +110,12 @@ class Office:
 
     def changed_files(self, event: Event) -> Iterator[FileFault]:
         """The files of a day that are not as they were filed."""
+        folder = self.day_folder(event.date)
+        if not folder.is_dir():
+            yield FileFault(folder, 0, "", "no folder", f"the files of a day, as {self.journal.path} says")
+            return
         for key, name in journal.FILES.items():
-            path = self.day_folder(event.date) / name
+            path = folder / name
             try:
                 there = files.sum_of(files.bytes_in(path))
             except FileFault as fault:
@@ -122,7 +126,8 @@ class Office:
 
     def strange_files(self, event: Event) -> Iterator[FileFault]:
         """What lies among the files of a day and is none of them."""
-        for path in files.listed(self.day_folder(event.date)):
+        folder = self.day_folder(event.date)
+        for path in files.listed(folder) if folder.is_dir() else ():
             if path.name not in PAPERS and path.name not in journal.FILES.values():
                 yield FileFault(path, 0, "", "a file that does not belong here", "no such file")
 
@@ -155,13 +160,18 @@ def opened(word: str | None, tell: Callable[[str], None]) -> Office:
     """A folder that is only looked at. What an interrupted command left is put right before, if no command works on it
     now."""
     path = folder_of(word)
+    put_right_if_free(path, tell)
+    return read_office(path)
+
+
+def put_right_if_free(path: Path, tell: Callable[[str], None]) -> None:
+    """Puts right what an interrupted command left, if no command works on the folder now."""
     if has_leftovers(path) and not lock.is_held(path / lock.NAME):
         try:
             with lock.held(path, "look", user_name()):
                 put_right(path, tell)
         except FileFault as fault:
             tell(f"{path}: what an interrupted command left is still there: {fault}")
-    return read_office(path)
 
 
 @contextlib.contextmanager

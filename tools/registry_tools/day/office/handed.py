@@ -14,6 +14,7 @@ command that was interrupted: it does not count, and is removed. Any other file 
 import contextlib
 import csv
 import datetime
+import io
 import re
 from dataclasses import dataclass, field
 from pathlib import Path
@@ -165,8 +166,9 @@ class HandedIn:
                 raise FileFault(path, 0, "", "a file that nobody handed in", expected)
 
 
-# The files that a command makes here, or begins to make.
-OWN_FILE = re.compile(r"[0-9]{4,}-[a-z]+\.csv|\..*\.new")
+# A file that was handed in, and those that a command makes here, or begins to make.
+FILE = re.compile(r"[0-9]{4,}-[a-z]+\.csv", re.ASCII)
+OWN_FILE = re.compile(rf"{FILE.pattern}|\..*\.new")
 # The outcome of each instruction at the last look, so that the next one can say what is new; and what waits behind the
 # last day.
 LOOKED, WAITS = "looked.csv", "waits.csv"
@@ -259,14 +261,22 @@ def read(folder: Path) -> HandedIn:
             raise FileFault(
                 folder / part.file, 0, "SHA-256", there, f"{part.sum}: somebody changed it after it was handed in"
             )
+        count = count_in(folder / part.file, part.kind)
+        if count != part.count:
+            raise FileFault(path, 0, "COUNT", f"{part.count} for {part.file}", f"{count}: so many stand in it")
     handed.must_be_of_commands()
     return handed
+
+
+def count_in(path: Path, kind: str) -> int:
+    """How many items a file has."""
+    return sum(begins_item(DO if kind == FIRST else kind, row) for row in rows_of(path).rows)
 
 
 def from_text(folder: Path, path: Path, content: bytes) -> HandedIn:
     """What a journal of next/ says."""
     handed: HandedIn | None = None
-    for number, fields in enumerate(rows_of_journal(path, content), 1):
+    for number, fields in rows_of_journal(path, content):
         try:
             if handed is None:
                 tag, base = fields
@@ -275,6 +285,8 @@ def from_text(folder: Path, path: Path, content: bytes) -> HandedIn:
                 handed = HandedIn(folder, base)
             elif fields[0] == "handed":
                 _, at, who, kind, start, count, day, file, checksum, name = fields
+                if kind not in KINDS or not FILE.fullmatch(file):
+                    raise ValueError(kind)
                 date = datetime.date.fromisoformat(day) if day else None
                 handed.parts.append(Part(at, who, kind, int(start), int(count), date, file, checksum, name))
             elif fields[0] == "taken":
@@ -290,10 +302,11 @@ def from_text(folder: Path, path: Path, content: bytes) -> HandedIn:
     return handed
 
 
-def rows_of_journal(path: Path, content: bytes) -> Iterator[list[str]]:
-    reader = csv.reader(content.decode("utf-8", "surrogateescape").splitlines())
+def rows_of_journal(path: Path, content: bytes) -> Iterator[tuple[int, list[str]]]:
+    """The rows, each with the line on which it ends: the name of a file may have a line end inside."""
+    reader = csv.reader(io.StringIO(content.decode("utf-8", "surrogateescape"), newline=""))
     try:
-        yield from reader
+        yield from ((reader.line_num, fields) for fields in reader)
     except csv.Error as error:
         raise FileFault(path, reader.line_num, "row", str(error), "a row of csv") from None
 

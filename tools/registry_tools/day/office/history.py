@@ -38,7 +38,8 @@ def run(said: argparse.Namespace) -> int:
 
 
 def changes_by_hand(past_day: PastDay, number: int) -> Iterator[list[Cell]]:
-    """The rows of the account that are others than after the day before; of the first day, its `account` row."""
+    """The rows of the account that are others than after the day before, of a new one all of them; of the first day,
+    its `account` row."""
     new = past_day.day.book.get(number)
     if new is None:
         return
@@ -47,10 +48,10 @@ def changes_by_hand(past_day: PastDay, number: int) -> Iterator[list[Cell]]:
     if old is None:
         what = "new account" if past_day.before else "first text"
         yield [date, None, f"{what}: {new.rows[0]}", BY_HAND, *held]
-        return
-    assert past_day.before is not None  # (it has the old account)
-    for change in hand_changes.of_account(past_day.before, past_day.day, number):
-        yield [date, None, change.words, BY_HAND, *held]
+    if past_day.before:
+        for change in hand_changes.of_account(past_day.before, past_day.day, number):
+            if old or change.row != new.rows[0]:
+                yield [date, None, change.words, BY_HAND, *held]
 
 
 def log_of(past_day: PastDay, number: int) -> Iterator[list[Cell]]:

@@ -81,7 +81,7 @@ def change_first(path: Path, said: argparse.Namespace, who: str, first: DayText,
         old = office.handed_in()
         there = handed.begin(office.next_folder, old.base)
         # (the file gets a name that the old text does not have: it counts only when the journal says so)
-        if any(True for _ in old.items(handed.DO, handed.CHANGES, handed.WORK)):
+        if any(True for _ in old.items(*(kind for kind in handed.KINDS if kind != handed.FIRST))):
             raise WordsFault("take back first what was handed in: ./day status shows it")
         there.parts = [*old.parts]
         part = handed.put(there, handed.FIRST, content, len(first.instructions), os.path.basename(said.first), who)

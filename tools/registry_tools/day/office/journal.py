@@ -31,6 +31,7 @@ FILES = {
 }  # fmt: skip
 COLUMNS = ("event", "at", "who", "date", "first", "next", *FILES, "why", "before", "line")
 HEADING = ",".join(COLUMNS)
+ROW_END = "\r\n"
 # What stands before the first event.
 BEGINNING = sum_of(HEADING.encode())
 
@@ -41,10 +42,11 @@ def now() -> str:
 
 
 def row_of(fields: list[str]) -> str:
-    """Fields as a row of csv, without its end."""
+    """Fields as a row of csv, without its end. (One with a line end inside is quoted if the writer has both of its
+    letters at the ends of rows.)"""
     buffer = io.StringIO()
-    csv.writer(buffer, lineterminator="").writerow(fields)
-    return buffer.getvalue()
+    csv.writer(buffer, lineterminator=ROW_END).writerow(fields)
+    return buffer.getvalue().removesuffix(ROW_END)
 
 
 class Event(NamedTuple):

@@ -6,10 +6,11 @@ from dataclasses import dataclass, field
 from pathlib import Path
 
 from registry_tools.day.errors import shown
+from registry_tools.day.office.layout import LABELS
 from registry_tools.day.rows import rows_of
 
 USER, HOLDER = "user", "holder"
-FILE = "labels.csv"
+NUMBER = re.compile("[1-9][0-9]*")
 # A byte that is no UTF-8, as it is read: the pages in which a name stands are UTF-8.
 NO_UTF_8 = re.compile("[\udc80-\udcff]")
 # A number as texts spell it: the name of another spelling would stand nowhere.
@@ -36,7 +37,7 @@ def with_name(number: str, names: dict[str, str]) -> str:
 
 def of_folder(path: Path) -> Labels:
     """The names that a folder of days has; none, if there is no such file."""
-    own = path / FILE
+    own = path / LABELS
     return read(own) if own.exists() else Labels()
 
 
@@ -47,9 +48,14 @@ def read(path: str | Path) -> Labels:
         fields = source.fields(index)
         if NO_UTF_8.search(source.rows[index]):
             raise source.fault(index, "row", shown(",".join(fields)), "UTF-8")
-        is_so = len(fields) == 3 and fields[0] in (USER, HOLDER) and NUMBER.fullmatch(fields[1])
-        if not is_so or not fields[2].strip():
+        if len(fields) != 3 or fields[0] not in (USER, HOLDER) or not fields[2].strip():
             raise source.fault(index, "row", shown(",".join(fields)), "user,NUMBER,NAME or holder,NUMBER,NAME")
-        names = labels.users if fields[0] == USER else labels.holders
-        names[fields[1]] = fields[2]
+        number, names = fields[1], labels.users if fields[0] == USER else labels.holders
+        if not NUMBER.fullmatch(number):
+            # (another spelling would stand for nobody)
+            raise source.fault(index, "NUMBER", shown(number), "a number in plain digits, as a day text has it")
+        if number in names:
+            expected = f"another {fields[0]}: this one is named {names[number]}"
+            raise source.fault(index, "NUMBER", shown(number), expected)
+        names[number] = fields[2]
     return labels

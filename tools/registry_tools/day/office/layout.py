@@ -5,7 +5,9 @@ from pathlib import Path
 from registry_tools.day.errors import FileFault
 
 SETTINGS, JOURNAL, DAYS, NEXT, PREPARED, LOCK = "office.ini", "journal.csv", "days", "next", "prepared", "lock"
-OWN = {SETTINGS, JOURNAL, DAYS, NEXT, PREPARED, LOCK}
+# The names of users and holders, which the administrator keeps.
+LABELS = "labels.csv"
+OWN = {SETTINGS, JOURNAL, DAYS, NEXT, PREPARED, LOCK, LABELS}
 # What may lie beside the files of a day: it is made of them.
 PAPERS = {"statements", "pages"}
 

@@ -1,8 +1,9 @@
 """Makes one page of several days for a director: how many operators are compliant, who is missing how much until which
 deadline, the totals as lines over the days, what was refused and why, and what was changed by hand.
 
-FILE is an HTML page that leads nowhere and prints. No rule of a day text tells a deadline, so --deadline names it. Of
-an account without emissions of some year nobody knows how much is missing: its bar has a frame without an end.
+FILE is an HTML page that leads nowhere and prints. Compliance is that of --year; without it, of the last year of the
+current period that is over. No rule of a day text tells a deadline, so --deadline names it. Of an account without
+emissions of some year nobody knows how much is missing: its bar has a frame without an end.
 """
 import argparse
 import datetime
@@ -40,15 +41,17 @@ def add_words(parser: argparse.ArgumentParser) -> None:
     parser.add_argument("file", metavar="FILE", help="the page that is written")
     parser.add_argument("--from", dest="begin", metavar="DATE", help="the first day")
     parser.add_argument("--to", dest="end", metavar="DATE", help="the last day")
+    parser.add_argument("--year", type=int, metavar="Y", help="the year of compliance")
     parser.add_argument("--deadline", metavar="DATE", help="until when what is missing has to be surrendered")
     past.add_words(parser)
 
 
-def compliance_parts(last: PastDay, deadline: datetime.date | None) -> Iterator[Markup]:
-    """How operators stand after the last day. Where emissions are missing nobody knows, and that is said."""
+def compliance_parts(last: PastDay, named: int | None, deadline: datetime.date | None) -> Iterator[Markup]:
+    """How operators stand after the last day, for the named year or the last one that is over. Where emissions are
+    missing nobody knows, and that is said."""
     yield heading("Compliance")
     try:
-        year = last_year_over(last.day.head)
+        year = last_year_over(last.day.head) if named is None else named
     except WordsFault:
         yield paragraph("No year of the current period is over.")
         return
@@ -162,7 +165,8 @@ def run(said: argparse.Namespace) -> int:
     if not days:
         raise WordsFault("no day was settled in this time")
     deadline = past.date_of("--deadline", said.deadline, datetime.date.max) if said.deadline is not None else None
-    parts = [*compliance_parts(days[-1], deadline), *totals_parts(days), *refusal_parts(days), *hand_parts(days)]
+    compliance = compliance_parts(days[-1], said.year, deadline)
+    parts = [*compliance, *totals_parts(days), *refusal_parts(days), *hand_parts(days)]
     title = f"{long_date(days[0].date)} to {long_date(days[-1].date)}"
     NewFile(said.file, send.page_of(title, f"Days: {len(days)}.", parts)).keep()
     print(f"{said.file}: days {len(days)}")

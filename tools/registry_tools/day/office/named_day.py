@@ -11,6 +11,7 @@ from registry_tools.day.errors import WordsFault
 from registry_tools.day.office import folder
 from registry_tools.day.office.folder import Office
 from registry_tools.day.office.journal import Event
+from registry_tools.day.options import nothing_behind, word_of
 
 # The commands that take them, and what each takes of a day.
 PAIR, REPORTS, TEXT = "pair", "reports", "text"
@@ -54,9 +55,11 @@ def with_paths(name: str, arguments: list[str]) -> list[str]:
     days, reports = zip(*(paths_of(office, date) for date in dates))
     if TAKES[name] == REPORTS:
         return [*reports, *rest, "--day", *days]
-    if name == "page":
-        rest += known_of(office, dates[0], rest)
-    return [days[0], *rest] if TAKES[name] == TEXT else [days[0], reports[0], *rest]
+    if TAKES[name] == TEXT:
+        return [days[0], *rest]
+    # (what stands behind -- is no option: those that are known come first)
+    known = known_of(office, dates[0], rest) if name == "page" else []
+    return [*known, days[0], reports[0], *rest]
 
 
 def parts_of(arguments: list[str]) -> Iterator[str]:
@@ -108,9 +111,9 @@ def known_of(office: Office, date: str, rest: list[str]) -> list[str]:
     """What a folder knows of a day beside its pair, as words of `./day page`: what waits, the day before, and who
     changed something."""
     day, before = event_of(office, date), [event for event in office.journal.filed() if str(event.date) < date]
-    known = {"--pending": [str(office.file(day, "waiting"))], "--by-hand": [str(office.day_folder(day.date))]}
+    known = {"--pending": [word_of(office.file(day, "waiting"))], "--by-hand": [word_of(office.day_folder(day.date))]}
     if before and "--history" not in rest:
-        known["--before"] = [str(office.file(before[-1], path)) for path in ("day", "report")]
+        known["--before"] = [word_of(office.file(before[-1], path)) for path in ("day", "report")]
     return [word for name, paths in known.items() if name not in rest for word in (name, *paths)]
 
 
@@ -119,8 +122,8 @@ def taken_office(rest: list[str]) -> str | None:
     if "--office" not in rest:
         return None
     place = rest.index("--office")
-    if place + 1 == len(rest):
-        raise WordsFault("--office needs a folder behind it")
+    if not "".join(rest[place + 1 : place + 2]):
+        raise nothing_behind("--office")
     word = rest[place + 1]
     del rest[place : place + 2]
     if "--office" in rest:
@@ -141,4 +144,4 @@ def event_of(office: Office, date: str) -> Event:
 def paths_of(office: Office, date: str) -> tuple[str, str]:
     """The day text and the report of a day of the folder."""
     event = event_of(office, date)
-    return str(office.file(event, "day")), str(office.file(event, "report"))
+    return word_of(office.file(event, "day")), word_of(office.file(event, "report"))

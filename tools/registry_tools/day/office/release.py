@@ -25,6 +25,9 @@ def run(said: argparse.Namespace) -> int:
             raise WordsFault(f"{office.path} has no settled day")
         if office.journal.is_released():
             raise WordsFault(f"{last.date} was released before")
+        for fault in office.changed_files(last):
+            # (what others know of is what was filed)
+            raise fault
         event = Event(RELEASED, journal.now(), who, last.date, last.first, last.next, {}, why, office.journal.last_line)
         files.replace(office.path / JOURNAL, office.journal.with_event(event).encode("utf-8", "surrogateescape"))
     print(f"{last.date} is released: it is not undone any more")

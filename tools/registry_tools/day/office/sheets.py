@@ -9,6 +9,7 @@ import csv
 import datetime
 import io
 import re
+import sys
 import zipfile
 import zlib
 from dataclasses import dataclass
@@ -91,6 +92,8 @@ def read_csv(path: str, content: bytes) -> Sheet:
         raise FileFault(path, 0, "", f"found {found}; expected UTF-8, or UTF-16 with a byte order mark", "") from None
     first = text.split("\n", 1)[0]
     separator = max(SEPARATORS, key=first.count)
+    # (a cell may have all 4,096 surrenders of an account)
+    csv.field_size_limit(sys.maxsize)
     try:
         return Sheet(path, "", [*csv.reader(io.StringIO(text, newline=""), delimiter=separator, strict=True)])
     except csv.Error as error:

@@ -6,6 +6,7 @@ With --csv or --json, a row for each thing, all of what waits and was handed in:
 exit status: 0 if the files of the last day are those that the journal names, 1 if one is not.
 """
 import argparse
+import contextlib
 import datetime
 import os
 import sys
@@ -45,7 +46,8 @@ def is_coloured() -> bool:
 def run(said: argparse.Namespace) -> int:
     office = folder.opened(said.office, folder.to_errors)
     handed_in = office.handed_in()
-    faults = [*faults_of_last(office)]
+    last = office.last()
+    faults = [*office.changed_files(last)] if last else []
     if showing.is_for_programs(said):
         write_answer(showing.for_programs(said, COLUMNS, [*rows_of(office, handed_in, faults)]), said.to)
         return FOUND if faults else 0
@@ -78,9 +80,12 @@ def rows_of(office: Office, handed_in: HandedIn, faults: list[FileFault]) -> Ite
 
 
 def missed_days(office: Office) -> list[datetime.date]:
-    """The working days behind the last day that are over."""
+    """The working days behind the last day that are over; none, if its text cannot be read, which is told as a
+    fault."""
     last, today = office.last(), datetime.date.today()
-    return [own for own in composing.calendar_of(office, last) if last.date < own < today] if last else []
+    with contextlib.suppress(FileFault):
+        return [own for own in composing.calendar_of(office, last) if last.date < own < today] if last else []
+    return []
 
 
 def last_lines(office: Office) -> Iterator[tuple[str, str]]:
@@ -133,9 +138,3 @@ def lock_lines(office: Office) -> Iterator[tuple[str, str]]:
     path = office.path / lock.NAME
     if lock.is_held(path):
         yield "in use", lock.holder_of(path)
-
-
-def faults_of_last(office: Office) -> Iterator[FileFault]:
-    """Which files of the last day are not those that the journal names."""
-    last = office.last()
-    return office.changed_files(last) if last else iter(())
