@@ -6,8 +6,10 @@ static char day[1 << 16], room[1 << 18];
 
 int main(void) {
   size_t length = fread(day, 1, sizeof day, stdin);
+  if (ferror(stdin)) return fprintf(stderr, "the day text cannot be read\n"), 5;
   struct registry_answer answer = registry_settle(day, length, room, sizeof room);
+  if (length == sizeof day || answer.length > sizeof room) return fprintf(stderr, "the day is too long\n"), 4;
   if (answer.status == REGISTRY_FAULT) fprintf(stderr, "row %lu: cause %u\n", (unsigned long)answer.row, answer.cause);
-  if (answer.status == REGISTRY_DONE && answer.length <= sizeof room) fwrite(room, 1, answer.length, stdout);
-  return (int)answer.status;
+  if (fwrite(room, 1, answer.length, stdout) == answer.length && !fflush(stdout)) return (int)answer.status;
+  return fprintf(stderr, "the report cannot be written\n"), 5;
 }

@@ -11,7 +11,8 @@ instruction, and for a distribution a row for each account that receives.
   outcome, code, name       done, or refused with the code and the name of the check
   figure                    what an assessment determined
   due                       of an addition that was done, the day on which the entry takes effect; with --day, of each
-                            other instruction its due day, and of one that waits the day on which ./day next enters it
+                            other instruction whose accounts are there its due day, and of one that waits the day on
+                            which ./day next enters it
   advice                    what to do after a refusal
   status                    the new status, of a change of a status
   record_named              the record number that a reversal names

@@ -174,9 +174,10 @@ class StillWaiting:
 def still_waiting(file: PendingFile, day: DayText, report: Report, date: datetime.date) -> StillWaiting:
     """What of a pending file waits after a day, for the text of a date."""
     found = StillWaiting()
-    must_not_be_later(file, report, date)
-    entered_later = is_written_behind(file, day, report, date, found)
     there = {tuple(i.fields) for i in day.instructions}
+    must_not_be_later(file, report, date)
+    must_not_be_of_another_text(file, day, report, there)
+    entered_later = is_written_behind(file, day, report, date, found)
     for waits, _ in file.rows:
         # (those that were refused on the day itself are taken from its report)
         if (waits.record or 0) >= day.head.next_record:
@@ -205,6 +206,21 @@ def must_not_be_later(file: PendingFile, report: Report, date: datetime.date) ->
             )
 
 
+def must_not_be_of_another_text(
+    file: PendingFile, day: DayText, report: Report, there: set[tuple[str, ...]]
+) -> None:
+    """Ends the command if a file was written with a text in whose place that of the day was settled, as after a slip in
+    the date: what one of them entered would be done twice, or not at all."""
+    made, head = file.made, day.head
+    if made is None or made.next_record != head.next_record or made.date == head.date:
+        return
+    is_behind = made.next_record == report.next_record and made.date > head.date
+    is_taken = any(waits.entered or tuple(waits.instruction.fields) in there for waits, _ in file.rows)
+    if not is_behind and (made.date > head.date or is_taken):
+        known = f"{head.date}, the day of {day.path}: this file was written with another text of the records from"
+        raise FileFault(file.path, 1, "DATE", made.date, f"{known} {made.next_record}")
+
+
 def is_written_behind(
     file: PendingFile, day: DayText, report: Report, date: datetime.date, found: StillWaiting
 ) -> bool:
@@ -220,7 +236,7 @@ def is_written_behind(
                 f"the text of {made.date} must not be settled"
             )
         return True
-    if made.next_record < day.head.next_record:
+    if (made.next_record, made.date) < (day.head.next_record, day.head.date):
         found.warnings.append(
             f"{file.path} was written with the text of {made.date}, and not with {day.path}: is a day left out? "
             "What the days between refused as NotDue is not in it"

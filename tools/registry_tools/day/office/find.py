@@ -6,7 +6,6 @@ amount of an entry of emissions are its tonnes. JSON and csv have the columns of
 exit status: 0 if something was found, 1 if nothing was.
 """
 import argparse
-import datetime
 from typing import Iterator
 
 from registry_tools import faults
@@ -49,8 +48,7 @@ def add_words(parser: argparse.ArgumentParser) -> None:
 
 
 def run(said: argparse.Namespace) -> int:
-    begin = past.date_of("--from", said.begin, datetime.date.min)
-    end = past.date_of("--to", said.end, datetime.date.max)
+    begin, end = past.span_of(said)
     rows: list[list[Cell]] = []
     for past_day in past.read_all(past.paths_of(said, begin, end)):
         if begin <= past_day.date <= end:

@@ -156,8 +156,7 @@ def hand_parts(days: list[PastDay]) -> Iterator[Markup]:
 
 
 def run(said: argparse.Namespace) -> int:
-    begin = past.date_of("--from", said.begin, datetime.date.min)
-    end = past.date_of("--to", said.end, datetime.date.max)
+    begin, end = past.span_of(said)
     paths = past.paths_of(said, begin, end)
     if any(is_same_file(path, said.file) for pair in paths for path in pair):
         raise WordsFault(f"{said.file} is one of the files that the command reads")

@@ -79,6 +79,15 @@ def read_all(paths: list[tuple[str, str]]) -> Iterator[PastDay]:
         yield before
 
 
+def span_of(said: argparse.Namespace) -> tuple[datetime.date, datetime.date]:
+    """The first and the last day that --from and --to ask for."""
+    begin = date_of("--from", said.begin, datetime.date.min)
+    end = date_of("--to", said.end, datetime.date.max)
+    if begin > end:
+        raise WordsFault(f"--from {begin} is later than --to {end}")
+    return begin, end
+
+
 def date_of(name: str, word: str | None, otherwise: datetime.date) -> datetime.date:
     """The date that the word behind an option says, if it stands there."""
     return otherwise if word is None else dates.date_of(name, word)

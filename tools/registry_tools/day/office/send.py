@@ -109,8 +109,8 @@ class LetterStatement(Statement):
 
     def __init__(self, settled: Settled, number: int, days: list[DayOfAccounts], names: Labels) -> None:
         self.names = names
-        # What was not done, by its fields: it is the same instruction if all of them are the same.
-        self.asked: dict[tuple[str, ...], list[LogRow]] = {}
+        # The tries of what was not done, by its fields: it is the same instruction if all of them are the same.
+        self.asked: dict[tuple[str, ...], list[list[LogRow]]] = {}
         self.done_later: list[Cells] = []
         super().__init__(settled, number, days)
         for rows in (*self.entries.values(), self.others, self.refused):
@@ -127,11 +127,13 @@ class LetterStatement(Statement):
 
     def take(self, date: datetime.date, own_row: OwnRow) -> None:
         logged = own_row.logged
-        fields = tuple(logged.instruction.fields)
-        if own_row.is_whole and logged.is_done:
-            self.tell_done_later(self.asked.pop(fields, []), date, logged)
-        elif own_row.is_whole:
-            self.asked.setdefault(fields, []).append(logged)
+        if own_row.is_whole:
+            equal = self.asked.setdefault(tuple(logged.instruction.fields), [])
+            tries = tries_before(equal, logged)
+            if logged.is_done:
+                self.tell_done_later(tries, date, logged)
+            else:
+                equal.append([*tries, logged])
         if not own_row.is_whole or logged.name != NOT_DUE:
             super().take(date, own_row)
 
@@ -147,6 +149,15 @@ class LetterStatement(Statement):
     def refusal(self, logged: LogRow) -> tuple[str, str]:
         book = self.settled.rulebook
         return book.check_link(logged.code), book.words(book.checks[logged.code].advice)
+
+
+def tries_before(equal: list[list[LogRow]], logged: LogRow) -> list[LogRow]:
+    """Takes the earlier tries of an instruction out of those of all that are equal to it. If several were asked for on
+    a day, each of them is tried again on a later one, in their order."""
+    place = next((place for place, tries in enumerate(equal) if tries[-1].date < logged.date), None)
+    if place is None and equal and logged.is_done:
+        place = 0
+    return [] if place is None else equal.pop(place)
 
 
 def parts_of(settled: Settled, statement: LetterStatement) -> Iterator[Markup]:

@@ -117,7 +117,8 @@ class Statement:
 
     def __init__(self, settled: Settled, number: int, days: list[DayOfAccounts]) -> None:
         self.settled, self.number, self.days = settled, number, days
-        self.users = users_of(settled.report.book[number])
+        # Its representatives on the day that is followed: By names those, as the own statement of that day does.
+        self.users: set[str] = set()
         self.entries: dict[str, list[Cells]] = {kind: [] for kind in KINDS}
         self.others: list[Cells] = []
         self.refused: list[Cells] = []
@@ -133,6 +134,7 @@ class Statement:
         opening = day.opening(self.number)
         if opening is None:
             return
+        self.users = users_of(day.day.book[self.number])
         for kind in KINDS:
             if opening[kind] != self.held[kind]:
                 self.enter((day.date, "", "Changed by hand before this day", ""), kind, opening[kind])
