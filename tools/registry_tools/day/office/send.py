@@ -4,6 +4,8 @@ statement of each as csv.
 FOLDER gets HOLDER.html and HOLDER-ACCOUNT.csv, and must not be there before. What others own, decide or tried is in
 none of them, and no page leads to another one. Each account begins with what waits and what was refused. With --from
 the statements begin on an earlier day: what was not due or was refused then, and was done later, is told as done later.
+An account that had another holder on one of these days begins with the first day of its holder of the last one; the
+statement of the other holder is made with --day.
 Names of users and holders are read from labels.csv in the folder of days, if it is there, or from the file of --labels:
 rows user,NUMBER,NAME and holder,NUMBER,NAME, in UTF-8. With --pairs the days are those of paths, and the file of
 --pending says what waits since earlier ones.
@@ -16,6 +18,7 @@ from typing import Iterator
 
 from registry_tools import rules
 from registry_tools.day import pending
+from registry_tools.day.accounts import Block
 from registry_tools.day.checks import Check, plain
 from registry_tools.day.due import NOT_DUE
 from registry_tools.day.errors import WordsFault
@@ -174,10 +177,12 @@ def parts_of(settled: Settled, statement: LetterStatement) -> Iterator[Markup]:
     yield from standing_parts(settled, account, statement)
 
 
-def section_of(settled: Settled, statement: LetterStatement, holder: str) -> Markup:
+def section_of(settled: Settled, statement: LetterStatement, holder: str, is_taken_over: bool) -> Markup:
     """An account: its number and holder stand at the head of each page on which it is printed."""
     name = f"Account {statement.number}, {holder}"
-    content = joined(tag("h2", f"Account {statement.number}"), *parts_of(settled, statement))
+    since = f"This account has had another holder: its statement begins on {long_date(statement.first_day)}."
+    lead = [tag("p", since)] if is_taken_over else []
+    content = joined(tag("h2", f"Account {statement.number}"), *lead, *parts_of(settled, statement))
     head = f"<thead><tr><td>{tag('span', name)}</td></tr></thead>"
     sheet = f"<table class='sheet'>{head}<tbody><tr><td>{content}</td></tr></tbody></table>"
     return Markup(f"<section>{sheet}</section>")
@@ -217,7 +222,7 @@ def accounts_of(report: Report, wanted: list[int] | None) -> dict[int, list[int]
     holders: dict[int, list[int]] = {}
     for number, block in report.book.items():
         if block.kind in rules.HOLDERS:
-            holders.setdefault(int(block.rows[0].split(",")[3]), []).append(number)
+            holders.setdefault(holder_of(block), []).append(number)
     for holder in wanted or []:
         if holder not in holders:
             raise WordsFault(f"--holder {holder}: no operator, aircraft or trading account has this holder")
@@ -227,6 +232,23 @@ def accounts_of(report: Report, wanted: list[int] | None) -> dict[int, list[int]
 def waiting_of(path: str | None, last: PastDay) -> list[pending.Waiting]:
     """What waits since earlier days behind the last day of the statements."""
     return pending.waiting_before(pending.read_pending(path), last.day, last.report) if path else []
+
+
+def places_of(days: list[PastDay], numbers: list[int]) -> dict[int, int]:
+    """For each account the place of the first day, counted from 0, from which on nobody but its holder of the last day
+    had it: what came before is of another holder."""
+    places = dict.fromkeys(numbers, 0)
+    last = days[-1].report.book
+    for place, day in enumerate(days[:-1], 1):
+        book = day.report.book
+        for number in numbers:
+            if number in book and holder_of(book[number]) != holder_of(last[number]):
+                places[number] = place
+    return places
+
+
+def holder_of(block: Block) -> int:
+    return int(block.rows[0].split(",")[3])
 
 
 @dataclass
@@ -264,18 +286,24 @@ def run(said: argparse.Namespace) -> int:
     holders = accounts_of(last.report, said.holder)
     with NewFolder(said.folder) as made:
         for holder, numbers in holders.items():
-            made.write(f"{holder}.html", letter(settled, told, source.names, holder, numbers))
-            for number in numbers:
-                rows = [row for of_day in texts for row in of_day.get(number, [])]
-                made.write(f"{holder}-{number}.csv", statement_over(pairs, number, rows))
+            places = places_of(source.days, numbers)
+            made.write(f"{holder}.html", letter(settled, told, source.names, holder, places))
+            for number, place in places.items():
+                rows = [row for of_day in texts[place:] for row in of_day.get(number, [])]
+                made.write(f"{holder}-{number}.csv", statement_over(pairs[place:], number, rows))
     print(f"{said.folder}: packages {len(holders)}, accounts {sum(map(len, holders.values()))}")
     return 0
 
 
-def letter(settled: Settled, days: list[DayOfAccounts], names: Labels, holder: int, numbers: list[int]) -> str:
+def letter(
+    settled: Settled, days: list[DayOfAccounts], names: Labels, holder: int, places: dict[int, int]
+) -> str:
+    """The page of a holder: each account from the day at its place on."""
     name = names.holder(str(holder))
-    statements = [LetterStatement(settled, number, days, names) for number in numbers]
-    sections = [section_of(settled, statement, name) for statement in statements]
+    sections = []
+    for number, place in places.items():
+        statement = LetterStatement(settled, number, days[place:], names)
+        sections.append(section_of(settled, statement, name, place > 0))
     begin, end = days[0].date, days[-1].date
     lead = f"From {long_date(begin)} to {long_date(end)}." if begin != end else f"{long_date(end)}."
     return page_of(f"Holder {name}", lead, sections)
