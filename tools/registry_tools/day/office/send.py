@@ -137,7 +137,7 @@ class LetterStatement(Statement):
                 self.tell_done_later(tries, date, logged)
             else:
                 equal.append([*tries, logged])
-        if not own_row.is_whole or logged.name != NOT_DUE:
+        if logged.name != NOT_DUE:
             super().take(date, own_row)
 
     def tell_done_later(self, before: list[LogRow], date: datetime.date, done: LogRow) -> None:
