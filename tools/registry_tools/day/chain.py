@@ -53,7 +53,7 @@ def add_words(parser: argparse.ArgumentParser) -> None:
         "--settle",
         metavar="PROGRAM",
         nargs="?",
-        const="",
+        const=True,
         help="settle each day again: by a program, such as ./run, or else the library",
     )
     parser.add_argument(
@@ -279,7 +279,7 @@ class Chain:
 
 def run(words: argparse.Namespace) -> int:
     if len(words.files) % 2:
-        program = f"; {words.settle} is the program of --settle" if words.settle else ""
+        program = f"; {words.settle} is the program of --settle" if isinstance(words.settle, str) else ""
         raise WordsFault(f"{len(words.files)} files: each DAY needs its REPORT behind it{program}")
     pairs = [*zip(words.files[::2], words.files[1::2])]
     settler = None if words.settle is None else settler_of(words.settle, "--settle")

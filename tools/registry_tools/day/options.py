@@ -30,10 +30,11 @@ class Given(argparse.Action):
         before = given_before(namespace).get(self.dest)
         if option_string and self.metavar != A_DATE and "" in (values if isinstance(values, list) else [values]):
             raise nothing_behind(option_string)
-        if option_string and self.nargs is not None and before is not None:
+        if option_string and before is not None:
+            if not isinstance(before, list):
+                first, second = ("nothing" if value is True else value for value in (before, values))
+                parser.error(f"{option_string} stands twice, with {first} and with {second}: which of them?")
             values = [*before, *values]
-        elif option_string and before is not None:
-            parser.error(f"{option_string} stands twice, with {before} and with {values}: which of them?")
         given_before(namespace)[self.dest] = values
         setattr(namespace, self.dest, values)
 

@@ -9,7 +9,7 @@ import subprocess
 import sys
 from pathlib import Path
 from types import ModuleType
-from typing import Protocol
+from typing import Literal, Protocol
 
 from registry_tools.day.day_text import DayText
 from registry_tools.day.errors import FileFault, WordsFault
@@ -124,9 +124,9 @@ def find_library() -> Library | None:
     return Library(calls)
 
 
-def settler_of(program: str | None, option: str) -> Settler:
-    """The program that an option names, or the library if it names none."""
-    if program:
+def settler_of(program: str | Literal[True], option: str) -> Settler:
+    """The program that an option names, or the library if the option stands alone."""
+    if isinstance(program, str):
         return Program(program, option)
     library = find_library()
     if library is None:

@@ -30,7 +30,7 @@ def add_words(parser: argparse.ArgumentParser) -> None:
         "--program",
         metavar="PROGRAM",
         nargs="?",
-        const="",
+        const=True,
         help="compare with a program, such as ./run, or the library too",
     )
     showing.add_words(parser)
