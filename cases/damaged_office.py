@@ -106,7 +106,7 @@ def strange_next_trials(work: Path) -> Iterator[Trial]:
     commands: list[Words] = [["hand-in", mine], [*CLOSE, DAY], change, [*UNDO], ["status"], ["try"]]
     for words in commands:
         yield f"{words[0]} beside a file that nobody handed in", unchanged(office, 3, has, *words, *own)
-    yield "audit beside it", unchanged(office, 1, [*has, "1 differences"], "audit", *own)
+    yield "audit beside it", unchanged(office, 1, [*has, ": 1 difference"], "audit", *own)
     moved = work / "mine.csv"
     mine.rename(moved)
     yield "hand-in of it from elsewhere", told(0, ["instructions 1, place 1"], "hand-in", moved, *own)
@@ -294,7 +294,7 @@ def missing_trials(work: Path) -> Iterator[Trial]:
     office, own = two_days(work, "missing")
     gone, kept = office / "days" / "2025-03-31", work / "kept"
     gone.rename(kept)
-    has = [f"{gone}: found no folder; expected the files of a day", "pairs read 1: 1 differences"]
+    has = [f"{gone}: found no folder; expected the files of a day", "pairs read 1: 1 difference"]
     yield "audit of a day that is gone", unchanged(office, 1, has, "audit", *own)
     yield "audit of it as JSON", unchanged(office, 1, ['"found": "no folder"'], "audit", "--json", *own)
     kept.rename(gone)
@@ -308,7 +308,7 @@ def missing_trials(work: Path) -> Iterator[Trial]:
         content = path.read_bytes()
         path.unlink()
         has = [f"{path}: it cannot be read: No such file"]
-        yield f"audit without {name}", unchanged(office, 1, [*has, ": 1 differences"], "audit", *own)
+        yield f"audit without {name}", unchanged(office, 1, [*has, ": 1 difference"], "audit", *own)
         yield f"status without {name}", unchanged(office, 1, ["last day: ", *has], "status", *own)
         yield f"status as csv without {name}", unchanged(office, 1, ["fault,", *has], "status", "--csv", *own)
         yield f"release without {name}", unchanged(office, 3, has, "release", "--why", "sent", *own)

@@ -31,6 +31,7 @@ from registry_tools.day.errors import FOUND, FileFault, WordsFault, shown
 from registry_tools.day.findings import Findings
 from registry_tools.day.follows import differences, line_behind
 from registry_tools.day.headings import heading_differences, lost_period
+from registry_tools.day.notes import counted
 from registry_tools.day.options import add_to
 from registry_tools.day.output import write_answer
 from registry_tools.day.progress import progress
@@ -288,7 +289,8 @@ def run(words: argparse.Namespace) -> int:
         chain.follow(*pair)
     found = chain.found
     agreed = f", {found.agreed} by hand as files of changes say" if words.changes else ""
-    days = "1 day" if len(pairs) == 1 else f"{len(pairs)} days"
-    last = f"{days}: {found.faults} differences, {found.by_hand} changes by hand{agreed}"
+    faults = counted(found.faults, "difference", "differences")
+    by_hand = counted(found.by_hand, "change by hand", "changes by hand")
+    last = f"{counted(len(pairs), 'day', 'days')}: {faults}, {by_hand}{agreed}"
     write_answer("\n".join([*chain.lines(), last, ""]), words.to)
     return FOUND if found.faults or found.by_hand else 0

@@ -16,6 +16,11 @@ def first_ones(lines: Iterable[str], more: str) -> list[str]:
     return every if left <= 0 else [*every[:MOST_TOLD], f"and {left:,} more {more}"]
 
 
+def counted(number: int, one: str, many: str) -> str:
+    """A number with its word."""
+    return f"{number} {one if number == 1 else many}"
+
+
 def worth_telling(lines: Iterable[str]) -> list[str]:
     """Of the lines about a text, those that whoever settles it has to know."""
     return [line for line in lines if line.startswith((LOOK, BY_HAND, ROW, LEFT_OUT))]

@@ -24,7 +24,7 @@ from typing import Iterator
 from registry_tools.day.day_text import DayText, read_day
 from registry_tools.day.errors import FOUND, FileFault, WordsFault, shown
 from registry_tools.day.follows import differences
-from registry_tools.day.notes import LOOK
+from registry_tools.day.notes import LOOK, counted
 from registry_tools.day.office import composing, files, folder, handed, journal, lock, past, settling, showing, words
 from registry_tools.day.office.composing import NextDay
 from registry_tools.day.office.folder import Office
@@ -96,7 +96,7 @@ def has_changed(there: Journal) -> bool:
 def summary(audit: Audit) -> str:
     path, there = audit.office.path, audit.office.journal
     counts = f"events {len(there.events)}, days {len(there.filed())}, pairs read {audit.days}"
-    return f"{path}: {counts}: {len(audit.found)} differences"
+    return f"{path}: {counts}: {counted(len(audit.found), 'difference', 'differences')}"
 
 
 # Files.

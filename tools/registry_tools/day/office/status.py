@@ -14,7 +14,7 @@ from typing import Iterator
 
 from registry_tools.day import weekdays
 from registry_tools.day.errors import FOUND, FileFault
-from registry_tools.day.notes import LOOK
+from registry_tools.day.notes import LOOK, counted
 from registry_tools.day.office import composing, folder, lock, showing, words
 from registry_tools.day.office.folder import Office
 from registry_tools.day.office.handed import KINDS, HandedIn, Item
@@ -98,7 +98,7 @@ def last_lines(office: Office) -> Iterator[tuple[str, str]]:
     yield "next record", str(last.next)
     today = datetime.date.today()
     passed = missed_days(office)
-    yield "since then", f"{(today - last.date).days} days" if today > last.date else "no day"
+    yield "since then", counted((today - last.date).days, "day", "days") if today > last.date else "no day"
     if passed:
         yield "working days without a settlement", weekdays.in_words(passed)
 
