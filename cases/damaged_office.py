@@ -19,6 +19,11 @@ from registry_tools.day.office.close import inside
 ROW = "do,2025-04-01,101,102,transfer,1,2,general,{}\n"
 DAY = "2025-04-01"
 CLOSE, UNDO = ["close", "--second", "--date"], ["undo", "--why", "a slip"]
+STRANGE_NAMES = {
+    "a\nb.csv": "a<line feed>b.csv", "a\r\nb.csv": "a<carriage return><line feed>b.csv",
+    "a\rb.csv": "a<carriage return>b.csv", "a\u2028b.csv": "a<U+2028>b.csv", "a\x85b.csv": "a<U+0085>b.csv",
+    'a\v",b.csv': 'a<U+000B>",b.csv',
+}  # fmt: skip
 Trial = tuple[str, object]
 Words = list[object]
 
@@ -52,21 +57,12 @@ def two_days(work: Path, name: str) -> tuple[Path, list[str]]:
 
 def damaged_trials(work: Path) -> Iterator[Trial]:
     work.mkdir()
-    yield from strange_day_trials(work)
-    yield from strange_next_trials(work)
-    yield from changed_file_trials(work)
-    yield from target_trials(work)
-    yield from message_trials(work)
-    yield from settings_trials(work)
-    yield from shown_name_trials(work)
-    yield "a look at the lock", looked_at_fault(work)
-    yield from later_day_trials(work)
-    yield from audited_trials(work)
-    yield from missing_trials(work)
-    yield from interrupted_trials(work)
-    yield from name_trials(work)
-    yield from journal_trials(work)
-    yield from first_text_trials(work)
+    for trials in (
+        strange_day_trials, strange_next_trials, changed_file_trials, target_trials, message_trials, settings_trials,
+        name_trials, lock_trials, later_day_trials, audited_trials, missing_trials, interrupted_trials, journal_trials,
+        first_text_trials,
+    ):  # fmt: skip
+        yield from trials(work)
     with inside(work):
         yield from dash_trials()
 
@@ -224,21 +220,8 @@ def settings_trials(work: Path) -> Iterator[Trial]:
     yield "nothing that waits", told(1, ["waits.csv: it cannot be read"], "audit", *own)
 
 
-def shown_name_trials(work: Path) -> Iterator[Trial]:
-    """Files that are handed in by names with line ends: the folder is read on, and tells the names."""
-    _, own = new_office(work, "names")
-    names = {"two\nlines.csv": "two<line feed>lines.csv", "a\x0bpage.csv": "a<U+000B>page.csv"}
-    names["no\u2028line.csv"] = "no<U+2028>line.csv"
-    for amount, (name, shown) in enumerate(names.items(), 1):
-        rows = work / name
-        rows.write_text(ROW.format(amount))
-        yield f"hand-in of {shown}", told(0, [f"handed in: {shown}: instructions 1, "], "hand-in", rows, *own)
-        yield f"status behind {shown}", told(0, [f"({shown}, "], "status", *own)
-    yield "close of all of them", told(0, ["done 3"], *CLOSE, DAY, *own)
-
-
-def looked_at_fault(work: Path) -> object:
-    """What is wrong with a command that asks for the lock while another one looks whether somebody holds it."""
+def lock_trials(work: Path) -> Iterator[Trial]:
+    """A command that asks for the lock while another one looks whether somebody holds it."""
     office, own = new_office(work, "looked-at")
     looker = open(office / "lock", "rb")
     fcntl.flock(looker, fcntl.LOCK_SH)
@@ -248,7 +231,7 @@ def looked_at_fault(work: Path) -> object:
             looker.close()
 
     with mock.patch.object(time, "sleep", pass_time):
-        return told(0, ["2025-03-31 is released"], "release", "--why", "it was sent", *own)
+        yield "a look at the lock", told(0, ["2025-03-31 is released"], "release", "--why", "it was sent", *own)
 
 
 def later_day_trials(work: Path) -> Iterator[Trial]:
@@ -337,15 +320,19 @@ def interrupted_trials(work: Path) -> Iterator[Trial]:
 
 
 def name_trials(work: Path) -> Iterator[Trial]:
-    """Names of files that have line ends, or what other readers take for them, do no harm to a folder."""
-    for number, name in enumerate(("a\nb.csv", "a\r\nb.csv", "a\rb.csv", "a\u2028b.csv", "a\x85b.csv", 'a\v",b.csv')):
+    """Names of files with line ends, or with what other readers take for them, are told so that they can be seen, and
+    do no harm to a folder."""
+    for number, (name, shown) in enumerate(STRANGE_NAMES.items()):
         path, office = work / name, work / f"named-{number}"
         path.write_bytes(FIRST.read_bytes())
         own = ["--office", str(office)]
         must_do(["init", str(office), str(path)], ["close", "--date", "2025-03-31", "--second", *own])
         path.write_text(ROW.format(7))
-        must_do(["hand-in", str(path), *own], [*CLOSE, DAY, *own], [*UNDO, *own], ["status", *own], [*CLOSE, DAY, *own])
-        yield f"a file {name!r}", told(0, [": 0 differences"], "audit", *own)
+        yield f"hand-in of {shown}", told(0, [f"handed in: {shown}: instructions 1, "], "hand-in", path, *own)
+        must_do([*CLOSE, DAY, *own], [*UNDO, *own])
+        yield f"status behind {shown}", told(0, [f"({shown}, "], "status", *own)
+        must_do([*CLOSE, DAY, *own])
+        yield f"audit behind {shown}", told(0, [": 0 differences"], "audit", *own)
 
 
 def dash_trials() -> Iterator[Trial]:
