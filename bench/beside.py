@@ -1,4 +1,4 @@
-"""Lets the scripts of this folder find the modules of cases/, whose harness finds those of tools/: import it first."""
+"""Lets the scripts of this folder find the modules of cases/, whose harness finds those of python/: import it first."""
 import sys
 from pathlib import Path
 

@@ -44,9 +44,9 @@ from random import Random
 import beside  # noqa: F401 (it finds the modules of cases/)
 from harness import TOP, Trials, program_of
 
-from registry_tools import faults
+from registry_tools.second import faults
 import mutations
-from registry_tools import rules
+from registry_tools.second import rules
 from compared import Expected, difference as difference_once
 from stored import Case, trials_of_folder
 

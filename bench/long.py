@@ -54,10 +54,10 @@ from random import Random
 import beside  # noqa: F401 (it finds the modules of cases/)
 from harness import TOP, Trials, program_of
 
-from registry_tools import faults
+from registry_tools.second import faults
 import fuzz
 import mutations
-from registry_tools import rules
+from registry_tools.second import rules
 from compared import Expected
 from drawing import PAIRS, damaged_rows, drawn_rows, text_of
 
@@ -236,7 +236,7 @@ def seamed_wrongly(words: Words, text: bytes, seed: int) -> tuple[int, str]:
 
 def read_wrongly(refusals: Path, text: bytes) -> str:
     """What is wrong with a text that test_refusals reads by parts."""
-    calls = [f"read_day_by_parts:{parts}" for parts in [*WORKERS, EACH_ROW]]
+    calls = [f"read_day_in_lists:{parts}" for parts in [*WORKERS, EACH_ROW]]
     lines, status = answer_of(refusals, calls, text)
     wanted = [line for call in calls for line in (call, "begin", "end", "done", "right")]
     return "" if (lines, status) == (wanted, 0) else f"status {status}, {[*set(lines) - set(wanted)]}"

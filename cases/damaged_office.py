@@ -12,13 +12,14 @@ from unittest import mock
 from harness import Said
 from offices import FIRST, must_do, new_office, told
 
-from registry_tools.day import main
-from registry_tools.day.office import audit, folder
-from registry_tools.day.office.close import inside
+from registry_tools import main
+from registry_tools.office import audit, folder
+from registry_tools.office.close import inside
 
 ROW = "do,2025-04-01,101,102,transfer,1,2,general,{}\n"
 DAY = "2025-04-01"
-CLOSE, UNDO = ["close", "--second", "--date"], ["undo", "--why", "a slip"]
+CLOSE, UNDO = ["close", "--yes", "--second", "--date"], ["undo", DAY, "--why", "a slip"]
+UNDO_FIRST = ["undo", "2025-03-31", "--why", "a slip"]
 STRANGE_NAMES = {
     "a\nb.csv": "a<line feed>b.csv", "a\r\nb.csv": "a<carriage return><line feed>b.csv",
     "a\rb.csv": "a<carriage return>b.csv", "a\u2028b.csv": "a<U+2028>b.csv", "a\x85b.csv": "a<U+0085>b.csv",
@@ -29,11 +30,11 @@ Words = list[object]
 
 
 def content_of(office: Path) -> dict[str, bytes]:
-    """All files of a folder but the lock."""
+    """All files of a folder but the lock and the index, which any command may bring up to the journal."""
     return {
         str(path.relative_to(office)): path.read_bytes()
         for path in sorted(office.rglob("*"))
-        if path.is_file() and path.name != "lock"
+        if path.is_file() and path.name != "lock" and not path.name.startswith("index.sqlite")
     }
 
 
@@ -99,7 +100,7 @@ def strange_next_trials(work: Path) -> Iterator[Trial]:
     mine.write_text(ROW.format(7))
     has = ["next/mine.csv: found a file that nobody handed in; expected no such file: move it"]
     change: Words = ["change", "2", "--holder", "7", "--why", "a letter", "--yes"]
-    commands: list[Words] = [["hand-in", mine], [*CLOSE, DAY], change, [*UNDO], ["status"], ["try"]]
+    commands: list[Words] = [["hand-in", mine], [*CLOSE, DAY], change, [*UNDO_FIRST], ["status"], ["try"]]
     for words in commands:
         yield f"{words[0]} beside a file that nobody handed in", unchanged(office, 3, has, *words, *own)
     yield "audit beside it", unchanged(office, 1, [*has, ": 1 difference"], "audit", *own)
@@ -141,7 +142,7 @@ def changed_file_trials(work: Path) -> Iterator[Trial]:
     must_do([*UNDO, *own], edits, [*CLOSE, DAY, *own])
     path = office / "days" / DAY / "edits.csv"
     path.write_bytes(b"")
-    yield "changes that are gone", told(3, ["edits.csv: found fewer rows than were handed in"], "changes", *own)
+    yield "changes that are gone", told(3, ["edits.csv: SHA-256: found"], "changes", *own)
     office, own = two_days(work, "line")
     with open(office / "journal.csv", "a", encoding="utf-8", newline="") as stream:
         stream.write("a\rb\n")
@@ -191,7 +192,7 @@ def message_trials(work: Path) -> Iterator[Trial]:
     yield "rows that are late", str(said) if lacking or "/tmp" in said.errors + said.output else None
     settings = office / "office.ini"
     settings.write_text(settings.read_text().replace("program =", "program = /bin/true"))
-    close = ["close", "--date", DAY, *own]
+    close = ["close", "--yes", "--date", DAY, *own]
     yield "a program without a report", unchanged(office, 3, ["the report of /bin/true:1: book: found"], *close)
     settings.write_text(settings.read_text().replace("/bin/true", "/bin/false"))
     must_do([*CLOSE, DAY, *own])
@@ -231,19 +232,20 @@ def lock_trials(work: Path) -> Iterator[Trial]:
             looker.close()
 
     with mock.patch.object(time, "sleep", pass_time):
-        yield "a look at the lock", told(0, ["2025-03-31 is released"], "release", "--why", "it was sent", *own)
+        release: Words = ["release", "2025-03-31", "--yes", "--why", "it was sent"]
+        yield "a look at the lock", told(0, ["2025-03-31 is released"], *release, *own)
 
 
 def later_day_trials(work: Path) -> Iterator[Trial]:
-    """Questions about later days read only these, and the day before them."""
+    """Questions about later days are answered of these alone, whatever became of earlier files."""
     office, own = two_days(work, "later")
     must_do([*CLOSE, "2025-04-02", *own], [*CLOSE, "2025-04-03", *own])
     (office / "days" / "2025-03-31" / "report.csv.gz").write_bytes(b"")
-    yield "find over all days", told(3, ["2025-03-31/report.csv.gz:1: book"], "find", "--account", 1, *own)
+    yield "find over all days", told(3, ["2025-03-31/report.csv.gz: SHA-256: found"], "find", "--account", 1, *own)
     yield "find from a later day", told(1, ["outcome  status"], "find", "--from", "2025-04-02", *own)
     month = ["month", office / "month.html", "--from", "2025-04-02"]
     yield "month from a later day", told(0, ["days 2"], *month, *own)
-    yield "month from the day behind it", told(3, ["2025-03-31/report.csv.gz:1: book"], *month[:-1], DAY, *own)
+    yield "month from the day behind it", told(0, ["days 3"], *month[:-1], DAY, *own)
 
 
 def audited_trials(work: Path) -> Iterator[Trial]:
@@ -294,7 +296,7 @@ def missing_trials(work: Path) -> Iterator[Trial]:
         yield f"audit without {name}", unchanged(office, 1, [*has, ": 1 difference"], "audit", *own)
         yield f"status without {name}", unchanged(office, 1, ["last day: ", *has], "status", *own)
         yield f"status as csv without {name}", unchanged(office, 1, ["fault,", *has], "status", "--csv", *own)
-        yield f"release without {name}", unchanged(office, 3, has, "release", "--why", "sent", *own)
+        yield f"release without {name}", unchanged(office, 3, has, "release", DAY, "--yes", "--why", "sent", *own)
         path.write_bytes(content)
 
 
@@ -326,7 +328,7 @@ def name_trials(work: Path) -> Iterator[Trial]:
         path, office = work / name, work / f"named-{number}"
         path.write_bytes(FIRST.read_bytes())
         own = ["--office", str(office)]
-        must_do(["init", str(office), str(path)], ["close", "--date", "2025-03-31", "--second", *own])
+        must_do(["init", str(office), str(path)], ["close", "--yes", "--date", "2025-03-31", "--second", *own])
         path.write_text(ROW.format(7))
         yield f"hand-in of {shown}", told(0, [f"handed in: {shown}: instructions 1, "], "hand-in", path, *own)
         must_do([*CLOSE, DAY, *own], [*UNDO, *own])
@@ -338,7 +340,7 @@ def name_trials(work: Path) -> Iterator[Trial]:
 def dash_trials() -> Iterator[Trial]:
     """Names that begin with a dash are no options, in whatever order the words stand."""
     own, day = ["--office=-office"], ["--day", "2025-03-31"]
-    must_do(["init", "--", "-office", str(FIRST)], ["close", "--date", "2025-03-31", "--second", *own])
+    must_do(["init", "--", "-office", str(FIRST)], ["close", "--yes", "--date", "2025-03-31", "--second", *own])
     for words in (["log"], ["verify"], ["explain"], ["export", "--log"]):
         yield f"{words} of such a folder", told(0, [], *words, *day, *own)
     for name in ("-pages", "-statements"):
@@ -380,8 +382,8 @@ def first_text_trials(work: Path) -> Iterator[Trial]:
     change: Words = ["change", "2", "--holder", "7", "--why", "a letter", "--yes"]
     commands: list[Words] = [["hand-in", rows], ["hand-in", blocks], ["hand-in", calendar], change]
     for words in commands:
-        said = [Said(*words, *own), Said(*UNDO, *own)]
+        said = [Said(*words, *own), Said(*UNDO_FIRST, *own)]
         yield f"{words[0]} and undo", next((str(each) for each in said if each.status), None)
         has = ["take back first what was handed in"]
         yield "init behind it", unchanged(office, 2, has, "init", office, FIRST)
-        must_do(["take-back", "2", "--why", "a slip", *own], ["close", "--date", "2025-03-31", "--second", *own])
+        must_do(["take-back", "2", "--why", "a slip", *own], [*CLOSE, "2025-03-31", *own])

@@ -7,8 +7,9 @@ import codecs
 import datetime
 import random
 
-import harness  # noqa: F401 (it finds the modules of tools/)
-from registry_tools import rules
+import harness  # noqa: F401 (it finds the modules of python/)
+from registry_tools import tables
+from registry_tools.second import rules
 from collections.abc import Iterator
 
 MOST_RECORD = 10**15
@@ -164,7 +165,7 @@ class Account:
         return f"{start},{outside},{waiver},{chance.choice([0, 0, 7, -7])},{general},{aviation}"
 
     def holding(self, chance: random.Random) -> int:
-        return rules.MOST_HELD - chance.randrange(60) if self.is_large else chance.choice([0, 50, 200, 1_000])
+        return tables.MOST_HELD - chance.randrange(60) if self.is_large else chance.choice([0, 50, 200, 1_000])
 
     def list_rows(self, chance: random.Random, heading: Heading) -> Iterator[str]:
         later = range(2, len(heading.periods) + 1)
@@ -172,19 +173,19 @@ class Account:
         yield from (f"user,{user},{right}" for user, right in self.users.items())
         is_full = chance.random() < 0.04
         some = sorted(chance.sample(range(1, 42), chance.choice([0, 4, 15])))
-        others = range(500, 500 + rules.MOST_TRUSTED) if is_full else some
+        others = range(500, 500 + tables.MOST_TRUSTED) if is_full else some
         for other in others:
             yield f"trusted,{other},{heading.day + datetime.timedelta(chance.choice([-20, -1, 0, 1]))}"
         yield from self.retired_rows(chance, heading)
         yield from self.year_rows(chance, heading)
 
     def retired_rows(self, chance: random.Random, heading: Heading) -> Iterator[str]:
-        if chance.random() < 0.03 and heading.next_record > 2 * rules.MOST_ROWS:
-            self.records = [*range(1_000, 1_000 + rules.MOST_ROWS)]
+        if chance.random() < 0.03 and heading.next_record > 2 * tables.MOST_ROWS:
+            self.records = [*range(1_000, 1_000 + tables.MOST_ROWS)]
         for place, record in enumerate(self.records):
             what = chance.choice(["surrender", "surrender", "deletion"])
             is_most = self.is_large and place == 0 and len(self.records) < 10
-            amount = rules.MOST_RETIRED - 3_000 if is_most else chance.choice([1, 10, 90, 500])
+            amount = tables.MOST_RETIRED - 3_000 if is_most else chance.choice([1, 10, 90, 500])
             date = heading.day - datetime.timedelta(chance.choice([0, 1, 3, 10]))
             period = chance.randint(1, len(heading.periods))
             later_period = f",{period}" if what == "surrender" and period > 1 else ""
@@ -222,7 +223,7 @@ class Instructions:
 
     def amount(self, first: int) -> int:
         if self.slips():
-            return self.chance.choice([0, 40, rules.MOST_HELD, LARGEST_AMOUNT])
+            return self.chance.choice([0, 40, tables.MOST_HELD, LARGEST_AMOUNT])
         return self.chance.choice([1, 60, 5_000] if first in self.large else [1, 2, 5, 10, 60, 90])
 
     def receivers(self, act: str, first: int) -> list[int]:
@@ -252,7 +253,7 @@ class Instructions:
         year = self.chance.choice(self.heading.years())
         if act == "assess":
             return [year]
-        tonnes = [rules.MOST_TONNES + 1, LARGEST_AMOUNT] if self.slips() else [0, 10, 60, rules.MOST_TONNES]
+        tonnes = [tables.MOST_TONNES + 1, LARGEST_AMOUNT] if self.slips() else [0, 10, 60, tables.MOST_TONNES]
         return [year, self.chance.choice(tonnes)]
 
     def users(self, act: str, first: int) -> tuple[int, int | str]:

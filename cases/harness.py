@@ -3,9 +3,9 @@
 A trial is a name and what is wrong, if something is. A part that cannot be tried on this machine is left out, which a
 line says: it counts neither as passed nor as failed.
 
-Only this, bench/beside.py and `./day` change where Python looks for modules: the scripts have no ending, so that they
-are started by their names, and are in no package. They, and those of bench/, find the package of tools/ and the modules
-of this folder.
+Only this, bench/beside.py, tools/package.py and `./day` change where Python looks for modules: the scripts have no
+ending, so that they are started by their names, and are in no package. They, and those of bench/, find the package of
+python/ and the modules of this folder.
 """
 from __future__ import annotations
 
@@ -23,7 +23,8 @@ sys.dont_write_bytecode = True
 CASES = Path(__file__).resolve().parent
 TOP = CASES.parent
 TOOLS = TOP / "tools"
-sys.path[:0] = [str(folder) for folder in (TOOLS, CASES) if str(folder) not in sys.path]
+PYTHON = TOP / "python"
+sys.path[:0] = [str(folder) for folder in (PYTHON, CASES) if str(folder) not in sys.path]
 
 # A run that takes longer hangs, and fails: no machine is so busy that an answer of some milliseconds takes as long.
 MOST_SECONDS = 600
@@ -114,7 +115,7 @@ def must_have_memory(answer: Answer) -> Answer:
 
 def day_command(words: Iterable[object]) -> int | str | None:
     """Runs a command of `./day` in this process, and answers its status."""
-    from registry_tools.day import main
+    from registry_tools import main
 
     try:
         status: int = main.main([*map(str, words)])

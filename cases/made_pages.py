@@ -13,19 +13,20 @@ from pathlib import Path
 
 from harness import Trial
 
-from registry_tools import rules
-from registry_tools.day import checks, compliance
-from registry_tools.day.errors import WordsFault
-from registry_tools.day.main import main as day_main
-from registry_tools.day.outdated import Entries
-from registry_tools.day.pages import index
-from registry_tools.day.pages.rulebook import ACTS
-from registry_tools.day.pages.plan import MOST_BOXES
-from registry_tools.day.pages.summary import MOST_DONE, MOST_REFUSED
-from registry_tools.day.pairs import read_pair
-from registry_tools.day.report import LogRow
+from registry_tools import tables
+from registry_tools.errors import WordsFault
+from registry_tools.main import main as day_main
+from registry_tools.pages import index
+from registry_tools.pages.plan import MOST_BOXES
+from registry_tools.pages.rulebook import ACTS
+from registry_tools.pages.summary import MOST_DONE, MOST_REFUSED
+from registry_tools.questions import compliance
+from registry_tools.second import rules
+from registry_tools.texts.outdated import Entries
+from registry_tools.texts.pairs import read_pair
+from registry_tools.texts.report import LogRow
 from reread import Page, Table
-from registry_tools.texts import grouped
+from registry_tools.texts.in_words import grouped
 from unique_days import Day
 
 from sample_days import due_behind
@@ -150,15 +151,15 @@ def refusals_of(made: Made) -> None:
             refused.setdefault(logged.code, []).append(str(logged.record))
     page, told = made.page(), re.findall("(?:It refuses if|What to do): .*", made.page().text_by_lines)
     expected = []
-    for check in checks.written_checks(checks.document(checks.RULES)):
-        records = refused.get(check.code)
+    for code, check in enumerate(tables.CHECKS, 1):
+        records = refused.get(code)
         if records is None:
             continue
         assert [row[0] for row in page.table(f"Refused as {check.name}").rows] == records[:MOST_REFUSED], check.name
         assert (
-            f"{check.code} {check.name}: {grouped(len(records))} instruction{'s' * (len(records) > 1)}" in page.headings
+            f"{code} {check.name}: {grouped(len(records))} instruction{'s' * (len(records) > 1)}" in page.headings
         )
-        assert f"rules.html#check-{check.code}" in page.hrefs
+        assert f"rules.html#check-{code}" in page.hrefs
         expected += [f"It refuses if: {in_plain_words(check.meaning)}", f"What to do: {in_plain_words(check.advice)}"]
     assert told == expected, f"{told} and not {expected}"
     assert sum(table.caption.startswith("Refused as") for table in page.tables) == len(refused)
@@ -471,11 +472,9 @@ def years_of(made: Made, account: rules.Account, tables: Sequence[Table]) -> Non
 def refusals_of_accounts(made: Made) -> None:
     """The refusals of each account stand on its page with what it has to do, those of other accounts without any more;
     and what waits stands there with its due day."""
-    advice = {
-        check.name: in_plain_words(check.advice) for check in checks.written_checks(checks.document(checks.RULES))
-    }
+    advice = {check.name: in_plain_words(check.advice) for check in tables.CHECKS}
     for account, page in pages_of_accounts(made):
-        tables = {table.caption: table for table in page.tables}
+        by_caption = {table.caption: table for table in page.tables}
         expected: list[tuple[str, str | None, str, str, str]] = []
         for logged, is_whole in seen_by(made, account.number):
             by = ", ".join(field for field in logged.instruction.fields[1:3] if field and int(field) in account.users)
@@ -491,7 +490,7 @@ def refusals_of_accounts(made: Made) -> None:
                 )
             elif not logged.is_done:
                 expected.append((str(logged.record), None, by, logged.name, advice[logged.name]))
-        table = tables.get("Instructions that were refused")
+        table = by_caption.get("Instructions that were refused")
         told = table.columns("Record", "Instruction", "By", "Refused as", "What to do") if table else []
         assert [
             (row[0], row[1] if other[1] else None, *row[2:]) for row, other in zip(told, expected)
@@ -504,7 +503,7 @@ def refusals_of_accounts(made: Made) -> None:
         ]
         due = {str(wait.record): due_day_told(made, wait.instruction) for wait in waits}
         table = next(
-            (table for caption, table in tables.items() if caption.startswith("These are entered again")), None
+            (table for caption, table in by_caption.items() if caption.startswith("These are entered again")), None
         )
         told = table.columns("Record", "Due") if table else []
         assert {record: day for record, day in told} == due, account.number

@@ -4,6 +4,7 @@ from __future__ import annotations
 
 import os
 import subprocess
+import sys
 import tempfile
 from collections.abc import Iterable, Iterator, Mapping, Sequence
 from dataclasses import dataclass
@@ -16,17 +17,22 @@ from harness import TOP
 MOST_SECONDS = 20
 # The program takes so many workers, and reads by so many threads.
 MOST_WORKERS = 8
+# The commands that answer by a thread for each processor, at most so many, and what they do by all of these: each reads
+# the text, the plan also takes the accounts that instructions touch, and figures and totals do that for the regions,
+# try them and settle them. For a statement the calling thread settles the day alone.
+QUESTIONS = {("plan",): 2, ("statement", "1"): 1, ("figures",): 4, ("totals",): 4}
 # So many accounts make a text that is long enough for all of these threads, of 64 KB or more each, and a report that is
 # spelled by as many.
 MANY_ACCOUNTS = 20_000
 # These do the work of a thread that cannot be started themselves, so they never answer that there was none.
 DO_WITHOUT_THREADS = (
     "command_settle",
+    "command_workers",
     "plan_with",
-    "read_day_by_parts",
+    "read_day_in_lists",
     "settle",
     "settle_regions",
-    "write_report_of_parts",
+    "write_report_of_lists",
     "write_report_pieces",
 )
 # What an answer is called, and whether the call was then refused something.
@@ -196,6 +202,7 @@ PADDED = Day(
     TRANSFER.text.replace(b"account,1,", b"\n" * HALF + b"account,1,", 1) + b"\n" * HALF,
 )
 LISTS = day("an account with long lists", [], LISTED, 6)
+FAULTY = Day("a last row of an unknown tag", TWICE.text.replace(b"\nend\n", b"\nended\n"))
 ONE_ROW = Day("one instruction alone", b"do,2025-03-31,101,102,transfer,1,2,general,40\n")
 DISTRIBUTED = day("two distributions to eight accounts, and 18 instructions on these", distributed(), DISTRIBUTING)
 ALL_ACTS = Day("every row and every act", (TOP / "cases" / "books" / "every-row-and-act.csv").read_bytes())
@@ -260,15 +267,15 @@ OTHERS = [
     ("read_day", PERIODS),
     ("read_day", FACTORS),
     ("read_instruction", ONE_ROW),
-    ("read_day_by_parts:1", TRANSFER),
-    ("read_day_by_parts:2", LISTS),
-    ("read_day_by_parts:8", ALL_ACTS),
+    ("read_day_in_lists:1", TRANSFER),
+    ("read_day_in_lists:2", LISTS),
+    ("read_day_in_lists:8", ALL_ACTS),
     ("write_report", TRANSFER),
     ("write_report_pieces:1", TRANSFER),
     ("write_report_pieces:2", LOGGED),
     ("write_report_pieces:8", LOGGED),
-    ("write_report_of_parts:1", TRANSFER),
-    ("write_report_of_parts:8", LOGGED),
+    ("write_report_of_lists:1", TRANSFER),
+    ("write_report_of_lists:8", LOGGED),
     ("write_log_row", TRANSFER),
     ("write_book", TRANSFER),
     ("write_book", FACTORS),
@@ -279,6 +286,11 @@ OTHERS = [
     ("command_statement:1", TWICE),
     ("command_figures", ASSESSED),
     ("command_totals", CREATED),
+    # (these end with a fault: no such account, 9 workers, and a row that is faulty)
+    ("command_statement:77", TWICE),
+    ("command_workers:9", TWICE),
+    ("command_settle:2", FAULTY),
+    ("command_statement:1", FAULTY),
 ]
 
 
@@ -443,21 +455,23 @@ class CallCase(Case):
 
 
 class ProgramCase(Case):
-    """The program `registry`, from its first call to its end."""
+    """The program `registry`, from its first call to its end. It is told that it may use so many processors, or as many
+    as there are."""
 
-    def __init__(self, name: str, program: Program) -> None:
+    def __init__(self, name: str, program: Program, told: int | None = None) -> None:
         super().__init__(name, program)
         self.report = b""
+        self.settings = {"REFUSE_ALL": "1"} | ({} if told is None else {"REFUSE_PROCESSORS": str(told)})
 
     def try_ample(self) -> Found:
         """The whole text is what the program, or one worker of it, writes behind no library."""
-        words = self.program.words if self.program.words == ["plan"] else ["settle", "--workers", "1"]
+        words = ["settle", "--workers", "1"] if self.program.words[0] == "settle" else self.program.words
         run = subprocess.run([self.program.path, *words], input=self.program.text, capture_output=True, check=True)
         self.report = run.stdout
         return super().try_ample()
 
     def found(self, attempt: Attempt) -> Found:
-        return self.program.run(attempt, {"REFUSE_ALL": "1"})
+        return self.program.run(attempt, self.settings)
 
     def try_threads(self, wanted: int) -> None:
         """The program starts so many threads."""
@@ -515,12 +529,16 @@ def cases_of(library: str, work: str, refusals: str, registry: str) -> Iterator[
 
 def processors() -> int:
     """How many processors a program may use here."""
-    count = len(os.sched_getaffinity(0))
+    return min(len(os.sched_getaffinity(0)), quota())
+
+
+def quota() -> int:
+    """How many processors the container leaves to a program."""
     try:
         limit, period = Path("/sys/fs/cgroup/cpu.max").read_text(encoding="ascii").split()
-        return min(count, max(int(limit) // int(period), 1))
+        return max(int(limit) // int(period), 1)
     except (OSError, ValueError):
-        return count
+        return sys.maxsize
 
 
 def thread_cases(library: str, work: str, registry: str) -> Iterator[tuple[ProgramCase, int]]:
@@ -534,11 +552,13 @@ def thread_cases(library: str, work: str, registry: str) -> Iterator[tuple[Progr
         others = workers - 1
         yield settle_case(library, work, registry, workers, ALL_ACTS), 0
         yield settle_case(library, work, registry, workers, LONG), 2 * others
-        # (the lists of accounts are spelled in shares of equally many, and those of six workers make five shares)
-        spellers = 4 if workers == 6 else others
-        yield settle_case(library, work, registry, workers, FULL), 5 * others + spellers
+        yield settle_case(library, work, registry, workers, FULL), 6 * others
         # (where a day is not dealt out to regions, the calling thread alone settles it)
         yield settle_case(library, work, registry, workers, SWAPPED), 6 * others
         yield settle_case(library, work, registry, workers, FILED, is_file=True), 3 * others
-    plan = Program(library, work, registry, ["plan"], LONG.text)
-    yield ProgramCase(f"registry plan, {LONG.name}", plan), min(processors(), MOST_WORKERS) - 1
+    for told in (1, MOST_WORKERS, 2 * MOST_WORKERS):
+        others = min(told, quota(), MOST_WORKERS) - 1
+        for words, times in QUESTIONS.items():
+            program = Program(library, work, registry, [*words], FULL.text)
+            name = f"registry {' '.join(words)} on {told} processors, {FULL.name}"
+            yield ProgramCase(name, program, told), times * others

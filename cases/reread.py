@@ -41,6 +41,8 @@ class Group:
 class Page(HTMLParser):
     """A page that was read. `faults` says what is wrong with its form."""
 
+    forbidden = FORBIDDEN
+
     def __init__(self, text: str) -> None:
         super().__init__(convert_charrefs=True)
         self.faults: list[str] = []
@@ -97,7 +99,7 @@ class Page(HTMLParser):
 
     def handle_starttag(self, name: str, attributes: Attributes) -> None:
         of = named(attributes)
-        if name in FORBIDDEN or any(attribute.startswith("on") or attribute == "src" for attribute in of):
+        if name in self.forbidden or any(attribute.startswith("on") or attribute == "src" for attribute in of):
             self.faults.append(f"<{name}> with {[*of]}")
         if name == "a" and "a" in self.open:
             self.faults.append(f"a link to {of.get('href')} in a link")

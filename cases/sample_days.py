@@ -11,7 +11,8 @@ from pathlib import Path
 
 from harness import TOP, Said
 
-from registry_tools import faults, rules
+from registry_tools import tables
+from registry_tools.second import faults, rules
 
 # Users 201 and 202 propose and approve for account 2. The transfer to account 4, which it trusts, is due on the day;
 # the one to account 3 on the next day but one.
@@ -152,7 +153,7 @@ def other_word(chance: random.Random, word: str) -> str:
         return str(int(word) + chance.choice([1, -1]))
     if word[:2] == "20" and "-" in word:
         return str(datetime.date.fromisoformat(word) + datetime.timedelta(chance.choice([1, -1])))
-    for words in (faults.YES_NO, rules.KINDS, faults.STATUSES, faults.ACCOUNT_KINDS, faults.RIGHTS, faults.RETIRED_AS):
+    for words in (tables.YES_NO, rules.KINDS, faults.STATUSES, faults.ACCOUNT_KINDS, tables.RIGHTS, tables.RETIRED_AS):
         if word in words:
             return chance.choice([each for each in words if each != word])
     return word + "1"

@@ -11,9 +11,10 @@ from pathlib import Path
 
 from harness import TOP, Said
 
-from registry_tools import rules
-from registry_tools.day.office import sheets, tables
-from registry_tools.day.office.showing import as_csv
+from registry_tools.second import rules
+from registry_tools.sheets import columns as tables
+from registry_tools.sheets.writing import Written, write_workbook
+from registry_tools.showing import as_csv
 
 from drawing import drawn_rows
 
@@ -155,7 +156,7 @@ OTHER_PARTS = (
 def write_kept(path: Path, approver: str = '<c r="C2"><v>5102</v></c>', start: str = "") -> None:
     """A workbook as a spreadsheet keeps it: a date as a number with a style, shared texts, and a formula with its
     value."""
-    sheets.write_workbook(str(path), "in", [], iter(()))
+    write_workbook(str(path), Written("in", [[]]))
     main_space = 'xmlns="http://schemas.openxmlformats.org/spreadsheetml/2006/main"'
     names = ["proposed", "proposer", "approver", "act", "from", "kind", "amount", "surrender", "general"]
     texts = "".join(f"<si><t>{name}</t></si>" for name in names)

@@ -8,6 +8,8 @@
 --   instructions (of days): an instruction, by its record number
 --   shares (of instructions): an account that receives, and how much
 --   log (of instructions): done, or refused by which check
+--   held (of instructions): what each account of one that was done held after it
+--   totals (of days): what all accounts together held, had surrendered and had deleted after the day
 --   accounts_by_day (of days): what an account was after a day
 --   corrections, users, trusted, surrenders, emissions, figures (of accounts_by_day): an entry of a list of the account
 --   hand_changes (of days): a row that people changed before the day, of an account or, without one, of the rules

@@ -39,6 +39,8 @@ extern "C" {
 
 /* The version of this header: registry_version() of a library that fits it answers the same. */
 #define REGISTRY_VERSION 1
+/* The version of the release that it belongs to. */
+#define REGISTRY_VERSION_STRING "1.1"
 
 /* What became of a call. The numbers are the exit statuses of the program. */
 enum registry_status {
@@ -89,6 +91,21 @@ struct registry_answer registry_figures(const char *day, size_t day_length, char
 
 /* What all accounts together hold, have surrendered and have deleted after the day, as `registry totals`. */
 struct registry_answer registry_totals(const char *day, size_t day_length, char *room, size_t room_length);
+
+/* The words of the texts, so that no caller needs a table of its own. Each is always done, takes no memory, and writes
+ * into the room as the calls above do. A number that names nothing has the empty text. */
+
+/* The version of the engine, such as 1.1, as `registry --version` tells it. */
+struct registry_answer registry_version_string(char *room, size_t room_length);
+
+/* The word of a cause (enum registry_cause), as the program writes it: `order`. At most 7 bytes. */
+struct registry_answer registry_cause_word(uint32_t cause, char *room, size_t room_length);
+
+/* The name of the check with this code, 1 to 28, as a log has it behind `refused,CODE`: `NotEnough`. At most 23 bytes. */
+struct registry_answer registry_refusal_word(uint32_t code, char *room, size_t room_length);
+
+/* Why the check with this code refuses an instruction, in an English sentence. It names no account and no amount. */
+struct registry_answer registry_refusal_sentence(uint32_t code, char *room, size_t room_length);
 
 /* The version of the library's interface, to be compared with REGISTRY_VERSION. */
 uint32_t registry_version(void);

@@ -2,7 +2,8 @@
  *
  *   calls answer           answers each request
  *   calls threads TIMES    asks all requests from eight threads at once, so many times, and compares the answers
- *   calls refuse           refuses each allocation of each request in turn
+ *   calls refuse           refuses each allocation of each request in turn, in rooms that fit and in such that do not, and
+ *                          counts the memory that each call has not given back
  *   calls time TIMES       asks each request so many times in the same room, and writes the processor milliseconds of the
  *                          first call and of the fastest one
  *
@@ -190,32 +191,57 @@ static struct registry_answer ask_counted(const struct request *r, long refused,
   return answer;
 }
 
-/* Refuses each allocation of a request in turn, until none is refused: answers how many there are. */
-static long refuse_each(const struct request *r) {
-  char *text, *room;
-  struct registry_answer whole = ask_in_rooms(r, &text);
-  size_t length = whole.length + 8;
-  room = take(length);
-  long refused = 0;
+/* How many refused allocations changed no answer: room that a call would like to have at once, and does without. */
+static long made_up_for;
+
+/* Whether a call whose allocation was refused gave the whole answer all the same, and the text if there is room for it. */
+static int is_made_up_for(struct registry_answer answer, struct registry_answer whole, const char *text, size_t length, const char *room) {
+  if (!is_same(answer, whole)) return 0;
+  size_t written = whole.status == REGISTRY_DONE && whole.length <= length ? whole.length : 0;
+  for (size_t at = written; at < length; at++)
+    if (room[at] != mark(at)) return 0;
+  return !written || !memcmp(room, text, written);
+}
+
+/* Refuses each allocation of a request in turn, in a room of this length, until none is refused: answers how many there
+ * are. */
+static long refuse_in(const struct request *r, size_t length, struct registry_answer whole, const char *text) {
+  char *room = take(length);
+  long refused = 0, told = 0;
   for (;;) {
     for (size_t at = 0; at < length; at++) room[at] = mark(at);
     struct registry_answer answer = ask_counted(r, ++refused, length, room);
     if (taken < refused) break;
+    if (is_made_up_for(answer, whole, text, length, room)) {
+      made_up_for++;
+      continue;
+    }
     if (answer.status != REGISTRY_NO_MEMORY || answer.cause || answer.row || answer.length) fail("a refusal is not told", r->command);
     for (size_t at = 0; at < length; at++)
       if (room[at] != mark(at)) fail("a byte was written after a refusal", r->command);
+    told++;
   }
-  if (!is_same(ask_counted(r, 0, length, room), whole) || memcmp(room, text, whole.length))
-    fail("another answer after refusals", r->command);
+  if (!told && whole.status == REGISTRY_DONE && whole.length) fail("no refusal is told", r->command);
+  if (!is_same(ask_counted(r, 0, length, room), whole)) fail("another answer after refusals", r->command);
+  if (whole.length <= length && memcmp(room, text, whole.length)) fail("another text after refusals", r->command);
   __real_free(room);
-  __real_free(text);
   return refused - 1;
+}
+
+/* The same with no room, with one that is too small by a byte, and with a larger one than is needed. */
+static long refuse_each(const struct request *r) {
+  char *text;
+  struct registry_answer whole = ask_in_rooms(r, &text);
+  long refused = refuse_in(r, 0, whole, text) + refuse_in(r, whole.length + 8, whole, text);
+  if (whole.length > 1) refused += refuse_in(r, whole.length - 1, whole, text);
+  __real_free(text);
+  return refused;
 }
 
 static void refuse_all(void) {
   long all = 0;
   for (size_t at = 0; at < count; at++) all += refuse_each(&requests[at]);
-  printf("%zu requests, %ld allocations refused\n", count, all);
+  printf("%zu requests, %ld allocations refused, %ld of them made up for\n", count, all, made_up_for);
 }
 
 /* ---- time */

@@ -34,7 +34,7 @@ count_said() {
   if [[ $last =~ ^([0-9]+)\ passed,\ ([0-9]+)\ failed$ ]]; then
     p=${BASH_REMATCH[1]} f=${BASH_REMATCH[2]}
   else
-    echo "check: $name ended without its count"
+    echo "check: $name ended without its count$(why_without "$status")"
     f=1
   fi
   if [ "$status" != 0 ] && [ "$f" = 0 ]; then
@@ -42,6 +42,11 @@ count_said() {
     f=1
   fi
   passed=$((passed + p)) failed=$((failed + f))
+}
+
+# `timeout` ends with status 124 what took too long.
+why_without() {
+  [ "$1" != 124 ] || echo ": it took more than $most_minutes_of_part minutes, and was ended"
 }
 
 # The parts that run side by side: their processes, what each is called, when it began, and how it ended, once it has.
@@ -68,21 +73,46 @@ look_at_parts() {
   done
 }
 
-# Starts a part beside the others, once a processor is free. Its output waits in the work folder.
+# A part that takes longer hangs: it is ended and fails, so that the others still tell what they found.
+most_minutes_of_part=${MOST_MINUTES_OF_PART-45}
+
+# Starts a part beside the others, once a processor is free. Its output waits in the work folder. What judges the edits
+# waits for all proofs, and functions have bounds of their own.
 begin_part() {
-  local most
+  local most bound=()
   most=$(nproc)
   while look_at_parts && [ "$parts_running" -ge "$most" ]; do sleep 0.1; done
-  "$@" >"$work/part.${#side[@]}" 2>&1 </dev/null 3>&- &
+  case $1 in
+  tools/edits) ;;
+  */*) bound=(timeout "${most_minutes_of_part}m") ;;
+  esac
+  "${bound[@]}" "$@" >"$work/part.${#side[@]}" 2>&1 </dev/null 3>&- &
   side+=("$!") side_names+=("$1") side_begun+=("$(date +%s)")
+}
+
+# After so many seconds without a word the parts are named that still run.
+seconds_between_words=${SECONDS_BETWEEN_WORDS-120}
+
+# Names the parts that still run, once nothing was said for a while. $1 is when something was said last.
+name_running_parts() {
+  local number names=()
+  [ $((SECONDS - $1)) -ge "$seconds_between_words" ] || return
+  for number in "${!side[@]}"; do
+    [ -n "${side_statuses[number]-}" ] || names+=("${side_names[number]##*/}")
+  done
+  echo "check: still running after $(time_of "$SECONDS"): ${names[*]}"
 }
 
 # Waits for the parts that were started, and shows and counts each, in the order in which they were. A part ended when it
 # wrote its last line.
 finish_parts() {
-  local number
+  local number said=$SECONDS
   for number in "${!side[@]}"; do
-    while look_at_parts && [ -z "${side_statuses[number]-}" ]; do sleep 0.1; done
+    while look_at_parts && [ -z "${side_statuses[number]-}" ]; do
+      sleep 0.1
+      ! name_running_parts "$said" || said=$SECONDS
+    done
+    said=$SECONDS
     cat -- "$work/part.$number"
     count_said "${side_names[number]}" "${side_statuses[number]}" "$work/part.$number"
     say_took "${side_names[number]}" $(($(stat -c %Y -- "$work/part.$number") - side_begun[number]))
@@ -124,12 +154,16 @@ begin_cases() {
   begin_part tools/types
   begin_part cases/run-tools
   begin_part cases/run-pages
+  begin_part cases/run-desk
   begin_part cases/run-office
   begin_part cases/run-forms
   begin_part cases/run-day "$1"
   begin_part cases/run-misuse
   begin_part cases/run-handover
+  begin_part cases/run-trust
+  begin_part cases/run-intake
   begin_part cases/run-audit
+  begin_part cases/run-modules
   begin_part cases/run-commands
   begin_part cases/run-release
   begin_part cases/run-strangers
@@ -144,6 +178,7 @@ begin_all_cases() {
   begin_part cases/run-large-cases "$1"
   begin_part cases/run-streams "$1"
   begin_cases "$1"
+  begin_part cases/run-edits
   begin_part check_library "$2" "$1"
 }
 
@@ -187,6 +222,14 @@ try_cases() {
   finish_parts
   rm -f -- "$cases_passed"
   [ "$failed" != "$failed_before" ] || mv -- "$work/cases-begun" "$cases_passed"
+}
+
+# Judges the edits of each crate as soon as the `rt ci` that prints the file $1 has proved it. The file $2 says that it
+# has ended. With --anew as $3 it takes nothing that an earlier run kept.
+begin_edits() {
+  local crates
+  mapfile -t crates < <(tools/crates all)
+  begin_part tools/edits ${3+"$3"} --behind "$1" "$2" "${crates[@]}"
 }
 
 # The program that makes each call that takes memory.

@@ -22,6 +22,7 @@ has_tests() {
   grep -rqsE '#\s*\[[^]]*\btest\b' "crates/$1/src"
 }
 
+# How many edits of a crate are tried one by one.
 count_edits() {
   local edits
   edits=$(find "crates/$1" -path "crates/$1/must-fail/*.edit")
@@ -55,14 +56,15 @@ stop_edits() {
   wait "${lanes[@]}" 2>/dev/null || true
 }
 
-# Tries the edits of these crates, several crates side by side.
+# Tries the edits of these crates, several crates side by side: those that are judged together, and then each other one.
 try_edits() {
   local crate most
+  [ "$#" = 0 ] || count_part "tools/edits" tools/edits "$@"
   most=$(most_at_once 3)
   for crate in "$@"; do
     [ "$(count_edits "$crate")" != 0 ] || continue
     while [ "$(jobs -rp | wc -l)" -ge "$most" ]; do wait -n || true; done
-    echo "$crate: trying its edits ($(count_edits "$crate")) .."
+    echo "$crate: trying its other edits ($(count_edits "$crate")) .."
     rt must-fail "$crate" >"$work/edits.$crate" 2>&1 </dev/null &
     lanes+=("$!")
   done
@@ -77,7 +79,7 @@ count_edits_tried() {
   all=$(count_edits "$crate")
   [ "$all" != 0 ] || return 0
   refused=$(grep -cE "^rt: must-fail $crate/.*: refused, as it must be" "$work/edits.$crate" || true)
-  echo "$crate: $refused of $all edits refused"
+  echo "$crate: $refused of its $all other edits refused"
   passed=$((passed + refused)) failed=$((failed + all - refused))
   [ "$refused" = "$all" ] || grep -vE ': refused, as it must be' "$work/edits.$crate" || true
 }

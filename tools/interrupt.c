@@ -4,7 +4,8 @@
  * `interrupt_at`:
  *
  *   interrupt_at(number, error)   counts from now on. At the call with this number, counted from 1, the process ends at once if
- *                                 `error` is 0: a write writes half of its bytes before. Else the call fails with this error.
+ *                                 `error` is 0: a write writes half of its bytes before. Below 0 it is a signal, which the
+ *                                 process gets before the call. Else the call fails with this error.
  *                                 If the number is 0, nothing happens but counting.
  *   interrupt_count()             how many calls were counted
  *
@@ -14,6 +15,7 @@
 #include <dlfcn.h>
 #include <errno.h>
 #include <fcntl.h>
+#include <signal.h>
 #include <stdarg.h>
 #include <sys/stat.h>
 #include <sys/types.h>
@@ -35,6 +37,7 @@ long interrupt_count(void) { return counted; }
 static int fails(void) {
   if (!watching || ++counted != wanted) return 0;
   if (wanted_error == 0) _exit(137);
+  if (wanted_error < 0) return kill(getpid(), -wanted_error), 0;
   errno = wanted_error;
   return 1;
 }
@@ -51,6 +54,7 @@ ssize_t pwrite64(int file, const void *bytes, size_t count, off64_t at) {
   return fails() ? -1 : REAL(pwrite64)(file, bytes, count, at);
 }
 
+int fdatasync(int file) { return fails() ? -1 : REAL(fdatasync)(file); }
 int fsync(int file) { return fails() ? -1 : REAL(fsync)(file); }
 int ftruncate64(int file, off64_t length) { return fails() ? -1 : REAL(ftruncate64)(file, length); }
 int rename(const char *from, const char *to) { return fails() ? -1 : REAL(rename)(from, to); }

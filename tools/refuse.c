@@ -8,6 +8,7 @@
  *   REFUSE_CALL   the number of the call that is refused; none if it is 0 or there is none
  *   REFUSE_REST   if set, all calls after that one are refused too, until `end`
  *   REFUSE_OF     `own`: only the calls of the thread that wrote `begin` are numbered; `others`: only those of all others
+ *   REFUSE_PROCESSORS   how many processors the program is told that it may use, where its container has no fewer
  *   REFUSE_TELL   the file to which the findings are written when the program ends, one `NAME VALUE` a line:
  *                   calls     how many calls were counted
  *                   refused   how many of them were refused
@@ -22,6 +23,7 @@
 #include <dlfcn.h>
 #include <errno.h>
 #include <pthread.h>
+#include <sched.h>
 #include <stdatomic.h>
 #include <stdint.h>
 #include <stdio.h>
@@ -43,6 +45,7 @@ static atomic_long calls, numbered, refused, started, joined, detached, lost;
 static atomic_int watching;
 static long wanted;
 static int rest, all, skips_own, skips_others;
+static long processors;
 
 static _Thread_local int is_own, inside_start;
 static long own_calls, own_refused;
@@ -76,6 +79,8 @@ static int (*real_create)(pthread_t *, const pthread_attr_t *, void *(*)(void *)
 static int (*real_join)(pthread_t, void **);
 static int (*real_detach)(pthread_t);
 static void (*real_exit)(int);
+static long (*real_sysconf)(int);
+static int (*real_getaffinity)(pid_t, size_t, cpu_set_t *);
 static int finding;
 
 static void find(void) {
@@ -92,6 +97,8 @@ static void find(void) {
   real_join = dlsym(RTLD_NEXT, "pthread_join");
   real_detach = dlsym(RTLD_NEXT, "pthread_detach");
   real_exit = (void (*)(int))dlsym(RTLD_NEXT, "_exit");
+  real_sysconf = dlsym(RTLD_NEXT, "sysconf");
+  real_getaffinity = dlsym(RTLD_NEXT, "sched_getaffinity");
   real_free = dlsym(RTLD_NEXT, "free");
   finding = 0;
 }
@@ -251,6 +258,20 @@ ssize_t write(int to, const void *text, size_t bytes) {
   return answer;
 }
 
+long sysconf(int name) {
+  find();
+  return processors && name == _SC_NPROCESSORS_ONLN ? processors : real_sysconf(name);
+}
+
+int sched_getaffinity(pid_t of, size_t bytes, cpu_set_t *mask) {
+  long number;
+  find();
+  if (!processors) return real_getaffinity(of, bytes, mask);
+  CPU_ZERO_S(bytes, mask);
+  for (number = 0; number < processors; number++) CPU_SET_S(number, bytes, mask);
+  return 0;
+}
+
 static int is_set_to(const char *name, const char *value) {
   const char *text = getenv(name);
   return text != NULL && strcmp(text, value) == 0;
@@ -268,6 +289,7 @@ __attribute__((constructor)) static void begin(void) {
   all = getenv("REFUSE_ALL") != NULL;
   skips_own = is_set_to("REFUSE_OF", "others");
   skips_others = is_set_to("REFUSE_OF", "own");
+  processors = number_in("REFUSE_PROCESSORS");
   blocks = real_calloc(MOST_BLOCKS, sizeof *blocks);
   if (all) {
     is_own = 1;

@@ -57,3 +57,17 @@ JNIEXPORT jbyteArray JNICALL Java_registry_Registry_call(JNIEnv *env, jclass sel
   }
   return text;
 }
+
+/* Words that the library tells, whatever it is asked: the version of the engine, the word of a cause, and the name and
+ * the sentence of a check. */
+JNIEXPORT jstring JNICALL Java_registry_Registry_words(JNIEnv *env, jclass self, jint which, jint number) {
+  (void)self;
+  char room[129];
+  uint32_t asked = (uint32_t)number;
+  struct registry_answer answer = which == 0   ? registry_version_string(room, 128)
+                                  : which == 1 ? registry_cause_word(asked, room, 128)
+                                  : which == 2 ? registry_refusal_word(asked, room, 128)
+                                               : registry_refusal_sentence(asked, room, 128);
+  room[answer.length <= 128 ? answer.length : 0] = 0;
+  return (*env)->NewStringUTF(env, room);
+}

@@ -4,6 +4,7 @@
 
 # %%
 import sys
+from collections import Counter
 from pathlib import Path
 
 import registry
@@ -30,8 +31,19 @@ for before, after in changed:
 for totals in day.totals().values():
     print(f"  {totals.kind}: {totals.held} held, {totals.surrendered} surrendered, {totals.deleted} deleted")
 
-# %% With pandas, if it is there
+# %% What each account gave
+given: Counter[tuple[int, str]] = Counter()
+for row in report.log:
+    asked = row.instruction
+    if row.is_done and asked.from_account and asked.kind and asked.amount:
+        given[asked.from_account, asked.kind] += asked.amount
+for (account, kind), amount in given.items():
+    print(f"  account {account}: {amount} {kind}")
+
+# %% The same with pandas, if it is there, and what accounts of each kind hold
 try:
+    log = report.log.frame()
+    print(log[log["outcome"] == "done"].groupby(["from", "kind"])["amount"].sum())
     print(report.frame().groupby("kind")[["general", "aviation"]].sum())
 except ImportError:
     pass

@@ -1,7 +1,8 @@
 //! A gate that delays workers and notes who entered when.
 
+use crate::ways::Lane;
 use crossbeam_utils::Backoff;
-use reg_regions::{PlaceGate, WorkShift};
+use reg_regions::PlaceGate;
 use reg_tasks::{Naming, Task};
 use reg_work::Gate;
 use std::alloc::{AllocError, Global};
@@ -101,7 +102,7 @@ impl Noting {
     }
 
     /// Whether a worker entered with just the places of its shift, in their order.
-    pub(crate) fn is_followed(&self, shift: &WorkShift) -> bool {
+    pub(crate) fn is_followed(&self, shift: &Lane) -> bool {
         let mut entered = 0;
         for (place, worker) in self.places.iter().zip(self.workers.iter()) {
             if worker.load(Ordering::SeqCst) != shift.worker {

@@ -37,9 +37,9 @@ use crate::gates::{Delays, NOBODY, Noting};
 use crate::orders::{make_plan, run_batch, run_four, try_orders};
 use crate::stop::{Stop, number_at, tell};
 use crate::tries::{try_each, try_stealing};
-use crate::ways::{by_regions, by_stealing, close_in_place, in_one_list, read};
+use crate::ways::{Lane, by_regions, by_stealing, close_in_place, in_one_list, read};
 use reg_book::settle_plain;
-use reg_regions::{FreePlaces, WorkShift};
+use reg_regions::FreePlaces;
 use reg_text::DayInput;
 use reg_work::{FreeGate, settle_waves};
 use std::alloc::{AllocError, Global};
@@ -50,7 +50,7 @@ use std::sync::Wait;
 use std::thread::Threads;
 
 // Writes the places that a worker ran.
-fn tell_lane<W: Write>(writer: &mut W, shift: &WorkShift) -> Result<(), Stop> {
+fn tell_lane<W: Write>(writer: &mut W, shift: &Lane) -> Result<(), Stop> {
     if write!(writer, "{}:", shift.worker).is_err() {
         return Err(Stop::Output);
     }

@@ -2,11 +2,10 @@
 
 use crate::gates::{Delays, Noting};
 use crate::stop::{Stop, number_at, tell, told};
-use crate::ways::{by_regions, by_stealing, close_in_place, joined, read, read_in_lists};
+use crate::ways::{Lane, by_regions, by_stealing, close_in_place, joined, read, read_in_lists};
 use reg_book::settle_plain;
 use reg_cuts::cut_near;
 use reg_plan::Plan;
-use reg_regions::WorkShift;
 use reg_text::DayInput;
 use std::alloc::{AllocError, Global};
 use std::io::Write;
@@ -17,7 +16,7 @@ use std::thread::Threads;
 const START: [&[u8]; 1] = [b"\nformat,"];
 
 // Notes how often each place was run.
-fn note_places(times: &mut [u32], shift: &WorkShift) {
+fn note_places(times: &mut [u32], shift: &Lane) {
     for place in shift.places.iter() {
         if let Some(count) = times.get_mut(*place as usize) {
             *count = count.saturating_add(1);
@@ -26,7 +25,7 @@ fn note_places(times: &mut [u32], shift: &WorkShift) {
 }
 
 // Whether each place of the day is in these shifts, once.
-fn are_whole(alloc: Global, day: &DayInput, shifts: &[WorkShift]) -> Result<bool, AllocError> {
+fn are_whole(alloc: Global, day: &DayInput, shifts: &[Lane]) -> Result<bool, AllocError> {
     let mut times = Vec::from_elem(alloc, 0, day.batch.len() as usize + 1)?;
     for shift in shifts {
         note_places(times.as_mut_slice(), shift);
@@ -39,7 +38,7 @@ fn judge(
     alloc: Global,
     day: &DayInput,
     gate: &Noting,
-    shifts: &[WorkShift],
+    shifts: &[Lane],
 ) -> Result<&'static str, Stop> {
     if !are_whole(alloc, day, shifts)? {
         return Ok("a place is not run once");

@@ -41,28 +41,58 @@ pub(crate) fn in_one_list(alloc: Global, day: DayInput) -> Result<DayParts, Stop
             rules,
             batch,
         }),
-        Err(NoMemory) => Err(Stop::Short),
+        Err(_) => Err(Stop::Short),
     }
 }
 
-// The places that a worker ran.
-fn work_shift<N: Naming>(alloc: Global, shift: &Shift<N>) -> Result<WorkShift, Stop> {
+/// The places that a worker ran, to be written and compared. Unlike a shift, anybody can make one.
+#[derive(Drop)]
+pub(crate) struct Lane {
+    pub(crate) worker: u32,
+    pub(crate) places: Vec<u32>,
+}
+
+fn lane_of<N: Naming>(alloc: Global, shift: &Shift<N>) -> Result<Lane, Stop> {
     let mut places = Vec::new(alloc);
     for ran in shift.ran.iter() {
         if places.push(ran.place()).is_err() {
             return Err(Stop::Short);
         }
     }
-    Ok(WorkShift {
+    Ok(Lane {
         worker: shift.worker,
         places,
     })
 }
 
-fn work_shifts<N: Naming>(alloc: Global, shifts: &[Shift<N>]) -> Result<Vec<WorkShift>, Stop> {
+fn lanes_of<N: Naming>(alloc: Global, shifts: &[Shift<N>]) -> Result<Vec<Lane>, Stop> {
     let mut all = Vec::new(alloc);
     for shift in shifts {
-        let one = work_shift(alloc, shift)?;
+        let one = lane_of(alloc, shift)?;
+        if all.push(one).is_err() {
+            return Err(Stop::Short);
+        }
+    }
+    Ok(all)
+}
+
+fn lane_of_work(alloc: Global, shift: &WorkShift) -> Result<Lane, Stop> {
+    let mut places = Vec::new(alloc);
+    for place in shift.places() {
+        if places.push(*place).is_err() {
+            return Err(Stop::Short);
+        }
+    }
+    Ok(Lane {
+        worker: shift.worker(),
+        places,
+    })
+}
+
+fn lanes_of_work(alloc: Global, shifts: &[WorkShift]) -> Result<Vec<Lane>, Stop> {
+    let mut all = Vec::new(alloc);
+    for shift in shifts {
+        let one = lane_of_work(alloc, shift)?;
         if all.push(one).is_err() {
             return Err(Stop::Short);
         }
@@ -77,12 +107,12 @@ pub(crate) fn by_stealing<R: Threads + Wait + Sync, G: Gate>(
     day: &DayInput,
     workers: u32,
     gate: &G,
-) -> Result<(Settled, Vec<WorkShift>), Stop> {
+) -> Result<(Settled, Vec<Lane>), Stop> {
     let (settled, shifts) = settle_with(
         rt, alloc, &day.book, &day.rules, &day.batch, workers, gate,
     )?;
-    let places = work_shifts(alloc, shifts.as_slice())?;
-    Ok((settled, places))
+    let lanes = lanes_of(alloc, shifts.as_slice())?;
+    Ok((settled, lanes))
 }
 
 /// Settles by workers that own regions of the book and steal them.
@@ -92,14 +122,14 @@ pub(crate) fn by_regions<R: Threads + Sync, G: PlaceGate>(
     day: DayParts,
     workers: u32,
     gate: &G,
-) -> Result<(ClosedParts, Vec<WorkShift>), Stop> {
+) -> Result<(ClosedParts, Vec<Lane>), Stop> {
     let DayParts {
         parts,
         rules,
         batch,
     } = day;
     match settle_regions(rt, alloc, parts, &rules, &batch, workers, gate) {
-        Ok(done) => Ok(done),
+        Ok((closed, shifts)) => Ok((closed, lanes_of_work(alloc, shifts.as_slice())?)),
         Err(not_settled) => Err(not_settled.fault.into()),
     }
 }
@@ -109,7 +139,7 @@ pub(crate) fn joined(alloc: Global, closed: ClosedParts) -> Result<ClosedDay, St
     let ClosedParts { parts, replies } = closed;
     match parts.into_book(alloc) {
         Ok(book) => Ok(ClosedDay { book, replies }),
-        Err(NoMemory) => Err(Stop::Short),
+        Err(_) => Err(Stop::Short),
     }
 }
 

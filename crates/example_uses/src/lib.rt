@@ -5,7 +5,6 @@
 pub mod account;
 pub mod base;
 pub mod book;
-pub mod bundles;
 pub mod claim;
 pub mod counting;
 pub mod cuts;

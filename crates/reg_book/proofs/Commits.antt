@@ -1,5 +1,5 @@
 -- A book with the settled day committed is the state after the instructions.
-use Rattle.std.proofs.Common.{◌≡◌, ℕ, ◌+◌, Bool, true, false, cond, eqb, List, [], ◌∷◌, map, length, Option, Some, None}
+use Rattle.std.proofs.Common.{◌≡◌, ℕ, ◌+◌, Bool, true, false, eqb, List, length, Option, Some, None}
 use Rattle.std.proofs.Common.{refl, sym, ap, subst, ◌∙◌, arith}
 use Rattle.std.specs.Prelude.{option_map, unwrap_or}
 use Rattle.std.specs.List.{IsDistinct}
@@ -19,7 +19,7 @@ use Rattle.reg_book.proofs.Days.{touched-account, untouched-account, listing-fol
 use Rattle.reg_book.proofs.Folds.{numbers-fold, others-fold}
 use Rattle.reg_book.proofs.Lookups.{account-filter, rising-distinct}
 use Rattle.reg_book.proofs.Overlays.{numbers-overlay, placed_number}
-use Rattle.reg_book.proofs.Turns.{same-state}
+use Rattle.reg_book.proofs.StepFacts.{same-state}
 
 -- an account of the overlaid list is the settled one, or the old one if it is not settled
 laid_over : (later opening other : Option AccountValue) → option_map listing later ≡ option_map listing opening

@@ -5,7 +5,7 @@ use Rattle.std.specs.Cmp.{nat_cmp_total}
 use Rattle.std.specs.Prelude.{option_map}
 use Rattle.std.specs.FinMap as fin
 use Rattle.std.specs.List.{IsDistinct, AllByRecursion}
-use Rattle.std.proofs.lemmas.Bool.{cond_both, eq-eqb}
+use Rattle.std.proofs.lemmas.Bool.{cond_both}
 use Rattle.std.proofs.lemmas.List.{take_all}
 use Rattle.std.proofs.lemmas.List.Kept.{IsStrictlyIncreasing-filter}
 use Rattle.reg_facts.proofs.lemmas.Lists.{written_whole}
@@ -33,7 +33,7 @@ use Rattle.reg_book.proofs.lemmas.Logs.{length-rows_of}
 use Rattle.reg_book.proofs.Lookups.{account-filter, numbers-filter, rising-distinct}
 use Rattle.reg_book.proofs.Folds.{count-rows_of, rows-again, numbers-fold, others-fold, fold-local}
 use Rattle.reg_book.proofs.Folds.{rows-local}
-use Rattle.reg_book.proofs.Turns.{same-state}
+use Rattle.reg_book.proofs.StepFacts.{same-state}
 use Rattle.reg_book.proofs.Values.{numbered-day, ready-fold, ready-book}
 use Rattle.std.proofs.lemmas.List.Elements.{All-filter, recursion_from_All}
 

@@ -14,7 +14,6 @@ pub mod Overlays
 pub mod Standing
 pub mod Ranks
 pub mod Singles
-pub mod Turns
 pub mod Values
 pub mod Joined
 pub mod Conserved

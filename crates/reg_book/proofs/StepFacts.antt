@@ -1,9 +1,10 @@
 -- The laws of a step, in the form that recursions over the touched accounts use.
-use Rattle.std.proofs.Common.{◌≡◌, ℕ, eqb}
+use Rattle.std.proofs.Common.{◌≡◌, ℕ, eqb, sym, subst}
 use Rattle.std.specs.List.{IsDistinct, AllByRecursion}
 use Rattle.std.proofs.lemmas.List.Elements.{All-from_recursion}
 use Rattle.reg_base.specs.declared.instruction.Instruction.{Instruction}
 use Rattle.reg_base.specs.Footprint.{footprint}
+use Rattle.reg_base.proofs.lemmas.Among.{all_among}
 use Rattle.reg_rules.specs.State.{State, Setting, account, numbers}
 use Rattle.reg_rules.specs.Checks.{refusal}
 use Rattle.reg_rules.specs.Step.{step}
@@ -34,3 +35,10 @@ module _ (laws : StepLaws) where
       → AllByRecursion (λ a. account s a ≡ account t a) (numbers s) → s ≡ t
   one-state s t distinct same agree =
       laws.same_state s t distinct same (All-from_recursion (λ a. account s a ≡ account t a) (numbers s) agree)
+
+  -- states with the same numbers and the same accounts are one
+  pub same-state : (s t : State) → IsDistinct eqb (numbers t) → numbers s ≡ numbers t
+      → ((a : ℕ) → account s a ≡ account t a) → s ≡ t
+  same-state s t distinct same agree =
+      one-state s t (subst (IsDistinct eqb) (sym same) distinct) same
+      (all_among (λ a. account s a ≡ account t a) (numbers s) (λ a _. agree a))

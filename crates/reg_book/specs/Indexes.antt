@@ -1,19 +1,11 @@
 -- Indexes among accounts, counted from 0. Private functions alone are stated in these.
-use Rattle.std.specs.Prelude.{◌≡◌, ℕ, ◌<◌, List, map, length, slice_index}
+use Rattle.std.specs.Prelude.{◌≡◌, ℕ, ◌<◌, List, map, length}
 use Rattle.std.specs.List.{AllByRecursion}
 use Rattle.arrayvec.specs.ArrayVec.{ArrayVec}
 use Rattle.reg_base.specs.declared.instruction.Instruction.{Instruction}
 use Rattle.reg_base.specs.Directory.{DirectoryValue}
 use Rattle.reg_base.specs.Footprints.{footprints}
-
--- what stands at each of these indexes of a list of numbers
-abbrev pub each_at : List ℕ → List ℕ → List ℕ
-each_at ns indexes = map (λ p. slice_index ns p) indexes
-
--- these numbers stand at these indexes of a list, in this order
-pub record StandAt (ns indexes wanted : List ℕ) : Type 0 where
-  pub within : AllByRecursion (λ p. p < length ns) indexes
-  pub are_there : each_at ns indexes ≡ wanted
+pub use Rattle.reg_rules.specs.Indexed.{each_at, StandAt}
 
 -- the indexes of each instruction
 abbrev pub index_lists : List (ArrayVec ℕ) → List (List ℕ)

@@ -8,7 +8,6 @@ pub mod Single
 pub mod Laws
 pub mod Indexes
 pub mod Marks
-pub mod Turns
 pub mod Conservation
 pub mod Chains
 pub mod Parts

@@ -9,12 +9,10 @@ ghost use Rattle.reg_rules.specs.State.{numbers};
 ghost use Rattle.reg_rules.specs.Step.{step};
 ghost use Rattle.reg_book.specs.Book.{directory_of};
 
-use crate::indexes::{indexes_of, widened};
-use crate::turn::turn_from;
+use crate::indexes::indexes_of;
 use reg_account::Account;
-use reg_base::laws::each_footprint_is_sound;
 use reg_base::{Instruction, NoMemory, RecordNo};
-use reg_rules::{Reply, Setting, step_laws};
+use reg_rules::{Reply, Setting, execute_at, step_laws};
 use std::alloc::Global;
 use thiserror::Error;
 
@@ -52,15 +50,15 @@ pub(crate) fn carry_out(
         × (refusal setting.now accounts.old.items instruction.now ≡ None)) }
 {
     step_laws();
-    each_footprint_is_sound();
-    let mut own = widened(&indexes_of(accounts, instruction));
-    turn_from(
+    let own = indexes_of(accounts, instruction);
+    let movement = instruction.act.movement();
+    execute_at(
         alloc,
         setting,
+        &movement,
         number,
         instruction,
         accounts,
-        own.as_mut_slice(),
-        0,
+        own.as_slice(),
     )
 }

@@ -7,6 +7,7 @@ ghost use Rattle.reg_base.specs.declared.kinds.Retirement.TheVariants.{Surrender
 ghost use Rattle.reg_account.specs.Account.{IsAccount};
 ghost use Rattle.reg_rules.specs.State.{account, numbers};
 ghost use Rattle.reg_book.specs.Book.{overlay, AreHigher};
+ghost use Rattle.reg_book.specs.Parts.{joined};
 ghost use Rattle.reg_book.specs.Totals.{totals_of};
 
 use crate::apply::{ApplyFault, carry_out};
@@ -17,6 +18,7 @@ use reg_base::{AccountNo, AllowanceKind, Day, Directory, Instruction, NoMemory, 
 use reg_rules::{LogRow, Setting, log_row, step_laws};
 use std::alloc::Global;
 use std::marker::Model;
+use std::slice::from_ref;
 
 /// The accounts of a registry, by rising number, and the next record number. A contract sees the book as plain data.
 #[derive(Debug, Drop)]
@@ -82,6 +84,14 @@ impl Book {
         ensures kept { IsBook self.now }
     {
         self.accounts.as_slice()
+    }
+
+    /// The accounts as one list, where several may stand: as [`Parts::lists`](crate::Parts::lists) has them.
+    pub fn lists(&self) -> &[Vec<Account>]
+        ensures value { joined result.now ≡ self.now.accounts }
+        ensures kept { IsBook self.now }
+    {
+        from_ref(&self.accounts)
     }
 
     /// The kinds and holders of the accounts.

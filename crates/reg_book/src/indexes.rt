@@ -143,17 +143,6 @@ pub(crate) fn ranks_of(alloc: Global, marks: &[bool]) -> Result<Vec<u32>, NoMemo
     Ok(ranks)
 }
 
-/// These indexes, in the type by which a slice is indexed.
-pub(crate) fn widened(indexes: &Indexes) -> ArrayVec<usize, MOST_TOUCHED>
-    ensures { result.items ≡ indexes.now.items }
-{
-    let mut own = ArrayVec::new();
-    for index in indexes.as_slice() {
-        own.push(*index as usize);
-    }
-    own
-}
-
 /// Puts the rank at each index in its stead.
 pub(crate) fn rank_all(indexes: &mut [Indexes], ranks: &[u32])
     requires { AllByRecursion (AllByRecursion (λ index. index < length ranks.now)) (index_lists indexes.old) }

@@ -83,7 +83,6 @@ mod settle;
 mod settled;
 mod totals;
 mod touched;
-mod turn;
 
 pub use apply::ApplyFault;
 pub use book::Book;
@@ -100,4 +99,3 @@ pub use parts::{ClosedParts, Parts, add_up_lists};
 pub use settle::{SettleFault, settle_plain};
 pub use settled::{Settled, Stale};
 pub use totals::{BothTotals, Totals, add_up};
-pub use turn::take_turn;

@@ -1,6 +1,6 @@
 //! Accounts that come by rising number, on their way into a book.
 
-ghost use Rattle.std.specs.Prelude.{◌≡◌, ◌∷◌, ◌++◌, [], OnOk, OnErr};
+ghost use Rattle.std.specs.Prelude.{◌≡◌, ◌<◌, ◌∷◌, ◌++◌, [], OnOk, OnErr, vec_len, vec_capacity};
 ghost use Rattle.reg_book.specs.Parts.{joined};
 
 use reg_account::Account;
@@ -38,7 +38,7 @@ impl Model for ListedAccounts {
 }
 
 impl ListedAccounts {
-    ghost use Rattle.std.specs.Prelude.{map, IfOk};
+    ghost use Rattle.std.specs.Prelude.{map, IfOk, IfErr};
     ghost use Rattle.reg_book.specs.Book.{entry_of};
 
     /// No accounts. Those that are put into it will lie in one list. Takes no memory.
@@ -49,7 +49,8 @@ impl ListedAccounts {
     }
 
     /// No accounts. Those that are put into it will lie in lists of `size` accounts, and if so many come, the others
-    /// behind `most` such lists. Takes no memory.
+    /// behind `most` such lists. Takes no memory: each list gets room for so many, and an eighth more, with its first
+    /// account, if there is memory.
     pub fn in_lists(alloc: Global, size: usize, most: usize) -> Self
         ensures { result ≡ [] }
     {
@@ -73,7 +74,11 @@ impl ListedAccounts {
         if self.last.len() >= self.size && self.before.len() < self.most {
             begin_list(&mut self.before, &mut self.last)?;
         }
-        self.last.reserve(1)?;
+        if self.entries.is_empty() {
+            let all = self.size.saturating_mul(self.most.saturating_add(1));
+            expect(&mut self.entries, all);
+        }
+        make_room(&mut self.last, self.size)?;
         self.entries
             .push((account.number(), (account.kind(), account.holder())))?;
         self.last.push(account).unwrap();
@@ -109,22 +114,54 @@ impl ListedAccounts {
     /// The lists of the accounts, and what the directory will say of each account.
     ///
     /// # Errors
-    /// `NoMemory` if memory ran out.
+    /// The accounts as they were, with `NoMemory`, if memory ran out.
     pub(crate) fn into_lists(
         self,
-    ) -> Result<(Vec<Vec<Account>>, Vec<(AccountNo, (AccountKind, HolderNo))>), NoMemory>
+    ) -> Result<(Vec<Vec<Account>>, Vec<(AccountNo, (AccountKind, HolderNo))>), (Self, NoMemory)>
         ensures accounts { IfOk result (λ parts. joined parts.0.items ≡ self) }
         ensures entries { IfOk result (λ parts. parts.1.items ≡ map entry_of self) }
+        ensures back { IfErr result (λ e. e.0 ≡ self) }
     {
         let ListedAccounts {
             mut before,
             mut last,
             entries,
-            ..
+            size,
+            most,
         } = self;
-        begin_list(&mut before, &mut last)?;
-        Ok((before, entries))
+        match begin_list(&mut before, &mut last) {
+            Ok(()) => Ok((before, entries)),
+            Err(none) => {
+                let listed = ListedAccounts {
+                    before,
+                    last,
+                    entries,
+                    size,
+                    most,
+                };
+                Err((listed, none))
+            }
+        }
     }
+}
+
+// Makes room for so many values and an eighth more, if there is memory.
+fn expect<T>(list: &mut Vec<T>, count: usize)
+    ensures { list.new.items ≡ list.old.items }
+{
+    let _ = list.reserve_exact(count.saturating_add(count / 8));
+}
+
+// Makes room for one account more. The first one of a list gets it with so many others, if there is memory.
+fn make_room(list: &mut Vec<Account>, size: usize) -> Result<(), NoMemory>
+    ensures same { list.new.items ≡ list.old.items }
+    ensures room { OnOk result (vec_len list.new < vec_capacity list.new) }
+{
+    if list.is_empty() {
+        expect(list, size);
+    }
+    list.reserve(1)?;
+    Ok(())
 }
 
 // Puts the last list behind those before it, and begins an empty one. Whatever comes of it, the accounts stay.

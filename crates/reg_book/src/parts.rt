@@ -1,6 +1,6 @@
 //! A book whose accounts lie in several lists, so that threads can own them by value.
 
-ghost use Rattle.std.specs.Prelude.{◌≡◌, ◌≤◌, ◌++◌, true, None, All, length, IfOk, OnOk};
+ghost use Rattle.std.specs.Prelude.{◌≡◌, ◌≤◌, ◌++◌, [], true, None, All, length, OnOk, MatchResult};
 ghost use Rattle.std.specs.Option.{option_copied};
 ghost use Rattle.reg_base.specs.Rising.{IsRising};
 ghost use Rattle.reg_base.specs.declared.limits.TheConstants.{MOST_ACCOUNTS};
@@ -17,6 +17,7 @@ use reg_base::{AccountNo, Directory, NoMemory};
 use reg_rules::Reply;
 use std::alloc::Global;
 use std::marker::Model;
+use std::mem;
 
 /// The accounts of a registry, by rising number, in lists one behind the other, and the next record number. A contract
 /// sees it as plain data, and does not see where a list ends: it is the book of all the accounts.
@@ -67,10 +68,15 @@ impl Parts {
     /// The book of these accounts, which stand by rising number, in their lists, and the next record number.
     ///
     /// # Errors
-    /// `NoMemory` if memory ran out.
-    pub fn of_rising(alloc: Global, listed: ListedAccounts, next: u64) -> Result<Self, NoMemory>
+    /// The accounts as they were, with `NoMemory`, if memory ran out.
+    pub fn of_rising(
+        alloc: Global,
+        listed: ListedAccounts,
+        next: u64,
+    ) -> Result<Self, (ListedAccounts, NoMemory)>
         requires { IsBook (record { accounts = listed; next = next }) }
-        ensures { IfOk result (λ parts. parts ≡ record { accounts = listed; next = next }) }
+        ensures { MatchResult result
+            (λ parts. parts ≡ record { accounts = listed; next = next }) (λ e. e.0 ≡ listed) }
     {
         let (lists, entries) = listed.into_lists()?;
         Ok(Parts {
@@ -83,13 +89,16 @@ impl Parts {
     /// A book as one list.
     ///
     /// # Errors
-    /// `NoMemory` if memory ran out.
-    pub fn of_book(alloc: Global, book: Book) -> Result<Self, NoMemory>
-        ensures { IfOk result (λ parts. parts ≡ book) }
+    /// The book as it was, with `NoMemory`, if memory ran out: a list of one element is wanted.
+    pub fn of_book(alloc: Global, book: Book) -> Result<Self, (Book, NoMemory)>
+        ensures { MatchResult result (λ parts. parts ≡ book) (λ e. e.0 ≡ book) }
     {
-        let (accounts, directory, next) = book.into_parts();
         let mut lists = Vec::new(alloc);
-        lists.push(accounts)?;
+        if lists.reserve(1).is_err() {
+            return Err((book, NoMemory));
+        }
+        let (accounts, directory, next) = book.into_parts();
+        lists.push(accounts).unwrap();
         Ok(Parts {
             lists,
             directory,
@@ -101,17 +110,26 @@ impl Parts {
     /// taken.
     ///
     /// # Errors
-    /// `NoMemory` if memory ran out.
-    pub fn into_book(self, alloc: Global) -> Result<Book, NoMemory>
-        ensures { IfOk result (λ book. book ≡ self) }
+    /// The book as it was, with `NoMemory`, if memory ran out.
+    pub fn into_book(self, alloc: Global) -> Result<Book, (Self, NoMemory)>
+        ensures { MatchResult result (λ book. book ≡ self) (λ e. e.0 ≡ self) }
     {
         let Parts {
-            lists,
+            mut lists,
             directory,
             next,
         } = self;
-        let accounts = join(alloc, lists)?;
-        Ok(Book::from_sorted(accounts, directory, next))
+        match join(alloc, &mut lists) {
+            Ok(accounts) => Ok(Book::from_sorted(accounts, directory, next)),
+            Err(none) => {
+                let parts = Parts {
+                    lists,
+                    directory,
+                    next,
+                };
+                Err((parts, none))
+            }
+        }
     }
 
     /// The lists of its accounts, their directory and the next record number. Takes no memory.
@@ -176,31 +194,31 @@ fn count_accounts(lists: &[Vec<Account>]) -> usize {
     count
 }
 
-// Puts accounts behind others. If there are no others, these are taken as they are. Else room is made for so many in
-// all.
-fn put_all(accounts: &mut Vec<Account>, list: Vec<Account>, count: usize) -> Result<(), NoMemory>
-    ensures { OnOk result (accounts.new.items ≡ accounts.old.items ++ list.items) }
+// Moves the accounts of lists behind others. Whatever comes of it, all the accounts stay, in their order.
+fn put_behind(all: &mut Vec<Account>, lists: &mut [Vec<Account>]) -> Result<(), NoMemory>
+    ensures same { all.new.items ++ joined lists.new ≡ all.old.items ++ joined lists.old }
+    ensures moved { OnOk result (joined lists.new ≡ []) }
 {
-    let mut list = list;
-    if accounts.is_empty() {
-        *accounts = list;
+    let Some((list, behind)) = lists.split_first_mut() else {
         return Ok(());
-    }
-    accounts.reserve(count.saturating_sub(accounts.len()))?;
-    accounts.append(&mut list)?;
-    Ok(())
+    };
+    all.append(list)?;
+    put_behind(all, behind)
 }
 
-// The accounts of lists in one list: one list is taken as it is.
-fn join(alloc: Global, lists: Vec<Vec<Account>>) -> Result<Vec<Account>, NoMemory>
-    ensures { IfOk result (λ all. all.items ≡ joined lists.items) }
+// The accounts of lists in one list. They are moved into the first list, in which room for all is made before. If
+// memory ran out, the lists have the same accounts as before.
+fn join(alloc: Global, lists: &mut [Vec<Account>]) -> Result<Vec<Account>, NoMemory>
+    ensures { MatchResult result
+        (λ all. all.items ≡ joined lists.old) (λ _. joined lists.new ≡ joined lists.old) }
 {
-    let count = count_accounts(&lists);
-    let mut all = Vec::new(alloc);
-    for list in lists {
-        put_all(&mut all, list, count)?;
-    }
-    Ok(all)
+    let count = count_accounts(lists);
+    let Some((first, behind)) = lists.split_first_mut() else {
+        return Ok(Vec::new(alloc));
+    };
+    first.reserve(count.saturating_sub(first.len()))?;
+    put_behind(first, behind)?;
+    Ok(mem::replace(first, Vec::new(alloc)))
 }
 
 // The account with this number, if one of the lists has it.

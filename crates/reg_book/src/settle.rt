@@ -11,13 +11,12 @@ ghost use Rattle.reg_book.specs.Settling.{IsSettleFault};
 ghost use Rattle.reg_book.specs.Indexes.{AllStandAt, index_lists};
 
 use crate::book::Book;
-use crate::indexes::{Indexes, widened};
+use crate::indexes::Indexes;
 use crate::settled::Settled;
 use crate::touched::{Touched, find_touched};
-use crate::turn::take_turn;
 use reg_account::Account;
 use reg_base::{Batch, NoMemory, RecordNo, Rules};
-use reg_rules::{LogRow, Reply, Setting, log_row, step_laws};
+use reg_rules::{LogRow, Reply, Setting, execute_at, log_row, step_laws};
 use std::alloc::Global;
 use thiserror::Error;
 
@@ -144,14 +143,15 @@ pub(crate) fn settle_all(
     for (index, instruction) in instructions.iter().enumerate() {
         last += 1;
         let number = RecordNo::new(last).unwrap();
-        let mut own = widened(&indexes[index]);
-        let reply = take_turn(
+        let movement = instruction.act.movement();
+        let reply = execute_at(
             alloc,
             setting,
+            &movement,
             number,
             instruction,
             accounts,
-            own.as_mut_slice(),
+            indexes[index].as_slice(),
         )?;
         replies.push(reply)?;
     }

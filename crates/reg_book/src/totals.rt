@@ -63,7 +63,8 @@ impl BothTotals {
         }
     }
 
-    /// Those of two lists of accounts together.
+    /// Those of two lists of accounts together. The sums have to be below 2^128: those of lists of one book are, and no
+    /// law says so of two books.
     pub fn plus(&self, other: &BothTotals) -> BothTotals
         requires { BothTotalsFit (both_added self.now other.now) }
         ensures { result ≡ both_added self.now other.now }

@@ -1,5 +1,7 @@
+mod Ahead
 mod Ends
 mod Inputs
+mod Offsets
 mod PieceFacts
 mod Reports
 mod Rooms

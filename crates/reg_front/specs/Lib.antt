@@ -4,5 +4,7 @@ pub mod Faulting
 pub mod Faults
 pub mod Lines
 pub mod Questions
+pub mod Ranges
+pub mod Ranging
 pub mod Runs
 pub mod Streams

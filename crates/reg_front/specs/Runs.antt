@@ -1,8 +1,7 @@
 -- What a command makes of an input: the text that it writes, or the fault that it answers.
 use Rattle.std.specs.Prelude.{◌≡◌, ◌≤◌, ℕ, List, Option, Some, None, Err, ⊤, ◌⊎◌, IfSome, if◌then◌else◌}
 use Rattle.std.specs.Io.KnownBytes.{Appends}
-use Rattle.reg_plan.specs.Plans.{PlanValue, IsPlan}
-use Rattle.reg_book.specs.Book.{BookValue, directory_of}
+use Rattle.reg_book.specs.Book.{BookValue}
 use Rattle.reg_book.specs.Day.{DayValue, log_of}
 use Rattle.reg_book.specs.Chains.{book_after}
 use Rattle.reg_regions.specs.Outcomes.{may_work}
@@ -13,7 +12,7 @@ use Rattle.reg_text.specs.Report.{text_of}
 use Rattle.reg_text.specs.NextDays.{report_of}
 use Rattle.reg_text.specs.Determined.{figures_rows}
 use Rattle.reg_text.specs.Totals.{totals_rows}
-use Rattle.reg_text.specs.PlanText.{plan_rows}
+use Rattle.reg_text.specs.PlanText.{IsPlanText}
 use Rattle.reg_text.specs.Statement.{statement_of, has_account}
 use Rattle.reg_front.specs.declared.command.Command.{Command}
 use Rattle.reg_front.specs.declared.command.Command.TheVariants.{Settle, Plan, Statement, Figures, Totals}
@@ -30,11 +29,6 @@ command_fault Plan book = None
 command_fault (Statement account) book = if has_account book account then None else Some NoAccount
 command_fault Figures book = None
 command_fault Totals book = None
-
--- this is the text of the plan of the day's instructions
-abbrev pub IsPlanText : DayValue → List ℕ → Type 0
-IsPlanText day text = (plan : PlanValue) × IsPlan (directory_of day.book.accounts) day.batch.instructions plan
-    × (text ≡ text_of (plan_rows plan))
 
 -- this is the text that the command writes for a day
 abbrev pub IsTextFor : Command → DayValue → List ℕ → Type 0

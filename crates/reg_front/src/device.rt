@@ -8,6 +8,7 @@ ghost use Rattle.reg_front.specs.Devices.{FailsToWrite, HandsOn, IsReadWhole, Wr
 ghost use Rattle.reg_front.specs.Faults.{IsReadFault};
 
 use crate::stream::{CallFailed, Sink, Source};
+use reg_text::in_large_pages;
 use std::alloc::{AllocError, Global};
 
 /// The most bytes of an input: 2^30.
@@ -67,14 +68,21 @@ pub(crate) fn read_all<R: Source>(alloc: Global, reader: &mut R) -> Result<Vec<u
     unreachable!()
 }
 
-// An empty text. It has room for the expected bytes, and for one more, at which their end is found. If that is too
-// much, it has none, and gets it as the bytes come.
+// An empty text. It has room for the expected bytes, for one more, at which their end is found, and for an eighth more,
+// since the report of a day is longer than its input. If that is too much, it has room for the expected bytes, or none,
+// and gets it as the bytes come.
 fn begin_text(alloc: Global, expected: usize) -> Vec<u8>
     ensures { result.items ≡ [] }
 {
     let mut text = Vec::new(alloc);
     if expected > 0 {
-        let _ = text.reserve_exact(expected.min(MOST_INPUT) + 1);
+        let wanted = expected.min(MOST_INPUT) + 1;
+        if text
+            .reserve_exact(in_large_pages(wanted + wanted / 8))
+            .is_err()
+        {
+            let _ = text.reserve_exact(wanted);
+        }
     }
     text
 }

@@ -7,16 +7,20 @@ ghost use Rattle.reg_front.specs.Streams.{CanFail};
 ghost use Rattle.reg_front.specs.declared.command.Command.TheVariants.{Figures, Plan, Settle, Statement, Totals};
 ghost use Rattle.reg_front.specs.Runs.{CarriesOut};
 ghost use Rattle.reg_front.specs.Questions.{command_of};
+ghost use Rattle.reg_front.specs.Ranging.{ranged_stream};
 
 use crate::command::{Command, Question};
 use crate::device::write_all;
 use crate::fault::FrontFault;
 use crate::input::read_input;
 use crate::pieces::write_pieces;
+use crate::ranged::Ranged;
+use crate::ranges::ReadAt;
 use crate::stream::{Sink, Source};
 use crate::texts::{Used, make_answer, make_report, threads_for};
 use reg_base::AccountNo;
 use std::alloc::Global;
+use std::io::Read;
 use std::sync::Wait;
 use std::thread::Threads;
 use std::{mem, thread};
@@ -130,25 +134,43 @@ pub fn run_totals<T: Threads + Sync, R: Source, W: Sink>(
     Ok(())
 }
 
-/// The same as [`run`], but the memory that the command has used is not freed. A program that ends now need not free
-/// the lists of each account one after another: the system takes all its memory back at once.
+/// The same as [`run`], of a source that may be a file, which is read ahead in pieces if it is long; and the memory
+/// that the command has used is not freed. A program that ends now need not free the lists of each account one after
+/// another: the system takes all its memory back at once.
 ///
 /// # Errors
 /// As [`run`].
-pub fn run_without_freeing<T: Threads + Wait + Sync, R: Source, W: Sink>(
+pub fn run_without_freeing<
+    T: Threads + Wait + Sync,
+    R: Source,
+    F: ReadAt + Sync + Drop,
+    S: Read + Drop,
+    W: Sink,
+>(
     rt: &T,
     alloc: Global,
-    reader: &mut R,
+    reader: &mut Ranged<R, F, S>,
     writer: &mut W,
     command: Command,
 ) -> Result<(), FrontFault>
-    requires reader { CanFail (R.stream reader.old) }
+    requires reader { CanFail (ranged_stream R.stream reader.old) }
     requires writer { CanFail (W.stream writer.old) }
-    ensures { CarriesOut command (result_err result) (R.stream reader.old) (R.stream reader.new) (W.stream writer.old)
-        (W.stream writer.new) }
+    ensures { CarriesOut command (result_err result) (ranged_stream R.stream reader.old)
+        (ranged_stream R.stream reader.new) (W.stream writer.old) (W.stream writer.new) }
 {
+    reader.read_ahead(rt, alloc, threads_of(rt, &command));
     mem::forget(run_and_keep(rt, alloc, reader, writer, command)?);
     Ok(())
+}
+
+// By how many threads a command reads its input.
+fn threads_of<T: Threads>(rt: &T, command: &Command) -> usize {
+    match command {
+        Command::Settle { workers } => threads_for(*workers),
+        Command::Plan | Command::Statement { .. } | Command::Figures | Command::Totals => {
+            threads_for(count_threads(rt))
+        }
+    }
 }
 
 // Runs the command, and answers what it has used.

@@ -11,7 +11,7 @@ ghost use Rattle.reg_front.specs.Runs.{IsReadingFault, Reads};
 use crate::device::read_all;
 use crate::fault::FrontFault;
 use crate::stream::Source;
-use reg_text::{DayParts, read_day_of_pieces, read_day_parts_with};
+use reg_text::{DayParts, LEAST_PART, read_day_in_lists, read_day_of_pieces};
 use std::alloc::Global;
 use std::thread::Threads;
 
@@ -31,7 +31,7 @@ fn read_text<T: Threads + Sync, R: Source>(
     ensures read { IfErr result (λ fault. Reads fault (R.stream reader.old) (R.stream reader.new)) }
 {
     let input = read_all(alloc, reader)?;
-    let day = read_day_parts_with(rt, alloc, input.as_slice(), threads)?;
+    let day = read_day_in_lists(rt, alloc, input.as_slice(), threads, LEAST_PART)?;
     Ok((day, input))
 }
 
@@ -51,7 +51,7 @@ pub(crate) fn read_input<T: Threads + Sync, R: Source>(
     ensures err { IfErr result (IsReadingFault (R.stream reader.old).bytes) }
     ensures read { IfErr result (λ fault. Reads fault (R.stream reader.old) (R.stream reader.new)) }
 {
-    match reader.read_pieces(rt, alloc, threads) {
+    match reader.take_pieces() {
         Some(pieces) => {
             let day = read_day_of_pieces(rt, alloc, pieces.as_slice())?;
             Ok((day, Vec::new(alloc)))

@@ -36,13 +36,16 @@
 mod calls;
 mod command;
 mod counted;
+mod cuts;
 mod device;
 mod engine;
 mod fault;
 mod faulty;
 mod input;
 mod line;
+mod offset;
 mod pieces;
+mod ranged;
 mod ranges;
 mod stream;
 mod texts;
@@ -53,5 +56,6 @@ pub use engine::{run, run_figures, run_plan, run_statement, run_totals, run_with
 pub use fault::FrontFault;
 pub use faulty::Faulty;
 pub use line::tell_fault;
-pub use ranges::{ReadAt, read_in_pieces};
+pub use ranged::Ranged;
+pub use ranges::ReadAt;
 pub use stream::{CallFailed, Sink, Source};

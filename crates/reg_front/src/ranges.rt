@@ -6,8 +6,9 @@ ghost use Rattle.std.specs.Thread.{IsSync};
 ghost use Rattle.reg_text.specs.Pieces.{text_of_pieces};
 ghost use Rattle.reg_front.specs.Devices.{most_input};
 
+use crate::cuts::find_cuts;
 use crate::device::MOST_INPUT;
-use reg_text::find_row;
+use reg_text::in_large_pages;
 use std::alloc::Global;
 use std::thread;
 use std::thread::Threads;
@@ -29,11 +30,6 @@ pub trait ReadAt {
 
 // The bytes of a piece, at least, about: fewer take less time than to start a thread.
 const LEAST_PIECE: u64 = 64 * 1024;
-
-// A row that begins a piece is looked for in so many bytes at once, and so often: an account may have 4,096 rows.
-const WINDOW: usize = 4 * 1024;
-
-const MOST_WINDOWS: u64 = 64;
 
 // The file does not fill the room: the call failed, or it has fewer bytes there.
 #[derive(Drop)]
@@ -59,7 +55,9 @@ fn read_range<F: ReadAt>(alloc: Global, file: &F, from: u64, to: u64) -> Option<
         (λ bytes. piece.items ≡ slice_range bytes from to)) }
 {
     let length = usize::try_from(to.checked_sub(from)?).ok()?;
-    let mut piece = Vec::from_elem(alloc, 0, length).ok()?;
+    let mut piece = Vec::new(alloc);
+    let _ = piece.reserve_exact(in_large_pages(length));
+    piece.resize(length, 0).ok()?;
     let Ok(()) = fill(file, from, piece.as_mut_slice()) else {
         return None;
     };
@@ -138,41 +136,6 @@ fn ends_at<F: ReadAt>(file: &F, offset: u64) -> bool
     file.read_at(offset, &mut room) == Some(0)
 }
 
-// The offset of the first row behind this one with which a piece may begin, if it is near.
-fn find_cut<F: ReadAt>(file: &F, offset: u64) -> Option<u64> {
-    for window in 0..MOST_WINDOWS {
-        let near = offset.checked_add(window.checked_mul(WINDOW as u64)?)?;
-        if let Some(row) = find_row_near(file, near) {
-            return near.checked_add(row as u64);
-        }
-    }
-    None
-}
-
-// How many bytes behind an offset such a row begins, if it is in the next ones.
-fn find_row_near<F: ReadAt>(file: &F, offset: u64) -> Option<usize> {
-    let mut window = [0; WINDOW];
-    let count = file.read_at(offset, &mut window)?;
-    find_row(&window[..count])
-}
-
-// Offsets at which pieces of about this size may begin, of which the first begins here; nothing, if no row is near one
-// of them. Nothing is promised of them.
-fn find_cuts<F: ReadAt>(
-    alloc: Global,
-    file: &F,
-    from: u64,
-    size: u64,
-    count: u64,
-) -> Option<Vec<u64>> {
-    let mut cuts = Vec::new(alloc);
-    for piece in 1..count {
-        let near = from.checked_add(size.checked_mul(piece)?)?;
-        cuts.push(find_cut(file, near)?).ok()?;
-    }
-    Some(cuts)
-}
-
 /// All bytes of a file from an offset on, in pieces that begin with rows, read by at most so many threads. `to` is
 /// where the file ended when it was asked. Nothing, if that is not right any more, if the bytes are few or more than
 /// 2^30, or if a call failed or memory ran out.
@@ -194,7 +157,7 @@ pub fn read_in_pieces<T: Threads + Sync, F: ReadAt + Sync>(
     if count < 2 || length > MOST_INPUT as u64 {
         return None;
     }
-    let cuts = find_cuts(alloc, file, from, length / count, count)?;
+    let cuts = find_cuts(alloc, file, from, length, count)?;
     let pieces = read_cut(rt, alloc, file, from, &cuts, to)?;
     if ends_at(file, to) {
         Some(pieces)

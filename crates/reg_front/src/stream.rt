@@ -1,15 +1,12 @@
 //! What a command reads from and writes to.
 
 ghost use Rattle.std.specs.Prelude.{◌≡◌, ◌<◌, false, length, IfOk, IfSome, IsNone, OnErr, OnOk};
-ghost use Rattle.std.specs.Thread.{IsSync};
 ghost use Rattle.std.specs.Io.{ReadsAtMost, WritesAtMost};
 ghost use Rattle.std.specs.Io.KnownBytes.{Keeps, ReadConsumes, WriteAppends};
 ghost use Rattle.reg_text.specs.Pieces.{text_of_pieces};
 ghost use Rattle.reg_front.specs.Streams.{CanFail, HasFailed, IsFlushed, IsGood, Stream};
 ghost use Rattle.reg_front.specs.Devices.{IsReadWhole};
 
-use std::alloc::Global;
-use std::thread::Threads;
 use thiserror::Error;
 
 /// A call of a [`Source`] or a [`Sink`] failed, and was counted.
@@ -39,16 +36,9 @@ pub trait Source {
         0
     }
 
-    /// All bytes that it has left, in pieces, one behind the other, which at most so many threads have read at once.
-    /// Nothing, if it can't give them so, or if anything is in doubt: then it is as it was, and its bytes come by calls
-    /// of `read`. So no fault is answered here.
-    fn read_pieces<T: Threads + Sync>(
-        &mut self,
-        _rt: &T,
-        _alloc: Global,
-        _threads: usize,
-    ) -> Option<Vec<Vec<u8>>>
-        requires { IsSync T.row }
+    /// All bytes that it has left, in pieces, one behind the other, if it has read ahead. If not, it is as it was, and
+    /// its bytes come by calls of `read`.
+    fn take_pieces(&mut self) -> Option<Vec<Vec<u8>>>
         ensures text { IfSome result (λ pieces. IfSome (stream self.old).bytes
             (λ bytes. text_of_pieces pieces.items ≡ bytes)) }
         ensures whole { IfSome result (λ pieces. IsReadWhole (stream self.old) (stream self.new)) }

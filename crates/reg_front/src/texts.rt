@@ -14,7 +14,8 @@ ghost use Rattle.reg_text.specs.Statement.{statement_of, has_account};
 ghost use Rattle.reg_front.specs.declared.command.Command.TheVariants.{Settle, Statement};
 ghost use Rattle.reg_front.specs.declared.fault.FrontFault.TheVariants as front;
 ghost use Rattle.reg_front.specs.Questions.{command_of};
-ghost use Rattle.reg_front.specs.Runs.{command_fault, IsPlanText, IsTextFor, IsCommandFault};
+ghost use Rattle.reg_text.specs.PlanText.{IsPlanText};
+ghost use Rattle.reg_front.specs.Runs.{command_fault, IsTextFor, IsCommandFault};
 
 use crate::command::Question;
 use crate::fault::FrontFault;
@@ -27,7 +28,7 @@ use reg_plan::Plan;
 use reg_regions::{FreePlaces, RegionsFault, settle_regions};
 use reg_text::{
     DayInput, DayParts, StatementFault, figures_of_parts, plan_text, statement, totals_of_parts,
-    write_report_of_parts, write_report_over, write_report_pieces,
+    write_report_over, write_report_pieces,
 };
 use std::alloc::Global;
 use std::thread::Threads;
@@ -143,37 +144,12 @@ fn spell<T: Threads + Sync>(
     ensures { IfOk result (λ used. text_of_pieces used.pieces.items ++ used.text.items
         ≡ text_of (report_rows closed.parts (rows_replied batch.now closed.replies.items))) }
 {
-    if closed.parts.lists().len() < 2 {
-        return spell_book(rt, alloc, closed, batch, threads);
-    }
     let replies = closed.replies.as_slice();
-    let pieces = write_report_of_parts(rt, alloc, &closed.parts, batch, replies, threads)?;
+    let pieces = write_report_pieces(rt, alloc, &closed.parts, batch, replies, threads)?;
     Ok(Used {
         pieces,
         text: Vec::new(alloc),
         closed: Closed::ByRegions(closed),
-    })
-}
-
-// The same where all accounts lie in one list, of which each thread spells a run.
-fn spell_book<T: Threads + Sync>(
-    rt: &T,
-    alloc: Global,
-    closed: ClosedParts,
-    batch: &Batch,
-    threads: usize,
-) -> Result<Used, NoMemory>
-    requires { 1 ≤ threads }
-    ensures { IfOk result (λ used. text_of_pieces used.pieces.items ++ used.text.items
-        ≡ text_of (report_rows closed.parts (rows_replied batch.now closed.replies.items))) }
-{
-    let ClosedParts { parts, replies } = closed;
-    let book = parts.into_book(alloc)?;
-    let pieces = write_report_pieces(rt, alloc, &book, batch, replies.as_slice(), threads)?;
-    Ok(Used {
-        pieces,
-        text: Vec::new(alloc),
-        closed: Closed::InPlace(ClosedDay { book, replies }),
     })
 }
 
@@ -190,7 +166,9 @@ fn make_report_in_place(alloc: Global, day: DayParts, bytes: Vec<u8>) -> Result<
         parts,
         batch,
     } = day;
-    let book = parts.into_book(alloc)?;
+    let Ok(book) = parts.into_book(alloc) else {
+        return Err(FrontFault::NoMemory);
+    };
     let closed = settle_in_place(alloc, book, &rules, &batch)?;
     let text = write_report_over(bytes, &closed.book, &batch, closed.replies.as_slice())?;
     Ok(used_for(alloc, text, Closed::InPlace(closed)))
@@ -236,7 +214,9 @@ fn make_statement(alloc: Global, day: DayParts, account: AccountNo) -> Result<Us
     if day.parts.get(account).is_none() {
         return Err(FrontFault::NoAccount);
     }
-    let input = day.into_input(alloc)?;
+    let Ok(input) = day.into_input(alloc) else {
+        return Err(FrontFault::NoMemory);
+    };
     let text = state_account(alloc, &input, account)?;
     Ok(used_for(alloc, text, Closed::None))
 }

@@ -10,7 +10,7 @@ use Rattle.reg_rules.specs.Laws.{IsReady}
 use Rattle.reg_book.specs.Indexes.{index_lists}
 use Rattle.reg_regions.specs.Regions.{RiseAbove}
 use Rattle.reg_regions.proofs.Membership.{above}
-use Rattle.reg_regions.proofs.Running.{rise-more, ready-later}
+use Rattle.reg_regions.proofs.CarryingOut.{rise-more, ready-later}
 
 -- each place before one is lower
 pub rise-before : (low : ℕ) (ps : List ℕ) (k : ℕ) → RiseAbove low ps → k < length ps

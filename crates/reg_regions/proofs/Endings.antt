@@ -1,26 +1,23 @@
 -- What regions leave, swapped back, is what the day leaves.
-use Rattle.std.proofs.Common.{◌≡◌, ℕ, suc, ◌+◌, ◌≤◌, eqb, List, [], ◌∷◌, length, get_or, Some}
-use Rattle.std.proofs.Common.{add-zero, refl, sym, ap, subst, ◌∙◌, arith}
+use Rattle.std.proofs.Common.{◌≡◌, ℕ, suc, ◌+◌, ◌≤◌, eqb, List, length, get_or, Some}
+use Rattle.std.proofs.Common.{add-zero, sym, ap, subst, ◌∙◌, arith}
 use Rattle.std.specs.Prelude.{All, Contains, IsPermutation, Option, MatchOption}
 use Rattle.std.specs.List.{IsDistinct}
 use Rattle.std.proofs.lemmas.Option.{slice_get-map}
-use Rattle.reg_base.specs.declared.instruction.Instruction.{Instruction}
 use Rattle.reg_account.specs.Account.{AccountValue}
 use Rattle.reg_rules.specs.declared.reply.LogRow.{LogRow}
 use Rattle.reg_rules.specs.declared.reply.Reply.{Reply}
 use Rattle.reg_rules.specs.State.{State, Setting, account, numbers}
-use Rattle.reg_rules.specs.Step.{step}
 use Rattle.reg_rules.specs.Laws.{StepLaws, AgreeOn, IsReady}
 use Rattle.reg_base.specs.Directory.{DirectoryValue}
 use Rattle.reg_rules.proofs.lemmas.Accounts.{length-numbers, distinct-permutation, account-permutation}
 use Rattle.reg_book.specs.Book.{BookValue, IsBookKept, directory_of}
 use Rattle.reg_book.specs.Day.{DayValue, IsDay, setting, closing_state, settled_day, replies_of, log_of}
 use Rattle.reg_book.specs.Settled.{committed}
-use Rattle.reg_book.specs.Fold.{rows_of, replies_in}
 use Rattle.reg_book.specs.Laws.{StaysReady, NumbersStay, ClosingIsABook, CommittedIsClosing}
 use Rattle.reg_book.proofs.lemmas.Logs.{length-replies_of}
 use Rattle.reg_regions.specs.declared.region.Placed.{Placed}
-use Rattle.reg_regions.specs.declared.swaps.Swap.{Swap}
+use Rattle.reg_regions.specs.declared.dealing.Swap.{Swap}
 use Rattle.reg_regions.specs.Days.{RegionsAreADay}
 use Rattle.reg_regions.specs.Dealing.{AreDealt, AreTurned, put_all}
 use Rattle.reg_regions.specs.Homes.{IsPlaceUpTo}
@@ -121,37 +118,32 @@ pub setting-is : (day : DayValue) (on : ℕ) (directory : DirectoryValue) → on
 setting-is day on directory same listed = λ i. record { rules = day.rules; day = same i; directory = listed i }
 
 module _ (laws : StepLaws) (ready : StaysReady) (stay : NumbersStay) (regions : RegionsAreADay) (day : DayValue)
-    (kept : IsDay day) (c : Setting) (old new : State) (replies : List Placed)
+    (kept : IsDay day) (c : Setting) (old new : State) (replies : List Reply)
     (same : c ≡ setting day) (opened : old ≡ day.book.accounts)
     (turned : AreTurned c day.batch old new replies) where
   of_day : AreTurned (setting day) day.batch day.book.accounts new replies
   of_day = subst (λ k. AreTurned k day.batch day.book.accounts new replies) same
       (subst (λ s. AreTurned c day.batch s new replies) opened turned)
 
-  each-told : (place : ℕ) → 1 ≤ place → place ≤ length day.batch.instructions → Contains (places_in replies) place
-  each-told = once-contained (length day.batch.instructions) (places_in replies) of_day.each_once
+  each-told : (place : ℕ) → 1 ≤ place → place ≤ length day.batch.instructions
+      → Contains (places_in of_day.settled.told) place
+  each-told = once-contained (length day.batch.instructions) (places_in of_day.settled.told) of_day.settled.each_once
 
   -- the accounts are those after the day
   pub turned-accounts : new ≡ closing_state day
   turned-accounts = of_day.back
-      ∙ accounts-right laws ready stay regions day kept of_day.swaps of_day.after replies of_day.within of_day.dealt
-      each-told
-
-  -- each reply is at a place of the batch
-  pub turned-places : (slots : List Reply) → length slots ≡ length day.batch.instructions
-      → All (IsPlaceUpTo (length slots)) (places_in replies)
-  turned-places slots many =
-      subst (λ n. All (IsPlaceUpTo n) (places_in replies)) (sym many)
-      (once-within (length day.batch.instructions) (places_in replies) turned.each_once)
+      ∙ accounts-right laws ready stay regions day kept of_day.swaps of_day.after of_day.settled.told of_day.within
+      of_day.settled.dealt each-told
 
   -- and the replies are those of the day
-  pub turned-replies : (slots : List Reply) → length slots ≡ length day.batch.instructions
-      → put_all replies slots ≡ replies_of day
-  turned-replies slots many =
-      replies-are day slots replies many
-      (replies-right laws ready stay regions day kept of_day.swaps of_day.after replies of_day.within of_day.dealt
-      each-told)
-      (turned-places slots many) each-told
+  pub turned-replies : replies ≡ replies_of day
+  turned-replies =
+      let put = of_day.settled.put in
+      put.put ∙ replies-are day put.before of_day.settled.told put.as_many
+      (replies-right laws ready stay regions day kept of_day.swaps of_day.after of_day.settled.told of_day.within
+      of_day.settled.dealt each-told)
+      (subst (λ n. All (IsPlaceUpTo n) (places_in of_day.settled.told)) (sym put.as_many)
+      (once-within (length day.batch.instructions) (places_in of_day.settled.told) of_day.settled.each_once)) each-told
 
 -- the book after the day
 pub book-after : ClosingIsABook → (day : DayValue) → IsDay day

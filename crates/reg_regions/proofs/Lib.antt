@@ -3,7 +3,7 @@ mod Keeping
 mod Restricted
 mod Exchanged
 mod Across
-mod Running
+mod CarryingOut
 mod Together
 mod AtHome
 mod Pieces

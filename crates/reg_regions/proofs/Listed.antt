@@ -1,33 +1,35 @@
 -- Lists that are regions, and what comes of them, put together.
-use Rattle.std.proofs.Common.{◌≡◌, ℕ, zero, suc, ◌+◌, ◌-◌, ◌<◌, ◌≤◌, List, [], ◌∷◌, ◌++◌, length, map, take, drop}
-use Rattle.std.proofs.Common.{get_or, Some, Vec, Global, append-nil, refl, sym, ap, subst, ◌∙◌, arith}
+use Rattle.std.proofs.Common.{◌≡◌, ℕ, zero, suc, ◌+◌, ◌-◌, ◌<◌, List, [], ◌∷◌, ◌++◌, length, map, take, drop}
+use Rattle.std.proofs.Common.{get_or, Some, Vec, Global, refl, sym, ap, subst, ◌∙◌, arith}
 use Rattle.std.specs.Prelude.{All, slice_get}
 use Rattle.std.specs.List.{flat_map}
 use Rattle.std.specs.Option.{option_map_or}
 use Rattle.std.proofs.Math.Seq.{take-append_seam, drop-append_seam}
-use Rattle.std.proofs.lemmas.List.{map-append, take_all, drop_all}
+use Rattle.std.proofs.lemmas.List.{map-append}
 use Rattle.std.proofs.lemmas.List.Folds.{flat_map-map}
 use Rattle.std.proofs.lemmas.List.Elements.{All-head, All-tail}
 use Rattle.reg_base.specs.Batch.{BatchValue}
 use Rattle.reg_base.specs.Rising.{count_up}
 use Rattle.reg_base.specs.Rules.{AreRules}
 use Rattle.reg_account.specs.Account.{AccountValue}
+use Rattle.reg_facts.specs.Counting.{times, once}
+use Rattle.reg_rules.specs.declared.reply.Reply.{Reply}
 use Rattle.reg_rules.specs.State.{State, Setting, numbers}
 use Rattle.reg_rules.specs.Laws.{StepLaws, IsReady}
 use Rattle.reg_rules.proofs.lemmas.Accounts.{length-numbers}
 use Rattle.reg_book.specs.Indexes.{index_lists}
 use Rattle.reg_regions.specs.declared.dealing.Deal.{Deal}
 use Rattle.reg_regions.specs.declared.region.Placed.{Placed}
-use Rattle.reg_regions.specs.declared.stealing.settled_list.SettledList.{SettledList}
+use Rattle.reg_regions.specs.declared.running.settled_list.SettledList.{SettledList}
 use Rattle.reg_regions.specs.Days.{Run, all_opening, AreRuns}
-use Rattle.reg_regions.specs.Dealing.{AreDealt}
+use Rattle.reg_regions.specs.Dealing.{AreDealt, AreDealtOnce, AreSettledOnce, put_all}
 use Rattle.reg_regions.specs.Homes.{AreHome, AreAllHome, dealt_places}
 use Rattle.reg_regions.specs.Settling.{IsRun, places_in}
-use Rattle.reg_regions.specs.Lists.{joined_lists, sizes_of, deal_sizes}
+use Rattle.reg_regions.specs.Lists.{joined_lists, sizes_of}
 use Rattle.reg_regions.specs.Stealing.{region_openings, region_opening, places_at, IsGround}
 use Rattle.reg_regions.specs.Stealing.{IsSettledList, numbers_of, settled_places}
 use Rattle.reg_regions.proofs.Keeping.{numbers-all}
-use Rattle.reg_regions.proofs.Pieces.{ready-cut, cut-numbers, rest-numbers}
+use Rattle.reg_regions.proofs.Pieces.{ready-cut}
 
 -- the first of what is left of a list
 pub next-opening : (os : List State) (k : ℕ) (a : State) (left : List State) → a ∷ left ≡ drop k os
@@ -38,7 +40,7 @@ next-opening (o ∷ os) zero a left e = (omega arith, cc, cc)
 next-opening (o ∷ os) (suc k) a left e =
     let (lt, here, rest) = next-opening os k a left e in (omega (arith, lt), here, rest)
 
-next-deal : (ds : List Deal) (k : ℕ) (d : Deal) (left : List Deal) → d ∷ left ≡ drop k ds
+pub next-deal : (ds : List Deal) (k : ℕ) (d : Deal) (left : List Deal) → d ∷ left ≡ drop k ds
     → (slice_get ds k ≡ Some d) × (left ≡ drop (suc k) ds)
 next-deal [] zero d left e = absurd cc
 next-deal [] (suc k) d left e = absurd cc
@@ -102,33 +104,43 @@ module _ (c : Setting) (b : BatchValue) (openings : List State) (deals : List De
 
   module _ (ss : List SettledList) (same : numbers_of ss ≡ count_up 1 (length openings))
       (many : length openings ≡ length deals) (all : All (IsSettledList c b openings deals) ss)
-      (lists new : List (Vec AccountValue Global)) (replies : List Placed) (opened : openings ≡ region_openings lists)
-      (closed : new ≡ map (λ s. s.accounts) ss) (told : replies ≡ flat_map (λ s. s.replies.items) ss) where
+      (lists new : List (Vec AccountValue Global)) (opened : openings ≡ region_openings lists)
+      (closed : new ≡ map (λ s. s.accounts) ss) where
     runs-whole : AreRuns c b openings (map run_of ss) × (settled_places ss ≡ dealt_places deals)
     runs-whole = runs-from ss 0 openings deals same refl refl many all
 
     -- the lists were dealt out, and this is what came of them
-    pub dealt-lists : AreDealt c b (joined_lists lists) (joined_lists new) replies
+    dealt-lists : AreDealt c b (joined_lists lists) (joined_lists new) (flat_map (λ s. s.replies.items) ss)
     dealt-lists = record {
       openings = openings;
       runs = map run_of ss;
       cut = ap all_opening opened ∙ flat_map-map (λ (s : State). s) (λ l. l.items) lists;
       joined = flat_map-map (λ (r : Run). r.afterwards) run_of ss
           ∙ sym (flat_map-map (λ l. l.items) (λ s. s.accounts) ss) ∙ ap joined_lists (sym closed);
-      told = flat_map-map (λ (r : Run). r.replies) run_of ss ∙ sym told;
+      told = flat_map-map (λ (r : Run). r.replies) run_of ss;
       are = runs-whole.0;
     }
-
-    pub dealt-each : places_in replies ≡ dealt_places deals
-    dealt-each = ap places_in told ∙ places-flat ss ∙ runs-whole.1
 
     pub dealt-sizes : StepLaws → sizes_of new ≡ sizes_of lists
     dealt-sizes laws =
         ap sizes_of closed ∙ sizes-after laws openings ss runs-whole.0 ∙ ap (map length) opened
         ∙ sizes-openings lists
 
-    pub dealt-places : settled_places ss ≡ dealt_places deals
-    dealt-places = runs-whole.1
+    module _ (each : AreDealtOnce b deals) where
+      -- each place was settled once
+      pub places-once : (p : ℕ) → times p (settled_places ss) ≡ once (length b.instructions) p
+      places-once p = ap (times p) runs-whole.1 ∙ each p
+
+      -- and the replies were put at their places
+      pub settled-once : (replies slots : List Reply) → length slots ≡ length b.instructions
+          → replies ≡ put_all (flat_map (λ s. s.replies.items) ss) slots
+          → AreSettledOnce c b (joined_lists lists) (joined_lists new) replies
+      settled-once replies slots many put = record {
+        told = flat_map (λ s. s.replies.items) ss;
+        dealt = dealt-lists;
+        each_once = λ p. ap (times p) (places-flat ss) ∙ places-once p;
+        put = record { before = slots; as_many = many; put = put };
+      }
 
 module _ (c : Setting) (b : BatchValue) where
   ready-front : (n : ℕ) (s t : State) → IsReady n (s ++ t) → IsReady n s × IsReady n t
@@ -143,44 +155,30 @@ module _ (c : Setting) (b : BatchValue) where
   each-ready n (l ∷ lists) ready (suc k) lt =
       each-ready n lists (ready-front n l.items (joined_lists lists) ready).1 k (omega (arith, lt))
 
-  numbers-front : (size : ℕ) (s t : State) → size ≡ length s → take size (numbers (s ++ t)) ≡ numbers s
-  numbers-front size s t is =
-      sym (cut-numbers size (s ++ t)) ∙ ap (λ n. numbers (take n (s ++ t))) is ∙ ap numbers (take-append_seam s t)
+  as-many : (lists : List (Vec AccountValue Global)) (deals : List Deal) → AreAllHome c b lists deals
+      → length (region_openings lists) ≡ length deals
+  as-many [] [] home = refl
+  as-many [] (d ∷ deals) home = absurd home
+  as-many (l ∷ lists) [] home = absurd home
+  as-many (l ∷ lists) (d ∷ deals) home = ap suc (as-many lists deals home.1)
 
-  numbers-back : (size : ℕ) (s t : State) → size ≡ length s → drop size (numbers (s ++ t)) ≡ numbers t
-  numbers-back size s t is =
-      sym (rest-numbers size (s ++ t)) ∙ ap (λ n. numbers (drop n (s ++ t))) is ∙ ap numbers (drop-append_seam s t)
-
-  each-home : (lists : List (Vec AccountValue Global)) (deals : List Deal)
-      → AreAllHome c b (numbers (joined_lists lists)) deals → sizes_of lists ≡ deal_sizes deals
+  each-home : (lists : List (Vec AccountValue Global)) (deals : List Deal) → AreAllHome c b lists deals
       → (k : ℕ) (d : Deal) → slice_get deals k ≡ Some d
       → AreHome c b (numbers (get_or (region_openings lists) k [])) d.places.items (index_lists d.indexes.items)
-  each-home lists [] home sizes k d at = absurd cc
-  each-home [] (e ∷ deals) home sizes k d at = absurd cc
-  each-home (l ∷ lists) (e ∷ deals) home sizes zero d at =
-      let size : e.size ≡ length l.items = cc in
+  each-home lists [] home k d at = absurd cc
+  each-home [] (e ∷ deals) home k d at = absurd home
+  each-home (l ∷ lists) (e ∷ deals) home zero d at =
       let same : e ≡ d = cc in
-      subst (λ (x : Deal). AreHome c b (numbers l.items) x.places.items (index_lists x.indexes.items)) same
-      (subst (λ ns. AreHome c b ns e.places.items (index_lists e.indexes.items))
-      (numbers-front e.size l.items (joined_lists lists) size) home.1)
-  each-home (l ∷ lists) (e ∷ deals) home sizes (suc k) d at =
-      let size : e.size ≡ length l.items = cc in
-      let later : sizes_of lists ≡ deal_sizes deals = cc in
-      each-home lists deals (subst (λ ns. AreAllHome c b ns deals)
-      (numbers-back e.size l.items (joined_lists lists) size) home.2) later k d at
+      subst (λ (x : Deal). AreHome c b (numbers l.items) x.places.items (index_lists x.indexes.items)) same home.0
+  each-home (l ∷ lists) (e ∷ deals) home (suc k) d at = each-home lists deals home.1 k d at
 
-  -- lists that are ready, and cut as they were dealt out, are regions
+  -- lists that are ready, and have the accounts of what they have to do, are regions
   pub ground-of : (lists : List (Vec AccountValue Global)) (deals : List Deal) → AreRules c.rules
-      → IsReady (b.base + 1) (joined_lists lists) → AreAllHome c b (numbers (joined_lists lists)) deals
-      → sizes_of lists ≡ deal_sizes deals → IsGround c b (region_openings lists) deals
-  ground-of lists deals rules ready home sizes = record {
+      → IsReady (b.base + 1) (joined_lists lists) → AreAllHome c b lists deals
+      → IsGround c b (region_openings lists) deals
+  ground-of lists deals rules ready home = record {
     rules = rules;
-    as_many = sym (lengths-map length (region_openings lists)) ∙ ap length (sizes-openings lists ∙ sizes)
-        ∙ lengths-map (λ (d : Deal). d.size) deals;
+    as_many = as-many lists deals home;
     ready = each-ready (b.base + 1) lists ready;
-    home = each-home lists deals home sizes;
+    home = each-home lists deals home;
   }
-    where
-      lengths-map : {X : Type 0} (f : X → ℕ) (xs : List X) → length (map f xs) ≡ length xs
-      lengths-map f [] = refl
-      lengths-map f (x ∷ xs) = ap suc (lengths-map f xs)

@@ -1,11 +1,9 @@
 -- Which numbers stand in a list, and places that rise.
-use Rattle.std.proofs.Common.{◌≡◌, ℕ, zero, suc, ◌<◌, ◌≤◌, Bool, true, false, cond, eqb, leb, ◌||◌, List, [], ◌∷◌}
+use Rattle.std.proofs.Common.{◌≡◌, ℕ, zero, suc, ◌<◌, ◌≤◌, Bool, true, false, cond, leb, List, [], ◌∷◌}
 use Rattle.std.proofs.Common.{take, None, refl, ap, ◌∙◌, arith}
 use Rattle.std.specs.Prelude.{Contains, All, slice_get}
-use Rattle.std.proofs.lemmas.Bool.{eq-eqb, le-leb, leb-true, or_left, or_right}
+use Rattle.std.proofs.lemmas.Bool.{le-leb, leb-true}
 use Rattle.std.proofs.lemmas.List.Elements.{All-head, All-tail}
-use Rattle.reg_base.specs.Footprint.{is_among}
-use Rattle.reg_base.proofs.lemmas.Among.{is_among-contained}
 use Rattle.reg_regions.specs.Regions.{RiseAbove, up_to}
 
 pub contains_first : (p : ℕ) (ps : List ℕ) → Contains (p ∷ ps) p

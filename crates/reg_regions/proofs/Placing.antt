@@ -1,11 +1,11 @@
 -- All instructions as those of one region, which has all accounts.
 use Rattle.std.proofs.Common.{◌≡◌, ℕ, zero, suc, ◌+◌, ◌-◌, ◌<◌, ◌≤◌, eqb, List, [], ◌∷◌, ◌++◌, map, length}
-use Rattle.std.proofs.Common.{get_or, take, refl, sym, ap, subst, ◌∙◌, inl, inr, arith, Vec, Global, Result, Ok, Err}
+use Rattle.std.proofs.Common.{get_or, refl, sym, ap, subst, ◌∙◌, inl, inr, arith, Vec, Global, Result, Ok, Err}
 use Rattle.std.specs.Prelude.{slice_get, IfOk}
 use Rattle.std.specs.List.{AllByRecursion}
 use Rattle.std.specs.Option.{option_map_or}
 use Rattle.std.proofs.lemmas.Bool.{cases_eq, cases_lt, eq-eqb, ne_eqb}
-use Rattle.std.proofs.lemmas.List.{length-map, map-append, take_all}
+use Rattle.std.proofs.lemmas.List.{length-map, map-append}
 use Rattle.std.proofs.lemmas.List.Elements.{All-nil}
 use Rattle.arrayvec.specs.ArrayVec.{ArrayVec}
 use Rattle.reg_facts.proofs.lemmas.Lists.{all-append}
@@ -18,17 +18,12 @@ use Rattle.reg_base.specs.Footprints.{footprints}
 use Rattle.reg_base.specs.Rising.{count_up}
 use Rattle.reg_facts.specs.Counting.{times, once, one_if}
 use Rattle.reg_base.proofs.lemmas.Rising.{length-count_up, count_up-more, get_or-count_up}
+use Rattle.reg_rules.specs.declared.reply.Reply.{Reply}
 use Rattle.reg_rules.specs.State.{State, Setting}
 use Rattle.reg_book.specs.Indexes.{StandAt, AllStandAt, each_at, index_lists}
-use Rattle.reg_regions.specs.declared.dealing.Deal.{Deal}
-use Rattle.reg_regions.specs.declared.region.Placed.{Placed}
-use Rattle.reg_regions.specs.declared.stealing.shift.WorkShift.{WorkShift}
-use Rattle.reg_regions.specs.Outcomes.{AreShiftsOf}
-use Rattle.reg_regions.specs.Dealing.{AreDealt, AreTurned}
+use Rattle.reg_regions.specs.Dealing.{AreSettledOnce, AreTurned}
 use Rattle.reg_regions.specs.Regions.{RiseAbove}
-use Rattle.reg_regions.specs.Homes.{IsHome, AreHome, AreAllHome, dealt_places}
-use Rattle.reg_regions.specs.Settling.{places_in}
-use Rattle.reg_regions.specs.Stealing.{AreWorkShifts}
+use Rattle.reg_regions.specs.Homes.{IsHome, AreHome}
 use Rattle.reg_regions.specs.Swaps.{IsSwapWithin}
 
 rise-count : (low a n : ℕ) → low < a → RiseAbove low (count_up a n)
@@ -130,16 +125,6 @@ home-whole c b ns indexes found =
           (stand-at c.directory ns indexes b.instructions k found.within found.are_there inside);
     }
 
--- a region of all accounts
-pub home-alone : (c : Setting) (b : BatchValue) (ns : List ℕ) (d : Deal) → d.size ≡ length ns
-    → AreHome c b ns d.places.items (index_lists d.indexes.items) → AreAllHome c b ns (d ∷ [])
-home-alone c b ns d size home =
-    let whole : take d.size ns ≡ ns = take_all d.size ns (omega (arith, size)) in (
-      omega (arith, size),
-      subst (λ xs. AreHome c b xs d.places.items (index_lists d.indexes.items)) (sym whole) home,
-      tt,
-    )
-
 -- what was found of a run, and of those behind it
 pub found-both : {E : Type 0} (r : Result (Vec (ArrayVec ℕ) Global) E) (d : DirectoryValue) (ns : List ℕ)
     (one other : List (ArrayVec ℕ)) (is js whole : List Instruction) → whole ≡ is ++ js
@@ -162,29 +147,14 @@ found-both (Err e) d ns one other is js whole cut front back items = tt
 
 -- what came of one region that has all accounts and instructions
 pub whole-turned : {V E : Type 0} (c : Setting) (b : BatchValue) (r : Result V E) (after : V → State)
-    (told : V → List Placed) (old given : State) (places : List ℕ) → given ≡ old
-    → places ≡ count_up 1 (length b.instructions)
-    → IfOk r (λ v. AreDealt c b given (after v) (told v)) → IfOk r (λ v. places_in (told v) ≡ places)
-    → IfOk r (λ v. AreTurned c b old (after v) (told v))
-whole-turned c b (Ok v) after told old given places same counted dealt placed = record {
+    (replies : V → List Reply) (old given : State) → given ≡ old
+    → IfOk r (λ v. AreSettledOnce c b given (after v) (replies v))
+    → IfOk r (λ v. AreTurned c b old (after v) (replies v))
+whole-turned c b (Ok v) after replies old given same settled = record {
   swaps = [];
   within = All-nil (IsSwapWithin (length old));
   after = after v;
-  dealt = subst (λ s. AreDealt c b s (after v) (told v)) same dealt;
+  settled = subst (λ (s : State). AreSettledOnce c b s (after v) (replies v)) same settled;
   back = refl;
-  each_once = λ p. ap (times p) (placed ∙ counted) ∙ times-count (length b.instructions) p;
 }
-whole-turned c b (Err e) after told old given places same counted dealt placed = tt
-
-pub shifts-once : (workers n : ℕ) (deals : List Deal) (shifts : List WorkShift)
-    → ((p : ℕ) → times p (dealt_places deals) ≡ once n p) → AreWorkShifts workers deals shifts
-    → AreShiftsOf workers n shifts
-shifts-once workers n deals shifts all are =
-    record { workers_are = are.workers_are; each_once = λ p. are.each p ∙ all p }
-
-pub whole-shifts : {V E : Type 0} (r : Result V E) (shifts : V → List WorkShift) (workers n : ℕ) (deals : List Deal)
-    → dealt_places deals ≡ count_up 1 n → IfOk r (λ v. AreWorkShifts workers deals (shifts v))
-    → IfOk r (λ v. AreShiftsOf workers n (shifts v))
-whole-shifts (Ok v) shifts workers n deals counted are =
-    shifts-once workers n deals (shifts v) (λ p. ap (times p) counted ∙ times-count n p) are
-whole-shifts (Err e) shifts workers n deals counted are = tt
+whole-turned c b (Err e) after replies old given same settled = tt

@@ -5,7 +5,7 @@ use Rattle.std.proofs.Common.{refl, sym, ap, subst, ◌∙◌, inl, inr, arith}
 use Rattle.std.specs.Prelude.{All, Contains, slice_get}
 use Rattle.std.proofs.lemmas.Bool.{cases_eq}
 use Rattle.std.proofs.lemmas.List.{length-set}
-use Rattle.std.proofs.lemmas.List.Elements.{All-head, All-tail}
+use Rattle.std.proofs.lemmas.List.Elements.{All-head, All-tail, All-nil, All-cons}
 use Rattle.std.proofs.lemmas.Option.{same_Some}
 use Rattle.reg_rules.specs.declared.reply.Reply.{Reply}
 use Rattle.reg_regions.specs.declared.region.Placed.{Placed}
@@ -17,6 +17,17 @@ pub length-put : (ps : List Placed) (slots : List Reply) → length (put_all ps 
 length-put [] slots = refl
 length-put (p ∷ ps) slots =
     length-put ps (set slots (p.place - 1) p.reply) ∙ length-set slots (p.place - 1) p.reply
+
+-- places up to this one, of which some come first
+pub within-front : (n : ℕ) (ps qs : List ℕ) → All (IsPlaceUpTo n) (ps ++ qs) → All (IsPlaceUpTo n) ps
+within-front n [] qs all = All-nil (IsPlaceUpTo n)
+within-front n (p ∷ ps) qs all =
+    All-cons (IsPlaceUpTo n) p ps (All-head (IsPlaceUpTo n) p (ps ++ qs) all)
+    (within-front n ps qs (All-tail (IsPlaceUpTo n) p (ps ++ qs) all))
+
+pub within-behind : (n : ℕ) (ps qs : List ℕ) → All (IsPlaceUpTo n) (ps ++ qs) → All (IsPlaceUpTo n) qs
+within-behind n [] qs all = all
+within-behind n (p ∷ ps) qs all = within-behind n ps qs (All-tail (IsPlaceUpTo n) p (ps ++ qs) all)
 
 -- more replies
 pub put-more : (ps qs : List Placed) (slots : List Reply) → put_all (ps ++ qs) slots ≡ put_all qs (put_all ps slots)

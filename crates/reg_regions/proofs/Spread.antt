@@ -1,9 +1,9 @@
 -- Accounts that rise through lists rise in each.
-use Rattle.std.proofs.Common.{◌≡◌, ℕ, zero, suc, ◌+◌, ◌<◌, List, [], ◌∷◌, ◌++◌, length, get_or, Vec, Global}
-use Rattle.std.proofs.Common.{sym, subst, arith, add-one, length-append}
-use Rattle.std.proofs.lemmas.List.{get_or_append_left, map-append}
+use Rattle.std.proofs.Common.{◌≡◌, ℕ, zero, suc, ◌<◌, List, [], ◌∷◌, length, get_or, Vec, Global}
+use Rattle.std.proofs.Common.{sym, subst, arith}
+use Rattle.std.proofs.lemmas.List.{map-append}
 use Rattle.reg_base.specs.Rising.{IsRising}
-use Rattle.reg_base.proofs.lemmas.Rising.{rising-tail, rising-right, rising-left}
+use Rattle.reg_base.proofs.lemmas.Rising.{rising-right, rising-left}
 use Rattle.reg_account.specs.Account.{AccountValue}
 use Rattle.reg_rules.specs.State.{numbers}
 use Rattle.reg_regions.specs.Lists.{joined_lists}

@@ -1,6 +1,7 @@
 -- Settled regions counted: each number once, and each place as often as it was dealt out.
 use Rattle.std.proofs.Common.{◌≡◌, ℕ, zero, suc, ◌+◌, ◌<◌, ◌≤◌, ◌==◌, ◌&&◌, nat_le, true, false, List, [], ◌∷◌, ◌++◌}
-use Rattle.std.proofs.Common.{length, length-append, map, get_or, refl, sym, ap, ◌∙◌, arith, add-one}
+use Rattle.std.proofs.lemmas.Grind.{flat_map-append}
+use Rattle.std.proofs.Common.{append-nil, length, length-append, map, refl, sym, ap, ◌∙◌, arith, add-one}
 use Rattle.std.specs.Prelude.{IsPermutation, All}
 use Rattle.std.specs.List.{flat_map, sum_by}
 use Rattle.std.specs.List.Sorted.{IsNonDecreasingBy}
@@ -16,8 +17,8 @@ use Rattle.reg_facts.proofs.lemmas.Times.{times-append}
 use Rattle.reg_base.specs.Rising.{count_up}
 use Rattle.reg_facts.specs.Counting.{one_if, total, times, once}
 use Rattle.reg_facts.proofs.lemmas.Totals.{total-append}
-use Rattle.reg_regions.specs.declared.stealing.settled_list.SettledList.{SettledList}
-use Rattle.reg_regions.specs.declared.stealing.shift.WorkShift.{WorkShift}
+use Rattle.reg_regions.specs.declared.running.settled_list.SettledList.{SettledList}
+use Rattle.reg_regions.specs.declared.running.shift.WorkShift.{WorkShift}
 use Rattle.reg_regions.specs.Settling.{places_in}
 use Rattle.reg_regions.specs.Stealing.{numbers_of, settled_places, times_in_shifts, first_numbers}
 
@@ -155,6 +156,13 @@ sorted-numbers n ss ts same rise each =
 pub shifts-more : (p : ℕ) (shifts : List WorkShift) (s : WorkShift)
     → times_in_shifts p (shifts ++ s ∷ []) ≡ times_in_shifts p shifts + times p s.places.items
 shifts-more p shifts s = omega (arith, total-append (λ (x : WorkShift). times p x.places.items) shifts (s ∷ []))
+
+-- one settled region more
+pub settled-more : (ss : List SettledList) (s : SettledList)
+    → settled_places (ss ++ s ∷ []) ≡ settled_places ss ++ places_in s.replies.items
+settled-more ss s =
+    flat_map-append (λ (x : SettledList). places_in x.replies.items) ss (s ∷ [])
+    ∙ ap (λ ps. settled_places ss ++ ps) (append-nil (places_in s.replies.items))
 
 pub numbers-next : (n : ℕ) → first_numbers (n + 1) ≡ first_numbers n ++ n ∷ []
 numbers-next n = rw add-one refl

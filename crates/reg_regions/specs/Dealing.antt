@@ -1,16 +1,21 @@
 -- What comes of accounts that are dealt out to regions.
 use Rattle.std.specs.Prelude.{◌≡◌, ℕ, ◌-◌, List, [], ◌∷◌, All, length, slice_set}
+use Rattle.std.specs.declared.vec.Vec.{Vec}
+use Rattle.std.proofs.Common.{Global}
 use Rattle.reg_base.specs.Batch.{BatchValue}
+use Rattle.reg_account.specs.Account.{AccountValue}
 use Rattle.reg_facts.specs.Counting.{times, once}
 use Rattle.reg_rules.specs.declared.reply.Reply.{Reply}
-use Rattle.reg_rules.specs.State.{State, Setting, numbers}
+use Rattle.reg_rules.specs.State.{State, Setting}
+use Rattle.reg_regions.specs.declared.dealing.Deal.{Deal}
 use Rattle.reg_regions.specs.declared.dealing.Dealing.{Dealing}
 use Rattle.reg_regions.specs.declared.region.Placed.{Placed}
 use Rattle.reg_regions.specs.Days.{Run, all_opening, all_afterwards, all_replies, AreRuns}
 use Rattle.reg_regions.specs.Homes.{AreAllHome, dealt_places}
+use Rattle.reg_regions.specs.Lists.{joined_lists}
 use Rattle.reg_regions.specs.Settling.{places_in}
 use Rattle.reg_regions.specs.Swaps.{IsSwapWithin, exchanged, exchanged_back}
-use Rattle.reg_regions.specs.declared.swaps.Swap.{Swap}
+use Rattle.reg_regions.specs.declared.dealing.Swap.{Swap}
 
 -- the accounts were cut into regions, and this is what came of these, one after another
 pub record AreDealt (c : Setting) (b : BatchValue) (old new : State) (replies : List Placed) : Type 0 where
@@ -21,25 +26,41 @@ pub record AreDealt (c : Setting) (b : BatchValue) (old new : State) (replies : 
   pub told : all_replies runs ≡ replies
   pub are : AreRuns c b openings runs
 
--- accounts were swapped, so that those of each region stand where it says, and each place of the batch is in one
--- region, once
-pub record IsPrepared (c : Setting) (b : BatchValue) (d : Dealing) (old new : State) : Type 0 where
-  pub within : All (IsSwapWithin (length old)) d.swaps.items
-  pub swapped : new ≡ exchanged d.swaps.items old
-  pub home : AreAllHome c b (numbers new) d.deals.items
-  pub each_once : (place : ℕ) → times place (dealt_places d.deals.items) ≡ once (length b.instructions) place
+-- each place of the batch is in one region, once
+abbrev pub AreDealtOnce : BatchValue → List Deal → Type 0
+AreDealtOnce b deals = (place : ℕ) → times place (dealt_places deals) ≡ once (length b.instructions) place
 
--- accounts were swapped, settled region by region, and swapped back; each place of the batch was settled once, and no
--- other
-pub record AreTurned (c : Setting) (b : BatchValue) (old new : State) (replies : List Placed) : Type 0 where
-  pub swaps : List Swap
-  pub within : All (IsSwapWithin (length old)) swaps
-  pub after : State
-  pub dealt : AreDealt c b (exchanged swaps old) after replies
-  pub back : new ≡ exchanged_back swaps after
-  pub each_once : (place : ℕ) → times place (places_in replies) ≡ once (length b.instructions) place
+-- accounts were swapped, so that those of each region stand where it says, and each place is in one region, once
+pub record IsAdmitted (c : Setting) (b : BatchValue) (d : Dealing) (old : State) (new : List (Vec AccountValue Global))
+    : Type 0 where
+  pub within : All (IsSwapWithin (length old)) d.swaps.items
+  pub swapped : joined_lists new ≡ exchanged d.swaps.items old
+  pub home : AreAllHome c b new d.deals.items
+  pub each_once : AreDealtOnce b d.deals.items
 
 -- the list after each of these replies was put at its place, counted from 1
 abbrev pub put_all : List Placed → List Reply → List Reply
 put_all [] slots = slots
 put_all (p ∷ placed) slots = put_all placed (slice_set slots (p.place - 1) p.reply)
+
+-- these replies were put at their places among so many
+pub record ArePut (count : ℕ) (told : List Placed) (replies : List Reply) : Type 0 where
+  pub before : List Reply
+  pub as_many : length before ≡ count
+  pub put : replies ≡ put_all told before
+
+-- accounts were settled region by region, each place of the batch once and no other, and the replies put at their
+-- places
+pub record AreSettledOnce (c : Setting) (b : BatchValue) (old new : State) (replies : List Reply) : Type 0 where
+  pub told : List Placed
+  pub dealt : AreDealt c b old new told
+  pub each_once : (place : ℕ) → times place (places_in told) ≡ once (length b.instructions) place
+  pub put : ArePut (length b.instructions) told replies
+
+-- accounts were swapped, settled so, and swapped back
+pub record AreTurned (c : Setting) (b : BatchValue) (old new : State) (replies : List Reply) : Type 0 where
+  pub swaps : List Swap
+  pub within : All (IsSwapWithin (length old)) swaps
+  pub after : State
+  pub settled : AreSettledOnce c b (exchanged swaps old) after replies
+  pub back : new ≡ exchanged_back swaps after

@@ -1,12 +1,15 @@
 -- Regions whose instructions have their accounts at hand, where their indexes say.
-use Rattle.std.specs.Prelude.{◌≡◌, ℕ, ◌-◌, ◌<◌, ◌≤◌, List, [], ◌∷◌, length, take, drop, slice_get, slice_index}
+use Rattle.std.specs.Prelude.{◌≡◌, ℕ, ◌-◌, ◌<◌, ◌≤◌, List, [], ◌∷◌, length, slice_get, slice_index}
 use Rattle.std.specs.Prelude.{zero, suc, Bool, false, slice_index_or}
 use Rattle.std.specs.List.{flat_map}
 use Rattle.std.specs.Option.{option_map_or}
+use Rattle.std.specs.declared.vec.Vec.{Vec}
+use Rattle.std.proofs.Common.{Global}
 use Rattle.reg_base.specs.Batch.{BatchValue}
 use Rattle.reg_base.specs.Footprint.{footprint}
 use Rattle.reg_facts.specs.Counting.{times, one_if}
-use Rattle.reg_rules.specs.State.{Setting}
+use Rattle.reg_account.specs.Account.{AccountValue}
+use Rattle.reg_rules.specs.State.{Setting, numbers}
 use Rattle.reg_book.specs.Indexes.{StandAt, index_lists}
 use Rattle.reg_regions.specs.declared.dealing.Deal.{Deal}
 use Rattle.reg_regions.specs.Regions.{RiseAbove}
@@ -27,12 +30,13 @@ pub record AreHome (c : Setting) (b : BatchValue) (ns places : List ℕ) (indexe
   pub each : (k : ℕ) → k < length places → IsHome c b ns (slice_index places k) (slice_index_or indexes k [])
   pub as_many : length places ≤ length indexes
 
--- the same for each region of a list that is cut into regions
-abbrev pub AreAllHome : Setting → BatchValue → List ℕ → List Deal → Type 0
-AreAllHome c b ns [] = Unit {0}
-AreAllHome c b ns (d ∷ deals) =
-    (d.size ≤ length ns) × AreHome c b (take d.size ns) d.places.items (index_lists d.indexes.items)
-    × AreAllHome c b (drop d.size ns) deals
+-- the same for regions, of which each has a list of accounts
+abbrev pub AreAllHome : Setting → BatchValue → List (Vec AccountValue Global) → List Deal → Type 0
+AreAllHome c b [] [] = Unit {0}
+AreAllHome c b [] (d ∷ deals) = ⊥
+AreAllHome c b (l ∷ lists) [] = ⊥
+AreAllHome c b (l ∷ lists) (d ∷ deals) =
+    AreHome c b (numbers l.items) d.places.items (index_lists d.indexes.items) × AreAllHome c b lists deals
 
 -- the places of all regions, one region after another
 abbrev pub dealt_places : List Deal → List ℕ

@@ -3,7 +3,6 @@ use Rattle.std.specs.Prelude.{ℕ, List, map, length}
 use Rattle.std.specs.List.{flat_map}
 use Rattle.std.specs.declared.vec.Vec.{Vec}
 use Rattle.std.proofs.Common.{Global}
-use Rattle.reg_regions.specs.declared.dealing.Deal.{Deal}
 
 -- what the lists have, one list after another
 abbrev pub joined_lists : {T : Type 0} → List (Vec T Global) → List T
@@ -12,7 +11,3 @@ joined_lists lists = flat_map (λ l. l.items) lists
 -- how much each has
 abbrev pub sizes_of : {T : Type 0} → List (Vec T Global) → List ℕ
 sizes_of lists = map (λ l. length l.items) lists
-
--- how many accounts each region is said to have
-abbrev pub deal_sizes : List Deal → List ℕ
-deal_sizes deals = map (λ d. d.size) deals

@@ -5,7 +5,7 @@ use Rattle.reg_book.specs.Book.{BookValue}
 use Rattle.reg_facts.specs.Counting.{once}
 use Rattle.reg_regions.specs.declared.not_settled.RegionsFault.{RegionsFault}
 use Rattle.reg_regions.specs.declared.not_settled.RegionsFault.TheVariants.{Workers, WrongBase, NoMemory}
-use Rattle.reg_regions.specs.declared.stealing.shift.WorkShift.{WorkShift}
+use Rattle.reg_regions.specs.declared.running.shift.WorkShift.{WorkShift}
 use Rattle.reg_regions.specs.Stealing.{shift_workers, first_numbers, times_in_shifts}
 
 -- this number of workers is within its limits. The number stands here, so that a wrong constant in the code is refused

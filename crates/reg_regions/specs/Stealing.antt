@@ -13,11 +13,9 @@ use Rattle.reg_rules.specs.Laws.{IsReady}
 use Rattle.reg_book.specs.Indexes.{index_lists}
 use Rattle.reg_facts.specs.Counting.{total, times}
 use Rattle.reg_regions.specs.declared.dealing.Deal.{Deal}
-use Rattle.reg_regions.specs.declared.region.Placed.{Placed}
-use Rattle.reg_regions.specs.declared.stealing.settled_list.SettledList.{SettledList}
-use Rattle.reg_regions.specs.declared.stealing.shift.WorkShift.{WorkShift}
-use Rattle.reg_regions.specs.Days.{Run}
-use Rattle.reg_regions.specs.Homes.{AreHome, dealt_places}
+use Rattle.reg_regions.specs.declared.running.settled_list.SettledList.{SettledList}
+use Rattle.reg_regions.specs.declared.running.shift.WorkShift.{WorkShift}
+use Rattle.reg_regions.specs.Homes.{AreHome}
 use Rattle.reg_regions.specs.Settling.{IsRun, places_in}
 
 -- what each list has
@@ -70,8 +68,3 @@ times_in_shifts place shifts = total (λ s. times place s.places.items) shifts
 abbrev pub first_numbers : ℕ → List ℕ
 first_numbers zero = []
 first_numbers (suc n) = first_numbers n ++ n ∷ []
-
--- one shift a worker, in rising order, and each place stands in them as often as it was dealt out
-pub record AreWorkShifts (workers : ℕ) (deals : List Deal) (shifts : List WorkShift) : Type 0 where
-  pub workers_are : shift_workers shifts ≡ first_numbers workers
-  pub each : (place : ℕ) → times_in_shifts place shifts ≡ times place (dealt_places deals)

@@ -1,13 +1,19 @@
 //! How the accounts of a book and the instructions of a day are dealt out to regions.
 
 use crate::region::Indexes;
-use crate::swaps::Swap;
 
-/// One region of a list of accounts that is cut into regions.
+/// Two indexes of a list whose elements are swapped, each counted from 0.
+#[derive(Clone, Copy, Debug, PartialEq, Eq, Drop)]
+pub struct Swap {
+    /// The one.
+    pub one: u32,
+    /// The other.
+    pub other: u32,
+}
+
+/// What a region has to do.
 #[derive(Drop)]
 pub(crate) struct Deal {
-    /// How many accounts are the region's.
-    pub(crate) size: u32,
     /// The places of its instructions, counted from 1. They rise.
     pub(crate) places: Vec<u32>,
     /// For each of these instructions where its accounts stand in the region.
@@ -18,6 +24,8 @@ pub(crate) struct Deal {
 /// it first.
 #[derive(Drop)]
 pub(crate) struct Dealing {
+    /// For each list the region that it becomes a part of, counted from 0.
+    pub(crate) joins: Vec<u32>,
     /// Accounts that stand in a wrong region, each with one there.
     pub(crate) swaps: Vec<Swap>,
     /// The regions, one behind the other.

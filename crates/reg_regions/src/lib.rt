@@ -16,33 +16,21 @@
 //! ```
 #![tactic(auto)]
 
-mod all_home;
-mod closing;
-mod cover;
-mod cut;
-mod cutting;
+mod admission;
+mod advice;
 mod dealing;
+mod exchange;
 mod gate;
-mod home;
-mod homes;
 mod laws;
 mod not_settled;
-mod numbers;
-mod planning;
 mod region;
-mod replies;
-mod settle;
-mod stealing;
-mod swapping;
-mod swaps;
-mod touching;
-mod turned;
-mod turning;
-mod whole;
+mod running;
+mod runs;
+mod settlement;
 
-pub use closing::settle_regions;
 pub use gate::{FreePlaces, PlaceGate};
 pub use laws::{region_is_as_the_day, regions_are_a_day};
 pub use not_settled::{NotSettled, RegionsFault};
 pub use region::{Indexes, Placed};
-pub use stealing::shift::WorkShift;
+pub use running::shift::WorkShift;
+pub use settlement::settle_regions;

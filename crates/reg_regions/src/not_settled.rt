@@ -30,8 +30,8 @@ pub enum RegionsFault {
 pub struct NotSettled {
     /// Why it was not settled.
     pub fault: RegionsFault,
-    /// The book as it was, exactly if the fault is `Workers` or `WrongBase`. If memory ran out, its accounts had moved,
-    /// and it is gone.
+    /// The book as it was, exactly if the fault is `Workers` or `WrongBase`. If memory ran out it is gone, also where
+    /// this came before an account had moved: who may want it again keeps the text from which it was read.
     pub parts: Option<Parts>,
 }
 
@@ -47,7 +47,7 @@ impl NotSettled {
     }
 }
 
-/// Memory runs out while the accounts are on their way: the book is gone.
+/// Memory runs out while the accounts are on their way, or when room for the replies is wanted: the book is gone.
 impl From<NoMemory> for NotSettled {
     ghost from_gives = { λ _ e. e ≡ record { fault = fault.NoMemory; parts = None } };
 

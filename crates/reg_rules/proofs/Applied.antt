@@ -4,7 +4,7 @@ use Rattle.std.proofs.Common.{Some, None, refl, sym, ap, subst, ◌∙◌}
 use Rattle.std.specs.Prelude.{find, filter, not, nat_lt, MatchOption}
 use Rattle.std.specs.Option.{option_map_or, option_to_list}
 use Rattle.std.specs.List.{AllByRecursion, IsDistinct, list_any}
-use Rattle.std.proofs.lemmas.Bool.{eqb-true, eqb-false, eq-eqb, ne_eqb, not-false, ltb-false}
+use Rattle.std.proofs.lemmas.Bool.{eqb-true, eq-eqb, not-false, ltb-false}
 use Rattle.reg_base.specs.declared.limits.TheConstants.{MOST_HELD}
 use Rattle.reg_base.specs.declared.kinds.AllowanceKind.{AllowanceKind}
 use Rattle.reg_base.specs.declared.shares.Share.{Share}
@@ -17,7 +17,7 @@ use Rattle.reg_base.specs.Footprint.{all_known, each_once, footprint}
 use Rattle.reg_account.specs.Account.{AccountValue, held_by, credited}
 use Rattle.reg_rules.specs.State.{State, Setting, Receiver, numbers, account, seen}
 use Rattle.reg_rules.specs.Checks.{has_repeat, overfills, overfills_first, overfills_some, refusal}
-use Rattle.reg_rules.specs.Effect.{first_after, share_of, given, given_each, with_changes, made_by, changed_by}
+use Rattle.reg_rules.specs.Effect.{share_of, with_changes}
 use Rattle.reg_rules.specs.Effect.{CanReceive, HasSpaceEach, CanChange, IsBehind}
 use Rattle.reg_rules.proofs.lemmas.Accounts.{found-by_number}
 use Rattle.reg_rules.proofs.Passed.{passed}
@@ -110,15 +110,6 @@ other-shares x rest a (y ∷ ys) at all = (
   other-shares x rest a ys at all.1,
 )
 
--- so it makes no difference to them
-others-given : (kind : AllowanceKind) (x : Share) (rest : List Share) (ys : State)
-    → AllByRecursion (λ (y : AccountValue). share_of (x ∷ rest) y.number ≡ share_of rest y.number) ys
-    → map (given kind (x ∷ rest)) ys ≡ map (given kind rest) ys
-others-given kind x rest [] same = refl
-others-given kind x rest (y ∷ ys) same =
-    ap (λ o. option_map_or (λ share. credited y kind share.amount) o y ∷ map (given kind (x ∷ rest)) ys) same.0
-    ∙ ap (λ zs. given kind rest y ∷ zs) (others-given kind x rest ys same.1)
-
 others-receive : (kind : AllowanceKind) (x : Share) (rest : List Share) (ys : State)
     → AllByRecursion (λ (y : AccountValue). share_of (x ∷ rest) y.number ≡ share_of rest y.number) ys
     → AllByRecursion (CanReceive kind (x ∷ rest)) ys → AllByRecursion (CanReceive kind rest) ys
@@ -127,21 +118,6 @@ others-receive kind x rest (y ∷ ys) same can = (
   subst (λ o. MatchOption o (Unit {0}) (λ share. held_by y kind + share.amount ≤ MOST_HELD)) same.0 can.0,
   others-receive kind x rest ys same.1 can.1,
 )
-
--- where the accounts stand in the order of their shares, each gets the share of its number
-given-by_number : (kind : AllowanceKind) (vs : State) (shared : List Share)
-    → numbers vs ≡ map (λ share. share.to) shared → IsDistinct eqb (numbers vs)
-    → given_each kind vs shared ≡ map (given kind shared) vs
-unfolding IsDistinct
-given-by_number kind [] shared same d = refl
-given-by_number kind (v ∷ vs) [] same d = absurd (cc)
-given-by_number kind (v ∷ vs) (x ∷ rest) same d =
-    let at : x.to ≡ v.number = cc in
-    let more : numbers vs ≡ map (λ share. share.to) rest = cc in
-    ap (λ b. option_map_or (λ share. credited v kind share.amount) (cond b (Some x) (share_of rest v.number)) v
-    ∷ given_each kind vs rest) (sym (eq-eqb x.to v.number at))
-    ∙ ap (λ ws. given kind (x ∷ rest) v ∷ ws) (given-by_number kind vs rest more d.1
-    ∙ sym (others-given kind x rest vs (other-shares x rest v.number vs at d.0)))
 
 space-by_number : (kind : AllowanceKind) (vs : State) (shared : List Share)
     → numbers vs ≡ map (λ share. share.to) shared → IsDistinct eqb (numbers vs)
@@ -160,7 +136,7 @@ space-by_number kind (v ∷ vs) (x ∷ rest) same d can =
     )
 
 -- a share changes of an account what acts may change
-given-changes : (kind : AllowanceKind) (v : AccountValue) (o : Option Share)
+pub given-changes : (kind : AllowanceKind) (v : AccountValue) (o : Option Share)
     → option_map_or (λ share. credited v kind share.amount) o v
     ≡ with_changes v (option_map_or (λ share. credited v kind share.amount) o v)
 given-changes kind v None = refl
@@ -182,27 +158,6 @@ module _ (c : Setting) (n : ℕ) (act : Act) (x : AccountValue) (xs : State) (ow
   in-order : numbers xs ≡ map (λ (share : Share). share.to) (shares act)
   in-order = cc own
 
-  rest-given : (ys : State) → AllByRecursion (λ b. eqb x.number b ≡ false) (numbers ys)
-      → map (given (movement_of act).kind (shares act)) ys ≡ map (changed_by c n act) ys
-  rest-given [] all = refl
-  rest-given (y ∷ ys) all =
-      ap (λ v. v ∷ map (given (movement_of act).kind (shares act)) ys)
-      (given-changes (movement_of act).kind y (share_of (shares act) y.number)
-      ∙ sym (ap (λ b. with_changes y (cond b (first_after c n act y) (given (movement_of act).kind (shares act) y)))
-      (ne_eqb y.number (first act) (λ same. eqb-false x.number y.number all.0 (is-first ∙ sym same)))))
-      ∙ ap (λ vs. changed_by c n act y ∷ vs) (rest-given ys all.1)
-
-  -- the first changed, and then each other one given its share
-  whole : (w : AccountValue) → w ≡ with_changes x (first_after c n act x)
-      → w ∷ given_each (movement_of act).kind xs (shares act) ≡ map (changed_by c n act) (x ∷ xs)
-  whole w is =
-      ap (λ v. v ∷ given_each (movement_of act).kind xs (shares act))
-      (is ∙ sym (ap (λ b. with_changes x
-      (cond b (first_after c n act x) (given (movement_of act).kind (shares act) x)))
-      (eq-eqb x.number (first act) is-first)))
-      ∙ ap (λ vs. changed_by c n act x ∷ vs)
-      (given-by_number (movement_of act).kind xs (shares act) in-order apart ∙ rest-given xs others)
-
   -- each other one has space for its share
   have-space : AllByRecursion (CanChange c n act) xs → HasSpaceEach (movement_of act).kind xs (shares act)
   have-space can = space-by_number (movement_of act).kind xs (shares act) in-order apart (go xs can) where
@@ -222,16 +177,3 @@ rest-can c n act m s x xs shared split moved listed own distinct can =
     (subst (λ (t : State). IsDistinct eqb (numbers t)) split distinct) all.1 in
     subst (HasSpaceEach m.kind xs) (sym listed)
     (subst (λ (k : Movement). HasSpaceEach k.kind xs k.shares) (sym moved) room)
-
-pub each-whole : (c : Setting) (n : ℕ) (act : Act) (m : Movement) (s : State) (x : AccountValue) (xs : State)
-    (shared : List Share) (w : AccountValue) (zs : State) → s ≡ x ∷ xs → m ≡ movement_of act → shared ≡ m.shares
-    → numbers s ≡ parties act → IsDistinct eqb (numbers s)
-    → w ≡ with_changes x (made_by c n m.change x) → zs ≡ given_each m.kind xs shared
-    → w ∷ zs ≡ map (changed_by c n act) s
-each-whole c n act m s x xs shared w zs split moved listed own distinct is given-now =
-    ap (λ ys. w ∷ ys) (given-now ∙ ap (given_each m.kind xs) listed
-    ∙ ap (λ (k : Movement). given_each k.kind xs k.shares) moved)
-    ∙ whole c n act x xs (ap numbers (sym split) ∙ own)
-    (subst (λ (t : State). IsDistinct eqb (numbers t)) split distinct) w
-    (is ∙ ap (λ (k : Movement). with_changes x (made_by c n k.change x)) moved)
-    ∙ ap (map (changed_by c n act)) (sym split)

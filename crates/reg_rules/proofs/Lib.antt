@@ -5,12 +5,14 @@ pub mod Administrators
 pub mod Effects
 pub mod Steps
 pub mod Locality
+pub mod StepAt
 pub mod Constants
 pub mod Mapped
 pub mod Repeats
 pub mod Firsts
 pub mod Reversals
 pub mod Applied
+pub mod ByIndex
 pub mod Standing
 pub mod Figures
 pub mod LatestFigures

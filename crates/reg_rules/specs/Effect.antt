@@ -70,12 +70,6 @@ share_of shares a = find (λ share. share.to == a) shares
 abbrev pub given : AllowanceKind → List Share → AccountValue → AccountValue
 given kind shares v = option_map_or (λ share. credited v kind share.amount) (share_of shares v.number) v
 
--- these accounts, each with its share: the first account with the first share, and so on
-abbrev pub given_each : AllowanceKind → State → List Share → State
-given_each kind [] shares = []
-given_each kind (v ∷ vs) [] = v ∷ vs
-given_each kind (v ∷ vs) (share ∷ rest) = credited v kind share.amount ∷ given_each kind vs rest
-
 -- an account after the act: the first after its own change, and each other one with its share
 abbrev pub after_act : Setting → ℕ → Act → AccountValue → AccountValue
 after_act c number act v =

@@ -5,6 +5,7 @@ pub mod Trust
 pub mod Checks
 pub mod Cases
 pub mod Effect
+pub mod Indexed
 pub mod Step
 pub mod Replies
 pub mod Laws

@@ -8,8 +8,10 @@ ghost use Rattle.reg_account.specs.Account.{retired_by};
 ghost use Rattle.reg_rules.specs.Checks.{is_kind_not_allowed, is_short, overfills, overfills_first, overfills_some};
 ghost use Rattle.reg_rules.specs.Checks.{is_retired_too_large, are_rows_full};
 ghost use Rattle.reg_rules.specs.Cases.{receiving, seen_in};
+ghost use Rattle.reg_rules.specs.Indexed.{accounts_at};
 
 use crate::case::Case;
+use crate::indexed::next_at;
 use reg_account::Account;
 use reg_base::{AllowanceKind, Change, MOST_HELD, MOST_RETIRED, MOST_ROWS, Retirement, Share};
 
@@ -26,19 +28,30 @@ pub(crate) fn overfills_some(case: &Case) -> bool
     ensures { result ≡ overfills_some (movement_of case.now.instruction.act) (seen_in case.now) }
 {
     let movement = case.movement;
-    overfills_any(movement.kind, case.receivers, movement.shares.as_slice())
+    overfills_any(
+        movement.kind,
+        case.accounts,
+        case.receivers,
+        movement.shares.as_slice(),
+    )
 }
 
-// Whether one of these accounts would hold more than it may with its share.
-fn overfills_any(kind: AllowanceKind, receivers: &[Account], shares: &[Share]) -> bool
-    ensures { result ≡ list_any (overfills kind) (receiving receivers.now shares.now) }
+// Whether one of the accounts at these indexes would hold more than it may with its share.
+fn overfills_any(
+    kind: AllowanceKind,
+    accounts: &[Account],
+    receivers: &[u32],
+    shares: &[Share],
+) -> bool
+    ensures { result ≡ list_any (overfills kind) (receiving (accounts_at accounts.now receivers.now) shares.now) }
 {
-    match receivers.split_first() {
+    match next_at(accounts, receivers) {
         None => false,
         Some((account, others)) => match shares.split_first() {
             None => false,
             Some((share, rest)) => {
-                overfills(kind, account, share.amount) || overfills_any(kind, others, rest)
+                overfills(kind, account, share.amount)
+                    || overfills_any(kind, accounts, others, rest)
             }
         },
     }

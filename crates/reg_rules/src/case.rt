@@ -18,8 +18,10 @@ pub(crate) struct Case<'a, 's> {
     pub(crate) movement: &'a Movement,
     /// Its first account.
     pub(crate) first: &'a Account,
-    /// The accounts that receive, in the order of their shares.
-    pub(crate) receivers: &'a [Account],
+    /// The list of accounts that they are in.
+    pub(crate) accounts: &'a [Account],
+    /// The indexes of the accounts that receive, in the order of their shares.
+    pub(crate) receivers: &'a [u32],
     /// What several checks ask.
     pub(crate) found: Found,
 }
@@ -31,6 +33,7 @@ impl<'a, 's> Model for Case<'a, 's> {
     ghost use Rattle.reg_base.specs.contracts.kinds.AccountKind as account_kind;
     ghost use Rattle.reg_base.specs.contracts.kinds.AllowanceKind as allowance_kind;
     ghost use Rattle.reg_rules.specs.Cases.{Case as CaseValue, IsCase};
+    ghost use Rattle.reg_rules.specs.Indexed.{accounts_at};
 
     ghost Value = { CaseValue };
 
@@ -46,7 +49,7 @@ impl<'a, 's> Model for Case<'a, 's> {
       setting = s.setting.now;
       instruction = s.instruction.now;
       first = s.first.now;
-      receivers = s.receivers.now;
+      receivers = accounts_at s.accounts.now s.receivers.now;
     } };
 
     ghost invariant = { λ s. IsCase
@@ -54,7 +57,7 @@ impl<'a, 's> Model for Case<'a, 's> {
           setting = s.setting.now;
           instruction = s.instruction.now;
           first = s.first.now;
-          receivers = s.receivers.now;
+          receivers = accounts_at s.accounts.now s.receivers.now;
         })
         s.movement.now s.found };
 }

@@ -9,6 +9,7 @@ ghost use Rattle.reg_base.specs.Refusals.{checks};
 ghost use Rattle.reg_account.specs.Years.{FigureFits};
 ghost use Rattle.reg_rules.specs.State.{numbers, seen};
 ghost use Rattle.reg_rules.specs.Cases.{seen_in, found_of};
+ghost use Rattle.reg_rules.specs.Indexed.{accounts_at};
 ghost use Rattle.reg_rules.specs.Checks.{fails, refusal};
 
 use crate::amounts::{
@@ -19,6 +20,7 @@ use crate::case::Case;
 use crate::compliance::{enters_too_much, lacks_emissions, names_year_outside};
 use crate::entitlement::{is_not_approver, is_not_proposer, is_same_representative};
 use crate::found::Found;
+use crate::indexed::{front, next_at};
 use crate::parties::{destination_allows, has_right_kinds, names_one_twice, source_allows};
 use crate::reversal::{is_reversal, is_reversed, is_window_over, would_become_non_compliant};
 use crate::setting::Setting;
@@ -53,13 +55,15 @@ pub fn decide(
         directory,
     };
     let movement = instruction.act.movement();
-    match judge(&setting, instruction, &movement, accounts) {
+    each_footprint_is_sound();
+    let indexes = front(accounts, &movement);
+    match judge(&setting, instruction, &movement, accounts, indexes) {
         Ok(_) => None,
         Err(refusal) => Some(refusal),
     }
 }
 
-/// What was found for these accounts, given what the act does, if no check fails.
+/// What was found for the accounts at these indexes, given what the act does, if no check fails.
 ///
 /// # Errors
 /// The first check that fails.
@@ -68,20 +72,24 @@ pub(crate) fn judge(
     instruction: &Instruction,
     movement: &Movement,
     accounts: &[Account],
+    indexes: &[u32],
 ) -> Result<Found, Refusal>
-    requires own { numbers accounts.now ≡ footprint setting.now.directory instruction.now.act }
+    requires own { numbers (accounts_at accounts.now indexes.now)
+        ≡ footprint setting.now.directory instruction.now.act }
     requires movement { movement.now ≡ movement_of instruction.now.act }
     ensures fails { result_err result
-        ≡ find (fails setting.now (seen accounts.now instruction.now.act) instruction.now) checks }
+        ≡ find (fails setting.now (seen (accounts_at accounts.now indexes.now) instruction.now.act) instruction.now)
+        checks }
     ensures found { IfOk result
-        (λ found. found ≡ found_of setting.now instruction.now (seen accounts.now instruction.now.act)) }
+        (λ found. found ≡ found_of setting.now instruction.now
+        (seen (accounts_at accounts.now indexes.now) instruction.now.act)) }
     ensures fits { IfOk result (λ found. IfOk found.figure FigureFits) }
 {
-    match accounts.split_first() {
+    match next_at(accounts, indexes) {
         // The footprint is empty exactly if an account that must be known is not.
         None => Err(Refusal::UnknownAccount),
         Some((first, receivers)) => {
-            judge_among(setting, instruction, movement, first, receivers)
+            judge_among(setting, instruction, movement, first, accounts, receivers)
         }
     }
 }
@@ -92,28 +100,31 @@ fn judge_among<'a>(
     instruction: &'a Instruction,
     movement: &'a Movement,
     first: &'a Account,
-    receivers: &'a [Account],
+    accounts: &'a [Account],
+    receivers: &'a [u32],
 ) -> Result<Found, Refusal>
-    requires own { numbers (first.now ∷ receivers.now)
+    requires own { numbers (first.now ∷ accounts_at accounts.now receivers.now)
         ≡ footprint setting.now.directory instruction.now.act }
     requires movement { movement.now ≡ movement_of instruction.now.act }
     ensures fails { result_err result
-        ≡ find (fails setting.now (seen (first.now ∷ receivers.now) instruction.now.act) instruction.now) checks }
+        ≡ find (fails setting.now (seen (first.now ∷ accounts_at accounts.now receivers.now) instruction.now.act)
+        instruction.now) checks }
     ensures found { IfOk result
         (λ found. found ≡ found_of setting.now instruction.now
-        (seen (first.now ∷ receivers.now) instruction.now.act)) }
+        (seen (first.now ∷ accounts_at accounts.now receivers.now) instruction.now.act)) }
     ensures fits { IfOk result (λ found. IfOk found.figure FigureFits) }
 {
     if names_one_twice(movement) {
         return Err(Refusal::SameAccount);
     }
     each_footprint_is_sound();
-    let found = Found::of(setting, instruction, movement, first, receivers);
+    let found = Found::of(setting, instruction, movement, first, accounts, receivers);
     let case = Case {
         setting,
         instruction,
         movement,
         first,
+        accounts,
         receivers,
         found,
     };

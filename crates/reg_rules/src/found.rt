@@ -5,6 +5,7 @@ ghost use Rattle.reg_base.specs.Acts.{movement_of, shares};
 ghost use Rattle.reg_account.specs.Years.{FigureFits};
 ghost use Rattle.reg_rules.specs.State.{numbers};
 ghost use Rattle.reg_rules.specs.Cases.{seeing, found_of};
+ghost use Rattle.reg_rules.specs.Indexed.{accounts_at};
 
 use crate::compliance::figure_asked;
 use crate::reversal::row_to_reverse;
@@ -32,22 +33,25 @@ pub struct Found {
 }
 
 impl Found {
-    /// Finds all of it, for an instruction whose accounts are these: its first one, and those that receive, in order.
+    /// Finds all of it, for an instruction whose accounts are these: its first one, and those of
+    /// these accounts that receive, by their indexes, in order.
     pub(crate) fn of(
         setting: &Setting,
         instruction: &Instruction,
         movement: &Movement,
         first: &Account,
-        receivers: &[Account],
+        accounts: &[Account],
+        receivers: &[u32],
     ) -> Self
         requires movement { movement.now ≡ movement_of instruction.now.act }
-        requires in_order { numbers receivers.now ≡ map (λ share. share.to) (shares instruction.now.act) }
+        requires in_order { numbers (accounts_at accounts.now receivers.now)
+            ≡ map (λ share. share.to) (shares instruction.now.act) }
         ensures value { result ≡ found_of setting.now instruction.now
-            (seeing first.now receivers.now (shares instruction.now.act)) }
+            (seeing first.now (accounts_at accounts.now receivers.now) (shares instruction.now.act)) }
         ensures fits { IfOk result.figure FigureFits }
     {
         let rule = rule_of(&instruction.act);
-        let trusted = trusts_each(setting.day, first, receivers);
+        let trusted = trusts_each(setting.day, first, accounts, receivers);
         Found {
             rule,
             trusted,

@@ -56,6 +56,7 @@ mod checks;
 mod compliance;
 mod entitlement;
 mod found;
+mod indexed;
 mod laws;
 mod parties;
 mod reply;
@@ -71,4 +72,4 @@ pub use laws::{
 };
 pub use reply::{Closing, HeldNow, Holdings, LogRow, Reply};
 pub use setting::Setting;
-pub use step::{execute, log_row};
+pub use step::{execute, execute_at, log_row};

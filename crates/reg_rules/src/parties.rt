@@ -7,8 +7,10 @@ ghost use Rattle.reg_base.specs.Acts.{other_known};
 ghost use Rattle.reg_rules.specs.ActRules.{rule_of, fits_receiver, is_not_closed};
 ghost use Rattle.reg_rules.specs.Checks.{has_repeat, has_right_kinds, source_allows, destination_allows};
 ghost use Rattle.reg_rules.specs.Cases.{seen_in};
+ghost use Rattle.reg_rules.specs.Indexed.{accounts_at};
 
 use crate::case::Case;
+use crate::indexed::next_at;
 use crate::rule::{
     KindRule, fits_first, fits_first_receiver, fits_receiver, fits_source, is_not_closed,
 };
@@ -68,15 +70,24 @@ pub(crate) fn has_right_kinds(case: &Case) -> bool
 {
     let kinds = case.found.rule.kinds;
     let first = case.first.kind();
-    fits_first(kinds, first) && receivers_fit(kinds, first, case.receivers)
+    fits_first(kinds, first) && receivers_fit(kinds, first, case.accounts, case.receivers)
 }
 
-fn receivers_fit(rule: KindRule, first: AccountKind, receivers: &[Account]) -> bool
-    ensures { result ≡ list_all (λ v. fits_receiver rule first v.kind) receivers.now }
+fn receivers_fit(
+    rule: KindRule,
+    first: AccountKind,
+    accounts: &[Account],
+    receivers: &[u32],
+) -> bool
+    ensures { result ≡ list_all (λ v. fits_receiver rule first v.kind) (accounts_at accounts.now receivers.now) }
 {
-    receivers
-        .iter()
-        .all(|account| fits_receiver(rule, first, account.kind()))
+    match next_at(accounts, receivers) {
+        None => true,
+        Some((account, others)) => {
+            fits_receiver(rule, first, account.kind())
+                && receivers_fit(rule, first, accounts, others)
+        }
+    }
 }
 
 /// Whether the first account has the status that the act needs of a source.
@@ -91,13 +102,16 @@ pub(crate) fn destination_allows(case: &Case) -> bool
     ensures { result ≡ destination_allows (rule_of case.now.instruction.act) (seen_in case.now) }
 {
     fits_first_receiver(case.found.rule.status, case.first.status())
-        && none_is_closed(case.receivers)
+        && none_is_closed(case.accounts, case.receivers)
 }
 
-fn none_is_closed(receivers: &[Account]) -> bool
-    ensures { result ≡ list_all (λ v. is_not_closed v.status) receivers.now }
+fn none_is_closed(accounts: &[Account], receivers: &[u32]) -> bool
+    ensures { result ≡ list_all (λ v. is_not_closed v.status) (accounts_at accounts.now receivers.now) }
 {
-    receivers
-        .iter()
-        .all(|account| is_not_closed(account.status()))
+    match next_at(accounts, receivers) {
+        None => true,
+        Some((account, others)) => {
+            is_not_closed(account.status()) && none_is_closed(accounts, others)
+        }
+    }
 }

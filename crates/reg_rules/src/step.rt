@@ -1,6 +1,6 @@
 //! One step: carrying out an instruction, or refusing it.
 
-ghost use Rattle.std.specs.Prelude.{◌≡◌, ◌≤◌, [], Some, None, IfOk, OnOk, OnErr, length, map, nat_eq, All};
+ghost use Rattle.std.specs.Prelude.{◌≡◌, ◌+◌, ◌≤◌, ◌++◌, [], Some, None, IfOk, OnOk, OnErr, length, map, nat_eq, All};
 ghost use Rattle.std.specs.List.{AllByRecursion, IsDistinct};
 ghost use Rattle.std.specs.Option.{option_copied};
 ghost use Rattle.reg_base.specs.Acts.{movement_of, parties};
@@ -11,13 +11,15 @@ ghost use Rattle.reg_account.specs.Account.{held_by, debited, CanTrust};
 ghost use Rattle.reg_account.specs.Rows.{FateFits};
 ghost use Rattle.reg_rules.specs.Cases.{effect_day, figure_asked};
 ghost use Rattle.reg_rules.specs.Checks.{refusal};
-ghost use Rattle.reg_rules.specs.Effect.{made_by, with_changes, changed_by, fate_of, given_each};
-ghost use Rattle.reg_rules.specs.Effect.{new_row as row_of_today, assessed, listed_from, CanMake, HasSpaceEach};
+ghost use Rattle.reg_rules.specs.Effect.{made_by, with_changes, changed_by, fate_of, given};
+ghost use Rattle.reg_rules.specs.Effect.{new_row as row_of_today, assessed, listed_from, CanMake};
 ghost use Rattle.reg_rules.specs.Effect.{CanChange, IsBehind};
+ghost use Rattle.reg_rules.specs.Indexed.{accounts_at, StandAt, CanGive};
 ghost use Rattle.reg_rules.specs.Step.{step, holdings_of, figure_made};
 
 use crate::checks::judge;
 use crate::found::Found;
+use crate::indexed::{front, next_at};
 use crate::reply::{Closing, HeldNow, Holdings, LogRow, Reply};
 use crate::setting::Setting;
 use reg_account::{Account, Fate, FigureFault, RetirementRow};
@@ -61,21 +63,58 @@ pub fn execute(
         day,
         directory,
     };
+    let movement = instruction.act.movement();
+    each_footprint_is_sound();
+    let indexes = front(accounts, &movement);
+    execute_at(
+        alloc,
+        &setting,
+        &movement,
+        number,
+        instruction,
+        accounts,
+        indexes,
+    )
+}
+
+/// Carries the instruction out on a list of accounts that has those that it touches, or refuses it: those are at these
+/// indexes, in the order of [`Instruction::touches`]. The movement is what the act does. All else is as in [`execute`].
+///
+/// # Errors
+/// `NoMemory` if there was no memory for what its accounts then hold, or for what the act adds to its first account. No
+/// check fails in this case, and the accounts are unchanged.
+pub fn execute_at(
+    alloc: Global,
+    setting: &Setting,
+    movement: &Movement,
+    number: RecordNo,
+    instruction: &Instruction,
+    accounts: &mut [Account],
+    indexes: &[u32],
+) -> Result<Reply, NoMemory>
+    requires movement { movement.now ≡ movement_of instruction.now.act }
+    requires once { IsDistinct nat_eq (numbers accounts.old) }
+    requires behind { All (IsBehind number) accounts.old }
+    requires there { StandAt (numbers accounts.old) indexes.now (footprint setting.now.directory instruction.now.act) }
+    ensures ok { IfOk result (λ reply. (accounts.new, reply) ≡ step setting.now accounts.old number instruction.now) }
+    ensures err { OnErr result
+        ((accounts.new ≡ accounts.old) × (refusal setting.now accounts.old instruction.now ≡ None)) }
+{
     let act = &instruction.act;
-    let movement = act.movement();
-    let found = match judge(&setting, instruction, &movement, accounts) {
+    each_footprint_is_sound();
+    let found = match judge(setting, instruction, movement, accounts, indexes) {
         Ok(found) => found,
         Err(refusal) => {
             return Ok(Reply::Refused(refusal));
         }
     };
-    each_footprint_is_sound();
     // The room comes first, so that the accounts are as they were if memory runs out.
-    let room = Holdings::with_capacity(alloc, accounts.len())?;
-    apply(&setting, number, act, &movement, &found, accounts)?;
+    let mut room = Holdings::with_capacity(alloc, indexes.len())?;
+    apply(setting, number, act, movement, &found, accounts, indexes)?;
+    put_each(&mut room, accounts, indexes);
     Ok(Reply::Done {
-        closing: closing_of(room, accounts),
-        figure: figure_made(&movement, accounts),
+        closing: Closing::new(room),
+        figure: figure_made(movement, accounts, indexes),
     })
 }
 
@@ -91,8 +130,8 @@ pub fn log_row(number: RecordNo, day: Day, instruction: Instruction, reply: Repl
     }
 }
 
-// The effect of an act that no check refuses: the change of the first account, and then the shares of the others. Only
-// the first change can run out of memory.
+// The effect of an act that no check refuses, on a list that has its accounts at these indexes: the change of the first
+// account, and then the shares of the others. Only the first change can run out of memory.
 fn apply(
     setting: &Setting,
     number: RecordNo,
@@ -100,24 +139,39 @@ fn apply(
     movement: &Movement,
     found: &Found,
     accounts: &mut [Account],
+    indexes: &[u32],
 ) -> Result<(), NoMemory>
     requires movement { movement.now ≡ movement_of act.now }
     requires effective { found.now.effective ≡ effect_day setting.now movement.now.change }
     requires figure { found.now.figure
-        ≡ figure_asked setting.now.rules movement.now.change (account accounts.old movement.now.first) }
+        ≡ figure_asked setting.now.rules movement.now.change
+        (account (accounts_at accounts.old indexes.now) movement.now.first) }
     requires fits { IfOk found.now.figure FigureFits }
-    requires own { numbers accounts.old ≡ parties act.now }
-    requires distinct { IsDistinct nat_eq (numbers accounts.old) }
-    requires can { AllByRecursion (CanChange setting.now number act.now) accounts.old }
+    requires once { IsDistinct nat_eq (numbers accounts.old) }
+    requires there { StandAt (numbers accounts.old) indexes.now (parties act.now) }
+    requires apart { IsDistinct nat_eq (parties act.now) }
+    requires can { AllByRecursion (CanChange setting.now number act.now) (accounts_at accounts.old indexes.now) }
     ensures ok { OnOk result (accounts.new ≡ map (changed_by setting.now number act.now) accounts.old) }
     ensures err { OnErr result (accounts.new ≡ accounts.old) }
 {
     let _act = act;
-    match accounts.split_first_mut() {
+    match indexes.split_first() {
         None => Ok(()),
         Some((first, receivers)) => {
-            change_first(setting, number, &movement.change, found, first)?;
-            give_shares(movement.kind, movement.shares.as_slice(), receivers);
+            let first = *first as usize;
+            change_first(
+                setting,
+                number,
+                &movement.change,
+                found,
+                &mut accounts[first],
+            )?;
+            give_shares(
+                movement.kind,
+                movement.shares.as_slice(),
+                accounts,
+                receivers,
+            );
             Ok(())
         }
     }
@@ -242,29 +296,30 @@ fn assess(
     }
 }
 
-// Gives each of these accounts its share: the first account the first share, and so on.
-fn give_shares(kind: AllowanceKind, shares: &[Share], accounts: &mut [Account])
-    requires { HasSpaceEach kind accounts.old shares.now }
-    ensures { accounts.new ≡ given_each kind accounts.old shares.now }
+// Gives each of the accounts at these indexes its share: the first account the first share, and so on.
+fn give_shares(kind: AllowanceKind, shares: &[Share], accounts: &mut [Account], indexes: &[u32])
+    requires { CanGive kind accounts.old indexes.now shares.now }
+    ensures { accounts.new ≡ map (given kind shares.now) accounts.old }
 {
-    match accounts.split_first_mut() {
+    match indexes.split_first() {
         None => (),
-        Some((account, others)) => match shares.split_first() {
+        Some((index, others)) => match shares.split_first() {
             None => (),
             Some((share, rest)) => {
-                account.credit(kind, share.amount);
-                give_shares(kind, rest, others);
+                let index = *index as usize;
+                accounts[index].credit(kind, share.amount);
+                give_shares(kind, rest, accounts, others);
             }
         },
     }
 }
 
 // The figure that was determined, as it stands in its account now.
-fn figure_made(movement: &Movement, accounts: &[Account]) -> Option<i64>
-    ensures { result ≡ figure_made accounts.now movement.now.first movement.now.change }
+fn figure_made(movement: &Movement, accounts: &[Account], indexes: &[u32]) -> Option<i64>
+    ensures { result ≡ figure_made (accounts_at accounts.now indexes.now) movement.now.first movement.now.change }
 {
     match movement.change {
-        Change::Determine { year } => match find_account(accounts, movement.first) {
+        Change::Determine { year } => match find_account(accounts, indexes, movement.first) {
             Some(account) => account.determined(year),
             None => None,
         },
@@ -272,25 +327,39 @@ fn figure_made(movement: &Movement, accounts: &[Account]) -> Option<i64>
     }
 }
 
-fn find_account(accounts: &[Account], number: AccountNo) -> Option<&Account>
-    ensures { option_copied result ≡ account accounts.now number }
+fn find_account<'a>(
+    accounts: &'a [Account],
+    indexes: &'a [u32],
+    number: AccountNo,
+) -> Option<&'a Account>
+    ensures { option_copied result ≡ account (accounts_at accounts.now indexes.now) number }
 {
-    accounts.iter().find(|account| account.number() == number)
+    match next_at(accounts, indexes) {
+        None => None,
+        Some((account, others)) => {
+            if account.number() == number {
+                Some(account)
+            } else {
+                find_account(accounts, others, number)
+            }
+        }
+    }
 }
 
-// What the accounts hold now, in the room that was made for it.
-fn closing_of(mut room: Holdings, accounts: &[Account]) -> Closing
-    requires empty { room.items ≡ [] }
-    requires fits { length accounts.now ≤ room.capacity }
-    ensures { result ≡ map holdings_of accounts.now }
+// Puts what the accounts at these indexes hold now behind what is there. There is room for it.
+fn put_each(held: &mut Holdings, accounts: &[Account], indexes: &[u32])
+    requires { length held.old.items + length indexes.now ≤ held.old.capacity }
+    ensures { held.new.items ≡ held.old.items ++ map holdings_of (accounts_at accounts.now indexes.now) }
 {
-    for account in accounts {
-        let held = HeldNow {
-            account: account.number(),
-            general: account.held(AllowanceKind::General),
-            aviation: account.held(AllowanceKind::Aviation),
-        };
-        room.push_reserved(held);
+    match next_at(accounts, indexes) {
+        None => (),
+        Some((account, others)) => {
+            held.push_reserved(HeldNow {
+                account: account.number(),
+                general: account.held(AllowanceKind::General),
+                aviation: account.held(AllowanceKind::Aviation),
+            });
+            put_each(held, accounts, others);
+        }
     }
-    Closing::new(room)
 }

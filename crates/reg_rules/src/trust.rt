@@ -10,20 +10,32 @@ ghost use Rattle.reg_rules.specs.ActRules.{rule_of};
 ghost use Rattle.reg_rules.specs.Trust.{lag_by, is_waived, lacks_approval, is_not_trusted, effective_day};
 ghost use Rattle.reg_rules.specs.Trust.{has_no_effective_day, is_already_trusted, is_not_on_list, is_list_full};
 ghost use Rattle.reg_rules.specs.Cases.{seen_in, effect_day};
+ghost use Rattle.reg_rules.specs.Indexed.{accounts_at};
 
 use crate::case::Case;
+use crate::indexed::next_at;
 use crate::rule::LagRule;
 use crate::setting::Setting;
 use reg_account::Account;
 use reg_base::{Change, Day, Instruction, MOST_TRUSTED, Rules};
 
-/// Whether the first account trusts each of these on this day.
-pub(crate) fn trusts_each(day: Day, first: &Account, receivers: &[Account]) -> bool
-    ensures { result ≡ list_all (λ w. trusts first.now w.number w.holder day) receivers.now }
+/// Whether the first account trusts each of those at these indexes on this day.
+pub(crate) fn trusts_each(
+    day: Day,
+    first: &Account,
+    accounts: &[Account],
+    receivers: &[u32],
+) -> bool
+    ensures { result ≡ list_all (λ w. trusts first.now w.number w.holder day)
+        (accounts_at accounts.now receivers.now) }
 {
-    receivers
-        .iter()
-        .all(|other| first.trusted(other.number(), other.holder(), day))
+    match next_at(accounts, receivers) {
+        None => true,
+        Some((other, others)) => {
+            first.trusted(other.number(), other.holder(), day)
+                && trusts_each(day, first, accounts, others)
+        }
+    }
 }
 
 /// The day on which the instruction falls due, if the calendar has it, given the lag of its act, and whether each

@@ -13,7 +13,8 @@ use Rattle.reg_text.proofs.Names.{signed_of, signed_correction_of, signed_figure
 use Rattle.reg_text.proofs.Names.{approver_text, number_tests, correction_tests, figure_tests, approver_tests, IsPlain}
 use Rattle.reg_base.specs.declared.act.Act.TheVariants as act
 use Rattle.reg_text.specs.declared.reading.instruction_row.ActName.TheVariants.{Distribute}
-use Rattle.reg_text.specs.Words.{kind_word, kinds}
+use Rattle.reg_text.specs.Words.{kinds}
+use Rattle.reg_base.specs.Words.{allowance_kind_name}
 use Rattle.reg_text.specs.declared.cause.Cause.TheVariants as cause
 use Rattle.reg_text.specs.declared.reading.tag.Tag.TheVariants as tag
 use Rattle.reg_text.proofs.Binds.{bind_ok, test_ok, ok_is}
@@ -230,7 +231,8 @@ ruleset codecs = (
 each-act : (n : ActName) → AreFields (form n).fields
 each-act Transfer = search codecs depth 14
 each-act Distribute = are_made _ _ _
-    (are_then _ _ is-no (are_then _ _ (is-word kind_word kinds own-kind) (are_shares is-no is-number))) (λ p fits. refl)
+    (are_then _ _ is-no (are_then _ _ (is-word allowance_kind_name kinds own-kind) (are_shares is-no is-number)))
+    (λ p fits. refl)
     (λ d. refl)
 each-act n = search codecs depth 14
 

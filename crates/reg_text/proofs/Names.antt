@@ -26,13 +26,15 @@ pub use Rattle.reg_text.specs.Log.{answer_fields, closing_fields, figure_field, 
 pub use Rattle.reg_text.specs.Report.{log_rows, report_rows, text_of, totals_row, written_book}
 pub use Rattle.csv.specs.Writing.{default_writer}
 unfoldable pub use Rattle.csv.specs.Writing.{fields_text, is_blank}
-pub use Rattle.reg_text.specs.Numbers.{digits_from, has_no_leading_zero, number, value_after}
+pub use Rattle.reg_text.specs.Numbers.{digits_from, number, value_after}
+pub use Rattle.reg_base.specs.Digits.{starts_well}
 unfoldable pub use Rattle.reg_text.specs.Numbers.{plain_number_of}
 pub use Rattle.reg_text.specs.Dates.{date_text, day_in, is_civil, is_date_text, is_digit, is_pair_at, month_and_day}
 pub use Rattle.reg_text.specs.Dates.{month_in, part_and_day, year_and_day, year_in}
 unfoldable pub use Rattle.reg_text.specs.Dates.{date, date_of, day_named, in_days}
-pub use Rattle.reg_text.specs.Words.{account_kind_word, account_kinds, kind_word, kinds, named, retirement_word}
-pub use Rattle.reg_text.specs.Words.{retirements, right_word, rights, status_word, statuses, yes_and_no, yes_no_word}
+pub use Rattle.reg_text.specs.Words.{account_kinds, kinds, named, retirements, rights, statuses}
+pub use Rattle.reg_text.specs.Words.{yes_and_no, yes_no_word}
+pub use Rattle.reg_base.specs.Words.{account_kind_name, allowance_kind_name, retirement_name, right_name, status_name}
 unfoldable pub use Rattle.reg_text.specs.Words.{word_of}
 pub use Rattle.reg_text.specs.Grammar.{Key, Said, by, row, row_read, row_text, tag_word}
 pub use Rattle.reg_text.specs.Plain.{IsPlain, with_commas}

@@ -42,7 +42,8 @@ use Rattle.reg_text.specs.Report.{text_of, log_rows, written_book}
 use Rattle.reg_cuts.specs.Rows.{rows_in_text}
 use Rattle.reg_text.specs.Faults.{day_of_rows}
 use Rattle.reg_text.specs.ReadAgain.{accounts_text, book_line, IsBlocks, BookIsReadAgain}
-use Rattle.reg_text.specs.NextDays.{rows_behind, StandInReport, IsTextOf, AreTexts, IsNextDay, GoOn, ReportsAreReadOn}
+use Rattle.reg_text.specs.Totals.{totals_rows}
+use Rattle.reg_text.specs.NextDays.{StandInReport, IsTextOf, AreTexts, IsNextDay, GoOn, ReportsAreReadOn}
 use Rattle.reg_text.proofs.ReadAgain.{text-append, book-text-parts}
 
 -- ---- a day speaks of the periods of its rules alone
@@ -195,8 +196,8 @@ report-parts : (day : DayValue) → StandInReport day (accounts_text (book_after
 report-parts day =
     let book = book_after day in
     let log = log_rows (log_of day) in
-    text-append (log ++ written_book book) (rows_behind book)
-    ∙ ap (λ (t : List ℕ). t ++ text_of (rows_behind book))
+    text-append (log ++ written_book book) (totals_rows book)
+    ∙ ap (λ (t : List ℕ). t ++ text_of (totals_rows book))
     (text-append log (written_book book)
     ∙ ap (λ (t : List ℕ). text_of log ++ t) (book-text-parts book)
     ∙ sym (append_assoc (text_of log) (book_line book) (accounts_text book)))
@@ -206,7 +207,7 @@ copied-are day blocks stand =
     let book = book_after day in
     let before = text_of (log_rows (log_of day)) ++ book_line book in
     append_cancel_left before blocks (accounts_text book)
-    (append_cancel_right (before ++ blocks) (before ++ accounts_text book) (text_of (rows_behind book))
+    (append_cancel_right (before ++ blocks) (before ++ accounts_text book) (text_of (totals_rows book))
     (sym stand ∙ report-parts day))
 
 -- so they are those of the book

@@ -16,7 +16,8 @@ use Rattle.reg_text.specs.declared.reading.instruction_row.ActName.TheVariants.{
 use Rattle.reg_text.specs.declared.reading.instruction_row.ActName.TheVariants.{Assess}
 use Rattle.reg_text.specs.Causes.{◌>>=◌}
 use Rattle.reg_text.specs.TextRows.{TextRow}
-use Rattle.reg_text.specs.Words.{word_of, kind_word, kind_of, status_word, status_of}
+use Rattle.reg_text.specs.Words.{word_of, kind_of, status_of}
+use Rattle.reg_base.specs.Words.{allowance_kind_name, status_name}
 use Rattle.reg_text.specs.Codecs.{Codec, Fields, any_number, a_date, a_no, a_record, a_year, an_approver, a_word, last}
 use Rattle.reg_text.specs.Codecs.{◌▸◌, made, three_made, three_parts, four_made, four_parts, pairs, forms, Row}
 use Rattle.reg_text.specs.Codecs.{row_with, named_row}
@@ -28,14 +29,14 @@ abbrev pub Move : Type 0
 Move = ℕ × ℕ × AllowanceKind × ℕ
 
 abbrev pub move_fields : Fields Move
-move_fields = made four_made four_parts (a_no ▸ a_no ▸ a_word kind_word kind_of ▸ last any_number)
+move_fields = made four_made four_parts (a_no ▸ a_no ▸ a_word allowance_kind_name kind_of ▸ last any_number)
 
 -- FROM,KIND,AMOUNT or TO,KIND,AMOUNT
 abbrev pub Amount : Type 0
 Amount = ℕ × AllowanceKind × ℕ
 
 abbrev pub amount_fields : Fields Amount
-amount_fields = made three_made three_parts (a_no ▸ a_word kind_word kind_of ▸ last any_number)
+amount_fields = made three_made three_parts (a_no ▸ a_word allowance_kind_name kind_of ▸ last any_number)
 
 -- TO,AMOUNT one to eight times
 abbrev pub share_made : ℕ × ℕ → Share
@@ -55,7 +56,7 @@ abbrev pub Distribution : Type 0
 Distribution = ℕ × AllowanceKind × List Share
 
 abbrev pub distribution_fields : Fields Distribution
-distribution_fields = made three_made three_parts (a_no ▸ a_word kind_word kind_of ▸ share_fields)
+distribution_fields = made three_made three_parts (a_no ▸ a_word allowance_kind_name kind_of ▸ share_fields)
 
 -- a distribution has one share to eight
 abbrev pub IsShared : Act → Type 0
@@ -72,7 +73,7 @@ other_fields = a_no ▸ last a_no
 
 -- ACCOUNT,STATUS
 abbrev pub status_fields : Fields (ℕ × Status)
-status_fields = a_no ▸ last (a_word status_word status_of)
+status_fields = a_no ▸ last (a_word status_name status_of)
 
 -- ACCOUNT,YEAR,TONNES
 abbrev pub emission_fields : Fields (ℕ × ℕ × ℕ)

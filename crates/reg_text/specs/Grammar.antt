@@ -5,7 +5,7 @@ use Rattle.std.specs.Prelude.{Some, None, Result, codes}
 use Rattle.reg_base.specs.declared.limits.TheConstants.{MOST_ADMINISTRATORS, MOST_INSTRUCTIONS, MOST_PERIODS, MOST_ROWS}
 use Rattle.reg_base.specs.declared.limits.TheConstants.{MOST_TRUSTED, MOST_USERS}
 use Rattle.reg_base.specs.declared.kinds.AccountKind.{AccountKind}
-use Rattle.reg_base.specs.declared.kinds.AccountKind.TheVariants.{Total, Allocation, Operator, Aircraft, Trading}
+use Rattle.reg_base.specs.declared.kinds.AccountKind.TheVariants.{Aircraft}
 use Rattle.reg_base.specs.declared.kinds.AllowanceKind.{AllowanceKind}
 use Rattle.reg_base.specs.declared.kinds.AllowanceKind.TheVariants.{General, Aviation}
 use Rattle.reg_base.specs.declared.kinds.Status.{Status}
@@ -31,8 +31,10 @@ use Rattle.reg_text.specs.declared.reading.scope.Version.{Version}
 use Rattle.reg_text.specs.declared.reading.scope.Scope.{Scope}
 use Rattle.reg_text.specs.Scopes.{by_version, version_word, version_of, widest}
 use Rattle.reg_text.specs.TextRows.{TextRow}
-use Rattle.reg_text.specs.Words.{kind_word, kind_of, account_kind_word, account_kind_of, status_word, status_of}
-use Rattle.reg_text.specs.Words.{right_word, right_of, retirement_word, retirement_named, yes_no_word, yes_no_of}
+use Rattle.reg_text.specs.Words.{kind_of, account_kind_of, status_of}
+use Rattle.reg_text.specs.Words.{right_of, retirement_named, yes_no_word, yes_no_of}
+use Rattle.reg_base.specs.Words.{account_kind_name, allowance_kind_name, retirement_name, right_name, status_name}
+use Rattle.reg_rules.specs.ActRules.{is_operator_kind}
 use Rattle.reg_text.specs.FieldTests.{when}
 use Rattle.reg_text.specs.Acts.{instruction_row}
 use Rattle.reg_text.specs.Codecs.{Codec, Fields, a_no, a_record, a_next, a_year, a_lag, a_holding, an_amount}
@@ -68,18 +70,10 @@ abbrev pub lags_fields : Fields Lags
 lags_fields = made lags_made (λ v. (v.trusted, (v.other, (v.list, v.reversal))))
     (a_lag ▸ a_lag ▸ a_lag ▸ last a_lag)
 
--- accounts from which allowances may be surrendered at all
-abbrev pub is_surrender_kind : AccountKind → Bool
-is_surrender_kind Total = false
-is_surrender_kind Allocation = false
-is_surrender_kind Operator = true
-is_surrender_kind Aircraft = true
-is_surrender_kind Trading = false
-
 -- ACCOUNTKIND,KIND: one of four pairs, and any other is a wrong word
 abbrev pub pair_fields : Fields (AccountKind × AllowanceKind)
-pair_fields = provided (λ p. is_surrender_kind p.0) cause.Word
-    (a_word account_kind_word account_kind_of ▸ last (a_word kind_word kind_of))
+pair_fields = provided (λ p. is_operator_kind p.0) cause.Word
+    (a_word account_kind_name account_kind_of ▸ last (a_word allowance_kind_name kind_of))
 
 -- NO,ACCOUNTKIND,HOLDER,STATUS,OUTSIDE,WAIVER,CORRECTION,GENERAL,AVIATION
 abbrev pub head_made : ℕ × (AccountKind × (ℕ × (Status × (Bool × (Bool × (ℤ × (ℕ × ℕ))))))) → AccountHead
@@ -103,13 +97,13 @@ account_fields = made head_made
         (a.holder, (a.status, (a.outside, (a.waiver, (a.correction, (a.held.general, a.held.aviation)))))),
       ),
     ))
-    (a_no ▸ a_word account_kind_word account_kind_of ▸ a_no ▸ a_word status_word
+    (a_no ▸ a_word account_kind_name account_kind_of ▸ a_no ▸ a_word status_name
     status_of ▸ yes_or_no ▸ yes_or_no ▸ factor ▸ a_holding ▸ last a_holding)
 
 -- USER,RIGHT
 abbrev pub user_fields : Fields Representative
 user_fields = made (λ p. record { user = p.0; right = p.1 }) (λ u. (u.user, u.right))
-    (a_no ▸ last (a_word right_word right_of))
+    (a_no ▸ last (a_word right_name right_of))
 
 -- NO,DATE
 abbrev pub trusted_fields : Fields TrustedEntry
@@ -163,7 +157,7 @@ retired_period scope = maybe (by_version false true scope.version) (a_period 2 s
 
 abbrev pub retired_said : Scope → Fields RetiredSaid
 retired_said scope = provided says_a_fate cause.Limit
-    (a_record ▸ a_word retirement_word retirement_named ▸ a_word kind_word
+    (a_record ▸ a_word retirement_name retirement_named ▸ a_word allowance_kind_name
     kind_of ▸ an_amount ▸ a_date ▸ yes_or_no ▸ retired_period scope)
 
 abbrev pub retired_fields : Scope → Fields RetirementRow

@@ -1,10 +1,8 @@
 -- The texts of days one after another: the account rows of each day's report stand in the text of the next day.
 use Rattle.std.specs.Prelude.{◌≡◌, ℕ, ◌+◌, ◌≤◌, List, [], ◌∷◌, ◌++◌, All, map, length, Ok}
-use Rattle.reg_base.specs.declared.kinds.AllowanceKind.TheVariants.{General, Aviation}
 use Rattle.reg_base.specs.Batch.{IsBatch}
 use Rattle.reg_base.specs.Rising.{IsRising}
 use Rattle.reg_base.specs.Rules.{AreRules}
-use Rattle.reg_book.specs.Book.{BookValue}
 use Rattle.reg_book.specs.Day.{DayValue, log_of}
 use Rattle.reg_book.specs.Chains.{book_after, IsChain}
 use Rattle.reg_text.specs.Acts.{IsShared}
@@ -12,25 +10,20 @@ use Rattle.reg_text.specs.Faults.{day_of_rows}
 use Rattle.reg_text.specs.Grammar.{pair_index}
 use Rattle.reg_text.specs.ReadAgain.{book_line, IsBlocks, IsHeadingText, IsClosingText}
 use Rattle.reg_text.specs.Reading.{CanBeSaid, IsPair, IsVersionOf}
-use Rattle.reg_text.specs.TextRows.{TextRow}
-use Rattle.reg_text.specs.Report.{text_of, log_rows, totals_row, report_rows}
+use Rattle.reg_text.specs.Report.{text_of, log_rows, report_rows}
+use Rattle.reg_text.specs.Totals.{totals_rows}
 use Rattle.reg_cuts.specs.Rows.{rows_in_text}
-use Rattle.reg_text.specs.Spelling.{end_row}
 use Rattle.reg_text.specs.declared.reading.scope.Version.{Version}
 
 -- the report of a day: its log, the book after it, the totals and the row end
 abbrev pub report_of : DayValue → List ℕ
 report_of day = text_of (report_rows (book_after day) (log_of day))
 
--- its rows behind those of the accounts
-abbrev pub rows_behind : BookValue → List TextRow
-rows_behind book = totals_row book General ∷ totals_row book Aviation ∷ end_row ∷ []
-
 -- these bytes stand in the report of the day between its `book` row and its first `totals` row: they are its account
 -- rows
 abbrev pub StandInReport : DayValue → List ℕ → Type 0
 StandInReport day blocks = report_of day
-    ≡ text_of (log_rows (log_of day)) ++ book_line (book_after day) ++ blocks ++ text_of (rows_behind (book_after day))
+    ≡ text_of (log_rows (log_of day)) ++ book_line (book_after day) ++ blocks ++ text_of (totals_rows (book_after day))
 
 -- a text of the day, in a version of the format, with these account rows between its heading and its instructions,
 -- however these are spelled

@@ -7,7 +7,7 @@ use Rattle.reg_book.specs.declared.totals.Totals.{Totals}
 use Rattle.reg_book.specs.declared.totals.BothTotals.{BothTotals}
 use Rattle.reg_text.specs.TextRows.{TextRow}
 use Rattle.reg_text.specs.Numbers.{number}
-use Rattle.reg_text.specs.Words.{kind_word}
+use Rattle.reg_base.specs.Words.{allowance_kind_name}
 use Rattle.reg_text.specs.Spelling.{end_row}
 use Rattle.reg_text.specs.Report.{totals_row}
 
@@ -18,7 +18,8 @@ totals_rows book = totals_row book General ∷ totals_row book Aviation ∷ end_
 -- the same of totals that were added up
 abbrev pub row_of_totals : AllowanceKind → Totals → TextRow
 row_of_totals kind totals =
-    codes "totals" ∷ kind_word kind ∷ number totals.held ∷ number totals.surrendered ∷ number totals.deleted ∷ []
+    codes "totals"
+    ∷ allowance_kind_name kind ∷ number totals.held ∷ number totals.surrendered ∷ number totals.deleted ∷ []
 
 abbrev pub rows_of_totals : BothTotals → List TextRow
 rows_of_totals both = row_of_totals General both.general ∷ row_of_totals Aviation both.aviation ∷ end_row ∷ []

@@ -8,7 +8,10 @@ ghost use Rattle.reg_base.specs.declared.kinds.AllowanceKind.{AllowanceKind};
 ghost use Rattle.reg_base.specs.declared.kinds.Right.{Right};
 ghost use Rattle.reg_base.specs.declared.kinds.Retirement.{Retirement};
 ghost use Rattle.reg_base.specs.declared.kinds.Status.{Status};
+ghost use Rattle.reg_base.specs.declared.act.Act.{Act};
 ghost use Rattle.reg_base.specs.Numbers.{IsDayNo};
+ghost use Rattle.reg_base.specs.Words.{account_kind_name, allowance_kind_name, name_of_act, retirement_name};
+ghost use Rattle.reg_base.specs.Words.{right_name, status_name};
 ghost use Rattle.reg_account.specs.Account.{CorrectionFits};
 ghost use Rattle.reg_account.specs.Years.{FigureFits};
 ghost use Rattle.reg_text.specs.declared.cause.Cause.{Cause};
@@ -26,10 +29,10 @@ ghost use Rattle.reg_text.specs.declared.reading.instruction_row.ActName.{ActNam
 ghost use Rattle.reg_text.specs.Scopes.{version_word, version_of};
 ghost use Rattle.reg_text.specs.Grammar.{tag_word};
 ghost use Rattle.reg_text.specs.Tags.{all_tags};
-ghost use Rattle.reg_text.specs.Acts.{act_word, act_name_of};
+ghost use Rattle.reg_text.specs.Acts.{act_name, act_name_of, act_word};
 ghost use Rattle.reg_text.specs.Codecs.{later_factor};
-ghost use Rattle.reg_text.specs.Words.{named, kind_word, kind_of, account_kind_word, account_kind_of, status_word};
-ghost use Rattle.reg_text.specs.Words.{status_of, right_word, right_of, retirement_word, retirement_named, yes_no_word};
+ghost use Rattle.reg_text.specs.Words.{named, kind_of, account_kind_of};
+ghost use Rattle.reg_text.specs.Words.{status_of, right_of, retirement_named, yes_no_word};
 ghost use Rattle.reg_text.specs.Words.{yes_no_of};
 ghost use Rattle.reg_text.specs.TextRows.{TextRow};
 ghost use Rattle.reg_book.specs.Day.{DayValue};
@@ -75,15 +78,20 @@ pub fn one_spelling_within_limits()
 /// A field is read as a kind, an account kind, a status, a right, what became of allowances, yes or no, a tag, an act
 /// or a version exactly if it is the word of that value.
 pub fn one_word_of_each_value()
-    ensures kinds { (f : List ℕ) (k : AllowanceKind) → (kind_of f ≡ Ok k) ↔ (f ≡ kind_word k) }
-    ensures account_kinds { (f : List ℕ) (k : AccountKind) → (account_kind_of f ≡ Ok k) ↔ (f ≡ account_kind_word k) }
-    ensures statuses { (f : List ℕ) (s : Status) → (status_of f ≡ Ok s) ↔ (f ≡ status_word s) }
-    ensures rights { (f : List ℕ) (r : Right) → (right_of f ≡ Ok r) ↔ (f ≡ right_word r) }
-    ensures retirements { (f : List ℕ) (w : Retirement) → (retirement_named f ≡ Ok w) ↔ (f ≡ retirement_word w) }
+    ensures kinds { (f : List ℕ) (k : AllowanceKind) → (kind_of f ≡ Ok k) ↔ (f ≡ allowance_kind_name k) }
+    ensures account_kinds { (f : List ℕ) (k : AccountKind) → (account_kind_of f ≡ Ok k) ↔ (f ≡ account_kind_name k) }
+    ensures statuses { (f : List ℕ) (s : Status) → (status_of f ≡ Ok s) ↔ (f ≡ status_name s) }
+    ensures rights { (f : List ℕ) (r : Right) → (right_of f ≡ Ok r) ↔ (f ≡ right_name r) }
+    ensures retirements { (f : List ℕ) (w : Retirement) → (retirement_named f ≡ Ok w) ↔ (f ≡ retirement_name w) }
     ensures yes_or_no { (f : List ℕ) (b : Bool) → (yes_no_of f ≡ Ok b) ↔ (f ≡ yes_no_word b) }
     ensures tags { (f : List ℕ) (t : Tag) → (named cause.Tag tag_word all_tags f ≡ Ok t) ↔ (f ≡ tag_word t) }
     ensures acts { (f : List ℕ) (n : ActName) → (act_name_of f ≡ Ok n) ↔ (f ≡ act_word n) }
     ensures versions { (f : List ℕ) (v : Version) → (version_of f ≡ Ok v) ↔ (f ≡ version_word v) }
+{}
+
+/// The word of an act in the texts is that of its value. (All other words are those of the values by definition.)
+pub fn words_are_those_of_values()
+    ensures acts { (a : Act) → act_word (act_name a) ≡ name_of_act a }
 {}
 
 /// A text names a cause exactly if it is the name of that cause.

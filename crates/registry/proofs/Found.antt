@@ -4,7 +4,8 @@ use Rattle.clap.specs.Matches.{one_text}
 use Rattle.clap.specs.Walk.{one_of, rows_of}
 use Rattle.clap.specs.declared.parser.matches.Found.{Found}
 use Rattle.clap.proofs.WalkLemmas.{one_text-rows}
-use Rattle.registry.specs.Words.{number_found, word_number}
+use Rattle.reg_front.specs.Ranges.{word_number}
+use Rattle.registry.specs.Words.{number_found}
 
 -- a number that was read is the one of a word that was found
 pub number-read : (f : Found) (argument : List ℕ) (n : ℕ) → (one_text f argument ≡ None → Some n ≡ None)

@@ -1,4 +1,3 @@
-pub mod Inputs
 pub mod Serving
 pub mod Statuses
 pub mod Words

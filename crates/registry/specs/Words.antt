@@ -1,10 +1,11 @@
 -- What the words ask for, once `clap` has found the command and its arguments among them.
 use Rattle.std.specs.Prelude.{◌≡◌, ◌<◌, ◌^◌, ⊤, ℕ, List, [], Option, Some, option_map, codes}
 use Rattle.std.specs.Option.{option_map_or}
-use Rattle.std.specs.Str.Parse.{IsNumeral, digits_value, without_leading_plus}
+use Rattle.std.specs.Str.Parse.{IsNumeral, without_leading_plus}
 use Rattle.clap.specs.Simple.{subcommand_rows_of}
 use Rattle.clap.specs.Walk.{Row, one_of}
 use Rattle.clap.specs.declared.parser.matches.ArgMatches.{ArgMatches}
+use Rattle.reg_front.specs.Ranges.{word_number}
 use Rattle.reg_front.specs.declared.command.Command.{Command}
 use Rattle.reg_front.specs.declared.command.Command.TheVariants.{Settle, Plan, Statement, Figures, Totals}
 
@@ -15,10 +16,6 @@ command_name Plan = codes "plan"
 command_name (Statement account) = codes "statement"
 command_name Figures = codes "figures"
 command_name Totals = codes "totals"
-
--- the number that a word spells, with or without a plus sign
-abbrev pub word_number : List ℕ → ℕ
-word_number word = digits_value 10 (without_leading_plus word)
 
 -- the word spells a number of 32 bits in decimal digits, with or without a plus sign
 abbrev pub IsNumberWord : List ℕ → Type 0

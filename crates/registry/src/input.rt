@@ -1,16 +1,15 @@
 //! Standard input, as the program reads it.
 
 ghost use Rattle.std.specs.Prelude.{None};
+ghost use Rattle.reg_front.specs.Counting.{counted_stream};
+ghost use Rattle.reg_front.specs.Ranging.{ranged_stream};
 ghost use Rattle.reg_front.specs.Streams.{CanFail};
-ghost use Rattle.registry.specs.Inputs.{stream_of_input};
 
-use reg_front::{CallFailed, Counted, ReadAt, Source, read_in_pieces};
-use std::alloc::Global;
+use reg_front::{Counted, Ranged, ReadAt};
 use std::fs::File;
 use std::io::{IsTerminal, Read, Write};
 use std::os::unix::fs::FileExt;
 use std::rt::{Stderr, Stdin};
-use std::thread::Threads;
 use std::{fs, io};
 
 // What somebody sees who has started the program at a terminal without a text.
@@ -31,57 +30,33 @@ fn file_length(files: &HostRuntime) -> usize {
     }
 }
 
-// The offset in the file from which the next call of `read` reads. Nothing, if the system does not say.
-fn find_offset(files: &HostRuntime) -> Option<u64> {
-    let mut room = [0; 64];
-    let count = File::open(files, STATE).ok()?.read(&mut room).ok()?;
-    let state = str::from_utf8(&room[..count]).ok()?;
-    state
-        .lines()
-        .next()?
-        .strip_prefix("pos:")?
-        .trim()
-        .parse()
-        .ok()
-}
-
-// Standard input, read by one call after another. If somebody types the text, they get notice before the program waits
-// for it.
+/// A reader, and who gets notice before the program first waits for it, if somebody types the text.
 #[derive(Drop)]
-struct Typed {
-    stream: Stdin,
-    faults: Stderr,
+pub(crate) struct Typed<R, W> {
+    reader: R,
+    faults: W,
     is_hint_due: bool,
 }
 
-impl Read for Typed {
+impl<R: Read, W: Write> Read for Typed<R, W> {
+    ghost remaining = { λ typed. R.remaining typed.reader };
+
     fn read(&mut self, buf: &mut [u8]) -> io::Result<usize> {
         if self.is_hint_due {
             self.is_hint_due = false;
             let _ = writeln!(self.faults, "{HINT}");
         }
-        self.stream.read(buf)
+        self.reader.read(buf)
     }
 }
 
-// The file that is standard input, opened once more: its bytes are read from any offset, and the offset from which the
-// program's other calls read stays.
+/// A file of the system. What a call gives is trusted.
 #[derive(Drop)]
-struct InputFile {
+pub(crate) struct SystemFile {
     file: File,
-    from: u64,
 }
 
-impl InputFile {
-    // Nothing, if the system does not tell the offset from which to read, or does not let the program open the file.
-    fn open(files: &HostRuntime) -> Option<InputFile> {
-        let from = find_offset(files)?;
-        let file = File::open(files, PATH).ok()?;
-        Some(InputFile { file, from })
-    }
-}
-
-impl ReadAt for InputFile {
+impl ReadAt for SystemFile {
     ghost contents = { λ _. None };
 
     fn read_at(&self, offset: u64, room: &mut [u8]) -> Option<usize> {
@@ -89,65 +64,27 @@ impl ReadAt for InputFile {
     }
 }
 
-/// Standard input. A file is read in pieces, if it is long; anything else by one call after another.
-#[derive(Drop)]
-pub(crate) struct Input {
-    typed: Counted<Typed>,
-    length: usize,
-    // The file, if it is one and nothing of it has been read.
-    file: Option<InputFile>,
-    is_at_end: bool,
+// The file that is standard input, opened once more, and the text that tells of its state. Nothing, if the system does
+// not let the program open them.
+fn open_files(files: &HostRuntime) -> Option<(SystemFile, File)> {
+    let file = File::open(files, PATH).ok()?;
+    let state = File::open(files, STATE).ok()?;
+    Some((SystemFile { file }, state))
 }
 
-impl Input {
-    /// Standard input of this program.
-    pub(crate) fn new(rt: &HostRuntime) -> Input
-        ensures { CanFail (stream_of_input result) }
-    {
-        let stream = rt.stdin();
-        let typed = Typed {
-            stream,
-            faults: rt.stderr(),
-            is_hint_due: stream.is_terminal(),
-        };
-        let length = file_length(rt);
-        Input {
-            typed: Counted::new(typed).expecting(length),
-            length,
-            file: if length > 0 {
-                InputFile::open(rt)
-            } else {
-                None
-            },
-            is_at_end: false,
-        }
-    }
-}
-
-impl Source for Input {
-    ghost stream = { stream_of_input };
-
-    fn read(&mut self, buf: &mut [u8]) -> Result<usize, CallFailed> {
-        if self.is_at_end {
-            return Ok(0);
-        }
-        self.file = None;
-        self.typed.read(buf)
-    }
-
-    fn expected(&self) -> usize {
-        self.length
-    }
-
-    fn read_pieces<T: Threads + Sync>(
-        &mut self,
-        rt: &T,
-        alloc: Global,
-        threads: usize,
-    ) -> Option<Vec<Vec<u8>>> {
-        let file = self.file.take()?;
-        let pieces = read_in_pieces(rt, alloc, &file, file.from, self.length as u64, threads)?;
-        self.is_at_end = true;
-        Some(pieces)
-    }
+/// Standard input of this program. A file is read in pieces, if it is long; anything else by one call after another.
+pub(crate) fn open_input(
+    rt: &HostRuntime,
+) -> Ranged<Counted<Typed<Stdin, Stderr>>, SystemFile, File>
+    ensures { CanFail (ranged_stream (counted_stream (λ _. None)) result) }
+{
+    let stream = rt.stdin();
+    let typed = Typed {
+        reader: stream,
+        faults: rt.stderr(),
+        is_hint_due: stream.is_terminal(),
+    };
+    let length = file_length(rt);
+    let files = if length > 0 { open_files(rt) } else { None };
+    Ranged::new(Counted::new(typed).expecting(length), files, length as u64)
 }

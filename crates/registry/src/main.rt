@@ -5,6 +5,7 @@
 ghost use Rattle.std.specs.Prelude.{◌≡◌};
 ghost use Rattle.reg_front.specs.Counting.{counted_stream};
 ghost use Rattle.reg_front.specs.Lines.{IsTold};
+ghost use Rattle.reg_front.specs.Ranging.{ranged_stream};
 ghost use Rattle.reg_front.specs.Streams.{CanFail};
 ghost use Rattle.registry.specs.Serving.{IsShown, Serves, streams_of};
 ghost use Rattle.registry.specs.Statuses.{exit_status_of};
@@ -12,13 +13,15 @@ ghost use Rattle.registry.specs.Statuses.{exit_status_of};
 mod input;
 mod words;
 
-use crate::input::Input;
+use crate::input::open_input;
 use crate::words::read_words;
 use clap::error::ErrorKind;
-use reg_front::{Counted, FrontFault, Sink, Source, run_without_freeing, tell_fault};
+use reg_front::{
+    Counted, FrontFault, Ranged, ReadAt, Sink, Source, run_without_freeing, tell_fault,
+};
 use std::alloc::{AllocError, Global};
 use std::convert::AsStr;
-use std::io::Write;
+use std::io::{Read, Write};
 use std::process::ExitCode;
 use std::rt::Env;
 use std::sync::Wait;
@@ -34,19 +37,27 @@ use std::{env, io};
 /// written.
 ///
 /// The memory that the command has used is not freed: the program ends with it.
-pub fn serve<T: Threads + Wait + Sync, S: AsStr, R: Source, W: Write, F: Write>(
+pub fn serve<
+    T: Threads + Wait + Sync,
+    S: AsStr,
+    R: Source,
+    I: ReadAt + Sync + Drop,
+    P: Read + Drop,
+    W: Write,
+    F: Write,
+>(
     rt: &T,
     alloc: Global,
     words: &[S],
-    reader: &mut R,
+    reader: &mut Ranged<R, I, P>,
     writer: &mut Counted<W>,
     faults: &mut Counted<F>,
 ) -> u8
-    requires reader { CanFail (R.stream reader.old) }
+    requires reader { CanFail (ranged_stream R.stream reader.old) }
     requires writer { CanFail (counted_stream W.contents writer.old) }
     requires faults { CanFail (counted_stream F.contents faults.old) }
-    ensures { Serves result (streams_of W.contents F.contents (R.stream reader.old) writer.old faults.old)
-        (streams_of W.contents F.contents (R.stream reader.new) writer.new faults.new) }
+    ensures { Serves result (streams_of W.contents F.contents (ranged_stream R.stream reader.old) writer.old
+        faults.old) (streams_of W.contents F.contents (ranged_stream R.stream reader.new) writer.new faults.new) }
 {
     match read_words(alloc, words) {
         Ok(command) => match run_without_freeing(rt, alloc, reader, writer, command) {
@@ -119,7 +130,7 @@ fn read_arguments<R: Env + AllocGlobal>(rt: &R) -> Result<Option<Vec<String>>, A
 }
 
 fn main(rt: HostRuntime) -> ExitCode {
-    let mut reader = Input::new(&rt);
+    let mut reader = open_input(&rt);
     let mut faults = Counted::new(rt.stderr());
     let status = match read_arguments(&rt) {
         Ok(Some(words)) => serve(

@@ -5,7 +5,8 @@ ghost use Rattle.clap.specs.Matches.{found_of, subcommand_name_of};
 ghost use Rattle.clap.specs.Walk.{one_of, rows_of};
 ghost use Rattle.reg_base.specs.Numbers.{IsAccountNo};
 ghost use Rattle.reg_front.specs.declared.command.Command.TheVariants.{Settle, Plan, Statement, Figures, Totals};
-ghost use Rattle.registry.specs.Words.{HasNumber, IsNumberWord, command_name, rows_found, word_number};
+ghost use Rattle.reg_front.specs.Ranges.{word_number};
+ghost use Rattle.registry.specs.Words.{HasNumber, IsNumberWord, command_name, rows_found};
 
 use clap::builder::ValueParser;
 use clap::error::ErrorKind;
@@ -19,7 +20,7 @@ use std::convert::AsStr;
 const SETTLE: &str = "settle";
 
 // The version of the program. No source can name its own commit: `./run --version` tells that.
-const VERSION: &str = "1.0";
+const VERSION: &str = "1.1";
 
 const WHAT_IT_DOES: &str = "\
 Settles one day of an emission allowance registry: reads a day text from standard input,

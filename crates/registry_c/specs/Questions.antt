@@ -1,12 +1,11 @@
 -- What a call asks of a day: the text that answers it, and why there may be none.
 use Rattle.std.specs.Prelude.{◌≡◌, ℕ, List, false, true, ⊤}
-use Rattle.reg_plan.specs.Plans.{PlanValue, IsPlan}
-use Rattle.reg_book.specs.Book.{BookValue, directory_of}
+use Rattle.reg_book.specs.Book.{BookValue}
 use Rattle.reg_book.specs.Chains.{book_after}
 use Rattle.reg_book.specs.Day.{DayValue, log_of}
 use Rattle.reg_text.specs.Determined.{figures_rows}
 use Rattle.reg_text.specs.NextDays.{report_of}
-use Rattle.reg_text.specs.PlanText.{plan_rows}
+use Rattle.reg_text.specs.PlanText.{IsPlanText}
 use Rattle.reg_text.specs.Report.{log_rows, text_of}
 use Rattle.reg_text.specs.Statement.{has_account, statement_of}
 use Rattle.reg_text.specs.Totals.{totals_rows}
@@ -15,16 +14,11 @@ use Rattle.registry_c.specs.declared.fault.Fault.TheVariants as fault
 use Rattle.registry_c.specs.declared.question.Question.{Question}
 use Rattle.registry_c.specs.declared.question.Question.TheVariants.{Figures, Log, Plan, Report, Statement, Totals}
 
--- these bytes are the plan of the day's instructions
-abbrev pub ArePlanned : DayValue → List ℕ → Type 0
-ArePlanned day text = (plan : PlanValue) × IsPlan (directory_of day.book.accounts) day.batch.instructions plan
-    × (text ≡ text_of (plan_rows plan))
-
 -- these bytes are the text that answers the question of this day; only an account of the book has a statement
 abbrev pub IsAnswer : Question → DayValue → List ℕ → Type 0
 IsAnswer Report day text = text ≡ report_of day
 IsAnswer Log day text = text ≡ text_of (log_rows (log_of day))
-IsAnswer Plan day text = ArePlanned day text
+IsAnswer Plan day text = IsPlanText day text
 IsAnswer (Statement account) day text = (has_account day.book account ≡ true)
     × (text ≡ text_of (statement_of day.book (log_of day) account))
 IsAnswer Figures day text = text ≡ text_of (figures_rows (book_after day))

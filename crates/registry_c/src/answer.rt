@@ -2,6 +2,7 @@
 
 ghost use Rattle.std.specs.Prelude.{◌≡◌, Ok, Err};
 ghost use Rattle.registry_c.specs.Answers.{Tells, answer_of, cause_number, room_after};
+ghost use Rattle.registry_c.specs.Names.{TellsText};
 
 use crate::fault::Fault;
 use crate::question::Question;
@@ -31,6 +32,13 @@ pub(crate) fn tell(alloc: Global, question: Question, day: &[u8], room: &mut [u8
         Ok(text) => put(text.as_slice(), room),
         Err(fault) => refuse(fault),
     }
+}
+
+/// Writes a word or a sentence, if there is room for all of it.
+pub(crate) fn tell_text(text: &str, room: &mut [u8]) -> Answer
+    ensures { TellsText text.now result room.old room.new }
+{
+    put(text.as_bytes(), room)
 }
 
 // Writes a text to the front of the room, if there is room for all of it.
@@ -67,8 +75,8 @@ fn refuse(fault: Fault) -> Answer
     }
 }
 
-// The number of a cause, in the order of `Cause`.
-fn number_of(cause: Cause) -> u32
+/// The number of a cause, in the order of `Cause`.
+pub(crate) fn number_of(cause: Cause) -> u32
     ensures { result ≡ cause_number cause }
 {
     match cause {

@@ -6,17 +6,20 @@
 //! it back. So calls may come from several threads at once. None of them starts a thread or waits for one.
 #![tactic(auto)]
 
-ghost use Rattle.std.specs.Prelude.{◌≡◌};
+ghost use Rattle.std.specs.Prelude.{◌≡◌, codes};
 ghost use Rattle.registry_c.specs.Answers.{Tells};
+ghost use Rattle.registry_c.specs.Names.{TellsText, cause_with, check_with};
+ghost use Rattle.registry_c.specs.Names.{sentence_of_check, word_of_cause, word_of_check};
 ghost use Rattle.registry_c.specs.declared.question.Question.TheVariants.{Figures, Log, Plan};
 ghost use Rattle.registry_c.specs.declared.question.Question.TheVariants.{Report, Statement, Totals};
 
 mod answer;
 mod fault;
+mod names;
 mod question;
 mod texts;
 
-use crate::answer::tell;
+use crate::answer::{tell, tell_text};
 pub use answer::Answer;
 pub use fault::Fault;
 pub use question::Question;
@@ -24,6 +27,9 @@ use std::alloc::Global;
 
 // The version of what the header says. A change that breaks a caller raises it.
 const VERSION: u32 = 1;
+
+// The version of the engine, as its program tells it.
+const ENGINE_VERSION: &str = "1.1";
 
 /// Settles the day: its report, byte for byte that of the program's command `settle`.
 #[unsafe(no_mangle)]
@@ -84,4 +90,36 @@ pub extern "C" fn registry_version() -> u32
     ensures { result ≡ 1 }
 {
     VERSION
+}
+
+/// The version of the engine, such as `1.1`, as `registry --version` tells it.
+#[unsafe(no_mangle)]
+pub extern "C" fn registry_version_string(room: &mut [u8]) -> Answer
+    ensures { TellsText (codes "1.1") result room.old room.new }
+{
+    tell_text(ENGINE_VERSION, room)
+}
+
+/// The word of a cause, as the program writes it. A number that is no cause has the empty text.
+#[unsafe(no_mangle)]
+pub extern "C" fn registry_cause_word(cause: u32, room: &mut [u8]) -> Answer
+    ensures { TellsText (word_of_cause (cause_with cause)) result room.old room.new }
+{
+    tell_text(names::word_of_cause(cause), room)
+}
+
+/// The name of the check with this code, as it stands in a log. A code that is no check's has the empty text.
+#[unsafe(no_mangle)]
+pub extern "C" fn registry_refusal_word(code: u32, room: &mut [u8]) -> Answer
+    ensures { TellsText (word_of_check (check_with code)) result room.old room.new }
+{
+    tell_text(names::word_of_check(code), room)
+}
+
+/// Why the check with this code refuses an instruction, in a sentence. A code that is no check's has the empty text.
+#[unsafe(no_mangle)]
+pub extern "C" fn registry_refusal_sentence(code: u32, room: &mut [u8]) -> Answer
+    ensures { TellsText (sentence_of_check (check_with code)) result room.old room.new }
+{
+    tell_text(names::sentence_of_check(code), room)
 }

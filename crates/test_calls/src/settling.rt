@@ -180,7 +180,7 @@ fn listed_day_of(alloc: Global, text: &[u8]) -> Result<DayParts, Stop> {
             parts,
             batch,
         }),
-        Err(NoMemory) => Err(Stop::Short),
+        Err(_) => Err(Stop::Short),
     }
 }
 
@@ -205,8 +205,10 @@ fn given_back<R: Threads + Sync>(
 // The closed day with its accounts in one list.
 fn joined(alloc: Global, closed: ClosedParts) -> Result<ClosedDay, NoMemory> {
     let ClosedParts { parts, replies } = closed;
-    let book = parts.into_book(alloc)?;
-    Ok(ClosedDay { book, replies })
+    match parts.into_book(alloc) {
+        Ok(book) => Ok(ClosedDay { book, replies }),
+        Err((_, none)) => Err(none),
+    }
 }
 
 // `settle_regions`, of which the closed day alone is looked at, with a book that it has given back before.

@@ -8,9 +8,8 @@ use reg_base::{AccountNo, NoMemory};
 use reg_book::settle_plain;
 use reg_rules::{Closing, Holdings, LogRow, Reply};
 use reg_text::{
-    DayFault, DayInput, DayParts, figures, read_day, read_day_by_parts, read_day_in_lists,
-    read_instruction, statement, totals_text, write_book, write_log_row, write_report,
-    write_report_of_parts, write_report_pieces,
+    DayFault, DayInput, DayParts, figures, read_day, read_day_in_lists, read_instruction,
+    statement, totals_text, write_book, write_log_row, write_report, write_report_pieces,
 };
 use std::alloc::Global;
 use std::io::Write;
@@ -66,8 +65,19 @@ fn how_read(answer: Result<DayInput, DayFault>) -> Ended {
     }
 }
 
-/// Tries `read_day_by_parts` by at most so many parts of any size: it is to end as `read_day` does.
-pub(crate) fn try_read_by_parts<R: Threads + Sync, W: Write>(
+// The same of a day whose accounts were read into lists, which are joined.
+fn how_joined(alloc: Global, answer: Result<DayParts, DayFault>) -> Ended {
+    match answer {
+        Ok(day) => match day.into_input(alloc) {
+            Ok(day) => how_read(Ok(day)),
+            Err(_) => Ended::NoMemory,
+        },
+        Err(fault) => how_read(Err(fault)),
+    }
+}
+
+/// Tries `read_day_in_lists` by at most so many parts of any size: it is to end as `read_day` does.
+pub(crate) fn try_read_in_lists<R: Threads + Sync, W: Write>(
     rt: &R,
     alloc: Global,
     text: &[u8],
@@ -75,7 +85,7 @@ pub(crate) fn try_read_by_parts<R: Threads + Sync, W: Write>(
     writer: &mut W,
 ) -> Result<(), Stop> {
     let wanted = how_read(read_day(alloc, text));
-    let call = || how_read(read_day_by_parts(rt, alloc, text, parts as usize, 1));
+    let call = || how_joined(alloc, read_day_in_lists(rt, alloc, text, parts as usize, 1));
     try_threads(&text, call, wanted, writer)
 }
 
@@ -99,30 +109,15 @@ fn digest_of_pieces(pieces: &[Vec<u8>]) -> Digest {
 fn spell_pieces<R: Threads + Sync>(
     rt: &R,
     alloc: Global,
-    day: &DayInput,
-    replies: &[Reply],
-    threads: u32,
-) -> Result<Vec<Vec<u8>>, NoMemory> {
-    let (book, batch) = (&day.book, &day.batch);
-    if threads == 0 {
-        return write_report_pieces(rt, alloc, book, batch, replies, 1);
-    }
-    write_report_pieces(rt, alloc, book, batch, replies, threads as usize)
-}
-
-// The same of a day whose accounts lie in lists.
-fn spell_parts<R: Threads + Sync>(
-    rt: &R,
-    alloc: Global,
     day: &DayParts,
     replies: &[Reply],
     threads: u32,
 ) -> Result<Vec<Vec<u8>>, NoMemory> {
     let (parts, batch) = (&day.parts, &day.batch);
     if threads == 0 {
-        return write_report_of_parts(rt, alloc, parts, batch, replies, 1);
+        return write_report_pieces(rt, alloc, parts, batch, replies, 1);
     }
-    write_report_of_parts(rt, alloc, parts, batch, replies, threads as usize)
+    write_report_pieces(rt, alloc, parts, batch, replies, threads as usize)
 }
 
 // A copy of a reply.
@@ -151,37 +146,17 @@ fn copy_replies(alloc: Global, rows: &[LogRow]) -> Result<Vec<Reply>, Stop> {
     Ok(replies)
 }
 
-/// Tries `write_report_pieces` by so many threads: its pieces are to be the report that `write_report` writes.
+/// Tries `write_report_pieces` by so many threads, on accounts in lists as so many others read them: its pieces are to
+/// be the report that `write_report` writes.
 pub(crate) fn try_pieces<R: Threads + Sync, W: Write>(
     rt: &R,
     alloc: Global,
-    day: &DayInput,
-    threads: u32,
-    writer: &mut W,
-) -> Result<(), Stop> {
-    let Ok(settled) = settle_plain(alloc, &day.book, &day.rules, &day.batch) else {
-        return Err(Stop::Short);
-    };
-    let rows = settled.rows();
-    let Ok(whole) = write_report(alloc, &day.book, rows) else {
-        return Err(Stop::Short);
-    };
-    let wanted = Ended::Done(digest_of_pieces(&[whole]));
-    let replies = copy_replies(alloc, rows)?;
-    let call = || how_spelled(spell_pieces(rt, alloc, day, &replies, threads));
-    try_threads(day, call, wanted, writer)
-}
-
-/// Tries `write_report_of_parts` by so many threads, on accounts in lists as so many threads read them: its pieces are
-/// to be the report that `write_report` writes.
-pub(crate) fn try_report_of_parts<R: Threads + Sync, W: Write>(
-    rt: &R,
-    alloc: Global,
     text: &[u8],
+    readers: u32,
     threads: u32,
     writer: &mut W,
 ) -> Result<(), Stop> {
-    let Ok(day) = read_day_in_lists(rt, alloc, text, threads as usize, 1) else {
+    let Ok(day) = read_day_in_lists(rt, alloc, text, readers as usize, 1) else {
         return Err(Stop::Input);
     };
     let Ok(input) = read_day(alloc, text) else {
@@ -196,7 +171,7 @@ pub(crate) fn try_report_of_parts<R: Threads + Sync, W: Write>(
     };
     let wanted = Ended::Done(digest_of_pieces(&[whole]));
     let replies = copy_replies(alloc, rows)?;
-    let call = || how_spelled(spell_parts(rt, alloc, &day, &replies, threads));
+    let call = || how_spelled(spell_pieces(rt, alloc, &day, &replies, threads));
     try_threads(&text, call, wanted, writer)
 }
 

@@ -10,9 +10,7 @@ use crate::single::try_apply;
 use crate::steps::try_execute;
 use crate::stop::Stop;
 use crate::tasks::{try_context, try_gather, try_opening, try_run};
-use crate::texts::{
-    Written, try_pieces, try_read, try_read_by_parts, try_read_row, try_report_of_parts, try_text,
-};
+use crate::texts::{Written, try_pieces, try_read, try_read_in_lists, try_read_row, try_text};
 use crate::worlds::{try_event, try_start};
 use crate::yards::{try_put, try_yard};
 use reg_text::{DayInput, read_day};
@@ -40,11 +38,14 @@ pub fn try_named<R: Threads + Wait + Sync, W: Write>(
     if name == "read_instruction" {
         return try_read_row(alloc, text, writer);
     }
-    if name == "read_day_by_parts" {
-        return try_read_by_parts(rt, alloc, text, number, writer);
+    if name == "read_day_in_lists" {
+        return try_read_in_lists(rt, alloc, text, number, writer);
     }
-    if name == "write_report_of_parts" {
-        return try_report_of_parts(rt, alloc, text, number, writer);
+    if name == "write_report_pieces" {
+        return try_pieces(rt, alloc, text, 1, number, writer);
+    }
+    if name == "write_report_of_lists" {
+        return try_pieces(rt, alloc, text, number, number, writer);
     }
     if name == "apply" {
         return try_apply(alloc, text, writer);
@@ -73,7 +74,6 @@ fn try_on_day<R: Threads + Wait + Sync, W: Write>(
         "plan_with" => try_plan_with(rt, alloc, day, number, writer),
         "settle_waves" => try_waves(rt, alloc, day, number, writer),
         "settle_with" => try_workers(rt, alloc, day, number, writer),
-        "write_report_pieces" => try_pieces(rt, alloc, day, number, writer),
         _ => try_on_accounts(alloc, name, number, day, writer),
     }
 }

@@ -48,7 +48,7 @@ fn plainly(rt: &impl Abort, alloc: Global, instructions: &str) -> String {
 fn lengths(rt: &impl Abort, alloc: Global, shifts: &[WorkShift]) -> String {
     let mut told = String::new(alloc);
     for shift in shifts {
-        let one = format!(in alloc; "{}:{} ", shift.worker, shift.places.len());
+        let one = format!(in alloc; "{}:{} ", shift.worker(), shift.places().len());
         told.push_str(one.expect(rt, "memory").as_str())
             .expect(rt, "memory");
     }
@@ -159,6 +159,35 @@ fn a_held_worker_holds_up_no_region_but_its_own(rt: HostRuntime) {
         "{told}"
     );
     assert_eq!(rt; gate.meeting.missed.load(Ordering::SeqCst), 0);
+}
+
+// 24 transfers to unknown accounts, which touch no account: a region each, three for each of eight workers.
+fn apart(rt: &impl Abort, alloc: Global) -> String {
+    let mut rows = String::new(alloc);
+    for number in 71u32..95 {
+        let row = format!(in alloc; "do,2025-03-31,101,102,transfer,1,{number},general,1\n");
+        rows.push_str(row.expect(rt, "memory").as_str())
+            .expect(rt, "memory");
+    }
+    rows
+}
+
+// Whoever is held has two more regions in its deque, which the others steal from it.
+#[test]
+fn a_held_worker_of_eight_holds_up_no_region_but_its_own(rt: HostRuntime) {
+    let gate = HeldFirst {
+        meeting: Meeting::of(24),
+    };
+    let rows = apart(&rt, rt.alloc());
+    let told = shifts(&rt, rt.alloc(), rows.as_str(), 8, &gate);
+    assert_eq!(rt; gate.meeting.missed.load(Ordering::SeqCst), 0, "{told}");
+}
+
+// A day of one bundle is not dealt out: worker 0 carries it out.
+#[test]
+fn worker_0_carries_out_a_day_of_one_bundle(rt: HostRuntime) {
+    let told = shifts(&rt, rt.alloc(), TWICE, 4, &FreePlaces);
+    assert_eq!(rt; told.as_str(), "0:2 1:0 2:0 3:0 ");
 }
 
 #[test]

@@ -1,6 +1,9 @@
 //! Words and numbers: values are written as the texts spell them, and read from them.
 
-use reg_base::{AccountNo, Act, AllowanceKind, NumberFault, Refusal, Status, UnknownWord, Year};
+use reg_base::{
+    AccountKind, AccountNo, Act, AllowanceKind, NumberFault, Refusal, Retirement, Right, Status,
+    UnknownWord, Year,
+};
 use std::alloc::Global;
 use std::process::Abort;
 
@@ -32,6 +35,50 @@ fn words_are_read(rt: HostRuntime) {
     assert_eq!(rt; "Blocked".parse::<Status>(), Err(UnknownWord));
     assert_eq!(rt; "NotDue".parse(), Ok(Refusal::NotDue));
     assert_eq!(rt; "notdue".parse::<Refusal>(), Err(UnknownWord));
+}
+
+#[test]
+fn each_kind_has_its_word(rt: HostRuntime) {
+    for (kind, word) in [
+        (AllowanceKind::General, "general"),
+        (AllowanceKind::Aviation, "aviation"),
+    ] {
+        assert_eq!(rt; (kind.as_str(), word.parse()), (word, Ok(kind)));
+    }
+    for (kind, word) in [
+        (AccountKind::Total, "total"),
+        (AccountKind::Allocation, "allocation"),
+        (AccountKind::Operator, "operator"),
+        (AccountKind::Aircraft, "aircraft"),
+        (AccountKind::Trading, "trading"),
+    ] {
+        assert_eq!(rt; (kind.as_str(), word.parse()), (word, Ok(kind)));
+    }
+}
+
+#[test]
+fn each_status_and_each_right_has_its_word(rt: HostRuntime) {
+    for (status, word) in [
+        (Status::Opened, "open"),
+        (Status::Blocked, "blocked"),
+        (Status::Excluded, "excluded"),
+        (Status::Closed, "closed"),
+    ] {
+        assert_eq!(rt; (status.as_str(), word.parse()), (word, Ok(status)));
+    }
+    for (right, word) in [
+        (Right::Propose, "propose"),
+        (Right::Approve, "approve"),
+        (Right::Both, "both"),
+    ] {
+        assert_eq!(rt; (right.as_str(), word.parse()), (word, Ok(right)));
+    }
+    for (way, word) in [
+        (Retirement::Surrendered, "surrender"),
+        (Retirement::Deleted, "deletion"),
+    ] {
+        assert_eq!(rt; (way.as_str(), word.parse()), (word, Ok(way)));
+    }
 }
 
 #[test]

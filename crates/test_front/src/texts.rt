@@ -1,19 +1,23 @@
 //! The texts of faults, of all error types of the libraries.
 
 use reg_account::{AccountFault, FigureFault};
-use reg_base::{BatchFault, CalendarFault, NoMemory, RulesFault, Year};
-use reg_book::{BookFault, SettleFault, Stale};
+use reg_base::{BatchFault, CalendarFault, NoMemory, NumberFault, RulesFault, UnknownWord, Year};
+use reg_book::{ApplyFault, BookFault, SettleFault, Stale};
 use reg_front::{CallFailed, FrontFault};
 use reg_graph::{EventFault, Lack, RunFault};
 use reg_plan::OrderFault;
+use reg_regions::{NotSettled, RegionsFault};
 use reg_text::{Cause, DayFault, StatementFault};
 use reg_work::WorkFault;
 
 #[test]
 fn faults_of_the_base_have_their_texts(rt: HostRuntime) {
     let text = format!(in rt.alloc();
-        "{}\n{}\n{}\n{}\n{}\n{}\n{}\n{}\n{}\n{}\n{}\n",
+        "{}\n{}\n{}\n{}\n{}\n{}\n{}\n{}\n{}\n{}\n{}\n{}\n{}\n{}\n",
         NoMemory,
+        NumberFault::NotANumber,
+        NumberFault::OutOfRange,
+        UnknownWord,
         CalendarFault::NotRising { place: 3 },
         BatchFault::TooMany,
         BatchFault::NumbersSpent,
@@ -27,6 +31,9 @@ fn faults_of_the_base_have_their_texts(rt: HostRuntime) {
     );
     let wanted = "\
 out of memory
+not a number
+number out of range
+unknown word
 the working day at position 3 is not later than the one before it
 there are more than 16,384 instructions
 the last record number would be above 10^15
@@ -72,7 +79,7 @@ the years of the figures don't rise, or a figure is not -4 x 10^15 to 4 x 10^15 
 fn faults_of_figures_and_books_have_their_texts(rt: HostRuntime) {
     let year = Year::new(2024).expect(&rt, "a year");
     let text = format!(in rt.alloc();
-        "{}\n{}\n{}\n{}\n{}\n{}\n{}\n{}\n{}\n",
+        "{}\n{}\n{}\n{}\n{}\n{}\n{}\n{}\n{}\n{}\n{}\n",
         FigureFault::YearOutsidePeriod,
         FigureFault::Missing(year),
         BookFault::Repeated,
@@ -82,6 +89,8 @@ fn faults_of_figures_and_books_have_their_texts(rt: HostRuntime) {
         SettleFault::WrongBase { next: 2 },
         SettleFault::NoMemory,
         Stale { next: 2 },
+        ApplyFault::NumbersSpent,
+        ApplyFault::NoMemory,
     );
     let wanted = "\
 the year is outside every period
@@ -93,6 +102,8 @@ out of memory
 the batch does not begin with record 2
 out of memory
 the next record number is 2
+no record number is left
+out of memory
 ";
     assert_eq!(rt; text.expect(&rt, "memory").as_str(), wanted);
 }
@@ -151,18 +162,22 @@ out of memory
     assert_eq!(rt; text.expect(&rt, "memory").as_str(), wanted);
 }
 
-// The program shows the lines of all other faults of the engine.
 #[test]
 fn faults_of_texts_and_of_the_engine_have_their_texts(rt: HostRuntime) {
     let (row, cause) = (28, Cause::Fields);
     let text = format!(in rt.alloc();
-        "{}\n{}\n{}\n{}\n{}\n{}\n{}\n",
+        "{}\n{}\n{}\n{}\n{}\n{}\n{}\n{}\n{}\n{}\n{}\n{}\n",
         DayFault::Row { row, cause },
         DayFault::NoMemory,
         StatementFault::UnknownAccount,
         StatementFault::NoMemory,
+        FrontFault::Row { row, cause },
+        FrontFault::Read,
+        FrontFault::Workers,
+        FrontFault::NoAccount,
         FrontFault::NoThread,
         FrontFault::NoMemory,
+        FrontFault::WriteFailed,
         CallFailed,
     );
     let wanted = "\
@@ -170,8 +185,13 @@ row 28: fields
 out of memory
 no such account
 out of memory
+row 28: fields
+read failed
+workers must be 1 to 8
+no such account
 no thread
 out of memory
+write failed
 the call failed
 ";
     assert_eq!(rt; text.expect(&rt, "memory").as_str(), wanted);
@@ -180,12 +200,19 @@ the call failed
 #[test]
 fn faults_of_workers_have_their_texts(rt: HostRuntime) {
     let text = format!(in rt.alloc();
-        "{}\n{}\n{}\n{}\n{}\n",
+        "{}\n{}\n{}\n{}\n{}\n{}\n{}\n{}\n{}\n",
         WorkFault::Workers,
         WorkFault::WrongBase { next: 2 },
         WorkFault::NoThread,
         WorkFault::NoMemory,
         reg_claim::NoMemory,
+        RegionsFault::Workers,
+        RegionsFault::WrongBase { next: 2 },
+        RegionsFault::NoMemory,
+        NotSettled {
+            fault: RegionsFault::WrongBase { next: 3 },
+            parts: None,
+        },
     );
     let wanted = "\
 workers must be 1 to 8
@@ -193,6 +220,10 @@ the batch does not begin with record 2
 no thread
 out of memory
 out of memory
+workers must be 1 to 8
+the batch does not begin with record 2
+out of memory
+the batch does not begin with record 3
 ";
     assert_eq!(rt; text.expect(&rt, "memory").as_str(), wanted);
 }

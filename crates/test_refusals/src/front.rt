@@ -7,12 +7,17 @@ use std::sync::Wait;
 use std::thread::Threads;
 use test_calls::{Digest, Ended, Stop, try_threads};
 
-// How a command ended that failed.
+// How a command ended that failed. What is wrong with the text or the words is its answer, as a text is.
 fn how_failed(fault: FrontFault) -> Ended {
     match fault {
         FrontFault::NoMemory => Ended::NoMemory,
         FrontFault::NoThread => Ended::NoThread,
-        _ => Ended::Otherwise,
+        FrontFault::Row { .. } | FrontFault::Workers | FrontFault::NoAccount => {
+            let mut told = Digest::new();
+            let _ = write!(told, "{fault}");
+            Ended::Done(told)
+        }
+        FrontFault::Read | FrontFault::WriteFailed => Ended::Otherwise,
     }
 }
 

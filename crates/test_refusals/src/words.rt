@@ -47,6 +47,7 @@ fn try_run_of<R: Threads + Wait + Sync, W: Write>(
 ) -> Result<(), Stop> {
     match name {
         "settle" => try_settle(rt, alloc, text, number, writer),
+        "workers" => try_command(rt, alloc, text, Command::Settle { workers: number }, writer),
         "plan" => try_command(rt, alloc, text, Command::Plan, writer),
         "statement" => try_run_of_statement(rt, alloc, number, text, writer),
         "figures" => try_command(rt, alloc, text, Command::Figures, writer),

@@ -1,8 +1,12 @@
 package registry;
 
 import java.nio.charset.StandardCharsets;
+import java.util.Objects;
 
-/** The settlement engine. Each call may come from any thread, and several at once. */
+/**
+ * The settlement engine. Each call may come from any thread, and several at once. A call without a day text, with
+ * {@code null}, throws a {@link NullPointerException}.
+ */
 public final class Registry {
     // The numbers of the commands, as registry_jni.c knows them.
     private static final int SETTLE = 0;
@@ -11,6 +15,12 @@ public final class Registry {
     private static final int FIGURES = 3;
     private static final int TOTALS = 4;
     private static final int STATEMENT = 5;
+
+    // What words are asked for, as registry_jni.c knows it.
+    private static final int VERSION_STRING = 0;
+    private static final int CAUSE_WORD = 1;
+    private static final int REFUSAL_WORD = 2;
+    private static final int REFUSAL_SENTENCE = 3;
 
     // The statuses of the library.
     private static final long DONE = 0;
@@ -53,7 +63,28 @@ public final class Registry {
         return ask(STATEMENT, day, account);
     }
 
+    /** The version of the engine, such as {@code 1.1}. */
+    public static String version() {
+        return words(VERSION_STRING, 0);
+    }
+
+    /** The name of the check with this code, 1 to 28, as a log has it. Another code has the empty text. */
+    public static String refusalWord(int code) {
+        return words(REFUSAL_WORD, code);
+    }
+
+    /** Why the check with this code refuses an instruction, in a sentence. Another code has the empty text. */
+    public static String refusalSentence(int code) {
+        return words(REFUSAL_SENTENCE, code);
+    }
+
+    static String causeWord(int cause) {
+        return words(CAUSE_WORD, cause);
+    }
+
     private static String ask(int command, byte[] day, int account) throws Fault {
+        // (the native method reads whatever it is given)
+        Objects.requireNonNull(day, "no day text");
         long[] told = new long[3];
         byte[] text = call(command, day, account, told);
         if (told[0] == DONE) {
@@ -67,6 +98,8 @@ public final class Registry {
         }
         throw new OutOfMemoryError("the registry library ran out of memory");
     }
+
+    private static native String words(int which, int number);
 
     // Fills `told` with status, cause and row, and answers the text if there is one.
     private static native byte[] call(int command, byte[] day, int account, long[] told);

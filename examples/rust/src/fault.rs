@@ -1,5 +1,7 @@
+use crate::native;
 use std::error::Error;
 use std::fmt;
+use std::sync::OnceLock;
 
 /// What is wrong with the first faulty row.
 #[derive(Clone, Copy, Debug, PartialEq, Eq, Hash)]
@@ -40,7 +42,8 @@ impl Cause {
 
     /// The word of the cause, as the program writes it.
     pub fn word(self) -> &'static str {
-        ["end", "tag", "fields", "number", "date", "word", "version", "limit", "order"][self as usize]
+        static WORDS: OnceLock<Vec<String>> = OnceLock::new();
+        &WORDS.get_or_init(|| (1..=9).map(native::cause_word).collect())[self as usize]
     }
 }
 

@@ -67,3 +67,18 @@ pub fn figures(day: &[u8]) -> Result<Vec<u8>, Fault> {
 pub fn totals(day: &[u8]) -> Result<Vec<u8>, Fault> {
     native::totals(day)
 }
+
+/// The version of the engine, such as `1.1`.
+pub fn version() -> String {
+    native::version()
+}
+
+/// The name of the check with this code, 1 to 28, as a log has it. Another code has the empty text.
+pub fn refusal_word(code: u32) -> String {
+    native::refusal_word(code)
+}
+
+/// Why the check with this code refuses an instruction, in a sentence. A code that is no check's has the empty text.
+pub fn refusal_sentence(code: u32) -> String {
+    native::refusal_sentence(code)
+}

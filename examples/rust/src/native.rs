@@ -29,6 +29,10 @@ extern "C" {
         room: *mut u8,
         room_length: usize,
     ) -> Answer;
+    fn registry_version_string(room: *mut u8, room_length: usize) -> Answer;
+    fn registry_cause_word(cause: u32, room: *mut u8, room_length: usize) -> Answer;
+    fn registry_refusal_word(code: u32, room: *mut u8, room_length: usize) -> Answer;
+    fn registry_refusal_sentence(code: u32, room: *mut u8, room_length: usize) -> Answer;
 }
 
 type Call = unsafe extern "C" fn(*const u8, usize, *mut u8, usize) -> Answer;
@@ -91,4 +95,35 @@ pub(crate) fn statement(day: &[u8], account: u32) -> Result<Vec<u8>, Fault> {
         // SAFETY: as in `command`.
         unsafe { registry_statement(day.as_ptr(), day.len(), account, room.as_mut_ptr(), room.len()) }
     })
+}
+
+type Words = unsafe extern "C" fn(u32, *mut u8, usize) -> Answer;
+
+/// Words that the library tells, whatever it is asked, in at most 128 bytes of ASCII.
+fn words(call: impl FnOnce(&mut [u8]) -> Answer) -> String {
+    let mut room = [0; 128];
+    let length = call(&mut room).length;
+    String::from_utf8_lossy(&room[..length.min(128)]).into_owned()
+}
+
+fn words_of(call: Words, number: u32) -> String {
+    // SAFETY: the pointer is valid for this length, and `room` is borrowed for this call alone.
+    words(|room| unsafe { call(number, room.as_mut_ptr(), room.len()) })
+}
+
+pub(crate) fn version() -> String {
+    // SAFETY: as in `words_of`.
+    words(|room| unsafe { registry_version_string(room.as_mut_ptr(), room.len()) })
+}
+
+pub(crate) fn cause_word(cause: u32) -> String {
+    words_of(registry_cause_word, cause)
+}
+
+pub(crate) fn refusal_word(code: u32) -> String {
+    words_of(registry_refusal_word, code)
+}
+
+pub(crate) fn refusal_sentence(code: u32) -> String {
+    words_of(registry_refusal_sentence, code)
 }

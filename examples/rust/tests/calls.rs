@@ -75,3 +75,15 @@ fn threads_settle_at_once() {
         }
     });
 }
+
+#[test]
+fn words_are_told() {
+    assert_eq!(registry::version(), env!("CARGO_PKG_VERSION").trim_end_matches(".0"));
+    let words: Vec<&str> = Cause::ALL.iter().map(|cause| cause.word()).collect();
+    assert_eq!(words, ["end", "tag", "fields", "number", "date", "word", "version", "limit", "order"]);
+    assert_eq!(registry::refusal_word(18), "NotEnough");
+    assert!((1..=28).all(|code| registry::refusal_sentence(code).ends_with('.')));
+    for nothing in [0, 29, u32::MAX] {
+        assert_eq!(registry::refusal_word(nothing) + &registry::refusal_sentence(nothing), "");
+    }
+}

@@ -4,7 +4,8 @@ ghost use Rattle.std.specs.Prelude.{◌≡◌};
 ghost use Rattle.csv.specs.Records.{fields_of};
 ghost use Rattle.reg_text.specs.declared.reading.tag.Tag.TheVariants as tag;
 ghost use Rattle.reg_text.specs.Scopes.{widest};
-ghost use Rattle.reg_text.specs.Grammar.{row_read, is_surrender_kind, pair_index};
+ghost use Rattle.reg_rules.specs.ActRules.{is_operator_kind};
+ghost use Rattle.reg_text.specs.Grammar.{row_read, pair_index};
 
 use crate::cause::Cause;
 use crate::fields::dates::read_date;
@@ -15,8 +16,8 @@ use csv::ByteRecord;
 use reg_base::{AccountKind, AllowanceKind, Day, UserNo};
 
 // Whether allowances may be surrendered from accounts of this kind, if the rules of a day allow it.
-fn is_surrender_kind(kind: AccountKind) -> bool
-    ensures { result ≡ is_surrender_kind kind }
+fn is_operator_kind(kind: AccountKind) -> bool
+    ensures { result ≡ is_operator_kind kind }
 {
     match kind {
         AccountKind::Operator | AccountKind::Aircraft => true,
@@ -46,7 +47,7 @@ pub(crate) fn read_surrender_row(row: &ByteRecord) -> Result<(AccountKind, Allow
     }
     let account = read_word(field_at(row, 1))?;
     let allowance = read_word(field_at(row, 2))?;
-    if !is_surrender_kind(account) {
+    if !is_operator_kind(account) {
         return Err(Cause::Word);
     }
     Ok((account, allowance))

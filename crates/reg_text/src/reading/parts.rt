@@ -1,7 +1,7 @@
 //! Parts of a day text, each read on its own behind the heading. Whatever is in the way, the answer is `None`, and the
 //! whole text is read row by row, which names the first fault.
 
-ghost use Rattle.std.specs.Prelude.{◌≡◌, ◌<◌, [], Ok, IfSome, OnSome};
+ghost use Rattle.std.specs.Prelude.{◌≡◌, [], Ok, IfSome, OnSome};
 ghost use Rattle.reg_cuts.specs.Rows.{IsBetweenRows, rows_left};
 ghost use Rattle.reg_text.specs.Drafts.{draft_of, read_behind};
 ghost use Rattle.reg_text.specs.DraftLimits.{IsDraft};
@@ -12,6 +12,7 @@ ghost use Rattle.reg_text.specs.PartsRead.{IsReadPart};
 use crate::reading::draft::{Body, Draft, Heading};
 use crate::reading::tag::Tag;
 use crate::reading::take::{take_row, take_row_behind};
+use crate::rooms::{and_some, extent_of, grow_heap};
 use csv::{ByteRecord, Reader};
 use reg_base::AccountNo;
 use reg_book::ListedAccounts;
@@ -30,35 +31,13 @@ pub(crate) struct Part {
 // The accounts of a part are put into so many lists, so that each can have an owner of its own.
 const LISTS_OF_PART: usize = 4;
 
-// From so many bytes of a part it is told how many accounts the part has, about.
-const SAMPLE: usize = 8 * 1024;
-
-// How many rows of a text begin an account.
-fn count_accounts(text: &[u8]) -> usize {
-    let mut count: usize = 0;
-    for row in text.split(|byte| *byte == b'\n') {
-        if row.starts_with(b"account,") {
-            count = count.saturating_add(1);
-        }
-    }
-    count
-}
-
-// How many accounts a list of this part has, about, if there are so many lists. Nothing is promised of the number.
-fn list_size(text: &[u8], lists: usize) -> usize
-    requires { 0 < lists }
-{
-    let sample = &text[..text.len().min(SAMPLE)];
-    let accounts = count_accounts(sample).saturating_mul(text.len()) / sample.len().max(1);
-    (accounts / lists).saturating_add(1)
-}
-
-// No accounts yet. Those of a part are put into several lists, if for each of them there are `least` bytes or more.
-fn no_accounts(alloc: Global, text: &[u8], least: usize) -> ListedAccounts
+// No accounts yet. Those of a part of so many bytes, of which there are so many, about, are put into several lists, if
+// for each of them there are `least` bytes or more.
+fn no_accounts(alloc: Global, bytes: usize, accounts: usize, least: usize) -> ListedAccounts
     ensures { result ≡ [] }
 {
-    let lists = (text.len() / least.max(1)).clamp(1, LISTS_OF_PART);
-    ListedAccounts::in_lists(alloc, list_size(text, lists), lists - 1)
+    let lists = (bytes / least.max(1)).clamp(1, LISTS_OF_PART);
+    ListedAccounts::in_lists(alloc, (accounts / lists).saturating_add(1), lists - 1)
 }
 
 // Takes all rows of a heading.
@@ -107,7 +86,7 @@ pub(crate) fn read_heading(alloc: Global, text: &[u8]) -> Option<Draft>
     }
     let mut reader = start_rows(alloc, text);
     let mut row = ByteRecord::new(alloc);
-    let mut draft = Draft::empty(alloc);
+    let mut draft = Draft::empty(alloc, ListedAccounts::empty(alloc), 0);
     take_heading(&mut reader, &mut row, &mut draft)?;
     if draft.is_heading() {
         Some(draft)
@@ -129,9 +108,17 @@ pub(crate) fn read_part(alloc: Global, start: &Draft, text: &[u8], least: usize)
     if !has_no_mark(text) {
         return None;
     }
+    let extent = extent_of(text);
+    grow_heap(alloc, extent.listed);
+    let accounts = no_accounts(alloc, text.len(), extent.accounts, least);
     let mut reader = start_rows(alloc, text);
     let mut row = ByteRecord::new(alloc);
-    let mut body = Body::empty(alloc, start.body.last, no_accounts(alloc, text, least));
+    let mut body = Body::empty(
+        alloc,
+        start.body.last,
+        accounts,
+        and_some(extent.instructions),
+    );
     let Ok(true) = next_row(&mut reader, &mut row) else {
         return None;
     };

@@ -5,6 +5,7 @@ ghost use Rattle.std.specs.List.{flat_map};
 ghost use Rattle.csv.specs.Writing.{default_writer, row_text};
 ghost use Rattle.reg_book.specs.Parts.{joined};
 ghost use Rattle.reg_text.specs.Report.{text_of};
+ghost use Rattle.reg_text.specs.Spelling.{end_row};
 ghost use Rattle.reg_text.specs.Determined.{determined_row, determined_rows, figures_rows};
 
 use crate::writing::report::put_end;
@@ -70,6 +71,16 @@ fn put_lists(text: &mut Text, row: &mut RowText, lists: &[Vec<Account>]) -> Resu
     Ok(())
 }
 
+// Adds the figures of the accounts of lists, and the row `end`.
+fn put_figures(text: &mut Text, lists: &[Vec<Account>]) -> Result<(), NoMemory>
+    ensures { OnOk result (text.new
+        ≡ text.old ++ text_of (flat_map determined_rows (joined lists.now)) ++ row_text default_writer end_row) }
+{
+    let mut row = RowText::new();
+    put_lists(text, &mut row, lists)?;
+    put_end(text)
+}
+
 /// The compliance figures of a book: for each account, by rising number, a row for each year with a determined figure,
 /// by rising year, and the row `end`. An account without a determined figure has no row.
 ///
@@ -81,33 +92,20 @@ fn put_lists(text: &mut Text, row: &mut RowText, lists: &[Vec<Account>]) -> Resu
 pub fn figures(alloc: Global, book: &Book) -> Result<Vec<u8>, NoMemory>
     ensures { IfOk result (λ text. text.items ≡ text_of (figures_rows book.now)) }
 {
-    figures_over(Vec::new(alloc), book)
-}
-
-/// The same text in the place of bytes that are no longer needed, so that their memory is used again.
-///
-/// # Errors
-/// `NoMemory` if memory ran out.
-pub fn figures_over(bytes: Vec<u8>, book: &Book) -> Result<Vec<u8>, NoMemory>
-    ensures { IfOk result (λ text. text.items ≡ text_of (figures_rows book.now)) }
-{
-    let mut text = Text::over(bytes);
-    let mut row = RowText::new();
-    put_accounts(&mut text, &mut row, book.accounts())?;
-    put_end(&mut text)?;
+    let mut text = Text::new(alloc);
+    put_figures(&mut text, book.lists())?;
     Ok(text.into_bytes())
 }
 
-/// The same text of a book whose accounts lie in lists.
+/// The same text of a book whose accounts lie in lists, in the place of bytes that are no longer needed, so that their
+/// memory is used again.
 ///
 /// # Errors
 /// `NoMemory` if memory ran out.
 pub fn figures_of_parts(bytes: Vec<u8>, parts: &Parts) -> Result<Vec<u8>, NoMemory>
     ensures { IfOk result (λ text. text.items ≡ text_of (figures_rows parts.now)) }
 {
-    let mut text = Text::over(bytes);
-    let mut row = RowText::new();
-    put_lists(&mut text, &mut row, parts.lists())?;
-    put_end(&mut text)?;
+    let mut text = Text::over(bytes, 0);
+    put_figures(&mut text, parts.lists())?;
     Ok(text.into_bytes())
 }

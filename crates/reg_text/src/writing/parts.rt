@@ -1,17 +1,20 @@
 //! The report of a day whose accounts lie in lists, in pieces. Threads spell runs of lists.
 
 ghost use Rattle.std.specs.Prelude.{◌≡◌, ◌<◌, ◌≤◌, ◌+◌, ◌/◌, ◌%◌, ◌++◌, All, min, IfOk, OnOk, vec_len, length};
+ghost use Rattle.std.specs.List.{flat_map};
 ghost use Rattle.reg_base.specs.declared.limits.TheConstants.{MOST_ACCOUNTS};
 ghost use Rattle.reg_account.specs.Account.{IsAccount};
 ghost use Rattle.reg_book.specs.Day.{rows_replied};
 ghost use Rattle.reg_book.specs.Parts.{joined};
 ghost use Rattle.reg_book.specs.Totals.{totals_of};
+ghost use Rattle.reg_text.specs.Sections.{account_block};
 ghost use Rattle.reg_text.specs.Spelling.{book_rows};
 ghost use Rattle.reg_text.specs.Report.{text_of, report_rows};
 ghost use Rattle.reg_text.specs.Pieces.{text_of_pieces, MadeAt, AreBlocksOfLists};
 
-use crate::writing::pieces::{Blocks, FEW, add_log, spell_head, spell_tail};
-use crate::writing::report::put_lists;
+use crate::rooms::room_for_lists;
+use crate::writing::pieces::{Blocks, add_accounts, add_log, spell_head, spell_tail};
+use crate::writing::report::{put_lists, spell_report};
 use crate::writing::row::RowText;
 use crate::writing::text::Text;
 use reg_account::Account;
@@ -28,7 +31,7 @@ fn spell_lists(alloc: Global, lists: &[Vec<Account>]) -> Result<Blocks, NoMemory
     requires few { length (joined lists.now) ≤ MOST_ACCOUNTS }
     ensures { IfOk result (AreBlocksOfLists 0 lists.now) }
 {
-    let mut text = Text::new(alloc);
+    let mut text = Text::with_room(alloc, room_for_lists(lists));
     let mut row = RowText::new();
     put_lists(&mut text, &mut row, lists)?;
     Ok(Blocks {
@@ -70,8 +73,33 @@ fn lists_of_run(count: usize, workers: usize) -> usize
     (count.saturating_sub(1) / workers).saturating_add(1)
 }
 
-// Adds the blocks of the accounts of a book in lists, in at most so many pieces. Answers the totals of the book.
+// Adds the blocks of the accounts of lists, in at most so many pieces. Answers their totals.
 fn add_lists<R: Threads + Sync>(
+    rt: &R,
+    alloc: Global,
+    pieces: &mut Vec<Vec<u8>>,
+    lists: &[Vec<Account>],
+    workers: usize,
+) -> Result<BothTotals, NoMemory>
+    requires workers { 1 ≤ workers }
+    requires fit { All IsAccount (joined lists.now) }
+    requires few { length (joined lists.now) ≤ MOST_ACCOUNTS }
+    ensures text { OnOk result (text_of_pieces pieces.new.items
+        ≡ text_of_pieces pieces.old.items ++ text_of (flat_map account_block (joined lists.now))) }
+    ensures totals { IfOk result (λ totals. totals ≡ totals_of (joined lists.now)) }
+{
+    let size = lists_of_run(lists.len(), workers);
+    let mut totals = BothTotals::none();
+    for run in spell_all_lists(rt, alloc, lists, size)? {
+        let blocks = run?;
+        totals = totals.plus(&blocks.totals);
+        pieces.push(blocks.text)?;
+    }
+    Ok(totals)
+}
+
+// The same of a book. Of a single list, threads spell runs of its accounts.
+fn add_blocks<R: Threads + Sync>(
     rt: &R,
     alloc: Global,
     pieces: &mut Vec<Vec<u8>>,
@@ -84,35 +112,28 @@ fn add_lists<R: Threads + Sync>(
     ensures totals { IfOk result (λ totals. totals ≡ totals_of parts.now.accounts) }
 {
     let lists = parts.lists();
-    let size = lists_of_run(lists.len(), workers);
-    let mut totals = BothTotals::none();
-    for run in spell_all_lists(rt, alloc, lists, size)? {
-        let blocks = run?;
-        totals = totals.plus(&blocks.totals);
-        pieces.push(blocks.text)?;
+    if lists.len() == 1 {
+        return add_accounts(rt, alloc, pieces, lists[0].as_slice(), workers);
     }
-    Ok(totals)
+    add_lists(rt, alloc, pieces, lists, workers)
 }
 
-// By how many threads a report of so many lists and replies is spelled: by one, if there is little to spell.
-fn count_threads(lists: usize, replies: usize, workers: usize) -> usize
-    requires { 1 ≤ workers }
-    ensures { 1 ≤ result }
-{
-    if lists < 2 && replies < FEW {
-        1
-    } else {
-        workers
-    }
+// So many log rows and accounts are spelled by one thread: to start others would take longer.
+const FEW: usize = 1_024;
+
+// Whether there is little to spell: few replies, and one list of few accounts.
+fn is_short(lists: &[Vec<Account>], replies: &[Reply]) -> bool {
+    replies.len() < FEW && lists.len() < 2 && lists.iter().all(|list| list.len() < FEW)
 }
 
-/// The report of a batch with these replies in pieces, spelled by at most so many threads, as
-/// [`write_report_pieces`](crate::write_report_pieces) makes it. Each thread spells a run of the lists in which the
-/// accounts lie, and adds their accounts up.
+/// The report of a batch with these replies in pieces, spelled by so many threads. Their bytes one after another are
+/// the text that [`write_report_over`](crate::write_report_over) makes; they are never put together. Each thread spells
+/// a run of the lists in which the accounts lie, or of the accounts of a single list, and adds these accounts up for
+/// the totals. A short report is one piece.
 ///
 /// # Errors
 /// `NoMemory` if memory ran out. That a thread can't be started is no error.
-pub fn write_report_of_parts<R: Threads + Sync>(
+pub fn write_report_pieces<R: Threads + Sync>(
     rt: &R,
     alloc: Global,
     parts: &Parts,
@@ -124,11 +145,14 @@ pub fn write_report_of_parts<R: Threads + Sync>(
     ensures { IfOk result (λ pieces. text_of_pieces pieces.items
         ≡ text_of (report_rows parts.now (rows_replied batch.now replies.now))) }
 {
-    let threads = count_threads(parts.lists().len(), replies.len(), workers);
     let mut pieces = Vec::new(alloc);
-    add_log(rt, alloc, &mut pieces, batch, replies, threads)?;
+    if is_short(parts.lists(), replies) {
+        pieces.push(spell_report(alloc, parts, batch, replies)?)?;
+        return Ok(pieces);
+    }
+    add_log(rt, alloc, &mut pieces, batch, replies, workers)?;
     pieces.push(spell_head(alloc, parts.next_record())?)?;
-    let totals = add_lists(rt, alloc, &mut pieces, parts, threads)?;
+    let totals = add_blocks(rt, alloc, &mut pieces, parts, workers)?;
     pieces.push(spell_tail(alloc, &totals)?)?;
     Ok(pieces)
 }

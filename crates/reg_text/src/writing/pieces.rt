@@ -1,32 +1,33 @@
-//! The report of a day in pieces, whose bytes one after another are its text. The rows of the log and of the accounts
-//! are spelled run by run, by several threads.
+//! The pieces of a report, whose bytes one after another are its text. The rows of the log and of the accounts are
+//! spelled run by run, by several threads.
 
 ghost use Rattle.std.specs.Prelude.{◌≡◌, ◌<◌, ◌≤◌, ◌+◌, ◌/◌, ◌%◌, ◌++◌, ◌∷◌, [], codes, min, IfOk, OnOk, vec_len};
-ghost use Rattle.std.specs.Prelude.{length};
+ghost use Rattle.std.specs.Prelude.{All, length};
+ghost use Rattle.std.specs.List.{flat_map};
 ghost use Rattle.csv.specs.Writing.{default_writer, row_text};
+ghost use Rattle.reg_base.specs.declared.limits.TheConstants.{MOST_ACCOUNTS};
+ghost use Rattle.reg_account.specs.Account.{IsAccount};
 ghost use Rattle.reg_book.specs.Day.{rows_replied};
 ghost use Rattle.reg_book.specs.Totals.{totals_of};
 ghost use Rattle.reg_text.specs.Numbers.{number};
-ghost use Rattle.reg_text.specs.Spelling.{book_rows};
-ghost use Rattle.reg_text.specs.Report.{text_of, log_rows, report_rows};
+ghost use Rattle.reg_text.specs.Sections.{account_block};
+ghost use Rattle.reg_text.specs.Report.{text_of, log_rows};
 ghost use Rattle.reg_text.specs.Totals.{rows_of_totals};
 ghost use Rattle.reg_text.specs.Pieces.{text_of_pieces, MadeAt, IsLogOf, AreBlocksOf};
 
+use crate::rooms::{room_for_accounts, room_for_log};
 use crate::writing::entries::put_log_after;
-use crate::writing::report::{put_next, put_totals, write_report_over};
+use crate::writing::report::{put_next, put_totals};
 use crate::writing::row::RowText;
 use crate::writing::rows::put_each;
 use crate::writing::text::Text;
 use reg_account::Account;
 use reg_base::{Batch, NoMemory};
-use reg_book::{Book, BothTotals, add_up};
+use reg_book::{BothTotals, add_up};
 use reg_rules::Reply;
 use std::alloc::{AllocError, Global};
 use std::thread;
 use std::thread::Threads;
-
-/// So many log rows and accounts are spelled by one thread: to start others would take longer.
-pub(crate) const FEW: usize = 1_024;
 
 /// What was spelled of accounts.
 #[derive(Drop)]
@@ -46,7 +47,7 @@ fn spell_log(
 ) -> Result<Vec<u8>, NoMemory>
     ensures { IfOk result (IsLogOf batch.now first replies.now) }
 {
-    let mut text = Text::new(alloc);
+    let mut text = Text::with_room(alloc, room_for_log(replies));
     let mut row = RowText::new();
     put_log_after(&mut text, &mut row, batch, first, replies)?;
     Ok(text.into_bytes())
@@ -77,7 +78,7 @@ fn spell_logs<R: Threads + Sync>(
 fn spell_blocks(alloc: Global, accounts: &[Account]) -> Result<Blocks, NoMemory>
     ensures { IfOk result (AreBlocksOf 0 accounts.now) }
 {
-    let mut text = Text::new(alloc);
+    let mut text = Text::with_room(alloc, room_for_accounts(accounts));
     let mut row = RowText::new();
     put_each(&mut text, &mut row, accounts)?;
     Ok(Blocks {
@@ -134,20 +135,21 @@ pub(crate) fn add_log<R: Threads + Sync>(
     Ok(())
 }
 
-// Adds the blocks of the accounts of a book, in at most so many pieces. Answers the totals of the book.
-fn add_accounts<R: Threads + Sync>(
+/// Adds the blocks of accounts, in at most so many pieces. Answers their totals.
+pub(crate) fn add_accounts<R: Threads + Sync>(
     rt: &R,
     alloc: Global,
     pieces: &mut Vec<Vec<u8>>,
-    book: &Book,
+    accounts: &[Account],
     workers: usize,
 ) -> Result<BothTotals, NoMemory>
-    requires { 1 ≤ workers }
-    ensures text { OnOk result
-        (text_of_pieces pieces.new.items ≡ text_of_pieces pieces.old.items ++ text_of (book_rows book.now)) }
-    ensures totals { IfOk result (λ totals. totals ≡ totals_of book.now.accounts) }
+    requires workers { 1 ≤ workers }
+    requires fit { All IsAccount accounts.now }
+    requires few { length accounts.now ≤ MOST_ACCOUNTS }
+    ensures text { OnOk result (text_of_pieces pieces.new.items
+        ≡ text_of_pieces pieces.old.items ++ text_of (flat_map account_block accounts.now)) }
+    ensures totals { IfOk result (λ totals. totals ≡ totals_of accounts.now) }
 {
-    let accounts = book.accounts();
     let size = run_size(accounts.len(), workers);
     let mut totals = BothTotals::none();
     for run in spell_all_blocks(rt, alloc, accounts, size)? {
@@ -176,49 +178,4 @@ pub(crate) fn spell_tail(alloc: Global, totals: &BothTotals) -> Result<Vec<u8>, 
     let mut row = RowText::new();
     put_totals(&mut text, &mut row, totals)?;
     Ok(text.into_bytes())
-}
-
-/// The report of a batch with these replies in pieces, spelled by so many threads. Their bytes one after another are
-/// the text that [`write_report_over`](crate::write_report_over) makes; they are never put together. Each thread adds
-/// up the accounts that it spells, for the totals. A short report is one piece.
-///
-/// # Errors
-/// `NoMemory` if memory ran out. That a thread can't be started is no error.
-pub fn write_report_pieces<R: Threads + Sync>(
-    rt: &R,
-    alloc: Global,
-    book: &Book,
-    batch: &Batch,
-    replies: &[Reply],
-    workers: usize,
-) -> Result<Vec<Vec<u8>>, NoMemory>
-    requires { 1 ≤ workers }
-    ensures { IfOk result (λ pieces. text_of_pieces pieces.items
-        ≡ text_of (report_rows book.now (rows_replied batch.now replies.now))) }
-{
-    if book.accounts().len() < FEW && replies.len() < FEW {
-        return spell_at_once(alloc, book, batch, replies);
-    }
-    let mut pieces = Vec::new(alloc);
-    add_log(rt, alloc, &mut pieces, batch, replies, workers)?;
-    pieces.push(spell_head(alloc, book.next_record())?)?;
-    let totals = add_accounts(rt, alloc, &mut pieces, book, workers)?;
-    pieces.push(spell_tail(alloc, &totals)?)?;
-    Ok(pieces)
-}
-
-// The report in one piece.
-fn spell_at_once(
-    alloc: Global,
-    book: &Book,
-    batch: &Batch,
-    replies: &[Reply],
-) -> Result<Vec<Vec<u8>>, NoMemory>
-    ensures { IfOk result (λ pieces. text_of_pieces pieces.items
-        ≡ text_of (report_rows book.now (rows_replied batch.now replies.now))) }
-{
-    let text = write_report_over(Vec::new(alloc), book, batch, replies)?;
-    let mut pieces = Vec::new(alloc);
-    pieces.push(text)?;
-    Ok(pieces)
 }

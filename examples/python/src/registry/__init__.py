@@ -11,16 +11,23 @@ statements, totals, figures, the plan, and what the text itself says.
 """
 from __future__ import annotations
 
-from registry.native import Cause, Fault, NoAccount, Text
-from registry.rows import Account, Act, Determined, Done, Holding, Instruction, LogRow, Refused, Retired, Task, Totals
+from registry import native
+from registry.native import Cause, Fault, NoAccount, Text, engine_version, refusal_sentence, refusal_word
+from registry.rows import (
+    Account, Act, Determined, Done, Holding, Instruction, LogRow, Refused, Retired, Share, Task, Totals,
+)  # fmt: skip
 from registry.texts import Day, Log, Report, Statement, refusals
 
 __all__ = [
     "Account", "Act", "Cause", "Day", "Determined", "Done", "Fault", "Holding", "Instruction", "Log", "LogRow",
-    "NoAccount", "Refused", "Report", "Retired", "Statement", "Task", "Totals", "refusals", "settle",
+    "NoAccount", "Refused", "Report", "Retired", "Share", "Statement", "Task", "Totals", "engine_version",
+    "refusal_sentence", "refusal_word", "refusals", "settle",
 ]  # fmt: skip
+
+# The version of the engine that this package was made with.
+__version__ = "1.1"
 
 
 def settle(day: Text) -> Report:
-    """The report of the day that these bytes describe."""
-    return Day(bytes(day)).settle()
+    """The report of the day that these bytes describe. What is not like bytes, such as a path, is a `TypeError`."""
+    return Report(native.settle(day))

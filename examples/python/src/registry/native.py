@@ -12,7 +12,7 @@ from typing import Any, Callable, Optional, Union
 
 # The version of the library that this package was written for.
 VERSION = 1
-LIBRARY = "libregistry.so"
+LIBRARY, OF_SYSTEM = "libregistry.so", "libregistry.so.1"
 DONE, NO_ACCOUNT, FAULT, NO_MEMORY = 0, 2, 3, 4
 # The library takes account numbers of 32 bits: a larger number is that of no account.
 MOST_NUMBER = 2**32 - 1
@@ -72,8 +72,9 @@ class Answer(ctypes.Structure):
 
 
 def _load() -> ctypes.CDLL:
-    """The library: the file that REGISTRY_LIBRARY names, or the one beside this module."""
-    path = os.environ.get("REGISTRY_LIBRARY") or str(Path(__file__).resolve().parent / LIBRARY)
+    """The library: the file that REGISTRY_LIBRARY names, or the one beside this module, or that of the system."""
+    beside = Path(__file__).resolve().parent / LIBRARY
+    path = os.environ.get("REGISTRY_LIBRARY") or (str(beside) if beside.exists() else OF_SYSTEM)
     library = ctypes.CDLL(path)
     library.registry_version.restype = ctypes.c_uint32
     version = library.registry_version()
@@ -89,9 +90,10 @@ _ROOM = [ctypes.c_void_p, ctypes.c_size_t]
 
 def _function(name: str, *parameters: Any) -> Callable[..., Answer]:
     """A function of the library, with the types of its parameters behind the day text and before the room."""
-    function = getattr(_library, f"registry_{name}")
+    function: Any = getattr(_library, f"registry_{name}")
     function.restype, function.argtypes = Answer, [*_DAY, *parameters, *_ROOM]
-    return function
+    call: Callable[..., Answer] = function
+    return call
 
 
 def _ask(call: Callable[[ctypes.Array[ctypes.c_char]], Answer], room: int, account: Optional[int] = None) -> bytes:
@@ -110,11 +112,23 @@ def _ask(call: Callable[[ctypes.Array[ctypes.c_char]], Answer], room: int, accou
         room = answer.length
 
 
+def bytes_of(day: Text) -> bytes:
+    """The bytes of a day text. Raises `TypeError` for what has none, such as a path or a number: `bytes` makes some of
+    it all the same."""
+    if isinstance(day, bytes):
+        return day
+    try:
+        return bytes(memoryview(day))
+    except TypeError:
+        kind = type(day).__name__
+        raise TypeError(f"a day text is bytes, as Path.read_bytes() gives them, and not of the type {kind}") from None
+
+
 def _command(name: str) -> Callable[[Text], bytes]:
     call = _function(name)
 
     def run(day: Text) -> bytes:
-        text = bytes(day)
+        text = bytes_of(day)
         return _ask(lambda room: call(text, len(text), room, len(room)), 2 * len(text) + 4096)
 
     return run
@@ -129,7 +143,28 @@ _statement = _function("statement", ctypes.c_uint32)
 
 
 def statement(day: Text, account: int) -> bytes:
-    text = bytes(day)
+    text = bytes_of(day)
     # (any other number is asked for as 0, which no account has: a fault of the text is told first, as always)
     number = account if 0 <= account <= MOST_NUMBER else 0
     return _ask(lambda room: _statement(text, len(text), number, room, len(room)), len(text) + 4096, account)
+
+
+def _words(name: str, *parameters: Any) -> Callable[..., str]:
+    """A function of the library that tells words, whatever it is asked."""
+
+    def told(*asked: int) -> str:
+        # (looked up when it is asked: an older library does not have it, and settles all the same)
+        function: Any = getattr(_library, f"registry_{name}")
+        function.restype, function.argtypes = Answer, [*parameters, *_ROOM]
+        call: Callable[..., Answer] = function
+        return _ask(lambda room: call(*asked, room, len(room)), 128).decode("ascii")
+
+    return told
+
+
+# The version of the engine, the word of a cause, and the name and the sentence of a check. A number that names nothing
+# has the empty text.
+engine_version = _words("version_string")
+cause_word = _words("cause_word", ctypes.c_uint32)
+refusal_word = _words("refusal_word", ctypes.c_uint32)
+refusal_sentence = _words("refusal_sentence", ctypes.c_uint32)

@@ -4,7 +4,9 @@ from __future__ import annotations
 from dataclasses import dataclass, field
 from datetime import date
 from enum import Enum
-from typing import Optional, Sequence, Union
+from typing import Any, Optional, Sequence, Union
+
+from registry import native
 
 
 class Act(Enum):
@@ -25,21 +27,68 @@ class Act(Enum):
     ASSESS = "assess"
 
 
+# What the fields behind the word of an act say, in their order. Behind those of a distribution stand its shares.
+_FIELDS: dict[Act, tuple[str, ...]] = {
+    Act.TRANSFER: ("from_account", "to", "kind", "amount"),
+    Act.RETURN: ("from_account", "to", "kind", "amount"),
+    Act.SURRENDER: ("from_account", "kind", "amount"),
+    Act.DELETE: ("from_account", "kind", "amount"),
+    Act.REVERSE: ("from_account", "record_named"),
+    Act.CREATE: ("to", "kind", "amount"),
+    Act.CENTRAL: ("from_account", "to", "kind", "amount"),
+    Act.DISTRIBUTE: ("from_account", "kind"),
+    Act.TRUST: ("from_account", "to"),
+    Act.UNTRUST: ("from_account", "to"),
+    Act.STATUS: ("from_account", "status"),
+    Act.EMISSIONS: ("from_account", "year", "amount"),
+    Act.ASSESS: ("from_account", "year"),
+}
+_WORDS = {"kind", "status"}
+
+
+@dataclass(frozen=True)
+class Share:
+    """What an account receives of a distribution."""
+
+    to: int
+    amount: int
+
+
 @dataclass(frozen=True)
 class Instruction:
-    """A row `do`. `fields` are those of the act, as docs/FORMATS.md names them: numbers as numbers, words as words."""
+    """A row `do`: what `./day log` has in columns. What the act does not name is None."""
 
     proposed: date
     proposer: int
     approver: Optional[int]
     act: Act
-    fields: tuple[Union[int, str], ...]
+    # The account that gives, or the one whose list, status, emissions or figure the act changes.
+    from_account: Optional[int] = None
+    # The account that receives, or the one that a trusted list names.
+    to: Optional[int] = None
+    kind: Optional[str] = None
+    # In allowances: of a distribution all that it gives. In tonnes of an entry of emissions.
+    amount: Optional[int] = None
+    year: Optional[int] = None
+    status: Optional[str] = None
+    # The record number of the surrender or the deletion that is reversed.
+    record_named: Optional[int] = None
+    # Of a distribution: who receives how much.
+    shares: tuple[Share, ...] = ()
 
     @classmethod
     def of(cls, fields: Sequence[str]) -> Instruction:
-        proposed, proposer, approver, act, *rest = fields
-        numbers = tuple(int(value) if value.isdigit() else value for value in rest)
-        return cls(date.fromisoformat(proposed), int(proposer), int(approver) if approver else None, Act(act), numbers)
+        proposed, proposer, approver, word, *rest = fields
+        names = _FIELDS[Act(word)]
+        said: dict[str, Any] = {
+            name: value if name in _WORDS else int(value) for name, value in zip(names, rest)
+        }
+        numbers = [int(value) for value in rest[len(names) :]]
+        shares = tuple(Share(*pair) for pair in zip(numbers[::2], numbers[1::2]))
+        if shares:
+            said["amount"] = sum(share.amount for share in shares)
+        day, user = date.fromisoformat(proposed), int(approver) if approver else None
+        return cls(day, int(proposer), user, Act(word), **said, shares=shares)
 
 
 @dataclass(frozen=True)
@@ -66,6 +115,11 @@ class Refused:
     code: int
     name: str
 
+    @property
+    def sentence(self) -> str:
+        """Why this check refuses an instruction, in a sentence of the engine."""
+        return native.refusal_sentence(self.code)
+
 
 @dataclass(frozen=True)
 class LogRow:
@@ -87,7 +141,7 @@ class LogRow:
         end = next(place for place, value in enumerate(rest) if value in ("done", "refused"))
         outcome, behind = rest[end], rest[end + 1 :]
         instruction = Instruction.of(rest[:end])
-        made = _done(behind) if outcome == "done" else Refused(int(behind[0]), behind[1])
+        made: Union[Done, Refused] = _done(behind) if outcome == "done" else Refused(int(behind[0]), behind[1])
         return cls(int(record), date.fromisoformat(day), instruction, made)
 
 

@@ -5,19 +5,24 @@ import csv
 from dataclasses import dataclass
 from datetime import date
 from functools import cached_property
-from io import StringIO
-from typing import TYPE_CHECKING, Any, Iterable, Iterator, Sequence
+from io import BytesIO, TextIOWrapper
+from typing import TYPE_CHECKING, Any, Iterable, Iterator, Sequence, Union, overload
 
 from registry import native
-from registry.rows import Account, Determined, Done, Holding, Instruction, LogRow, Refused, Task, Totals
+from registry.rows import Account, Determined, Holding, Instruction, LogRow, Refused, Task, Totals
 
 if TYPE_CHECKING:
-    import pandas
+    import pandas  # type: ignore[import]
+
+# The byte order mark, which may stand before a day text.
+_MARK = b"\xef\xbb\xbf"
 
 
-def _rows(text: bytes) -> Iterator[list[str]]:
-    """The rows of a text of the library, which has no quotes."""
-    return (line.split(",") for line in text.decode("ascii").splitlines())
+def _rows(text: bytes, start: int = 0) -> Iterator[list[str]]:
+    """The rows of a text of the library from an offset on, one after another. They have no quotes."""
+    lines = BytesIO(text)
+    lines.seek(start)
+    return (line.decode("ascii").rstrip("\n").split(",") for line in lines)
 
 
 def _accounts(rows: Iterable[Sequence[str]]) -> Iterator[Account]:
@@ -37,34 +42,53 @@ def _accounts(rows: Iterable[Sequence[str]]) -> Iterator[Account]:
 
 
 @dataclass(frozen=True)
-class Log:
-    """The log of a settled day: an iterable of its rows."""
+class Log(Sequence[LogRow]):
+    """The log of a settled day: its rows, one after another, by their place, or all of a slice."""
 
     text: bytes
 
-    def __iter__(self) -> Iterator[LogRow]:
-        lines = self.text.decode("ascii").splitlines()
-        return (LogRow.of(line) for line in lines)
+    @cached_property
+    def _lines(self) -> list[str]:
+        return self.text.decode("ascii").splitlines()
+
+    @overload
+    def __getitem__(self, place: int) -> LogRow: ...
+
+    @overload
+    def __getitem__(self, place: slice) -> list[LogRow]: ...
+
+    def __getitem__(self, place: Union[int, slice]) -> Union[LogRow, list[LogRow]]:
+        if isinstance(place, slice):
+            return [LogRow.of(line) for line in self._lines[place]]
+        return LogRow.of(self._lines[place])
 
     def __len__(self) -> int:
-        return self.text.count(b"\n")
+        return len(self._lines)
 
     def refused(self) -> Iterator[LogRow]:
         return (row for row in self if not row.is_done)
 
+    def columns(self) -> Iterator[dict[str, Any]]:
+        """Simple values by the columns of `./day log`: once for each instruction, and of a distribution once for each
+        account that receives."""
+        return (columns for row in self for columns in _columns(row))
+
     def frame(self) -> pandas.DataFrame:
-        """A pandas frame with a row for each instruction. It needs pandas."""
-        return _frame(_flat(row) for row in self)
+        """The same as a pandas frame. It needs pandas."""
+        return _frame(self.columns())
 
 
-def _flat(row: LogRow) -> dict[str, Any]:
-    """A row of the log as columns of simple values."""
+def _columns(row: LogRow) -> Iterator[dict[str, Any]]:
     i, outcome = row.instruction, row.outcome
-    columns: dict[str, Any] = {"record": row.record, "day": row.day, "proposed": i.proposed, "proposer": i.proposer}
-    columns |= {"approver": i.approver, "act": i.act.value, "fields": ",".join(map(str, i.fields))}
-    if isinstance(outcome, Done):
-        return {**columns, "outcome": "done", "figure": outcome.figure, "code": None, "name": None}
-    return {**columns, "outcome": "refused", "figure": None, "code": outcome.code, "name": outcome.name}
+    columns: dict[str, Any] = {"record": row.record, "date": row.day, "proposed": i.proposed, "proposer": i.proposer}
+    columns |= {"approver": i.approver, "act": i.act.value, "from": i.from_account, "to": i.to, "kind": i.kind}
+    columns |= {"amount": i.amount, "year": i.year, "outcome": "done" if row.is_done else "refused"}
+    columns |= {"code": getattr(outcome, "code", None), "name": getattr(outcome, "name", None)}
+    columns |= {"figure": getattr(outcome, "figure", None), "status": i.status, "record_named": i.record_named}
+    for share in i.shares:
+        yield {**columns, "to": share.to, "amount": share.amount}
+    if not i.shares:
+        yield columns
 
 
 def _frame(rows: Iterable[dict[str, Any]]) -> pandas.DataFrame:
@@ -80,21 +104,22 @@ class Report:
     text: bytes
 
     @cached_property
-    def log(self) -> Log:
-        end = 0 if self.text.startswith(b"book,") else self.text.index(b"\nbook,") + 1
-        return Log(self.text[:end])
+    def _book(self) -> int:
+        """Where the log ends and the accounts begin."""
+        return 0 if self.text.startswith(b"book,") else self.text.index(b"\nbook,") + 1
 
-    def _behind_log(self) -> Iterator[list[str]]:
-        return _rows(self.text[len(self.log.text) :])
+    @cached_property
+    def log(self) -> Log:
+        return Log(self.text[: self._book])
 
     @property
     def next_record(self) -> int:
-        """The next record number after the day."""
-        return int(next(self._behind_log())[1])
+        """The next record number after the day, by its row alone."""
+        return int(self.text[self._book + len(b"book,") : self.text.index(b"\n", self._book)])
 
     def accounts(self) -> Iterator[Account]:
-        """The accounts after the day, by rising number."""
-        return _accounts(self._behind_log())
+        """The accounts after the day, by rising number, one after another."""
+        return _accounts(_rows(self.text, self._book))
 
     def totals(self) -> dict[str, Totals]:
         """By kind of allowance."""
@@ -142,6 +167,9 @@ class Day:
 
     text: bytes
 
+    def __post_init__(self) -> None:
+        object.__setattr__(self, "text", native.bytes_of(self.text))
+
     def settle(self) -> Report:
         return Report(native.settle(self.text))
 
@@ -174,26 +202,41 @@ class Day:
             if tag == "task":
                 place, level, waits_for = int(fields[0]), int(fields[1]), []
 
-    # What the text itself says. A text with a fault raises it.
+    # What the text itself says.
+
+    def _own_rows(self) -> Iterator[list[str]]:
+        """The rows of the text, without quotes and empty lines, one after another."""
+        lines = TextIOWrapper(BytesIO(self.text), "latin-1", newline="")
+        lines.seek(len(_MARK) if self.text.startswith(_MARK) else 0)
+        return (row for row in csv.reader(lines) if row)
+
+    def _sound_rows(self) -> Iterator[list[str]]:
+        """The same, but a text with a fault raises it."""
+        native.plan(self.text)
+        return self._own_rows()
 
     @cached_property
     def rows(self) -> list[list[str]]:
-        """The rows of the text, without quotes and empty lines."""
-        native.plan(self.text)
-        text = self.text.removeprefix(b"\xef\xbb\xbf").decode("latin-1")
-        return [row for row in csv.reader(StringIO(text, newline="")) if row]
+        """The rows of the text, without quotes and empty lines. A text with a fault raises it."""
+        return [*self._sound_rows()]
 
     @property
     def date(self) -> date:
-        return date.fromisoformat(self.rows[1][1])
+        """The settlement day, by the first rows alone: a fault behind them is not looked for."""
+        rows = [row for _, row in zip(range(2), self._own_rows())]
+        if [row[:1] for row in rows] != [["format"], ["day"]] or len(rows[1]) != 3:
+            rows = self.rows
+        try:
+            return date.fromisoformat(rows[1][1])
+        except ValueError:
+            return date.fromisoformat(self.rows[1][1])
 
     def accounts(self) -> Iterator[Account]:
-        """The accounts before the day, by rising number."""
-        begun = next((place for place, row in enumerate(self.rows) if row[0] in ("account", "do", "end")), 0)
-        return _accounts(self.rows[begun:])
+        """The accounts before the day, by rising number, one after another."""
+        return _accounts(self._sound_rows())
 
     def instructions(self) -> Iterator[Instruction]:
-        return (Instruction.of(fields) for tag, *fields in self.rows if tag == "do")
+        return (Instruction.of(fields) for tag, *fields in self._sound_rows() if tag == "do")
 
 
 def refusals(log: Iterable[LogRow]) -> dict[str, int]:

@@ -13,8 +13,8 @@ use Rattle.reg_book.proofs.Folds.{replies_more, state_more, numbers_more}
 use Rattle.reg_book.proofs.Ranks.{stand-of}
 use Rattle.reg_book.proofs.settle.settle_all.Goals as goal
 
-pub take_turn-requires-clause-there : goal.take_turn-requires-clause-there
-take_turn-requires-clause-there c =
+pub execute_at-requires-clause-there : goal.execute_at-requires-clause-there
+execute_at-requires-clause-there c =
     let directory = c.args.setting.now.directory in
     let ns = numbers c.args.accounts.now in
     let within : c.loop-index.index < length c.instructions-instructions.result.now = search rules in
@@ -24,8 +24,8 @@ take_turn-requires-clause-there c =
     c.requires.indexes)
     within c.index-indexes-index.is c.index-instructions-index.is in
     let wanted = footprint directory c.index-instructions-index.result.act in
-    subst (λ ms. StandAt ms c.as_mut_slice.result.now wanted) (sym c.loop-index.invariant.same_numbers)
-    (subst (λ ps. StandAt ns ps wanted) (sym (c.as_mut_slice.ensures.value ∙ c.widened-own.ensures)) own)
+    subst (λ ms. StandAt ms c.as_slice.result.now wanted) (sym c.loop-index.invariant.same_numbers)
+    (subst (λ ps. StandAt ns ps wanted) (sym c.as_slice.ensures.value) own)
 
 pub loop-index-preserved : goal.loop-index-preserved
 loop-index-preserved c =
@@ -55,22 +55,22 @@ loop-index-preserved c =
     let ready = c.step_laws.ensures.stays_ready setting c.loop-index.accounts
     (c.loop-index.last + 1) c.index-instructions-index.result c.requires.rules on numbered own
     c.loop-index.invariant.ready in
-    let stepped : c.take_turn.new.accounts
+    let stepped : c.execute_at.new.accounts
     ≡ (step setting c.loop-index.accounts (c.loop-index.last + 1) c.index-instructions-index.result).0 =
-    ap (λ (r : State × Reply). r.0) c.in_ok-reply.ensures
+    ap (λ (r : State × Reply). r.0) c.in_ok-reply.ensures.ok
     ∙ ap (λ m. (step setting c.loop-index.accounts m c.index-instructions-index.result).0) counted in
     record {
       counted = omega (arith, c.loop-index.invariant.counted);
       ready = subst (IsReady (c.loop-index.last + 1 + 1)) (sym stepped) ready;
-      same_numbers = numbers_more c.step_laws.ensures setting c.loop-index.accounts c.take_turn.new.accounts
-          c.unwrap-number.result c.index-instructions-index.result c.in_ok-reply.reply c.in_ok-reply.ensures
+      same_numbers = numbers_more c.step_laws.ensures setting c.loop-index.accounts c.execute_at.new.accounts
+          c.unwrap-number.result c.index-instructions-index.result c.in_ok-reply.reply c.in_ok-reply.ensures.ok
           ∙ c.loop-index.invariant.same_numbers;
-      so_far = replies_more setting c.loop-index.accounts c.take_turn.new.accounts
+      so_far = replies_more setting c.loop-index.accounts c.execute_at.new.accounts
           c.instructions-instructions.result.now c.loop-index.index c.loop-index.last c.unwrap-number.result
           c.index-instructions-index.result c.in_ok-reply.reply c.loop-index.replies.items c.push.new.self.items _
-          within c.index-instructions-index.is counted c.in_ok-reply.ensures grown c.loop-index.invariant.so_far;
-      state = state_more setting c.loop-index.accounts c.take_turn.new.accounts c.instructions-instructions.result.now
+          within c.index-instructions-index.is counted c.in_ok-reply.ensures.ok grown c.loop-index.invariant.so_far;
+      state = state_more setting c.loop-index.accounts c.execute_at.new.accounts c.instructions-instructions.result.now
           c.loop-index.index c.loop-index.last c.unwrap-number.result
           c.index-instructions-index.result c.in_ok-reply.reply _ within c.index-instructions-index.is counted
-          c.in_ok-reply.ensures c.loop-index.invariant.state;
+          c.in_ok-reply.ensures.ok c.loop-index.invariant.state;
     }

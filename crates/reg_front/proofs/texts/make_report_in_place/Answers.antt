@@ -19,9 +19,9 @@ returns c =
     ∙ reported c.log_is_made_again.ensures (day_of_parts c.args.day) closed.book closed.replies.items
     c.in_ok-text.text.items
     (c.in_ok-closed.ensures.book
-    ∙ ap (λ (b : BookValue). book_after (day_of b c.args.day.rules c.args.day.batch)) c.in_ok-book.ensures)
+    ∙ ap (λ (b : BookValue). book_after (day_of b c.args.day.rules c.args.day.batch)) c.in-Ok.ensures)
     (c.in_ok-closed.ensures.replies
-    ∙ ap (λ (b : BookValue). replies_of (day_of b c.args.day.rules c.args.day.batch)) c.in_ok-book.ensures)
+    ∙ ap (λ (b : BookValue). replies_of (day_of b c.args.day.rules c.args.day.batch)) c.in-Ok.ensures)
     (c.in_ok-text.ensures ∙ ap
     (λ (rs : List Reply). text_of (report_rows closed.book (rows_replied c.args.day.batch rs)))
     c.as_slice.ensures.value)

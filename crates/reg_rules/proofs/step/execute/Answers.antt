@@ -1,37 +1,24 @@
-use Rattle.std.proofs.Common.{eqb, ap, sym, subst, ◌∙◌}
+use Rattle.std.proofs.Common.{eqb, sym, subst}
 use Rattle.std.specs.List.{IsDistinct}
-use Rattle.std.proofs.lemmas.List.Elements.{recursion_from_All}
-use Rattle.reg_base.specs.declared.movement.Movement.{Movement}
-use Rattle.reg_rules.specs.State.{Setting}
-use Rattle.reg_rules.specs.Step.{figure_made}
-use Rattle.reg_rules.specs.Effect.{IsBehind}
-use Rattle.reg_rules.proofs.Applied.{footprint-passed, can-change-each}
-use Rattle.reg_rules.proofs.Steps.{accepted-step}
+use Rattle.reg_rules.specs.State.{Setting, numbers}
+use Rattle.reg_rules.specs.Indexed.{StandAt}
+use Rattle.reg_rules.proofs.StepAt.{few-own}
 use Rattle.reg_rules.proofs.step.execute.Goals as goal
 
-pub apply-requires-clause-own : goal.apply-requires-clause-own
-apply-requires-clause-own c =
+pub front-indexes-requires : goal.front-indexes-requires
+front-indexes-requires c =
     let a = c.args in
     let setting : Setting = record { rules = a.rules.now; day = a.day; directory = a.directory.now } in
-    c.requires.own ∙ footprint-passed setting a.accounts.now a.instruction.now (sym c.in-Ok.ensures.fails)
+    few-own setting a.accounts.now a.instruction.now c.movement-movement.result c.requires.own
+    c.movement-movement.ensures (c.each_footprint_is_sound.ensures a.directory.now a.instruction.now.act)
 
-pub apply-requires-clause-can : goal.apply-requires-clause-can
-apply-requires-clause-can c =
+pub execute_at-requires-clause-once : goal.execute_at-requires-clause-once
+execute_at-requires-clause-once c =
     let a = c.args in
-    let setting : Setting = record { rules = a.rules.now; day = a.day; directory = a.directory.now } in
-    can-change-each setting a.accounts.now a.number a.instruction.now (sym c.in-Ok.ensures.fails)
-    (subst (IsDistinct eqb) (sym c.requires.own)
-    (c.each_footprint_is_sound.ensures a.directory.now a.instruction.now.act).once)
-    (recursion_from_All (IsBehind a.number) a.accounts.now c.requires.behind)
+    subst (IsDistinct eqb) (sym c.requires.own)
+    (c.each_footprint_is_sound.ensures a.directory.now a.instruction.now.act).once
 
-pub returns-clause-ok : goal.returns-clause-ok
-returns-clause-ok c =
-    let a = c.args in
-    let setting : Setting = record { rules = a.rules.now; day = a.day; directory = a.directory.now } in
-    accepted-step setting a.accounts.now a.number a.instruction.now c.apply.new.accounts c.closing_of.result
-    c.figure_made.result
-    (c.each_footprint_is_sound.ensures a.directory.now a.instruction.now.act).once c.requires.own
-    (sym c.in-Ok.ensures.fails)
-    c.in_ok-apply.ensures.ok c.closing_of.ensures
-    (c.figure_made.ensures ∙ ap (λ (m : Movement). figure_made c.apply.new.accounts m.first m.change)
-    c.movement-movement.ensures)
+pub execute_at-requires-clause-there : goal.execute_at-requires-clause-there
+execute_at-requires-clause-there c =
+    subst (StandAt (numbers c.args.accounts.now) c.front-indexes.result.now) c.requires.own
+    c.front-indexes.ensures.stand

@@ -1,6 +1,5 @@
-use Rattle.std.proofs.Common.{◌++◌, sym, ap, subst, ◌∙◌, ◌∷◌, drop, List, Result}
+use Rattle.std.proofs.Common.{◌++◌, refl, sym, ap, subst, ◌∙◌, ◌∷◌, drop, Result}
 use Rattle.reg_base.specs.declared.directory.NoMemory.{NoMemory}
-use Rattle.reg_account.specs.Account.{AccountValue}
 use Rattle.reg_book.specs.declared.totals.BothTotals.{BothTotals}
 use Rattle.reg_book.specs.Parts.{joined}
 use Rattle.reg_book.proofs.lemmas.TotalFacts.{AddUpWith, add-none, added-all}
@@ -13,14 +12,12 @@ use Rattle.reg_text.proofs.writing.parts.add_lists.Goals as goal
 
 pub loop-run-init : goal.loop-run-init
 loop-run-init g c =
-    let all = c.args.parts.now.accounts in
-    let lists = c.lists-lists.result.now in
+    let all = joined c.args.lists.now in
+    let lists = c.args.lists.now in
     let size = c.lists_of_run-size.result in
     let runs = c.in_ok-run-items.run-items in
     let left = runs-of AreBlocksOfLists size runs.items lists c.lists_of_run-size.ensures
     (sym runs.ok.0 ∙ c.in_ok-run-items.ensures.len) c.in_ok-run-items.ensures.each in
-    let holds : AddUpWith c.none-totals.result all all =
-    subst (λ (t : BothTotals). AddUpWith t all all) (sym c.none-totals.ensures) (add-none all) in
     record {
       next = record {};
       ends = record {};
@@ -29,28 +26,27 @@ loop-run-init g c =
         others = lists;
         left = subst (RunsOf AreBlocksOfLists 0 lists size) (sym c.into_iter-run-iterator.ensures.into_iter_gives.0)
             left;
-        holds = subst (AddUpWith c.none-totals.result all) (sym c.lists-lists.ensures.value) holds;
-        all = ap (λ (xs : List AccountValue). text_of_pieces c.args.pieces.now.items ++ blocks_text xs)
-            c.lists-lists.ensures.value;
+        holds = subst (λ (t : BothTotals). AddUpWith t all all) (sym c.none-totals.ensures) (add-none all);
+        all = refl;
       };
     }
 
 pub plus-totals-requires : goal.plus-totals-requires
 plus-totals-requires g c =
-    let all = c.args.parts.now.accounts in
+    let all = joined c.args.lists.now in
     let whole = text_of_pieces c.args.pieces.now.items ++ blocks_text all in
     let size = c.lists_of_run-size.result in
     let behind = c.next.new.self.rest.items in
     let items = c.in-Some.ensures.steps.0 ∙ ap (λ (r : Result Blocks NoMemory). r ∷ behind) c.in_ok-blocks.was in
     run-of_lists-has_space c.loop-run.totals c.in_ok-blocks.blocks all whole size c.loop-run.pieces.items behind
-    c.lists-lists.ensures.kept.within_limits c.lists-lists.ensures.kept.few
+    c.requires.fit c.requires.few
     (subst (IsSpelled AreBlocksOfLists (λ first lists. blocks_text (joined lists)) (λ (blocks : Blocks). blocks.text)
     (λ others. AddUpWith c.loop-run.totals all (joined others)) whole size c.loop-run.pieces.items) items
     c.loop-run.invariant.spelled)
 
 pub loop-run-preserved : goal.loop-run-preserved
 loop-run-preserved g c =
-    let all = c.args.parts.now.accounts in
+    let all = joined c.args.lists.now in
     let whole = text_of_pieces c.args.pieces.now.items ++ blocks_text all in
     let size = c.lists_of_run-size.result in
     let behind = c.next.new.self.rest.items in
@@ -68,7 +64,7 @@ loop-run-preserved g c =
 
 pub returns-clause-text : goal.returns-clause-text
 returns-clause-text g c =
-    let all = c.args.parts.now.accounts in
+    let all = joined c.args.lists.now in
     let before = text_of_pieces c.args.pieces.now.items in
     (all-pieces AreBlocksOfLists (λ first lists. blocks_text (joined lists)) (λ (b : Blocks). b.text) lists-texts
     (λ others. AddUpWith c.loop-run.totals all (joined others)) (before ++ blocks_text all) c.lists_of_run-size.result
@@ -77,7 +73,7 @@ returns-clause-text g c =
 
 pub returns-clause-totals : goal.returns-clause-totals
 returns-clause-totals g c =
-    let all = c.args.parts.now.accounts in
+    let all = joined c.args.lists.now in
     let before = text_of_pieces c.args.pieces.now.items in
     added-all c.loop-run.totals all
     (all-pieces AreBlocksOfLists (λ first lists. blocks_text (joined lists)) (λ (b : Blocks). b.text) lists-texts

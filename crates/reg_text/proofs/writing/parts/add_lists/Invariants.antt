@@ -13,7 +13,7 @@ invariant-loop-run g l = record {
   next : (goal.iterator-loop-run g).can_next l.run-iterator;
   ends : (goal.iterator-loop-run g).is_finite l.run-iterator;
   spelled : IsSpelled AreBlocksOfLists (λ first lists. blocks_text (joined lists)) (λ (blocks : Blocks). blocks.text)
-      (λ others. AddUpWith l.totals l.fn.parts.accounts (joined others))
-      (text_of_pieces l.fn.pieces.items ++ blocks_text l.fn.parts.accounts) l.size l.pieces.items
+      (λ others. AddUpWith l.totals (joined l.fn.lists) (joined others))
+      (text_of_pieces l.fn.pieces.items ++ blocks_text (joined l.fn.lists)) l.size l.pieces.items
       l.run-iterator.rest.items;
 }

@@ -1,6 +1,5 @@
-use Rattle.std.proofs.Common.{◌++◌, sym, ap, subst, refl, ◌∙◌, ◌∷◌, drop, List, Result}
+use Rattle.std.proofs.Common.{◌++◌, sym, ap, subst, refl, ◌∙◌, ◌∷◌, drop, Result}
 use Rattle.reg_base.specs.declared.directory.NoMemory.{NoMemory}
-use Rattle.reg_account.specs.Account.{AccountValue}
 use Rattle.reg_book.specs.declared.totals.BothTotals.{BothTotals}
 use Rattle.reg_book.proofs.lemmas.TotalFacts.{AddUpWith, add-none, added-all}
 use Rattle.reg_text.specs.declared.writing.pieces.Blocks.{Blocks}
@@ -11,21 +10,18 @@ use Rattle.reg_text.proofs.writing.pieces.add_accounts.Goals as goal
 
 pub loop-run-init : goal.loop-run-init
 loop-run-init g c =
-    let all = c.args.book.now.accounts in
-    let read = c.accounts-accounts.result.now in
+    let all = c.args.accounts.now in
     let size = c.run_size-size.result in
     let runs = c.in_ok-run-items.run-items in
-    let left = runs-of AreBlocksOf size runs.items read c.run_size-size.ensures
+    let left = runs-of AreBlocksOf size runs.items all c.run_size-size.ensures
     (sym runs.ok.0 ∙ c.in_ok-run-items.ensures.len) c.in_ok-run-items.ensures.each in
-    let whole = subst (λ (l : List AccountValue). RunsOf AreBlocksOf 0 l size runs.items)
-    c.accounts-accounts.ensures.value left in
     record {
       next = record {};
       ends = record {};
       spelled = record {
         first = 0;
         others = all;
-        left = subst (RunsOf AreBlocksOf 0 all size) (sym c.into_iter-run-iterator.ensures.into_iter_gives.0) whole;
+        left = subst (RunsOf AreBlocksOf 0 all size) (sym c.into_iter-run-iterator.ensures.into_iter_gives.0) left;
         holds = subst (λ (t : BothTotals). AddUpWith t all all) (sym c.none-totals.ensures) (add-none all);
         all = refl;
       };
@@ -33,19 +29,19 @@ loop-run-init g c =
 
 pub plus-totals-requires : goal.plus-totals-requires
 plus-totals-requires g c =
-    let all = c.args.book.now.accounts in
+    let all = c.args.accounts.now in
     let whole = text_of_pieces c.args.pieces.now.items ++ blocks_text all in
     let size = c.run_size-size.result in
     let behind = c.next.new.self.rest.items in
     let items = c.in-Some.ensures.steps.0 ∙ ap (λ (r : Result Blocks NoMemory). r ∷ behind) c.in_ok-blocks.was in
     run-has_space c.loop-run.totals c.in_ok-blocks.blocks all whole size c.loop-run.pieces.items behind
-    c.accounts-accounts.ensures.kept.within_limits c.accounts-accounts.ensures.kept.few
+    c.requires.fit c.requires.few
     (subst (IsSpelled AreBlocksOf (λ first accounts. blocks_text accounts) (λ (blocks : Blocks). blocks.text)
     (AddUpWith c.loop-run.totals all) whole size c.loop-run.pieces.items) items c.loop-run.invariant.spelled)
 
 pub loop-run-preserved : goal.loop-run-preserved
 loop-run-preserved g c =
-    let all = c.args.book.now.accounts in
+    let all = c.args.accounts.now in
     let whole = text_of_pieces c.args.pieces.now.items ++ blocks_text all in
     let size = c.run_size-size.result in
     let behind = c.next.new.self.rest.items in
@@ -62,7 +58,7 @@ loop-run-preserved g c =
 
 pub returns-clause-text : goal.returns-clause-text
 returns-clause-text g c =
-    let all = c.args.book.now.accounts in
+    let all = c.args.accounts.now in
     let before = text_of_pieces c.args.pieces.now.items in
     (all-pieces AreBlocksOf (λ first accounts. blocks_text accounts) (λ (b : Blocks). b.text) blocks-texts
     (AddUpWith c.loop-run.totals all) (before ++ blocks_text all) c.run_size-size.result
@@ -71,7 +67,7 @@ returns-clause-text g c =
 
 pub returns-clause-totals : goal.returns-clause-totals
 returns-clause-totals g c =
-    let all = c.args.book.now.accounts in
+    let all = c.args.accounts.now in
     let before = text_of_pieces c.args.pieces.now.items in
     added-all c.loop-run.totals all
     (all-pieces AreBlocksOf (λ first accounts. blocks_text accounts) (λ (b : Blocks). b.text) blocks-texts

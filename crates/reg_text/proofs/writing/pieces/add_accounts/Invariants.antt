@@ -12,7 +12,7 @@ invariant-loop-run g l = record {
   next : (goal.iterator-loop-run g).can_next l.run-iterator;
   ends : (goal.iterator-loop-run g).is_finite l.run-iterator;
   spelled : IsSpelled AreBlocksOf (λ first accounts. blocks_text accounts) (λ (blocks : Blocks). blocks.text)
-      (AddUpWith l.totals l.fn.book.accounts)
-      (text_of_pieces l.fn.pieces.items ++ blocks_text l.fn.book.accounts) l.size l.pieces.items
+      (AddUpWith l.totals l.fn.accounts)
+      (text_of_pieces l.fn.pieces.items ++ blocks_text l.fn.accounts) l.size l.pieces.items
       l.run-iterator.rest.items;
 }

@@ -3,4 +3,4 @@ use Rattle.reg_text.proofs.Names.{heading_of, only_heading}
 use Rattle.reg_text.proofs.reading.draft.Draft.empty.Goals as goal
 
 pub returns : goal.returns
-returns c = c.empty-3.ensures (heading_of c.empty.result) ∙ ap (λ h. only_heading h None) c.empty.ensures
+returns c = c.empty-2.ensures (heading_of c.empty.result) ∙ ap (λ h. only_heading h None) c.empty.ensures

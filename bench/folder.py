@@ -1,0 +1,255 @@
+#!/usr/bin/env -S python3 -B
+"""Makes a folder of many settled days, for measuring what asks over years.
+
+usage: folder.py FOLDER [--days N] [--accounts N] [--instructions N]
+
+The first day is made by `./day init` and `./day close --second`. Each later one is settled by the second answer, which
+asks for the accounts that the day touches alone; all other blocks go on as they are. Its files and its line of the
+journal are written as `close` writes them, but packed less: that takes half a second a day, where `close` looks at
+everything. So `./day audit --second` must find no difference in the folder. The instructions are transfers, some of
+which are refused, surrenders, emissions and additions to trusted lists; nothing waits behind a day. The same arguments
+always give the same days. A folder that is there goes on where it ends.
+"""
+import argparse
+import contextlib
+import datetime
+import gzip
+import random
+import sys
+from collections.abc import Iterable, Iterator
+from concurrent.futures import Future, ThreadPoolExecutor
+from pathlib import Path
+
+TOP = Path(__file__).resolve().parents[1]
+sys.path[:0] = [str(TOP / "python"), str(TOP / "bench")]
+
+import days  # noqa: E402
+
+from registry_tools import main as commands  # noqa: E402
+from registry_tools.office import files, folder, handed, journal, settling  # noqa: E402
+from registry_tools.second import rules  # noqa: E402
+from registry_tools.texts import pending  # noqa: E402
+
+FIRST_DAY, CALENDAR = datetime.date(2025, 1, 2), (datetime.date(2024, 12, 2), datetime.date(2026, 12, 31))
+ADMINISTRATORS = 901, 902
+# Of so many instructions one is refused, a surrender, emissions, or an addition to a trusted list.
+REFUSED, SURRENDERS, EMISSIONS, ADDITIONS = 12, 10, 14, 50
+NOBODY = "office"
+# How hard days are packed: less than `close` packs them, in a third of the time.
+LEVEL = 1
+
+
+def working_days() -> Iterator[datetime.date]:
+    """All weekdays of the calendar."""
+    day, last = CALENDAR
+    while day <= last:
+        if day.weekday() < 5:
+            yield day
+        day += datetime.timedelta(1)
+
+
+def heading(date: datetime.date, first: int) -> Iterator[str]:
+    """The rows before the accounts."""
+    yield from ("format,1", f"day,{date},{first}", "period,2021,2030", "lags,0,1,2,60")
+    yield from (f"surrender,{kind},general" for kind in ("operator", "aircraft"))
+    yield from (f"admin,{user}" for user in ADMINISTRATORS)
+    yield from (f"work,{day}" for day in working_days())
+
+
+def first_accounts(count: int) -> Iterator[str]:
+    """The rows of the accounts before the first day."""
+    for index in range(count):
+        yield days.account(index)
+        yield from days.representatives(index)
+
+
+def instructions(date: datetime.date, accounts: int, count: int) -> Iterator[str]:
+    """The instructions of a day, which are all due on it."""
+    chance = random.Random(f"{date}")
+    for place in range(count):
+        source, target = chance.sample(range(accounts), 2)
+        proposer, approver = days.users(source)
+        proposed = date - datetime.timedelta(7 + place % 13)
+        row, number = f"do,{proposed},{proposer},{approver}", days.number(source)
+        if place % EMISSIONS == 1:
+            year = chance.randint(days.FIRST_YEAR, date.year - 1)
+            by = ",".join(map(str, ADMINISTRATORS[:2]))
+            yield f"do,{proposed},{by},emissions,{number},{year},{chance.randrange(99_999)}"
+        elif place % SURRENDERS == 2:
+            yield f"{row},surrender,{number},general,{chance.randint(1, 9_999)}"
+        elif place % ADDITIONS == 3:
+            yield f"{row},trust,{number},{days.number(target)}"
+        else:
+            amount = chance.randint(1, 999) if place % REFUSED else 10**12
+            yield f"{row},transfer,{number},{days.number(target)},general,{amount}"
+
+
+def text_of(rows: Iterable[str]) -> bytes:
+    return "".join(f"{row}\n" for row in rows).encode()
+
+
+# What the accounts hold, and have surrendered and deleted, by kind.
+Sums = dict[str, list[int]]
+
+
+def sums_of(account: rules.Account) -> Sums:
+    return {
+        kind: [account.held[kind], account.retired("surrender", kind), account.retired("deletion", kind)]
+        for kind in rules.KINDS
+    }
+
+
+class Blocks(dict[int, rules.Account]):
+    """The accounts that a day asks for, each made of its block."""
+
+    def __init__(self, book: dict[int, bytes]) -> None:
+        super().__init__()
+        self.book = book
+
+    def __missing__(self, number: int) -> rules.Account:
+        rows = self.book[number].decode().splitlines()
+        self[number] = rules.account_of(row.split(",") for row in rows)
+        return self[number]
+
+    def __contains__(self, number: object) -> bool:
+        return number in self.book
+
+
+class Book:
+    """All accounts, as the bytes of their blocks, and their sums."""
+
+    def __init__(self, rows: bytes) -> None:
+        blocks = [b"account," + block for block in rows.split(b"account,")[1:]]
+        self.blocks = {int(block.split(b",", 2)[1]): block for block in blocks}
+        self.sums: Sums = {kind: [0, 0, 0] for kind in rules.KINDS}
+        made = Blocks(self.blocks)
+        for number in self.blocks:
+            self.add(sums_of(made.__missing__(number)), 1)
+
+    def add(self, sums: Sums, sign: int) -> None:
+        for kind, own in sums.items():
+            self.sums[kind] = [old + sign * new for old, new in zip(self.sums[kind], own)]
+
+    def rows(self) -> bytes:
+        return b"".join(self.blocks.values())
+
+    def settle(self, day: rules.Day) -> bytes:
+        """Settles a day, and answers its report."""
+        before, day.accounts = Blocks(self.blocks), Blocks(self.blocks)
+        log = [*rules.settle(day)]
+        for number in sorted({number for logged in log for number in logged.held}):
+            self.add(sums_of(before[number]), -1)
+            self.add(sums_of(day.accounts[number]), 1)
+            self.blocks[number] = text_of(rules.account_rows(day.accounts[number]))
+        totals = [f"totals,{kind},{','.join(map(str, own))}" for kind, own in self.sums.items()]
+        next_record = day.next_record + len(log)
+        head, tail = [*(logged.line for logged in log), f"book,{next_record}"], [*totals, "end"]
+        return text_of(head) + self.rows() + text_of(tail)
+
+
+class Maker:
+    """Adds days to a folder."""
+
+    def __init__(self, path: Path, accounts: int, count: int) -> None:
+        self.path, self.accounts, self.count = path, accounts, count
+        self.pool = ThreadPoolExecutor(4)
+
+    def begin(self) -> None:
+        """The first day, by the commands."""
+        date = FIRST_DAY
+        first = self.path.parent / f"{self.path.name}.first.csv"
+        accounts, orders = first_accounts(self.accounts), instructions(date, self.accounts, self.count)
+        first.write_bytes(text_of([*heading(date, 1), *accounts, *orders, "end"]))
+        own = ["--office", str(self.path)]
+        for words in ["init", *own[1:], str(first)], ["close", "--second", "--date", str(date), "--yes", *own]:
+            if commands.main(words):
+                sys.exit(1)
+        first.unlink()
+
+    def go_on(self, dates: list[datetime.date]) -> None:
+        """The later days, one after another. What is packed meanwhile is written with the journal, ten days at once."""
+        office = folder.read_office(self.path)
+        last = office.last()
+        assert last is not None
+        number, rows = accounts_of(gzip.decompress(files.bytes_in(office.file(last, "report"))))
+        book, begun = Book(rows), list[tuple[datetime.date, int, int, dict[str, Future[bytes]]]]()
+        for place, date in enumerate(dates, 1):
+            do = text_of(instructions(date, self.accounts, self.count))
+            day = text_of(heading(date, number)) + book.rows() + do + b"end\n"
+            first = number
+            head = [*heading(date, first), *do.decode().splitlines()]
+            report = book.settle(rules.day_of(row.split(",") for row in head))
+            number += self.count
+            contents = {"day": day, "report": report, "do": do}
+            packed = {key: self.pool.submit(stored, key, own) for key, own in contents.items()}
+            begun.append((date, first, number, packed))
+            if place % 10 == 0 or date == dates[-1]:
+                self.keep(begun)
+                begun = []
+                print(f"{date}: {place} of {len(dates)}", file=sys.stderr, flush=True)
+
+    def keep(self, begun: list[tuple[datetime.date, int, int, dict[str, Future[bytes]]]]) -> None:
+        """Writes days, their lines of the journal, and the empty next/ behind the last one."""
+        office = folder.read_office(self.path)
+        last = office.last()
+        assert last is not None
+        text, line = office.journal.text, last.line
+        for date, first, number, packed in begun:
+            lies = {key: own.result() for key, own in packed.items()}
+            event = self.filed(office.day_folder(date), line, (date, first, number), lies)
+            text, line = f"{text}{event.row()}\n", event.line
+        made = pending.Made(begun[-1][0], begun[-1][2])
+        files.replace(office.next_folder / handed.WAITS, pending.text_of([], made).encode())
+        handed.HandedIn(office.next_folder, line).keep()
+        files.replace(office.path / "journal.csv", text.encode())
+
+    def filed(
+        self, place: Path, before: str, day: tuple[datetime.date, int, int], lies: dict[str, bytes]
+    ) -> journal.Event:
+        """Writes the files of a day, and answers its line of the journal."""
+        date, first, number = day
+        name, at = f"{date}-do.csv", f"{date}T08:00:00Z"
+        part = handed.Part(at, NOBODY, handed.DO, 1, self.count, None, "0001-do.csv", files.sum_of(lies["do"]), name)
+        all_files = {
+            **dict.fromkeys(journal.FILES, b""), **lies,
+            "waiting": pending.text_of([], pending.Made(date, first)).encode(),
+            "handed": handed.HandedIn(place, before, [part]).text().encode(),
+        }  # fmt: skip
+        place.mkdir(exist_ok=True)
+        for key, content in all_files.items():
+            (place / journal.FILES[key]).write_bytes(content)
+        sums = {key: files.sum_of(content) for key, content in all_files.items()}
+        closed, engine = f"{date}T17:00:00Z", settling.SECOND_ANSWER.row()
+        return journal.Event(journal.FILED, closed, NOBODY, date, first, number, sums, "", before, engine=engine)
+
+
+def stored(key: str, content: bytes) -> bytes:
+    """A file as it lies in the folder."""
+    return gzip.compress(content, LEVEL, mtime=0) if journal.FILES[key].endswith(files.COMPRESSED) else content
+
+
+def accounts_of(report: bytes) -> tuple[int, bytes]:
+    """The next record number behind a report, and the rows of its accounts."""
+    begin = report.index(b"\nbook,") + 1
+    row_end = report.index(b"\n", begin)
+    return int(report[begin + len(b"book,") : row_end]), report[row_end + 1 : report.index(b"\ntotals,", begin) + 1]
+
+
+def main() -> None:
+    words = argparse.ArgumentParser(description=__doc__, formatter_class=argparse.RawDescriptionHelpFormatter)
+    words.add_argument("folder", type=Path)
+    words.add_argument("--days", type=int, default=500)
+    words.add_argument("--accounts", type=int, default=days.MOST_ACCOUNTS)
+    words.add_argument("--instructions", type=int, default=1_000)
+    said = words.parse_args()
+    maker = Maker(said.folder, said.accounts, said.instructions)
+    if not (said.folder / "office.ini").exists():
+        maker.begin()
+    known = {event.date for event in folder.read_office(said.folder).journal.filed()}
+    dates = [date for date in working_days() if date >= FIRST_DAY][: said.days]
+    with contextlib.suppress(KeyboardInterrupt):
+        maker.go_on([date for date in dates if date not in known])
+
+
+if __name__ == "__main__":
+    main()

@@ -1,0 +1,254 @@
+"""People at a desk (`./day desk`), for trials: browsers without a window by Flask's test client, which read pages and
+send their forms, and a folder whose bytes are watched."""
+from __future__ import annotations
+
+import contextlib
+import gc
+import io
+import os
+import re
+from dataclasses import dataclass, field
+from pathlib import Path
+from typing import Any
+
+from harness import Said
+from reread import FORBIDDEN, Attributes, Page, named
+
+from registry_tools.desk import app
+from registry_tools.desk.jobs import COMMAND, Started
+from registry_tools.desk.served import Served
+
+HOST = "127.0.0.1:8424"
+Fields = dict[str, Any]
+
+
+@dataclass
+class Form:
+    """A form of a page: where it leads, what it says if nothing is changed, and what may be chosen."""
+
+    action: str
+    method: str
+    fields: Fields = field(default_factory=dict)
+    choices: dict[str, list[str]] = field(default_factory=dict)
+
+
+class DeskPage(Page):
+    """A page of the desk: it has forms, and its style comes from an address. A field without a label is a fault."""
+
+    forbidden = FORBIDDEN - {"form", "link"}
+    value: str | None = None
+    is_chosen = False
+
+    def __init__(self, text: str) -> None:
+        self.forms: list[Form] = []
+        self.select: str | None = None
+        self.labelled: set[str] = set()
+        self.unlabelled: set[str] = set()
+        # What somebody can fill in, by its id; and what each label and button says.
+        self.fields: set[str] = set()
+        self.spoken: list[str] = []
+        self.alerts: list[str] = []
+        super().__init__(text)
+        self.faults += [f"the field {name} has no label" for name in self.unlabelled - self.labelled]
+        self.faults += [f"a label is for {name}, which is no field" for name in self.labelled - {"", *self.fields}]
+
+    def form(self, action: str) -> Form:
+        found = [form for form in self.forms if form.action == action]
+        assert found, f"no form leads to {action}: {self.text}"
+        return found[0]
+
+    def begin_form(self, of: dict[str, str]) -> None:
+        self.forms.append(Form(of["action"], of["method"]))
+
+    def begin_label(self, of: dict[str, str]) -> None:
+        self.labelled.add(of.get("for", ""))
+        self.spoken.append("")
+
+    def begin_button(self, _: dict[str, str]) -> None:
+        self.spoken.append("")
+
+    def handle_endtag(self, name: str) -> None:
+        super().handle_endtag(name)
+        if name in ("label", "button") and not self.spoken[-1].strip():
+            self.faults.append(f"a {name} says nothing")
+
+    def look_at_label(self, of: dict[str, str]) -> None:
+        self.fields.add(of.get("id", ""))
+        if "label" not in self.open:
+            self.unlabelled.add(of.get("id", f"{of.get('name')} without an id"))
+
+    def begin_input(self, of: dict[str, str]) -> None:
+        kind, name = of.get("type", "text"), of.get("name", "")
+        if kind != "hidden":
+            self.look_at_label(of)
+        if kind in ("checkbox", "radio"):
+            self.forms[-1].choices.setdefault(name, []).append(of["value"])
+        if kind in ("checkbox", "radio") and "checked" not in of:
+            return
+        if kind != "file":
+            self.forms[-1].fields[name] = of.get("value", "")
+
+    def begin_select(self, of: dict[str, str]) -> None:
+        self.look_at_label(of)
+        self.select = of["name"]
+
+    def begin_option(self, of: dict[str, str]) -> None:
+        if "datalist" in self.open:
+            return
+        form, name = self.forms[-1], self.select or ""
+        self.value = of.get("value")
+        if self.value is not None:
+            self.choose(form, name, self.value, "selected" in of)
+
+    def choose(self, form: Form, name: str, value: str, is_chosen: bool) -> None:
+        form.choices.setdefault(name, []).append(value)
+        if is_chosen or name not in form.fields:
+            form.fields[name] = value
+
+    def handle_starttag(self, name: str, attributes: Attributes) -> None:
+        super().handle_starttag(name, attributes)
+        if name == "option":
+            self.is_chosen = "selected" in named(attributes)
+
+    def handle_data(self, data: str) -> None:
+        super().handle_data(data)
+        if {"label", "button"} & {*self.open}:
+            self.spoken[-1] += data
+        if self.open and self.open[-1] == "option" and "datalist" not in self.open and self.value is None:
+            self.choose(self.forms[-1], self.select or "", data, self.is_chosen)
+
+
+@dataclass
+class Answer:
+    """What the desk answered."""
+
+    status: int
+    headers: dict[str, str]
+    content: bytes
+
+    @property
+    def text(self) -> str:
+        return self.content.decode()
+
+    @property
+    def page(self) -> DeskPage:
+        return DeskPage(self.text)
+
+
+@dataclass
+class Done:
+    """A command that was run in this process, in place of a process of its own."""
+
+    status: int | str | None
+    pid: int = 0
+
+    def poll(self) -> int:
+        return self.status if isinstance(self.status, int) else 2
+
+    def wait(self, timeout: float | None = None) -> int:
+        return self.poll()
+
+
+def at_once(line: list[str], folder: Path, out: Path) -> Started:
+    """Does a command in this process, as a process of its own would."""
+    before = os.getcwd()
+    os.chdir(folder)
+    try:
+        said = Said(*line[len(COMMAND) + 1 :])
+    finally:
+        os.chdir(before)
+        # (a command is done with its memory at its end, and this process goes on)
+        gc.enable()
+    (out / "stdout").write_text(said.output, "utf-8", "replace")
+    (out / "stderr").write_text(said.errors, "utf-8", "replace")
+    return Done(said.status)
+
+
+class Desk:
+    """A desk over a folder, and how many people come to it."""
+
+    def __init__(self, office: Path, private: Path, **more: Any) -> None:
+        who, header, is_look = more.get("who"), more.get("header"), more.get("is_look", False)
+        private.mkdir(parents=True, exist_ok=True)
+        self.office, self.served = office, Served(office, HOST, private, who, header, is_look)
+        self.app = app.make(self.served)
+        # (a fault in the desk is one here, and not a page that says so)
+        self.app.config["PROPAGATE_EXCEPTIONS"] = True
+
+    def person(self, **headers: str) -> "Person":
+        """Somebody who came by the link."""
+        own = Person(self, headers)
+        assert own.get(f"/?key={self.served.key}").status == 200
+        return own
+
+
+class Person:
+    """A browser without a window."""
+
+    def __init__(self, desk: Desk, headers: dict[str, str] | None = None) -> None:
+        self.desk, self.client = desk, desk.app.test_client()
+        self.headers = {"Host": HOST, **(headers or {})}
+
+    def ask(self, method: str, path: str, headers: dict[str, str] | None = None, **more: Any) -> Answer:
+        own = {**self.headers, **(headers or {})}
+        # (without redirects: where one leads is looked at)
+        answer = self.client.open(path, method=method, headers=own, **more)
+        return Answer(answer.status_code, dict(answer.headers), answer.data)
+
+    def get(self, path: str) -> Answer:
+        return self.ask("GET", path)
+
+    def post(self, path: str, fields: Fields) -> Answer:
+        return self.ask("POST", path, data=fields, content_type="multipart/form-data")
+
+    def send(self, page: str, action: str, files: dict[str, bytes] | None = None, **said: Any) -> Answer:
+        """Opens a page, and sends its form with some fields changed, and with files."""
+        form = self.get(page).page.form(action)
+        return self.post(action, {**form.fields, **said, **uploads(files or {})})
+
+    def yes(self, answer: Answer, action: str, **said: Any) -> Answer:
+        """Sends the form of an answer, and gives the page to which it leads."""
+        form = answer.page.form(action)
+        return self.follow(self.post(action, {**form.fields, **said}))
+
+    def follow(self, answer: Answer) -> Answer:
+        if answer.status != 303:
+            return answer
+        return self.get(answer.headers["Location"])
+
+
+def uploads(files: dict[str, bytes]) -> Fields:
+    return {"files": [(io.BytesIO(content), name) for name, content in files.items()]} if files else {}
+
+
+# The folder.
+
+
+def bytes_of(office: Path) -> dict[str, bytes | None]:
+    """All files of a folder, but who held its lock."""
+    with contextlib.suppress(FileNotFoundError):
+        return {
+            str(path.relative_to(office)): path.read_bytes() if path.is_file() else None
+            for path in sorted(office.rglob("*"))
+            if path.name != "lock"
+        }
+    return bytes_of(office)
+
+
+TIMES = re.compile(rb"[0-9]{4}-[0-9]{2}-[0-9]{2}T[0-9:]{8}Z")
+
+
+def without_times(office: Path) -> dict[str, bytes | None]:
+    """All files of a folder but what times and names make of journals: their times, and the sums of lines."""
+    # (the index is made of the other files, and has the times of some)
+    found = {name: content for name, content in bytes_of(office).items() if name != "index.sqlite"}
+    return {name: content if not is_of_times(name) else plain(content or b"") for name, content in found.items()}
+
+
+def is_of_times(name: str) -> bool:
+    return name in ("journal.csv", "next/journal.csv", "next/looked.csv") or name.endswith("handed-in.csv")
+
+
+def plain(content: bytes) -> bytes:
+    """A journal without times and sums."""
+    return re.sub(rb"[0-9a-f]{64}", b"SUM", TIMES.sub(b"AT", content))

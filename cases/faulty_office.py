@@ -1,0 +1,505 @@
+"""Trials of what goes wrong in an office: words that are typed again, files that are changed behind the folder's back,
+and days that nobody meant."""
+import errno
+import gzip
+import hashlib
+import io
+import os
+import re
+import shutil
+import signal
+import subprocess
+import zipfile
+from pathlib import Path
+from typing import Callable, Iterable, Iterator
+from unittest import mock
+
+from damaged_office import CLOSE, DAY, ROW, Trial, Words, two_days, unchanged
+from harness import TOP, Said, differs
+from offices import FIRST, must_do, new_office, told
+
+from registry_tools.office import files, folder, journal, settling
+from registry_tools.second import rules
+from registry_tools.texts.day_text import read_day
+from registry_tools.calendars.due_days import due_day_after
+
+FIRST_DAY = "2025-03-31"
+Change = Callable[[bytes], bytes]
+
+
+def faulty_trials(work: Path) -> Iterator[Trial]:
+    work.mkdir()
+    for trials in (
+        believed_trials, named_day_trials, looked_trials, again_trials, engine_trials, signalled_trials,
+        left_trials, figure_trials, due_trials,
+        saved_trials, mending_trials, sent_trials,
+    ):  # fmt: skip
+        yield from trials(work)
+
+
+# Days that are named.
+
+
+def named_day_trials(work: Path) -> Iterator[Trial]:
+    """What takes a day back, or says that others know of it, names the day: typed again it changes no other one."""
+    office, own = two_days(work, "named")
+    why, third = ["--why", "a slip", *own], "2025-04-02"
+    must_do([*CLOSE, third, *own])
+    for command, does in (("undo", "takes back"), ("release", "releases")):
+        has = [f"name the day: ./day {command} {third} {does} the last one"]
+        yield f"{command} of no day", unchanged(office, 2, has, command, *why)
+        yield f"{command} of a form", unchanged(office, 2, ["DATE 2.4.2025 is not a date"], command, "2.4.2025", *why)
+    has = [f"{DAY} is not the last day, and only {third}, which is, can be undone"]
+    yield "undo of another day", unchanged(office, 2, has, "undo", DAY, *why)
+    yield "undo", told(0, [f"{third} is undone"], "undo", third, *why)
+    yield "undo once more", unchanged(office, 2, [f"{third} is undone: "], "undo", third, *why)
+    yes = ["--yes", *why]
+    yield "release of no settled day", unchanged(office, 2, [f"{third} is no settled day of"], "release", third, *yes)
+    yield "release", told(0, [f"{DAY} is released"], "release", DAY, "--yes", *why)
+    yield "release once more", unchanged(office, 2, [f"{DAY} was released before"], "release", DAY, "--yes", *why)
+    yield "release of a day before it", unchanged(office, 2, [" was released before"], "release", FIRST_DAY, *yes)
+    must_do([*CLOSE, third, *own], [*CLOSE, "2025-04-03", *own])
+    yield "release of a day behind which one stands", told(0, [f"{third} is released"], "release", third, "--yes", *why)
+    yield "undo of what stands behind it", told(0, ["2025-04-03 is undone"], "undo", "2025-04-03", *why)
+    yield "undo of it", unchanged(office, 2, [f"{third} was released"], "undo", third, *why)
+    yield "audit of all this", told(0, [": 0 differences"], "audit", *own)
+
+
+def looked_trials(work: Path) -> Iterator[Trial]:
+    """A day with something to look at is not filed before somebody says so."""
+    office, own = two_days(work, "looked")
+    close: Words = ["close", "--second", "--date"]
+    slip = ["LOOK AT THIS: working days that have no text", "2026-04-02 is not filed, without --yes"]
+    yield "close for another year", unchanged(office, 1, slip, *close, "2026-04-02", *own)
+    yield "close with nothing to look at", told(0, ["2025-04-02 is settled"], *close, "2025-04-02", *own)
+    must_do(["undo", "2025-04-02", "--why", "a slip", *own])
+    rows = work / "later.csv"
+    rows.write_text(ROW.format(9).replace(DAY, "2025-04-02"))
+    must_do(["hand-in", str(rows), *own], [*CLOSE, "2025-04-03", *own], ["undo", "2025-04-03", "--why", "it", *own])
+    left = ["not in this day, and handed in for 2025-04-03 or later: 1", "2025-04-02 is not filed, without --yes"]
+    yield "close without what is of a later day", unchanged(office, 1, left, *close, "2025-04-02", *own)
+    yield "close with --yes", told(0, ["2025-04-02 is settled"], *close, "2025-04-02", "--yes", *own)
+
+
+# What comes again.
+
+
+def again_trials(work: Path) -> Iterator[Trial]:
+    """What a day refused comes again by itself, and is told; what is done comes again if its row is named, and no other
+    one with it."""
+    office, own = two_days(work, "again")
+    rows, done = work / "refused.csv", work / "two.csv"
+    good, bad = ROW.format(5).replace(DAY, "2025-04-02"), ROW.format(5000).replace(DAY, "2025-04-02")
+    rows.write_text(good + bad)
+    must_do_either([["hand-in", str(rows), *own], [*CLOSE, "2025-04-02", *own]])
+    whole = [f"{rows}: file: found the same as was handed in for 2025-04-02", f"another file; --again {rows}:1"]
+    yield "a file of which a row is done", unchanged(office, 3, whole, "hand-in", rows, *own)
+    rows.write_text(bad)
+    again = [f"again: {rows}:1: one that 2025-04-02 has refused as record 5, NotEnough: do,"]
+    yield "a row that was refused", told(1, again, "hand-in", rows, *own)
+    twice = [f"{rows}: file: found the same as was handed in by "]
+    yield "the row once more", unchanged(office, 3, twice, "hand-in", rows, *own)
+    yield "the row once more, by its place", told(1, ["instructions 1, place 2"], "hand-in", rows, "--again", 1, *own)
+    must_do(["take-back", "1", "2", "--why", "a slip", *own])
+    rows.write_text(bad + good)
+    has = [f"{rows}:2: do row: found one that 2025-04-02 has done as record 4: do,", f"--again {rows}:2 hands in once"]
+    for words in (["hand-in", rows], ["hand-in", rows, "--again", f"{rows}:1"], ["hand-in", rows, "--again", 7]):
+        yield f"a row that is done, {words[2:]}", unchanged(office, 3, has, *words, *own)
+    has = [f"again: {rows}:1: one that 2025-04-02 has refused", f"again: {rows}:2: one that 2025-04-02 has done"]
+    yield "the row that is named", told(1, has, "hand-in", rows, "--again", f"{rows}:2", *own)
+    two = [f"--again {done}:9: no instruction or account begins there"]
+    for word, has in ((f"{done}:9", two), ("x.csv:1", ["found no FILE:LINE"]), ("all", ["found no FILE:LINE"])):
+        yield f"--again {word}", unchanged(office, 2, has, "hand-in", done, "--again", word, *own)
+    yield from first_again_trials(work)
+
+
+def first_again_trials(work: Path) -> Iterator[Trial]:
+    """Instructions of the first text, and accounts that a day has had."""
+    office, own = two_days(work, "first-again")
+    first, block = work / "first.csv", work / "block.csv"
+    first.write_text(ROW.format(40).replace(DAY, FIRST_DAY))
+    has = [f"{first}:1: do row: found one that {FIRST_DAY} has done as record 1: do,"]
+    yield "an instruction of the first text", unchanged(office, 3, has, "hand-in", first, *own)
+    block.write_text("account,12,trading,78,open,no,no,0,0,0\nuser,101,both\n")
+    must_do(["hand-in", str(block), *own], [*CLOSE, "2025-04-02", *own])
+    block.write_text(f"{block.read_text()}account,13,trading,78,open,no,no,0,0,0\n")
+    has = [f"{block}:1: account: found the rows that 2025-04-02 has had of this account"]
+    yield "an account with the same rows", unchanged(office, 3, has, "hand-in", block, *own)
+    yield "the account that is named", told(0, ["accounts 2"], "hand-in", block, "--again", f"{block}:1", *own)
+
+
+def must_do_either(commands: list[list[str]]) -> None:
+    """Runs commands that find something."""
+    for words in commands:
+        said = Said(*words)
+        assert said.status in (0, 1), said
+
+
+# The engine of a day, and folders whose journal has none.
+
+# Before lines had an engine, and before they had a login.
+OLD_HEADING = "event,at,who,date,first,next,day,report,do,changes,edits,work,waiting,handed,why,before,line"
+ENGINE_HEADING = OLD_HEADING.replace(",why", ",labels,engine,why")
+COMMIT = "0123456789ab"
+
+
+def engine_trials(work: Path) -> Iterator[Trial]:
+    """The journal says what settled a day, and a day that no proved engine settled is released with --yes."""
+    why = ["--why", "it was sent"]
+    office, own = new_office(work, "engine")
+    said = [f"{FIRST_DAY} was settled by the second answer alone, not proved", "is not released, without --yes"]
+    yield "release behind --second", unchanged(office, 1, said, "release", FIRST_DAY, *why, *own)
+    yield "status of it", told(0, ["settled by: the second answer alone, not proved"], "status", *own)
+    has = [f"settled by no proved engine, as far as the journal says: 1, last {FIRST_DAY}"]
+    yield "audit of it", told(0, has, "audit", *own)
+    program, note = work / "program", work / "program.source"
+    program.write_text(f"#!/bin/sh\n[ $1 != --version ] || exec echo registry 1.9\nexec {TOP}/tools/rules.py \"$@\"\n")
+    program.chmod(0o755)
+    settings = office / "office.ini"
+    settings.write_text(settings.read_text().replace("program =", f"program = {program}"))
+    for text, row, words in (
+        ("", "program 1.9 - unproved", "the program 1.9, not proved"),
+        (f"source: commit {COMMIT}, with changes\nproved and built with kit 1\n", f"program 1.9 {COMMIT}+ proved",
+         f"the program 1.9 of commit {COMMIT} with changes, proved"),
+        (f"source: commit {COMMIT}\nNOT PROVED: linked\n", f"program 1.9 {COMMIT} unproved",
+         f"the program 1.9 of commit {COMMIT}, not proved"),
+    ):  # fmt: skip
+        note.write_text(text)
+        yield f"close by {row}", told(0, [f"settled by {words}\n"], "close", "--date", DAY, *own)
+        line = (office / "journal.csv").read_text().splitlines()[-1]
+        yield f"its line of {row}", None if f",{row},," in line else line
+        status, says = (0, "is released") if row.endswith(" proved") else (1, f"{DAY} was settled by {words}")
+        copy = shutil.copytree(office, work / "copy")
+        yield f"release behind {row}", told(status, [says], "release", DAY, *why, "--office", copy)
+        shutil.rmtree(copy)
+        must_do(["undo", DAY, *why, *own])
+    yield "a program that says no version", engine_fault(work)
+    yield from old_trials(work)
+
+
+def engine_fault(work: Path) -> object:
+    """What is wrong with the engine of a program that takes no --version, if something is."""
+    program = work / "silent"
+    program.write_text("#!/bin/sh\nexit 2\n")
+    program.chmod(0o755)
+    engine = settling.engine_of(str(program))
+    return differs(engine.row(), "program - - unproved")
+
+
+def as_before(office: Path, heading: str) -> None:
+    """Makes a folder what it was when lines had these columns: the sums of its lines and of who handed in what, and
+    next/."""
+    there = journal.read(office / "journal.csv")
+    begins = before = hashlib.sha256(heading.encode()).hexdigest()
+    text, lines = heading, {there.beginning: begins}
+    for event in there.events:
+        said = {**dict.fromkeys(journal.FILES, ""), **event.sums, **event._asdict(), "before": before}
+        path = office / "days" / str(event.date) / journal.FILES["handed"]
+        if event.event == "filed":
+            without_logins(path, lines)
+            said["handed"] = hashlib.sha256(path.read_bytes()).hexdigest()
+        body = ",".join(str(said[name]) for name in heading.split(",")[:-1])
+        before = lines[event.line] = hashlib.sha256(body.encode()).hexdigest()
+        text += f"\n{body},{before}"
+    (office / "journal.csv").write_text(f"{text}\n")
+    without_logins(office / "next" / "journal.csv", lines)
+
+
+def without_logins(path: Path, lines: dict[str, str]) -> None:
+    """Makes a file of who handed in what as it was before it had logins, behind an older line."""
+    base, *rest = path.read_text().splitlines()
+    rows = [row.rpartition(",")[0] for row in rest]
+    path.write_text("\n".join([f"base,{lines[base.partition(',')[2]]}", *rows, ""]))
+
+
+def old_trials(work: Path) -> Iterator[Trial]:
+    """A folder whose journal has no login, or no engine either, is read, and led on: with another heading."""
+    office, own = two_days(work, "before-logins")
+    as_before(office, ENGINE_HEADING)
+    yield from led_on_trials(office, own)
+    office, own = two_days(work, "old")
+    as_before(office, OLD_HEADING)
+    yield "status of an old folder", told(0, ["settled by: not known: the journal does not say it"], "status", *own)
+    yield "audit of it", told(0, [": 0 differences"], "audit", "--second", *own)
+    has = [f"{DAY} was settled before the journal told by which engine"]
+    yield "release of its last day", unchanged(office, 1, has, "release", DAY, "--why", "sent", *own)
+    yield from led_on_trials(office, own)
+    for name, heading in (("unsettled", OLD_HEADING), ("unsettled-later", ENGINE_HEADING)):
+        unsettled = work / name
+        must_do(["init", str(unsettled), str(FIRST)])
+        as_before(unsettled, heading)
+        yield f"an old folder without days: {name}", told(0, ["is settled"], *CLOSE, FIRST_DAY, "--office", unsettled)
+        yield f"audit of {name}", told(0, ["events 1, days 1, ", ": 0 differences"], "audit", "--office", unsettled)
+
+
+def led_on_trials(office: Path, own: list[str]) -> Iterator[Trial]:
+    """A folder of an older journal is led on behind one more heading, which it needs."""
+    path = office / "journal.csv"
+    yield "audit of an older folder", told(0, [": 0 differences"], "audit", "--second", *own)
+    must_do(["undo", DAY, "--why", "a slip", *own], [*CLOSE, DAY, *own])
+    rows = path.read_text().splitlines()
+    headings = [place for place, row in enumerate(rows) if row.startswith("event,")]
+    yield "its headings", differs(headings, [0, 3])
+    yield "its new heading", differs(rows[3], journal.HEADING)
+    yield "audit behind it", told(0, ["events 4, days 2, ", ": 0 differences"], "audit", *own)
+    yield "release of what was closed since", told(0, ["is released"], "release", DAY, "--yes", "--why", "sent", *own)
+    whole = path.read_text()
+    path.write_text("\n".join([*rows[:3], *rows[4:], ""]))
+    yield "without its second heading", told(3, ["journal.csv:4: line: found"], "status", *own)
+    path.write_text(whole)
+
+
+# Filed files that somebody changed.
+
+
+def packed(old: bytes, new: bytes) -> Change:
+    """A change of a packed file that leaves it one which each reader takes."""
+    return lambda content: gzip.compress(gzip.decompress(content).replace(old, new))
+
+
+def without(_content: bytes) -> bytes:
+    return b""
+
+
+# What is changed in files of the first day: the same in both of a pair, and what is nowhere else.
+BELIEVED: dict[str, dict[str, Change]] = {
+    "a balance": {
+        name: packed(b",13,open,no,no,0,0,50", b",13,open,no,no,0,0,51") for name in ("day.csv.gz", "report.csv.gz")
+    },
+    "a name": {"handed-in.csv": lambda content: re.sub(rb"^(handed,[^,]*),[^,]*", rb"\1,eve", content, flags=re.M)},
+    "no rows": {"do.csv": without},
+    "no changes": {"edits.csv": without, "handed-in.csv": lambda content: content.splitlines(True)[0]},
+}
+# What asks for these files, of the first day.
+OF_PAIR: list[Words] = [
+    ["find"], ["balance", "3", "--on", DAY], ["history", "3"], ["month"], ["send", "--day", DAY], ["db"],
+    ["verify", "--day", DAY], ["statements", "--day", DAY], ["compliance", "--day", DAY], ["page", "--day", DAY],
+    ["log", "--day", DAY], ["export", "--accounts", "--day", DAY], ["explain", "--day", DAY],
+]  # fmt: skip
+WRITES = {"month", "send", "db", "statements", "page"}
+
+
+def believed_trials(work: Path) -> Iterator[Trial]:
+    """A file of a past day is compared by whatever reads it, though its pair agrees and only audit asked so far."""
+    office, own = two_days(work, "believed")
+    change: Words = ["change", "2", "--outside", "yes", "--why", "a letter", "--yes"]
+    must_do(["undo", DAY, "--why", "a slip", *own], [*map(str, change), *own])
+    must_do([*CLOSE, DAY, *own], [*CLOSE, "2025-04-02", *own], [*CLOSE, "2025-04-03", *own])
+    again, made = work / "again.csv", work / "made"
+    again.write_text(ROW.format(7))
+    for what, changes in BELIEVED.items():
+        kept = {name: (office / "days" / DAY / name).read_bytes() for name in changes}
+        for name, other in changes.items():
+            path = office / "days" / DAY / name
+            path.write_bytes(other(kept[name]))
+            assert path.read_bytes() != kept[name]
+        asked = OF_PAIR if "day.csv.gz" in changes else [["page", "--day", DAY], ["changes"]]
+        asked = [["hand-in", again]] if "do.csv" in changes else asked
+        told_of = "handed-in.csv" if "handed-in.csv" in changes else min(changes)
+        for words in asked:
+            to = [made] if words[0] in WRITES else []
+            has = [f"days/{DAY}/{told_of}: SHA-256: found ", "somebody changed it; put it back as it was filed"]
+            yield f"{words[0]} of {what} that somebody changed", unchanged(office, 3, has, *words, *to, *own)
+            yield f"{words[0]} of it leaves nothing", "something is there" if made.exists() else None
+            shutil.rmtree(made, ignore_errors=True)
+            made.unlink(missing_ok=True)
+        for name, content in kept.items():
+            (office / "days" / DAY / name).write_bytes(content)
+    said = Said("balance", "3", "--on", "2025-04-03", *own)
+    yield "a balance of what was put back", str(said) if said.status else told(0, [": 0 diff"], "audit", *own)
+
+
+# What comes behind the one step of a command.
+
+
+def signalled(target: str, words: Words) -> tuple[int | str | None, str]:
+    """How a command ends that is interrupted as soon as the file or folder of this name has got it, and what it
+    says."""
+    replace = os.replace
+    done: list[str] = []
+
+    def then_interrupted(old: str, new: str) -> None:
+        replace(old, new)
+        if str(new) == target and not done:
+            done.append(new)
+            os.kill(os.getpid(), signal.SIGINT)
+
+    with mock.patch.object(os, "replace", then_interrupted):
+        said = Said(*words)
+    return (said.status, said.output + said.errors) if done else (None, f"it makes no {target}: {said}")
+
+
+def signalled_trials(work: Path) -> Iterator[Trial]:
+    """Whoever interrupts a command behind its one step, or whose disk is full then, is told what it did."""
+    office, own = two_days(work, "signalled")
+    rows, there = work / "rows.csv", work / "there"
+    rows.write_text(ROW.format(3))
+    why, third = ["--why", "a slip"], "2025-04-02"
+    steps: list[tuple[str | Path, Words, str]] = [
+        ("journal.csv", [*CLOSE, third], f"{third} is settled"), ("journal.csv", ["undo", third, *why], "is undone"),
+        ("next/journal.csv", ["hand-in", rows], "handed in: rows.csv"),
+        ("next/journal.csv", ["take-back", 1, *why], "taken back: place 1"),
+        ("next/journal.csv", ["change", 2, "--holder", 7, *why, "--yes"], "handed in for "),
+        ("journal.csv", ["release", DAY, *why, "--yes"], "is released"), (there / "db", ["db", there / "db"], "days 2"),
+        (there / "month", ["month", there / "month"], "days 2"), (there / "send", ["send", there / "send"], "packages"),
+        (there / "new", ["init", there / "new", FIRST], "the first text is that of"),
+    ]  # fmt: skip
+    there.mkdir()
+    for target, words, has in steps:
+        of_folder = [] if words[0] == "init" else own
+        status, says = signalled(os.path.realpath(office / target), [*words, *of_folder])
+        if status is None:
+            status, says = signalled(str(office / target), [*words, *of_folder])
+        yield f"{words[0]} that is interrupted behind its step", None if status == 0 and has in says else (status, says)
+    no_room = OSError(errno.ENOSPC, "No space left on device")
+    left = [f"{third} is filed; the next command puts the rest in place: ", f"{third} is settled by the second answer"]
+    with mock.patch.object(folder, "carry_out", side_effect=no_room):
+        yield "close on a disk that is full behind its step", told(0, left, *CLOSE, third, *own)
+    yield "the next command", told(0, [f"{third} is filed, and all is in its place now"], "status", *own)
+    yield "audit behind all this", told(0, [": 0 differences"], "audit", *own)
+
+
+def left_trials(work: Path) -> Iterator[Trial]:
+    """What a killed command left beside its answer is taken away by the next one that writes there; what another one
+    writes just now is not, and nothing that is not theirs."""
+    _, own = two_days(work, "left")
+    there = work / "beside"
+    there.mkdir()
+    child = subprocess.Popen(["true"])
+    child.wait()
+    gone = [there / f".{name}.{child.pid}.day-unfinished" for name in ("sent", "month.html", "days.sqlite")]
+    kept = [there / f".sent.{os.getppid()}.day-unfinished", there / f".sent.{child.pid}", there / ".note"]
+    for path in (gone[0], kept[0]):
+        path.mkdir()
+        (path / "5501.html").write_text("a letter\n")
+    for path in (*gone[1:], *kept[1:]):
+        path.write_text("mine\n")
+    must_do(["send", str(there / "sent"), *own])
+    yield "what is left", differs(sorted(path.name for path in there.iterdir()), sorted([*names(kept), "sent"]))
+    office, own = two_days(work, "left-next")
+    rows = work / "left.csv"
+    rows.write_text(ROW.format(3))
+    change: Words = ["change", 2, "--holder", 7, "--why", "a letter", "--yes"]
+    for words in (["hand-in", rows], change):
+        before = names((office / "next").iterdir())
+        with mock.patch.object(files, "step", side_effect=KeyboardInterrupt):
+            status = Said(*words, *own).status
+        yield f"{words[0]} that is interrupted", differs((status, names((office / "next").iterdir())), (130, before))
+
+
+def names(paths: Iterable[Path]) -> list[str]:
+    return sorted(path.name for path in paths)
+
+
+# Figures and days.
+
+
+def figure_trials(work: Path) -> Iterator[Trial]:
+    """Nobody knows the emissions of an excluded account that lacks them: a page of a month adds none of its figures."""
+    first, own = work / "excluded.csv", ["--office", str(work / "excluded")]
+    text = FIRST.read_text().replace(f"day,{FIRST_DAY},1", f"day,{FIRST_DAY},10")
+    rows = "retired,5,surrender,general,551,2025-03-03,no\nemissions,2021,557\n"
+    text = text.replace("account,1,operator,11,open", "account,1,operator,11,excluded")
+    first.write_text(text.replace("account,2,", f"{rows}account,2,"))
+    must_do(["init", own[1], str(first)], [*CLOSE, FIRST_DAY, *own], ["month", str(work / "month.html"), *own])
+    page = (work / "month.html").read_text()
+    yield "figures of an excluded account", None if "551" not in page and "557" not in page else "they are added"
+
+
+def due_trials(work: Path) -> Iterator[Trial]:
+    """The due day of what waits is what the rules say, whatever lag they have."""
+    office, own = two_days(work, "due")
+    day = read_day(str(office / "days" / DAY / "day.csv.gz"))
+    i = rules.read_instruction(f"{DAY},101,102,surrender,1,general,1".split(","))
+
+    def with_new_lag(asked: rules.Asked) -> object:
+        return asked.day.due(asked.i.proposed, 3)
+
+    with mock.patch.object(rules.Asked, "due", with_new_lag):
+        found = due_day_after(day.day(), i)
+    yield "a lag that was added to the rules", differs(str(found), "2025-04-04")
+
+
+# Words.
+
+
+def saved_trials(work: Path) -> Iterator[Trial]:
+    """Of a table that a spreadsheet saved in a way that is not read, what to save it as."""
+    as_what = "expected a table that is saved as .xlsx, as .ods, or as CSV in UTF-8"
+    tables = {
+        "old.xls": (b"\xd0\xcf\x11\xe0\xa1\xb1\x1a\xe1", "old.xls: found a workbook of an older kind (.xls)"),
+        "open.odt": (open_document("text"), "open.odt: found an OpenDocument file that is no table"),
+        "german.csv": ("act\nüber\n".encode("cp1252"), "german.csv:2: found the byte FC, which is 'ü' in Windows-1252"),
+    }  # fmt: skip
+    for name, (content, has) in tables.items():
+        path = work / name
+        path.write_bytes(content)
+        yield f"import of {name}", told(3, [has, as_what], "import", path)
+    path.write_bytes(open_document("spreadsheet"))
+    yield "a table without its content", told(3, ["this is no workbook that can be read"], "import", path)
+
+
+def open_document(kind: str) -> bytes:
+    """The beginning of an OpenDocument file of a kind, as each program writes it."""
+    content = io.BytesIO()
+    with zipfile.ZipFile(content, "w") as archive:
+        archive.writestr("mimetype", f"application/vnd.oasis.opendocument.{kind}")
+        archive.writestr("content.xml", "<office/>")
+    return content.getvalue()
+
+
+def mending_trials(work: Path) -> Iterator[Trial]:
+    """Each finding of an audit says how it is mended."""
+    office, own = two_days(work, "mending")
+    day = office / "days" / DAY
+    changes: dict[Path, Change] = {
+        day / "do.csv": without, office / "next" / "waits.csv": without, day / "note.txt": lambda _: b"mine\n",
+        office / "days" / "notes" / "x": lambda _: b"mine\n", office / "next" / "mine.csv": lambda _: b"mine\n",
+        office / "journal.csv": lambda content: content.replace(b"filed", b"filex", 1),
+    }  # fmt: skip
+    mends = [
+        "put it back as it was filed", "./day undo and ./day close of the last day write it anew", "move it to another",
+        "move it to another", "move it to another folder", "put the journal back from a copy",
+    ]  # fmt: skip
+    for (path, change), mend in zip(changes.items(), mends):
+        kept = path.read_bytes() if path.exists() else None
+        path.parent.mkdir(exist_ok=True)
+        path.write_bytes(change(kept or b""))
+        said = Said("audit", *own)
+        *found, _ = said.output.splitlines()
+        first = ("mend the files of this day first", "mend the journal first")
+        wrong = [line for line in found if mend not in line and not any(words in line for words in first)]
+        has_it = any(mend in line for line in found)
+        yield f"audit of {path.name}", None if said.status == 1 and has_it and not wrong else str(said)
+        if kept is None:
+            path.unlink()
+        else:
+            path.write_bytes(kept)
+        if path.parent.name == "notes":
+            path.parent.rmdir()
+
+
+def sent_trials(work: Path) -> Iterator[Trial]:
+    """Letters of a day that may still be undone, and with names that were changed since."""
+    office, own = two_days(work, "sent")
+    labels = office / "labels.csv"
+    labels.write_text("holder,11,Stahl\nholder,12,Handel\n")
+    must_do(["undo", DAY, "--why", "a slip", *own], [*CLOSE, DAY, *own])
+    has = [f"LOOK AT THIS: {DAY} is not released: it may be undone behind its letters"]
+    yield "send of a day that is not released", told(0, has, "send", work / "sent-1", *own)
+    doubt = [f"--release: {DAY} was settled by the second answer alone, not proved; ./day release {DAY} --yes"]
+    letters: Words = ["send", "--release", *own]
+    yield "send --release of what nothing proves", unchanged(office, 2, doubt, *letters, work / "sent-2")
+    labels.write_text("holder,12,Stahl\nholder,11,Handel\n")
+    has = [f"LOOK AT THIS: {labels}: SHA-256: found ", "the next close or release keeps the new ones"]
+    yield "send with names that were swapped", told(0, has, "send", work / "sent-3", *own)
+    yield "audit of names that were swapped", told(1, [f"{labels}: SHA-256: found ", ": 1 difference"], "audit", *own)
+    with mock.patch.object(settling, "SECOND_ANSWER", settling.Engine("program", "1.0", COMMIT, settling.PROVED)):
+        must_do([*CLOSE, "2025-04-02", *own])
+    yield "names that were meant to change", told(0, [": 0 differences"], "audit", *own)
+    yield "send --release into a folder with files", told(3, [" a folder with files in it"], *letters, work)
+    yield "it releases nothing", told(0, ["not released"], "status", *own)
+    has = ["2025-04-02 is released: it is not undone any more", "packages "]
+    yield "send --release", told(0, has, *letters, work / "sent-4")
+    yield "the day behind it", told(2, ["2025-04-02 was released"], "undo", "2025-04-02", "--why", "a slip", *own)
+    yield "letters once more", told(0, ["packages "], *letters, work / "sent-5")

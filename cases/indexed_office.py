@@ -1,0 +1,187 @@
+"""The index of a folder of days: what asks it answers as the files do, wherever it is not what it must be, and `audit`
+compares it with them. And the variable that names a folder."""
+import contextlib
+import os
+import re
+import shutil
+import sqlite3
+from collections.abc import Callable, Iterator
+from pathlib import Path
+
+from damaged_office import Trial, Words, unchanged
+from harness import TOP, Said
+from offices import must_do
+
+from registry_tools.office.close import inside
+
+WEEK = TOP / "examples" / "week"
+# A transfer of more than a column can hold, which is refused.
+LARGE = "do,2025-09-23,4201,4202,transfer,300118,300126,general,18446744073709551615\n"
+# What is handed in for each day behind the first one.
+DAYS: dict[str, list[str]] = {
+    "2025-09-23": ["tuesday-do.csv", "tuesday-work.csv"], "2025-09-24": ["wednesday-do.csv", "wednesday-changes.csv"],
+    "2025-09-25": ["thursday-do.csv"],
+}  # fmt: skip
+QUESTIONS: list[Words] = [
+    ["find"], ["find", "--account", 300118, "--json"], ["find", "--account", 100377, "--refused"],
+    ["find", "--user", 4201, "--csv"], ["find", "--act", "surrender", "--from", "2025-09-23", "--to", "2025-09-24"],
+    *(["history", account] for account in (100210, 100377, 200045, 300118, 300126, 900001)),
+    *(["balance", account, "--on", date] for account in (100210, 200045, 300118) for date in DAYS),
+    ["balance", 7], ["history", 7],
+]  # fmt: skip
+
+
+def indexed_trials(work: Path) -> Iterator[Trial]:
+    work.mkdir()
+    office = week(work)
+    own = ["--office", str(office)]
+    yield from equal_trials(work, office, "an index that every close has kept up")
+    for what, spoil in SPOILED.items():
+        spoil(office)
+        yield from equal_trials(work, office, what)
+        yield f"audit behind {what}", told_by_audit(own, 0, ": 0 differences")
+    yield from changed_trials(office, own)
+    must_do(["undo", "2025-09-25", "--why", "a slip", *own])
+    yield from equal_trials(work, office, "a day that was undone")
+    close(office, "2025-09-26")
+    yield from equal_trials(work, office, "another day in its place")
+    yield from named_trials(work, office)
+
+
+def week(work: Path) -> Path:
+    """The folder of the example, and an instruction whose amount has 64 bits."""
+    office, large = work / "week", work / "large.csv"
+    large.write_text(LARGE)
+    must_do(["init", str(office), str(WEEK / "monday.csv")])
+    close(office, "2025-09-22")
+    for date, names in DAYS.items():
+        files = [*(WEEK / name for name in names), *([large] if date == "2025-09-25" else [])]
+        said = Said("hand-in", *files, "--office", office)
+        assert said.status in (0, 1), said
+        close(office, date)
+    return office
+
+
+def close(office: Path, date: str) -> None:
+    must_do(["close", "--second", "--yes", "--date", date, "--office", str(office)])
+
+
+def pairs_of(office: Path) -> list[Path]:
+    days = sorted((office / "days").iterdir())
+    return [day / name for day in days for name in ("day.csv.gz", "report.csv.gz")]
+
+
+def equal_trials(work: Path, office: Path, what: str) -> Iterator[Trial]:
+    """Whether each question is answered by the folder as by its pairs, whose books are all read."""
+    pairs = ["--pairs", *pairs_of(office)]
+    for words in QUESTIONS:
+        said, expected = Said(*words, "--office", office), Said(*words, *pairs)
+        same = (said.status, said.output, said.errors) == (expected.status, expected.output, expected.errors)
+        yield f"{what}: {' '.join(map(str, words))}", None if same else f"{said}, and not {expected}"
+    texts = []
+    for name, given in (("folder", ["--office", office]), ("pairs", pairs)):
+        made, base = work / f"{name}.html", work / f"{name}.sqlite"
+        base.unlink(missing_ok=True)
+        must_do(["month", str(made), *map(str, given)], ["db", str(base), *map(str, given)])
+        with contextlib.closing(sqlite3.connect(base)) as database:
+            texts.append((without_head(made), sorted(database.iterdump())))
+    spans: list[list[str]] = [[], ["--from", "2025-09-23"], ["--from", "2025-09-22", "--day", "2025-09-24"]]
+    for more in spans:
+        letters = [letters_of(work, [*more, *given]) for given in (["--office", office], pairs)]
+        yield f"{what}: send {' '.join(more)}", letters_fault(*letters)
+    yield f"{what}: month", None if texts[0][0] == texts[1][0] else "the pages differ"
+    yield f"{what}: db", None if texts[0][1] == texts[1][1] else f"{ {*texts[0][1]} ^ {*texts[1][1]} }"[:600]
+
+
+def letters_of(work: Path, words: Words) -> dict[str, str]:
+    """The packages for all holders, by the names of their files. What waits since earlier days only a folder knows."""
+    made = work / "letters"
+    said = Said("send", made, *words)
+    assert said.status == 0, said
+    texts = {path.name: without_head(path) for path in made.iterdir()}
+    shutil.rmtree(made)
+    return texts
+
+
+def without_head(path: Path) -> str:
+    """A page without the head of the folder that it was made of: paths have none."""
+    return HEAD.sub("", path.read_text())
+
+
+HEAD = re.compile(r" ?Head of the registry: [0-9a-f]{12}\.")
+
+
+def letters_fault(of_folder: dict[str, str], of_pairs: dict[str, str]) -> str | None:
+    wrong = [name for name in of_folder.keys() | of_pairs.keys() if of_folder.get(name) != of_pairs.get(name)]
+    return f"others than by paths: {sorted(wrong)}" if wrong else None
+
+
+def spoiled(office: Path, statement: str) -> None:
+    with contextlib.closing(sqlite3.connect(office / "index.sqlite")) as database:
+        database.execute(statement)
+        database.commit()
+
+
+# What may have become of an index, so that the next question has to make it anew.
+SPOILED: dict[str, Callable[[Path], object]] = {
+    "no index": lambda office: (office / "index.sqlite").unlink(),
+    "an index that is no database": lambda office: (office / "index.sqlite").write_bytes(b"no database" * 99),
+    "an empty index": lambda office: (office / "index.sqlite").write_bytes(b""),
+    "an index of other tables": lambda office: spoiled(office, "PRAGMA user_version = 77"),
+    "an index that lacks days": lambda office: spoiled(office, "DELETE FROM filed WHERE date > '2025-09-23'"),
+    "an index of another journal": lambda office: spoiled(office, "UPDATE filed SET line = 'x' WHERE rowid = 3"),
+}  # fmt: skip
+
+
+def changed_trials(office: Path, own: list[str]) -> Iterator[Trial]:
+    """A row that somebody changed is told by audit; and so is an index that cannot be asked at all."""
+    index = office / "index.sqlite"
+    kept = index.read_bytes()
+    for table, statement in {
+        "totals": "UPDATE totals SET held = held + 1 WHERE date = '2025-09-24'",
+        "log": "UPDATE log SET is_done = 1 - is_done WHERE record = 61008",
+        "held": "DELETE FROM held WHERE record = 61001",
+        "users": "INSERT INTO users SELECT min(account), date, 7, 'both' FROM totals JOIN accounts_by_day USING (date)",
+    }.items():
+        spoiled(office, statement)
+        yield f"audit of {table}", told_by_audit(own, 1, f"index.sqlite: {table}: found ", "take ", ": 1 difference")
+        index.write_bytes(kept)
+    spoiled(office, "DROP TABLE held")
+    has = ["index.sqlite: it cannot be read or written: no such table: held", "take it away, and it is made anew"]
+    yield "an index without a table", unchanged(office, 3, has, "history", 100210, *own)
+    index.write_bytes(kept)
+    shutil.copystat(office / "journal.csv", pairs_of(office)[0])
+    yield "a file with another time", None if Said("find", *own).status == 0 else "its sum is not asked"
+
+
+def named_trials(work: Path, office: Path) -> Iterator[Trial]:
+    """The variable names the folder where no option does, and nobody stands in one."""
+    elsewhere, expected = work / "elsewhere", Said("find", "--office", office).output
+    elsewhere.mkdir()
+    for place, named, name in (
+        (elsewhere, office, "REGISTRY_OFFICE"), (office, work / "none", "the folder one stands in"),
+    ):  # fmt: skip
+        with inside(place), variable(str(named)):
+            said, status = Said("find"), Said("status").status
+            log = Said("log", "--day", "2025-09-22").status
+            yield name, None if (said.output, status, log) == (expected, 0, 0) else f"{said}, {status}, {log}"
+    with inside(elsewhere), variable(str(work / "none")):
+        said = Said("find")
+        is_told = said.status == 2 and f"REGISTRY_OFFICE={work / 'none'} is no folder of days" in said.errors
+        yield "REGISTRY_OFFICE that is none", None if is_told else said
+        yield "--office wins", None if Said("find", "--office", office).output == expected else "another folder"
+
+
+@contextlib.contextmanager
+def variable(value: str) -> Iterator[None]:
+    """Has the variable this value in the block."""
+    os.environ["REGISTRY_OFFICE"] = value
+    try:
+        yield
+    finally:
+        del os.environ["REGISTRY_OFFICE"]
+
+
+def told_by_audit(own: list[str], status: int, *has: str) -> object:
+    said = Said("audit", *own)
+    return None if said.status == status and all(part in said.output for part in has) else str(said)

@@ -1,2 +1,0 @@
-mod Forest
-mod Joining

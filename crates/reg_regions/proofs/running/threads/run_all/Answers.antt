@@ -1,0 +1,28 @@
+use Rattle.std.proofs.Common.{◌≡◌, Ok, length, get_or, sym, ap, ◌∙◌, arith}
+use Rattle.reg_regions.specs.Stealing.{AreSettled}
+use Rattle.reg_regions.proofs.Ended.{as-many, answered, same-at}
+use Rattle.reg_regions.proofs.running.threads.run_all.Goals as goal
+
+pub returns : goal.returns
+returns g c =
+    let jobs = c.args.workers.items in
+    let ws = c.in_ok-all.all.items in
+    let rs = c.in_ok-ended.ended.items in
+    let is = c.in_ok-all.ensures in
+    let each = c.in_ok-ended.ensures.each in
+    let both = c.in_ok-ended.ensures.len in
+    let answers = c.in_ok-ended.ended.ok.0 in
+    let ready = c.args.workers.ok.0 in
+    let good = as-many ws rs is in
+    let len : length ws ≡ length jobs = omega (arith, both, answers, ready, good) in
+    record {
+      numbers = same-at jobs ws (λ w. w.number) (λ w. w.shift.worker) len (λ i j w lt.
+          let k = (each i (Ok w) lt).1 in
+          let same : (get_or ws i w).shift.worker ≡ k.job.number =
+          answered ws rs (λ v. v.shift.worker ≡ k.job.number) is i w (omega (arith, lt, len)) k.call.met.0 in
+          same ∙ sym (ap (λ v. v.number) (k.job_is j)));
+      settled = λ i w lt.
+          let k = (each i (Ok w) (omega (arith, lt, len))).1 in
+          answered ws rs (λ v. AreSettled c.args.setting.now c.args.batch.now g.C.Cutting.openings g.C.Cutting.deals
+          v.settled.items) is i w lt k.call.met.1;
+    }

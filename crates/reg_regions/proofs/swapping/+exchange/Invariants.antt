@@ -1,5 +1,0 @@
-use Rattle.std.proofs.Common.{length}
-use Rattle.reg_regions.proofs.swapping.+exchange.Given as goal
-
-abbrev pub decreases-exchange : goal.decreases-exchange
-decreases-exchange g l = length l.lists.now

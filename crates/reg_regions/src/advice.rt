@@ -1,0 +1,171 @@
+//! Advice on how a day is dealt out to regions. Nothing is promised of it: `admission` tests it before it is used.
+
+ghost use Rattle.reg_base.specs.Rising.{IsRising};
+ghost use Rattle.reg_rules.specs.State.{numbers};
+ghost use Rattle.reg_regions.specs.Lists.{joined_lists};
+
+use crate::advice::bundles::Bundles;
+use crate::advice::homes::Homes;
+use crate::advice::labels::find_labels;
+use crate::advice::layout::{Layout, MOST_REGIONS};
+use crate::advice::lookups::{find_by_runs, find_touches};
+use crate::advice::movers::Movers;
+use crate::advice::numbers::{index_at, number_or_zero};
+use crate::dealing::{Deal, Dealing};
+use crate::region::Indexes;
+use crate::runs::runs_of;
+use reg_account::Account;
+use reg_base::{Batch, NoMemory};
+use std::alloc::Global;
+use std::thread::Threads;
+
+mod bundles;
+mod homes;
+mod labels;
+mod layout;
+pub(crate) mod lists;
+mod lookups;
+mod movers;
+mod numbers;
+
+/// How the day is dealt out to these lists, each a region, or `None` if it can't be.
+pub(crate) fn advise<R: Threads + Sync>(
+    rt: &R,
+    alloc: Global,
+    lists: &[Vec<Account>],
+    batch: &Batch,
+    workers: u32,
+) -> Option<Dealing>
+    requires { IsRising (numbers (joined_lists lists.now)) }
+{
+    if workers < 2 {
+        return None;
+    }
+    if lists.len() < 2 {
+        return None;
+    }
+    match try_deal(rt, alloc, lists, batch, workers) {
+        Ok(dealing) => dealing,
+        Err(NoMemory) => None,
+    }
+}
+
+fn try_deal<R: Threads + Sync>(
+    rt: &R,
+    alloc: Global,
+    lists: &[Vec<Account>],
+    batch: &Batch,
+    workers: u32,
+) -> Result<Option<Dealing>, NoMemory>
+    requires { IsRising (numbers (joined_lists lists.now)) }
+{
+    let Some(layout) = Layout::of(alloc, lists)? else {
+        return Ok(None);
+    };
+    let runs = runs_of(batch.len(), workers);
+    let indexes = find_by_runs(rt, alloc, lists, &layout, batch.instructions(), runs)?;
+    let touches = find_touches(alloc, &indexes)?;
+    let labels = find_labels(alloc, batch.len(), layout.accounts, &touches)?;
+    let bundles = Bundles::of(alloc, layout.accounts, &labels, &touches)?;
+    let Some(housed) = house(alloc, &layout, &bundles, batch.len(), workers)? else {
+        return Ok(None);
+    };
+    let Housed { layout, homes } = housed;
+    let Some(movers) = Movers::of(alloc, &layout, bundles, &homes.regions)? else {
+        return Ok(None);
+    };
+    let deals = deal_all(alloc, &layout, &homes, &labels, &indexes, &movers.stands)?;
+    Ok(Some(Dealing {
+        joins: layout.joins,
+        swaps: movers.swaps,
+        deals,
+    }))
+}
+
+// Regions, and which of them each bundle goes to.
+#[derive(Drop)]
+struct Housed {
+    layout: Layout,
+    homes: Homes,
+}
+
+// The lists as regions that have room for all bundles. If they have none, they are joined to as many as there are
+// workers, which only pays if the heaviest bundle leaves the others something to do.
+fn house(
+    alloc: Global,
+    lists: &Layout,
+    bundles: &Bundles,
+    instructions: u32,
+    workers: u32,
+) -> Result<Option<Housed>, NoMemory> {
+    let layout = lists.within(alloc, MOST_REGIONS)?;
+    if bundles.largest() <= layout.largest() {
+        if let Some(homes) = Homes::of(alloc, &layout, bundles, instructions)? {
+            return Ok(Some(Housed { layout, homes }));
+        }
+    }
+    if bundles.heaviest() > most_of(instructions) {
+        return Ok(None);
+    }
+    let layout = lists.within(alloc, workers)?;
+    match Homes::of(alloc, &layout, bundles, instructions)? {
+        Some(homes) => Ok(Some(Housed { layout, homes })),
+        None => Ok(None),
+    }
+}
+
+// So many instructions of one bundle that it is not worth to deal out the others.
+fn most_of(instructions: u32) -> u32 {
+    (instructions / 5).saturating_mul(3)
+}
+
+// The regions, of which each has the places of its bundles.
+fn deal_all(
+    alloc: Global,
+    layout: &Layout,
+    homes: &Homes,
+    labels: &[u32],
+    indexes: &[Indexes],
+    stands: &[u32],
+) -> Result<Vec<Deal>, NoMemory> {
+    let mut deals = empty_deals(alloc, &homes.loads)?;
+    let mut place: u32 = 0;
+    for own in indexes {
+        place = place.saturating_add(1);
+        let home = number_or_zero(&homes.regions, number_or_zero(labels, place));
+        let here = moved(own, stands, layout.start(home));
+        if (home as usize) < deals.len() {
+            add_place(&mut deals[home as usize], place, here)?;
+        }
+    }
+    Ok(deals)
+}
+
+// Regions with room for so many instructions.
+fn empty_deals(alloc: Global, loads: &[u32]) -> Result<Vec<Deal>, NoMemory> {
+    let mut deals = Vec::with_capacity(alloc, loads.len())?;
+    for load in loads {
+        deals.push(Deal {
+            places: Vec::with_capacity(alloc, *load as usize)?,
+            indexes: Vec::with_capacity(alloc, *load as usize)?,
+        })?;
+    }
+    Ok(deals)
+}
+
+fn add_place(deal: &mut Deal, place: u32, indexes: Indexes) -> Result<(), NoMemory> {
+    deal.places.push(place)?;
+    deal.indexes.push(indexes)?;
+    Ok(())
+}
+
+// Where accounts stand after the swaps, counted from the start of a region.
+fn moved(own: &Indexes, stands: &[u32], start: u32) -> Indexes {
+    let mut here = Indexes::new();
+    for index in own.as_slice() {
+        if !here.is_full() {
+            here.push(index_at(stands, *index).unwrap_or(0).saturating_sub(start));
+        }
+    }
+    here
+}

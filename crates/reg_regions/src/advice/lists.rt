@@ -1,0 +1,108 @@
+//! Lists of accounts that are cut, so that there is one for each region that is wanted, or joined, so that bundles have
+//! room.
+
+ghost use Rattle.std.specs.Prelude.{◌≡◌, ◌++◌, ◌<◌, ◌≤◌, IfOk, OnOk};
+ghost use Rattle.reg_regions.specs.Lists.{joined_lists};
+
+use crate::advice::numbers::{number_or_zero, short};
+use reg_account::Account;
+use reg_base::NoMemory;
+use std::alloc::Global;
+
+/// The same accounts, in their order, in so many lists or more. Some of them may have no accounts.
+///
+/// # Errors
+/// `NoMemory` if memory ran out. The accounts are dropped then.
+pub(crate) fn cut_lists(
+    alloc: Global,
+    lists: Vec<Vec<Account>>,
+    wanted: usize,
+) -> Result<Vec<Vec<Account>>, NoMemory>
+    ensures { IfOk result (λ cut. joined_lists cut.items ≡ joined_lists lists.items) }
+{
+    if lists.len() >= wanted {
+        return Ok(lists);
+    }
+    let size = count_accounts(&lists).div_ceil(wanted.max(1)).max(1);
+    let mut cut = Vec::with_capacity(alloc, wanted)?;
+    for list in lists {
+        cut_list(&mut cut, list, size)?;
+    }
+    fill(alloc, &mut cut, wanted)?;
+    Ok(cut)
+}
+
+/// The same accounts, in their order, in fewer lists: for each list there is the number of that which it becomes a part
+/// of, counted from 0.
+///
+/// # Errors
+/// `NoMemory` if memory ran out. The accounts are dropped then.
+pub(crate) fn join_lists(
+    alloc: Global,
+    lists: Vec<Vec<Account>>,
+    joins: &[u32],
+) -> Result<Vec<Vec<Account>>, NoMemory>
+    ensures { IfOk result (λ joined. joined_lists joined.items ≡ joined_lists lists.items) }
+{
+    let mut joined = Vec::with_capacity(alloc, lists.len())?;
+    let mut index: u32 = 0;
+    for list in lists {
+        if number_or_zero(joins, index) < short(joined.len()) {
+            put_behind(&mut joined, list)?;
+        } else {
+            joined.push(list)?;
+        }
+        index = index.saturating_add(1);
+    }
+    Ok(joined)
+}
+
+// Puts accounts behind those of the last list.
+fn put_behind(joined: &mut Vec<Vec<Account>>, list: Vec<Account>) -> Result<(), NoMemory>
+    ensures { OnOk result (joined_lists joined.new.items ≡ joined_lists joined.old.items ++ list.items) }
+{
+    let mut list = list;
+    let Some(last) = joined.pop() else {
+        joined.push(list)?;
+        return Ok(());
+    };
+    let mut last = last;
+    last.append(&mut list)?;
+    joined.push(last)?;
+    Ok(())
+}
+
+// How many accounts lists have together. Nothing is promised of the number: lists are cut by it.
+fn count_accounts(lists: &[Vec<Account>]) -> usize {
+    let mut count: usize = 0;
+    for list in lists {
+        count = count.saturating_add(list.len());
+    }
+    count
+}
+
+// Puts a list behind others, in lists of so many accounts or fewer. Each account moves once at most.
+fn cut_list(cut: &mut Vec<Vec<Account>>, list: Vec<Account>, size: usize) -> Result<(), NoMemory>
+    requires { 1 ≤ size }
+    ensures { OnOk result (joined_lists cut.new.items ≡ joined_lists cut.old.items ++ list.items) }
+{
+    let mut front = list;
+    if front.len() <= size {
+        cut.push(front)?;
+        return Ok(());
+    }
+    let tail = front.split_off(front.len() - size)?;
+    cut_list(cut, front, size)?;
+    cut.push(tail)?;
+    Ok(())
+}
+
+// Puts lists without accounts behind others, until there are so many.
+fn fill(alloc: Global, cut: &mut Vec<Vec<Account>>, wanted: usize) -> Result<(), NoMemory>
+    ensures { OnOk result (joined_lists cut.new.items ≡ joined_lists cut.old.items) }
+{
+    for _list in cut.len()..wanted {
+        cut.push(Vec::new(alloc))?;
+    }
+    Ok(())
+}

@@ -1,0 +1,47 @@
+//! A region as it lies in a deque.
+
+ghost use Rattle.std.specs.Prelude.{◌≡◌, ◌≤◌, ◌-◌, Some, length, slice_get};
+ghost use Rattle.reg_regions.specs.Stealing.{region_opening};
+
+use crate::dealing::Deal;
+use reg_account::Account;
+use std::marker::{Brand, PhantomData};
+
+/// What the regions of a call begin with and have to do, and which claim table they have. It has no code. What lies in
+/// a deque, and what a thread gives back, is known by its type alone, so its type names them.
+pub(crate) trait Cutting {
+    ghost use Rattle.std.specs.Prelude.{List};
+    ghost use Rattle.atomic_table.specs.Seated.{TableId};
+    ghost use Rattle.reg_rules.specs.State.{State};
+    ghost use Rattle.reg_regions.specs.declared.dealing.Deal.{Deal};
+
+    ghost openings: { List State };
+
+    ghost deals: { List Deal };
+
+    ghost table: { TableId };
+}
+
+/// Those that a caller picks from its own arguments.
+impl Cutting for Brand {
+    ghost use Rattle.std.specs.Prelude.{[]};
+
+    ghost openings = { [] };
+
+    ghost deals = { [] };
+
+    ghost table = { record { words = 0; slots = 0; views_name = 0; atom = 0; block = 0; offset = 0; slot_names = [] } };
+}
+
+/// A list of accounts that is a region, as it was when the lists were dealt out, with what it has to do.
+#[derive(Drop)]
+pub(crate) struct ListRegion<C: Cutting> {
+    /// Its number, counted from 1.
+    pub(crate) number: u32,
+    pub(crate) deal: Deal,
+    pub(crate) accounts: Vec<Account>,
+    pub(crate) of: PhantomData<C>,
+    pub(crate) ghost within: { (1 ≤ number) × (number ≤ length C.openings) },
+    pub(crate) ghost opening: { accounts.items ≡ region_opening C.openings number },
+    pub(crate) ghost dealt: { slice_get C.deals (number - 1) ≡ Some deal },
+}

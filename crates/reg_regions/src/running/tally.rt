@@ -1,0 +1,134 @@
+//! What all workers did is put together.
+
+ghost use Rattle.std.specs.Prelude.{◌≡◌, ◌≤◌, ◌+◌, ◌++◌, [], ℕ, All, map, length, vec_len, IfOk, OnOk, IsPermutation};
+ghost use Rattle.std.specs.List.{flat_map};
+ghost use Rattle.std.specs.List.Sorted.{IsNonDecreasingBy};
+ghost use Rattle.reg_claim.specs.Seats.{known, seat_table, table_id, places};
+ghost use Rattle.reg_facts.specs.Counting.{times, once};
+ghost use Rattle.reg_regions.specs.Dealing.{put_all};
+ghost use Rattle.reg_regions.specs.Homes.{IsPlaceUpTo};
+ghost use Rattle.reg_regions.specs.Stealing.{numbers_of, settled_places, shift_workers, times_in_shifts};
+
+use crate::running::SettledLists;
+use crate::running::list_region::Cutting;
+use crate::running::replies::put_replies;
+use crate::running::settled_list::SettledList;
+use crate::running::shift::WorkShift;
+use crate::running::worker::BusyWorker;
+use reg_base::NoMemory;
+use reg_claim::{ClaimTable, Seat};
+use reg_rules::Reply;
+use std::alloc::Global;
+
+/// What all workers did.
+#[derive(Drop)]
+pub(crate) struct Done {
+    /// The regions, worker by worker, each in the order in which they were settled.
+    pub(crate) settled: Vec<SettledList>,
+    /// Who carried out what, from worker 0 on.
+    pub(crate) shifts: Vec<WorkShift>,
+}
+
+/// Joins the seats of all workers and closes the table: each region was settled once. Answers what they did.
+///
+/// # Errors
+/// `NoMemory` if memory ran out.
+pub(crate) fn count_up<C: Cutting>(
+    alloc: Global,
+    count: u32,
+    table: ClaimTable,
+    seat: Seat,
+    workers: Vec<BusyWorker<C>>,
+) -> Result<Done, NoMemory>
+    requires count { count ≡ length C.openings }
+    requires table { (table_id table ≡ C.table) × (places table ≡ length C.openings) × (seat_table seat ≡ C.table) }
+    requires stake { (known seat).stake + vec_len workers ≡ 16 }
+    requires fresh { (known seat).finished ≡ [] }
+    ensures settled { IfOk result (λ done. done.settled.items ≡ flat_map (λ w. w.settled.items) workers.items) }
+    ensures each { IfOk result
+        (λ done. (p : ℕ) → times p (numbers_of done.settled.items) ≡ once (length C.openings) p) }
+    ensures workers { IfOk result (λ done. shift_workers done.shifts.items ≡ map (λ w. w.shift.worker) workers.items) }
+    ensures times { IfOk result
+        (λ done. (p : ℕ) → times_in_shifts p done.shifts.items ≡ times p (settled_places done.settled.items)) }
+{
+    let mut rest = seat;
+    let mut settled = Vec::with_capacity(alloc, count as usize)?;
+    let mut shifts = Vec::with_capacity(alloc, workers.len())?;
+    for worker in workers {
+        let BusyWorker {
+            shift,
+            seat: theirs,
+            settled: own,
+            ..
+        } = worker;
+        rest = table.join(rest, theirs);
+        shifts.push(shift)?;
+        append(&mut settled, own)?;
+    }
+    let tally = table.close(rest);
+    // Each region was put into a deque, and each worker ran all of its own deque: so this is never less.
+    if tally.done != count {
+        return Err(NoMemory);
+    }
+    Ok(Done { settled, shifts })
+}
+
+fn append(settled: &mut Vec<SettledList>, own: Vec<SettledList>) -> Result<(), NoMemory>
+    ensures { OnOk result (settled.new.items ≡ settled.old.items ++ own.items) }
+{
+    let mut own = own;
+    settled.append(&mut own)?;
+    Ok(())
+}
+
+/// Settled regions in the order of their numbers.
+pub(crate) fn in_order(settled: Vec<SettledList>) -> Vec<SettledList>
+    ensures same { IsPermutation settled.items result.items }
+    ensures sorted { IsNonDecreasingBy (λ s. s.number) result.items }
+{
+    let mut settled = settled;
+    put_in_order(&mut settled);
+    settled
+}
+
+fn put_in_order(settled: &mut [SettledList])
+    ensures same { IsPermutation settled.old settled.new }
+    ensures sorted { IsNonDecreasingBy (λ s. s.number) settled.new }
+{
+    settled.sort_unstable_by_key(|one| one.number);
+}
+
+/// The accounts of settled regions, one region after another, their replies, each put at its place among these, and
+/// these shifts.
+///
+/// # Errors
+/// `NoMemory` if memory ran out.
+pub(crate) fn take_apart(
+    alloc: Global,
+    settled: Vec<SettledList>,
+    shifts: Vec<WorkShift>,
+    slots: Vec<Reply>,
+) -> Result<SettledLists, NoMemory>
+    requires { All (IsPlaceUpTo (length slots.items)) (settled_places settled.items) }
+    ensures lists { IfOk result (λ all. all.lists.items ≡ map (λ s. s.accounts) settled.items) }
+    ensures replies { IfOk result
+        (λ all. all.replies.items ≡ put_all (flat_map (λ s. s.replies.items) settled.items) slots.items) }
+    ensures shifts { IfOk result (λ all. all.shifts ≡ shifts) }
+{
+    let mut lists = Vec::with_capacity(alloc, settled.len())?;
+    let mut replies = slots;
+    for one in settled {
+        let SettledList {
+            accounts,
+            replies: own,
+            ..
+        } = one;
+        lists.push(accounts)?;
+        put_replies(&mut replies, own);
+    }
+    Ok(SettledLists {
+        lists,
+        replies,
+        shifts,
+    })
+}

@@ -1,0 +1,67 @@
+//! Workers run in threads.
+
+ghost use Rattle.std.specs.Prelude.{◌≡◌, Ok, map, length, All, IfOk};
+ghost use Rattle.reg_claim.specs.Seats.{table_id, places};
+ghost use Rattle.reg_regions.specs.Stealing.{IsGround, AreSettled};
+
+use crate::gate::PlaceGate;
+use crate::running::list_region::{Cutting, ListRegion};
+use crate::running::worker::{BusyWorker, ReadyWorker, work};
+use crossbeam_deque::Stealer;
+use reg_base::{Batch, NoMemory};
+use reg_claim::ClaimTable;
+use reg_rules::Setting;
+use std::alloc::Global;
+use std::thread;
+use std::thread::Threads;
+
+/// Lets workers work: the last one in the calling thread, and each of the others in a thread of its own, or where none
+/// can be started, after another worker and in its thread. They come back in their order.
+///
+/// # Errors
+/// `NoMemory` if memory ran out. All threads have ended then.
+pub(crate) fn run_all<C: Cutting + Send + Sync, R: Threads + Sync, G: PlaceGate>(
+    rt: &R,
+    alloc: Global,
+    setting: &Setting,
+    batch: &Batch,
+    table: &ClaimTable,
+    stealers: &[Stealer<ListRegion<C>>],
+    gate: &G,
+    workers: Vec<ReadyWorker<C>>,
+) -> Result<Vec<BusyWorker<C>>, NoMemory>
+    requires ground { IsGround setting.now batch.now C.openings C.deals }
+    requires table { (table_id table.now ≡ C.table) × (places table.now ≡ length C.openings) }
+    ensures numbers { IfOk result (λ all. map (λ w. w.shift.worker) all.items ≡ map (λ w. w.number) workers.items) }
+    ensures settled { IfOk result
+        (λ all. All (λ w. AreSettled setting.now batch.now C.openings C.deals w.settled.items) all.items) }
+{
+    let ended = thread::map_vec(
+        rt,
+        workers,
+        &|worker: ReadyWorker<C>| -> Result<BusyWorker<C>, NoMemory>
+            requires { IsGround setting.now batch.now C.openings C.deals × (table_id table.now ≡ C.table)
+                × (places table.now ≡ length C.openings) }
+            ensures number { IfOk result (λ w. w.shift.worker ≡ worker.number) }
+            ensures settled { IfOk result
+                (λ w. AreSettled setting.entry.now batch.entry.now C.openings C.deals w.settled.items) }
+        { work(alloc, setting, batch, table, stealers, gate, worker) },
+    )?;
+    let all = all_ended(alloc, ended)?;
+    Ok(all)
+}
+
+// What all workers answered, if none of them lacked memory.
+fn all_ended<C: Cutting>(
+    alloc: Global,
+    ended: Vec<Result<BusyWorker<C>, NoMemory>>,
+) -> Result<Vec<BusyWorker<C>>, NoMemory>
+    ensures { IfOk result (λ all. map Ok all.items ≡ ended.items) }
+{
+    let mut all = Vec::with_capacity(alloc, ended.len())?;
+    for one in ended {
+        let worker = one?;
+        all.push(worker)?;
+    }
+    Ok(all)
+}

@@ -1,0 +1,190 @@
+//! The settlement of a day by regions of its book.
+
+ghost use Rattle.std.specs.Prelude.{◌≡◌, ◌+◌, ◌≤◌, true, IfOk, IfErr, MatchResult, length};
+ghost use Rattle.reg_base.specs.declared.limits.TheConstants.{MOST_ACCOUNTS};
+ghost use Rattle.reg_base.specs.Rising.{IsRising};
+ghost use Rattle.reg_base.specs.Rules.{AreRules};
+ghost use Rattle.reg_rules.specs.Laws.{IsReady};
+ghost use Rattle.reg_rules.specs.State.{numbers};
+ghost use Rattle.reg_book.specs.Book.{directory_of};
+ghost use Rattle.reg_book.specs.Day.{day_of, settled_day, replies_of};
+ghost use Rattle.reg_book.specs.Settled.{committed};
+ghost use Rattle.reg_regions.specs.Outcomes.{may_work, AreShiftsOf, IsRegionsFault, handed_back};
+ghost use Rattle.reg_regions.specs.Dealing.{AreTurned};
+ghost use Rattle.reg_regions.specs.Lists.{joined_lists};
+
+use crate::admission::admit;
+use crate::advice::advise;
+use crate::advice::lists::{cut_lists, join_lists};
+use crate::dealing::Dealing;
+use crate::exchange::swap_back;
+use crate::gate::PlaceGate;
+use crate::laws::regions_are_a_day;
+use crate::not_settled::{NotSettled, RegionsFault};
+use crate::running::shift::WorkShift;
+use crate::running::whole::settle_whole;
+use crate::running::{SettledLists, settle_lists};
+use reg_account::Account;
+use reg_base::{Batch, NoMemory, Rules};
+use reg_book::{
+    ClosedParts, Parts, closing_is_a_book, settled_is_closing, stays_ready, untouched_stay,
+};
+use reg_rules::{Setting, step_laws};
+use std::alloc::Global;
+use std::thread::Threads;
+
+// The most workers that settle a day.
+const MOST_WORKERS: u32 = 8;
+
+// How many regions are wanted for each worker, so that one that is done with its own can steal others.
+const REGIONS_EACH: u32 = 3;
+
+/// Settles a batch on the book's own accounts, by workers. Each list of the book becomes a region; if there are fewer
+/// than three for each of several workers, and fewer than instructions, the lists are cut before, and if there are more
+/// than 64, some are joined. Instructions that touch an account in common, directly or over others, are carried out in
+/// one region, and accounts that stand in another are swapped for this, and swapped back. If their accounts are more
+/// than a list has, lists are joined to as many as there are workers. A worker takes a region whole, and when it has
+/// none left, it takes one from another worker. The book after the day is the one that `settle_plain` and then
+/// `Book::commit` give, and the replies are those in the log.
+///
+/// If the day can't be dealt out so, as with one worker, or if such instructions are more than three fifths of all,
+/// worker 0, which is the calling thread, carries out all instructions in the order of the batch, and the book has one
+/// list afterwards.
+///
+/// There is a shift for each worker, from worker 0 on, and each place from 1 to the number of instructions is in one
+/// shift, once.
+///
+/// # Errors
+/// The first of these that applies. `Workers` if the number of workers is not 1 to 8. `WrongBase` if the first record
+/// number of the batch is not the book's next record number. Both are told before any memory is taken or thread is
+/// started, and give the book back as it was. `NoMemory` if memory ran out: then the book is gone. All threads have
+/// ended. Where a thread can't be started, the others do its work.
+pub fn settle_regions<R: Threads + Sync, G: PlaceGate>(
+    rt: &R,
+    alloc: Global,
+    parts: Parts,
+    rules: &Rules,
+    batch: &Batch,
+    workers: u32,
+    gate: &G,
+) -> Result<(ClosedParts, Vec<WorkShift>), NotSettled>
+    ensures closed { MatchResult result
+        (λ c. (may_work workers ≡ true) × (batch.now.base + 1 ≡ parts.next)
+        × (c.0.parts ≡ committed parts (settled_day (day_of parts rules.now batch.now))))
+        (λ e. IsRegionsFault workers parts batch.now e.fault) }
+    ensures replies { IfOk result (λ c. c.0.replies.items ≡ replies_of (day_of parts rules.now batch.now)) }
+    ensures shifts { IfOk result (λ c. AreShiftsOf workers (length batch.now.instructions) c.1.items) }
+    ensures back { IfErr result (λ e. e.parts ≡ handed_back e.fault parts) }
+{
+    if !is_allowed(workers) {
+        return Err(NotSettled::with_book(RegionsFault::Workers, parts));
+    }
+    let next = parts.next_record();
+    if batch.base() + 1 != next {
+        return Err(NotSettled::with_book(RegionsFault::WrongBase { next }, parts));
+    }
+    Ok(settle_book(rt, alloc, parts, rules, batch, workers, gate)?)
+}
+
+fn is_allowed(workers: u32) -> bool
+    ensures { result ≡ may_work workers }
+{
+    (1..=MOST_WORKERS).contains(&workers)
+}
+
+// Settles a batch, which begins with the book's next record number, by workers whose number is within its limits.
+fn settle_book<R: Threads + Sync, G: PlaceGate>(
+    rt: &R,
+    alloc: Global,
+    parts: Parts,
+    rules: &Rules,
+    batch: &Batch,
+    workers: u32,
+    gate: &G,
+) -> Result<(ClosedParts, Vec<WorkShift>), NoMemory>
+    requires follows { batch.now.base + 1 ≡ parts.next }
+    requires workers { may_work workers ≡ true }
+    ensures parts { IfOk result
+        (λ c. c.0.parts ≡ committed parts (settled_day (day_of parts rules.now batch.now))) }
+    ensures replies { IfOk result (λ c. c.0.replies.items ≡ replies_of (day_of parts rules.now batch.now)) }
+    ensures shifts { IfOk result (λ c. AreShiftsOf workers (length batch.now.instructions) c.1.items) }
+{
+    rules.are_within_limits();
+    step_laws();
+    stays_ready();
+    untouched_stay();
+    closing_is_a_book();
+    settled_is_closing();
+    regions_are_a_day();
+    batch.base();
+    let count = batch.len();
+    let (lists, directory, next) = parts.into_lists();
+    let setting = Setting {
+        rules,
+        day: batch.day(),
+        directory: &directory,
+    };
+    let settled = settle_by_advice(rt, alloc, &setting, batch, lists, workers, gate)?;
+    let SettledLists {
+        lists: left,
+        replies,
+        shifts,
+    } = settled;
+    let parts = Parts::of_lists(left, directory, next + u64::from(count));
+    Ok((ClosedParts { parts, replies }, shifts))
+}
+
+// How many regions are wanted: a single worker wants no more than there are, and nobody more than instructions.
+fn regions_wanted(workers: u32, instructions: u32) -> usize {
+    if workers < 2 {
+        return 0;
+    }
+    workers.saturating_mul(REGIONS_EACH).min(instructions) as usize
+}
+
+// Carries out the instructions by regions, or as those of one region if they can't be dealt out. A book in fewer lists
+// than regions are wanted is cut before.
+fn settle_by_advice<R: Threads + Sync, G: PlaceGate>(
+    rt: &R,
+    alloc: Global,
+    setting: &Setting,
+    batch: &Batch,
+    lists: Vec<Vec<Account>>,
+    workers: u32,
+    gate: &G,
+) -> Result<SettledLists, NoMemory>
+    requires workers { (1 ≤ workers) × (workers ≤ 8) }
+    requires rules { AreRules setting.now.rules }
+    requires ready { IsReady (batch.now.base + 1) (joined_lists lists.items) }
+    requires rising { IsRising (numbers (joined_lists lists.items)) }
+    requires few { length (joined_lists lists.items) ≤ MOST_ACCOUNTS }
+    requires directory { setting.now.directory ≡ directory_of (joined_lists lists.items) }
+    ensures turned { IfOk result
+        (λ s. AreTurned setting.now batch.now (joined_lists lists.items) (joined_lists s.lists.items) s.replies.items) }
+    ensures shifts { IfOk result (λ s. AreShiftsOf workers (length batch.now.instructions) s.shifts.items) }
+{
+    let cut = cut_lists(alloc, lists, regions_wanted(workers, batch.len()))?;
+    let advice = advise(rt, alloc, &cut, batch, workers);
+    let regions = join_as_advised(alloc, cut, &advice)?;
+    let (found, lists) = admit(rt, alloc, setting, batch, advice, regions, workers);
+    let Some(dealing) = found else {
+        return settle_whole(rt, alloc, setting, batch, lists, workers, gate);
+    };
+    let Dealing { swaps, deals, .. } = dealing;
+    let mut settled = settle_lists(rt, alloc, setting, batch, deals, lists, workers, gate)?;
+    swap_back(&mut settled.lists, &swaps);
+    Ok(settled)
+}
+
+fn join_as_advised(
+    alloc: Global,
+    lists: Vec<Vec<Account>>,
+    advice: &Option<Dealing>,
+) -> Result<Vec<Vec<Account>>, NoMemory>
+    ensures { IfOk result (λ joined. joined_lists joined.items ≡ joined_lists lists.items) }
+{
+    match advice {
+        Some(dealing) => join_lists(alloc, lists, &dealing.joins),
+        None => Ok(lists),
+    }
+}

@@ -1,0 +1,156 @@
+"""The desk as a Flask application: its addresses, and what its pages have in common."""
+import datetime
+import functools
+import secrets
+from pathlib import Path
+from typing import Any, Callable
+
+import flask
+from werkzeug.exceptions import HTTPException
+from werkzeug.routing import BaseConverter, ValidationError
+from werkzeug.wrappers import Response
+
+from registry_tools.desk import gate, pages, posts, questions, tables, words
+from registry_tools.desk.served import Served
+from registry_tools.errors import FileFault, WordsFault
+from registry_tools.pages import html
+from registry_tools.pages.rulebook import FORMATS, RULES
+from registry_tools.second import faults
+from registry_tools.texts.checks import advice_for, checks
+from registry_tools.texts.in_words import grouped
+
+# An upload is at most as large as a text may be, and a form without files much smaller.
+MOST_BYTES, MOST_FORM = 1 << 30, 1 << 20
+SECTIONS = {
+    "/": "Today", "/hand-in": "Hand in", "/next": "The next day", "/change": "Change", "/close": "Close",
+    "/days": "Days", "/accounts": "Accounts", "/compliance": "Compliance", "/month": "Months", "/find": "Find",
+    "/journal": "Journal", "/audit": "Audit", "/send": "Send",
+}  # fmt: skip
+# What a desk that only looks has no use for.
+OF_CHANGES = {"/hand-in", "/change", "/close"}
+GET: dict[str, Callable[..., Any]] = {
+    "/": pages.today, "/hand-in": pages.hand_in, "/next": pages.next_day, "/change": pages.change,
+    "/close": pages.close, "/days": pages.days, "/days/<date:date>": pages.day, "/name": pages.name,
+    "/accounts": questions.accounts, "/accounts/<n:number>": questions.account, "/compliance": questions.compliance,
+    "/month": questions.month_page, "/find": questions.find, "/find.csv": questions.find_csv,
+    "/find.xlsx": questions.find_xlsx,
+    "/journal": questions.journal, "/audit": questions.audit, "/send": questions.send,
+    "/jobs/<number>": questions.job, "/jobs/<number>/packages.zip": questions.packages,
+}  # fmt: skip
+POST: dict[str, Callable[..., Any]] = {
+    "/name": posts.name, "/hand-in/look": posts.look, "/hand-in/take": posts.take,
+    "/next/take-back": posts.take_back, "/next/seen": posts.keep_look, "/change/look": posts.look_at_change,
+    "/change/make": posts.make_change, "/close/settle": posts.settle, "/days/undo": posts.undo,
+    "/approve": posts.approve,
+    "/days/release": posts.release, "/put-right": posts.put_right, "/audit/begin": posts.audit,
+    "/send/begin": posts.send,
+}  # fmt: skip
+# What somebody may begin who changes nothing.
+OF_LOOKING = {"/name", "/audit/begin", "/send/begin"}
+ONLY_LOOKS = "This desk shows all, and changes nothing."
+
+
+class Request(flask.Request):
+    """A request whose form is no larger than it has to be. (Some versions of Flask know no word for it.)"""
+
+    max_form_memory_size = MOST_FORM
+
+
+class Number(BaseConverter):
+    """A number in an address."""
+
+    regex = "[1-9][0-9]{0,8}"
+
+
+class Date(BaseConverter):
+    """A date in an address."""
+
+    regex = "[0-9]{4}-[0-9]{2}-[0-9]{2}"
+
+    def to_python(self, value: str) -> datetime.date:
+        try:
+            return datetime.date.fromisoformat(value)
+        except ValueError:
+            raise ValidationError from None
+
+
+class Application(flask.Flask):
+    """The desk, with its kind of request."""
+
+    request_class = Request
+
+
+def make(served: Served) -> flask.Flask:
+    """The application of a desk."""
+    app = Application("desk", root_path=str(Path(__file__).parent), static_folder=None)
+    # (cookies know no ports: another desk has another one)
+    app.config.update(
+        OFFICE=str(served.path), SECRET_KEY=secrets.token_bytes(32), MAX_CONTENT_LENGTH=MOST_BYTES,
+        MAX_FORM_MEMORY_SIZE=MOST_FORM, SESSION_COOKIE_NAME=f"desk-{served.host.rpartition(':')[2]}",
+        SESSION_COOKIE_HTTPONLY=True, SESSION_COOKIE_SAMESITE="Strict",
+    )  # fmt: skip
+    app.url_map.converters.update(n=Number, date=Date)
+    gate.build(app, served)
+    app.before_request(functools.partial(look_at_state, served))
+    for fault in (FileFault, WordsFault, OSError, HTTPException):
+        app.register_error_handler(fault, functools.partial(failed, served))
+    for rule, view in GET.items():
+        app.add_url_rule(rule, f"GET {rule}", functools.partial(shown, served, view), methods=["GET"])
+    for rule, view in POST.items():
+        app.add_url_rule(rule, f"POST {rule}", functools.partial(changed, served, view), methods=["POST"])
+    app.add_url_rule("/style.css", "style", style, methods=["GET"])
+    for page in (RULES, FORMATS):
+        app.add_url_rule(f"/{page}", page, functools.partial(questions.document, served, page), methods=["GET"])
+    dress(app, served)
+    return app
+
+
+def look_at_state(served: Served) -> None:
+    """Keeps what a change of this page builds on, before anything is read: if somebody changes the folder meanwhile,
+    the form is refused."""
+    flask.g.state = served.reading.state()
+
+
+def shown(served: Served, view: Callable[..., Any], **more: Any) -> Any:
+    """What a view shows of the folder as it is at one moment."""
+    return served.reading.whole(functools.partial(view, served, **more))
+
+
+def changed(served: Served, view: Callable[..., Any]) -> Any:
+    """What a form does that changes something; a desk that only looks refuses it."""
+    if served.is_look and flask.request.path not in OF_LOOKING:
+        return gate.said(403, ONLY_LOOKS)
+    return view(served)
+
+
+def failed(served: Served, error: Exception) -> Any:
+    """What went wrong, on a page."""
+    if isinstance(error, HTTPException):
+        return gate.said(error.code or 500, f"{error.name}.")
+    if isinstance(error, OSError):
+        name = error.filename or "the folder"
+        return gate.said(500, f"{name}: it cannot be read or written: {error.strerror or 'for a reason not known'}")
+    return gate.said(409 if isinstance(error, FileFault) else 400, str(error))
+
+
+def dress(app: flask.Flask, served: Served) -> None:
+    """What all templates know."""
+    sections = {path: name for path, name in SECTIONS.items() if not (served.is_look and path in OF_CHANGES)}
+    app.jinja_env.globals.update(
+        sections=sections, is_look=served.is_look, office=served.path.name,
+        token=lambda: flask.session["token"], number=lambda: secrets.token_hex(8), state=lambda: flask.g.state,
+        who=lambda: gate.known_name(served), says_name=not served.who and not served.header,
+        has_leftovers=served.reading.has_leftovers,
+        table=tables.table, address=tables.address, meaning=lambda name: checks()[name].meaning, advice=advice_for,
+        acts=sorted(faults.ACT_WORDS), lag_words=words.LAGS,
+    )  # fmt: skip
+    app.jinja_env.filters.update(grouped=grouped, local=words.local, label=words.label, date=words.date_in_words)
+    app.jinja_env.trim_blocks = app.jinja_env.lstrip_blocks = True
+
+
+def style() -> Response:
+    """The style of all pages: that of ./day page, and that of forms."""
+    parts = [html.style_of("colours", "style", "picture")]
+    parts += [html.stacked(name, ".broad") for name in (*html.ROOMS, html.EVERYWHERE)]
+    parts.append((Path(__file__).parent / "desk.css").read_text(encoding="utf-8"))
+    return Response("".join(parts), content_type="text/css; charset=utf-8")

@@ -1,0 +1,97 @@
+"""Serves a folder of days to a browser on this machine: what waits and was handed in, the next day, closing it, all
+days, accounts and questions. It prints a link with a secret, which lets its reader in; nobody else gets in. Each change
+is a command, with the same journal, lock and refusals. Ctrl-C ends it.
+
+With --who one name stands in the journal; without it each browser says its own once. --proxy-user HEADER takes it from
+this header, which a proxy before the desk sets, and refuses requests without it. --look shows all, lets audits begin,
+and changes nothing.
+
+It needs Flask and waitress: apt-get install python3-flask python3-waitress.
+
+exit status: 0 if Ctrl-C ended it.
+"""
+import argparse
+import gc
+import importlib.util
+import os
+import re
+import subprocess
+import sys
+from pathlib import Path
+
+from registry_tools.errors import WordsFault
+from registry_tools.office import folder, words
+from registry_tools.progress import progress
+
+EXAMPLE = "./day desk --office out/office"
+ADDRESS, PORT, THREADS = "127.0.0.1", 8424, 6
+NEEDED, SYSTEM = ("flask", "waitress"), "/usr/bin/python3"
+# After so many seconds without a byte of a request, its connection is closed.
+SILENT = 60
+
+
+def add_words(parser: argparse.ArgumentParser) -> None:
+    """Tells a parser the words of the command."""
+    parser.add_argument("--port", type=int, default=PORT, metavar="N", help=f"the port; without it, {PORT}")
+    parser.add_argument("--look", action="store_true", help="show all, and change nothing")
+    parser.add_argument("--who", metavar="NAME", help="who works at it; without it, each browser says its name once")
+    parser.add_argument("--proxy-user", metavar="HEADER", help="the header by which a proxy names who works at it")
+    words.add_office(parser)
+
+
+def run(said: argparse.Namespace) -> int:
+    """Runs the command, and answers the exit status."""
+    path = folder.folder_of(said.office).resolve()
+    who = words.one_line("--who", said.who) if said.who is not None else None
+    if who is not None and said.proxy_user is not None:
+        raise WordsFault("--proxy-user stands in place of --who")
+    if said.proxy_user is not None and not re.fullmatch("[A-Za-z0-9-]+", said.proxy_user):
+        raise WordsFault(f"--proxy-user {said.proxy_user} is no name of a header")
+    if not 1 <= said.port <= 65_535:
+        raise WordsFault(f"--port {said.port} is no port: one from 1 to 65535")
+    missing = [name for name in NEEDED if importlib.util.find_spec(name) is None]
+    if missing:
+        return by_system(missing)
+    serve(path, said.port, who, said.proxy_user, said.look)
+    return 0
+
+
+def serve(path: Path, port: int, who: str | None, header: str | None, is_look: bool) -> None:
+    """Answers requests until somebody ends it."""
+    import waitress
+
+    from registry_tools.desk import app, private
+    from registry_tools.desk.served import Served
+
+    # (a server lives for days, and a command would leave its circles to its end)
+    gc.enable()
+    progress.is_shown = False
+    with private.folder() as own:
+        served = Served(path, f"{ADDRESS}:{port}", own, who, header, is_look)
+        flask = app.make(served)
+        try:
+            server = waitress.create_server(
+                flask, host=ADDRESS, port=port, threads=THREADS, ident=None, channel_timeout=SILENT,
+                max_request_body_size=app.MOST_BYTES,
+            )  # fmt: skip
+        except OSError as error:
+            raise WordsFault(f"--port {port}: {error.strerror}; another number may be free") from None
+        link = f"http://{served.host}/?key={served.key}"
+        print(f"the desk of {path}; Ctrl-C ends it. Open\n{link}", flush=True)
+        try:
+            server.run()
+        finally:
+            server.close()
+            served.jobs.end()
+
+
+def by_system(missing: list[str]) -> int:
+    """Starts the desk by the other Python of this machine, if that one has what is needed."""
+    asked = [SYSTEM, "-c", f"import {', '.join(NEEDED)}"]
+    is_own = os.path.realpath(sys.executable) == os.path.realpath(SYSTEM)
+    if is_own or not os.access(SYSTEM, os.X_OK) or subprocess.run(asked, capture_output=True, check=False).returncode:
+        raise WordsFault(f"it needs {' and '.join(missing)}: apt-get install python3-flask python3-waitress")
+    print(f"{sys.executable} has no {' and no '.join(missing)}: started by {SYSTEM}", file=sys.stderr, flush=True)
+    # (it has its own place for packages, and this one lies elsewhere)
+    package = str(Path(__file__).resolve().parents[2])
+    os.execve(SYSTEM, [SYSTEM, *sys.argv], {**os.environ, "PYTHONPATH": package})

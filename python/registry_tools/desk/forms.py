@@ -1,0 +1,180 @@
+"""What forms offer, and what they say: of one instruction a table with one row, as a spreadsheet would save it; of a
+change by hand the words of ./day change. What is right of it, the commands look at."""
+import csv
+import datetime
+import io
+import itertools
+from typing import Any, Iterator, Mapping
+
+from registry_tools.desk.reading import Reading
+from registry_tools.errors import WordsFault
+from registry_tools.office.handed import text_of_rows
+from registry_tools.second import faults, rules
+from registry_tools.sheets import columns as sheets
+from registry_tools.sheets import importing
+from registry_tools.sheets.sheets import read_content
+from registry_tools.texts.accounts import Block
+from registry_tools.texts.day_text import DayText
+from registry_tools.texts.in_words import grouped
+
+# What may be chosen for a field of an instruction.
+CHOICES = {"kind": rules.KINDS, "status": faults.STATUSES}
+# How many working days before the next day, and behind it, are offered as the day of a proposal.
+BEFORE, BEHIND = 15, 5
+KEEP, DROP = "keep", "leave out"
+OTHER_ROWS = ("emissions", "figure")
+PAIRS = [*itertools.product(faults.ACCOUNT_KINDS, rules.KINDS)]
+
+Said = Mapping[str, str]
+
+
+# One instruction.
+
+
+def accounts_offered(own: Reading, most: int) -> list[tuple[int, str]]:
+    """The numbers of accounts with what somebody knows them by, and what they hold."""
+    settled, names = own.settled(), own.names()
+    blocks = itertools.islice(settled.report.book.values() if settled else [], most)
+    return [(block.number, words_of_account(block.rows[0].split(","), names.holder)) for block in blocks]
+
+
+def words_of_account(row: list[str], holder: Any) -> str:
+    """An account in a line, of its first row; `holder` tells the name of a number."""
+    held = f"general {grouped(row[8])}, aviation {grouped(row[9])}"
+    return f"{row[2]} of {holder(row[3])}, {row[4]}: {held}"
+
+
+def dates_of_proposal(own: Reading) -> list[tuple[datetime.date, bool]]:
+    """The days on which an instruction may have been proposed, of which that of the next day is chosen."""
+    try:
+        day = own.text_of_next().head
+    except WordsFault:
+        return []
+    before = [date for date in day.working_days if date < day.date][-BEFORE:]
+    behind = [date for date in day.working_days if date > day.date][:BEHIND]
+    return [(date, date == day.date) for date in [*before, day.date, *behind]]
+
+
+def table_of_instruction(said: Said) -> str:
+    """The table that the form of an instruction says."""
+    act = said.get("act", "")
+    if act not in faults.ACT_WORDS:
+        raise WordsFault("no act was chosen")
+    columns = [*sheets.PROPOSAL, *sheets.columns_of_act(act)]
+    cells = {name: said.get(name, "").strip() for name in columns}
+    if cells["proposed"] == "other":
+        cells["proposed"] = said.get("other_day", "").strip()
+    filled = [name for name in columns if cells[name] or name in sheets.PROPOSAL]
+    stream = io.StringIO()
+    csv.writer(stream, lineterminator="\n").writerows([filled, [cells[name] for name in filled]])
+    return stream.getvalue()
+
+
+def rows_of_typed(table: str) -> bytes:
+    """The rows of a table that was typed, of which no table is kept; one with something wrong as it is, so that it is
+    told."""
+    content = table.encode("utf-8", "replace")
+    made = importing.imported(read_content("typed", content), False, None)
+    return content if made.wrong else text_of_rows(made.rows)
+
+
+# A change by hand: what the form shows, and the words that it says.
+
+
+def account_fields(block: Block) -> dict[str, Any]:
+    """What the form of an account shows: what it is now."""
+    row = block.rows[0].split(",")
+    lists = [own.split(",") for own in block.list_rows]
+    return {
+        "kind": row[2], "holder": row[3], "outside": row[5], "waiver": row[6],
+        "corrections": {"1": row[7], **{own[1]: own[2] for own in lists if own[0] == "correction"}},
+        "users": [(own[1], own[2]) for own in lists if own[0] == "user"],
+        "years": [(own[0], own[1], own[2]) for own in lists if own[0] in OTHER_ROWS],
+    }  # fmt: skip
+
+
+def rule_fields(day: DayText) -> dict[str, Any]:
+    """What the form of the rules shows."""
+    rows = [row.split(",") for row in day.heading]
+    there = {tuple(row[1:]) for row in rows if row[0] == "surrender"}
+    return {
+        "admins": [row[1] for row in rows if row[0] == "admin"], "periods": day.head.periods,
+        "current": day.head.current, "lags": day.head.lags, "pairs": [(pair, pair in there) for pair in PAIRS],
+        "working": [*filter(lambda own: own > day.head.date, day.head.working_days)][:30],
+    }  # fmt: skip
+
+
+def words_of_change(said: Said, own: Reading) -> list[str]:
+    """The words of ./day change that a form says: of what differs from what is there."""
+    day, of = own.text_of_next(), said.get("of", "")
+    if of == "account":
+        return [*account_words(said, day)]
+    if of == "rules":
+        return [*rule_words(said, rule_fields(day))]
+    if of == "new":
+        return [*new_words(said)]
+    raise WordsFault("nothing to change was chosen")
+
+
+def account_words(said: Said, day: DayText) -> Iterator[str]:
+    """The words of `./day change` that a form of an account asks for. Raises WordsFault if there is no such account."""
+    number = said.get("account", "")
+    if not number.isascii() or not number.isdigit() or int(number[:10]) not in day.book:
+        raise WordsFault("there is no such account in the next day's text")
+    now = account_fields(day.book[int(number)])
+    yield number
+    for name in ("holder", "outside", "waiver"):
+        if name in said and said[name] != now[name]:
+            yield f"--{name}={said[name]}"
+    for user, right in now["users"]:
+        asked = said.get(f"user-{user}", KEEP)
+        if asked == DROP:
+            yield f"--user=-{user}"
+        elif asked not in (KEEP, right):
+            yield f"--user=+{user}:{asked}"
+    yield from new_user(said)
+    for period, value in now["corrections"].items():
+        asked = said.get(f"correction-{period}", value)
+        if asked != value:
+            yield f"--correction={period}:{asked}"
+    if said.get("period"):
+        yield f"--correction={said['period']}:{said.get('factor', '')}"
+    for tag, year, _ in now["years"]:
+        if said.get(f"{tag}-{year}") == DROP:
+            yield f"--leave-out={tag}:{year}"
+
+
+def new_user(said: Said) -> Iterator[str]:
+    """The word that adds a representative, if the form names one."""
+    if said.get("new_user"):
+        yield f"--user=+{said['new_user']}:{said.get('new_right', '')}"
+
+
+def new_words(said: Said) -> Iterator[str]:
+    """A new account, with its first representative if one is named."""
+    yield f"--open-account={said.get('number_of_account', '')},{said.get('kind', '')},{said.get('holder', '')}"
+    yield from new_user(said)
+
+
+def rule_words(said: Said, now: dict[str, Any]) -> Iterator[str]:
+    """The words of `./day change` that a form of the rules asks for; `now` is what they are."""
+    for admin in now["admins"]:
+        if said.get(f"admin-{admin}") == DROP:
+            yield f"--admin=-{admin}"
+    if said.get("new_admin"):
+        yield f"--admin=+{said['new_admin']}"
+    if said.get("first") or said.get("last"):
+        yield f"--period={said.get('first', '')}-{said.get('last', '')}"
+    if said.get("current", str(now["current"])) != str(now["current"]):
+        yield f"--current={said['current']}"
+    for name, days in now["lags"].items():
+        if said.get(f"lag-{name}", str(days)) != str(days):
+            yield f"--lag={name}:{said[f'lag-{name}']}"
+    if said.get("has_pairs"):
+        for pair, is_there in now["pairs"]:
+            if bool(said.get("pair-" + "-".join(pair))) != is_there:
+                yield f"--surrender={'-' if is_there else '+'}{':'.join(pair)}"
+    yield from (f"--{word}={said[name]}" for name, word in DAYS if said.get(name))
+
+
+DAYS = (("working", "working"), ("not_working", "not-working"))

@@ -1,0 +1,123 @@
+"""Who gets in. The desk answers one address alone, to browsers that came by its link; a change needs the token of a
+form that this browser was shown."""
+import hmac
+import re
+import secrets
+from typing import Any
+
+import flask
+from werkzeug.wrappers import Response
+
+from registry_tools.desk import words
+from registry_tools.desk.served import Served
+from registry_tools.errors import WordsFault
+from registry_tools.office import people
+from registry_tools.office.words import one_line
+
+# Nothing is fetched from elsewhere, no script runs, no other page shows a page of the desk in itself, and nobody keeps
+# one.
+HEADERS = {
+    "Content-Security-Policy": (
+        "default-src 'none'; style-src 'self'; form-action 'self'; base-uri 'none'; frame-ancestors 'none'"
+    ),
+    "X-Content-Type-Options": "nosniff", "X-Frame-Options": "DENY", "Referrer-Policy": "no-referrer",
+    "Cache-Control": "no-store", "Cross-Origin-Opener-Policy": "same-origin",
+    "Cross-Origin-Resource-Policy": "same-origin",
+}  # fmt: skip
+OTHER_ADDRESS = "This is another address than that of the desk."
+OTHER_SECRET = "The link has another secret: the desk prints a new one each time it is started."
+NOT_IN = "Open the link that ./day desk printed. If you were in already, go on to this page:"
+OTHER_FORM = "The form is not of this desk, or it was started anew since. Nothing was done: look once more."
+NO_METHOD = "That is no method of this desk."
+NO_NAME = "The proxy before this desk has to say who you are, and it does not."
+LONGEST_NAME = 80
+
+
+def build(app: flask.Flask, served: Served) -> None:
+    """Puts the gate before all pages, also those that are not there."""
+    app.before_request(lambda: let_in(served))
+    app.after_request(with_headers)
+
+
+def let_in(served: Served) -> Any:
+    """Answers nothing to who may go on, or why not."""
+    request = flask.request
+    if request.headers.get("Host") != served.host:
+        return said(400, OTHER_ADDRESS)
+    key = request.args.get("key")
+    if key is not None and request.method == "GET" and request.path == "/":
+        return enter(served, key)
+    if "token" not in flask.session:
+        return said(403, NOT_IN, is_again=True)
+    if served.header is not None and not name_of_proxy(served):
+        return said(403, NO_NAME)
+    if request.method == "POST":
+        return refuse_form()
+    return None if request.method in ("GET", "HEAD") else said(405, NO_METHOD)
+
+
+def enter(served: Served, key: str) -> Any:
+    """Lets a browser in that has the secret of the link."""
+    if not hmac.compare_digest(key.encode("utf-8", "replace"), served.key.encode()):
+        return said(403, OTHER_SECRET)
+    flask.session.clear()
+    flask.session["token"] = secrets.token_urlsafe(16)
+    # (a redirect of a link that was opened elsewhere would not take the strict cookie with it: a page does)
+    return flask.render_template("entered.html")
+
+
+def refuse_form() -> Any:
+    """Why a form is not taken; nothing, if it is one of this browser."""
+    token = flask.request.form.get("token", "").encode("utf-8", "replace")
+    return None if hmac.compare_digest(token, flask.session["token"].encode()) else said(403, OTHER_FORM)
+
+
+def with_headers(response: Response) -> Response:
+    """An answer with the headers that keep a browser from what the desk does not send."""
+    response.headers.update(HEADERS)
+    return response
+
+
+def said(code: int, text: str, is_again: bool = False) -> Response:
+    """A page that says one thing. `is_again`: it leads to the page that was asked for."""
+    path = flask.request.full_path.rstrip("?") if is_again and flask.request.method == "GET" else ""
+    # (two slashes would lead to another host)
+    path = "/" + path.lstrip("/\\") if path else ""
+    page = flask.render_template("said.html", title="No", text=text, path=path, is_in="token" in flask.session)
+    return flask.make_response(words.seen(page, flask.current_app.config["OFFICE"]), code)
+
+
+# Who it is.
+
+
+def name_of_proxy(served: Served) -> str:
+    """The name that whoever stands before the desk tells in a header; nothing, if it is none."""
+    name = flask.request.headers.get(served.header or "", "").strip()
+    return name if name.isprintable() and len(name) <= LONGEST_NAME else ""
+
+
+def known_name(served: Served) -> str:
+    """Who works at this browser; nothing, if it was not said yet."""
+    if served.header is not None:
+        return name_of_proxy(served)
+    return served.who or str(flask.session.get("who", ""))
+
+
+def speaks_for(served: Served, who: str) -> list[str]:
+    """The words by which a command takes the name of a proxy as the login that gives it: if office.ini lets the login
+    of this desk speak for others. A name that somebody typed is no login."""
+    own = served.reading.office().people.named.get(people.system_login())
+    is_let = served.header is not None and own is not None and people.PROXY in own.rights
+    return [f"--for={who}"] if is_let else []
+
+
+def name(served: Served) -> str:
+    """Who asks for a change: whom the desk knows, or who says it now. A browser says it once."""
+    own = known_name(served)
+    if not own:
+        own = one_line("your name", flask.request.form.get("who", "").strip())
+        if len(own) > LONGEST_NAME:
+            raise WordsFault(f"your name has to be at most {LONGEST_NAME} letters")
+        # (a byte that is no UTF-8 has no place in a cookie)
+        flask.session["who"] = own = re.sub("[\ud800-\udfff]", "?", own)
+    return own

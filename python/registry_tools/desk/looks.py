@@ -1,0 +1,96 @@
+"""What would come of files and of changes by hand, before somebody says yes: they are put into a copy of next/, and
+tried by the functions behind the commands."""
+import contextlib
+import datetime
+import shutil
+import tempfile
+from dataclasses import dataclass, field
+from pathlib import Path
+from typing import Iterator, NoReturn
+
+from registry_tools.desk.reading import Reading
+from registry_tools.errors import FileFault, WordsFault
+from registry_tools.office import composing, hand_in, handed, trial
+from registry_tools.office.changes import change
+from registry_tools.office.folder import Office
+from registry_tools.office.incoming import Forms
+from registry_tools.options import Words
+from registry_tools.sheets.importing import OTHER_FORM
+
+
+class TellingWords(Words):
+    """A parser of words that says by a fault what it does not take, and ends nothing."""
+
+    def error(self, message: str) -> NoReturn:
+        raise WordsFault(message)
+
+
+@dataclass
+class Look:
+    """What would come of files that somebody wants to hand in."""
+
+    # What is wrong, if something is: then nothing else is known.
+    faults: list[str] = field(default_factory=list)
+    # The file and the line of a row that the folder has had, and that may come once more if it is meant.
+    meant: tuple[int, int] | None = None
+    # What comes once more.
+    again: list[str] = field(default_factory=list)
+    parts: list[handed.Part] = field(default_factory=list)
+    rows: list[tuple[str, list[str]]] = field(default_factory=list)
+    looked: list[trial.Looked] = field(default_factory=list)
+    notes: list[str] = field(default_factory=list)
+    date: datetime.date | None = None
+
+
+@contextlib.contextmanager
+def copy_of_next(own: Reading) -> Iterator[tuple[Office, handed.HandedIn]]:
+    """The folder with a copy of what was handed in, into which a look may put something."""
+    office = own.office()
+    with tempfile.TemporaryDirectory(dir=own.private) as place:
+        shutil.copytree(office.next_folder, place, dirs_exist_ok=True)
+        there = handed.read(Path(place))
+        try:
+            yield office, there
+        except FileFault as fault:
+            # (nobody finds the copy later)
+            fault.path = str(fault.path).replace(f"{place}/", "next/")
+            raise
+
+
+def look_at_files(own: Reading, paths: list[Path], again: list[tuple[int, int]], dates: str = "") -> Look:
+    """What would come of files, if they were handed in; with the rows, by file and line, that are meant once more, and
+    with how tables write dates."""
+    words, forms = [f"{paths[place]}:{line}" for place, line in again], Forms(dates=dates or None)
+    try:
+        with copy_of_next(own) as (office, there):
+            added = hand_in.look_at(office, there, [*map(str, paths)], "nobody yet", words, forms)
+            places = added.places()
+            looked = [tried for tried in added.looked if tried.place in places]
+            rows = [(part.name, first_rows(there.folder / part.file)) for part in added.parts]
+            told = [line.replace(f"{paths[0].parent}/", "") for line in added.again]
+            return Look([], None, told, added.parts, rows, looked, added.next_day.notes, added.next_day.date)
+    except hand_in.HadFault as fault:
+        # (how it may come once more is told by a button)
+        text = str(fault).partition("; --again")[0]
+        place = [*map(str, paths)].index(str(fault.path))
+        return Look([text.replace(f"{paths[0].parent}/", "")], (place, fault.at))
+    except (FileFault, WordsFault) as fault:
+        said = str(fault).replace(f"{paths[0].parent}/", "")
+        return Look(said.replace(OTHER_FORM, "another form is chosen with the file").split("\n"))
+
+
+def look_at_change(own: Reading, asked: list[str]) -> change.Difference:
+    """What a change by hand would make of the next day."""
+    parser = TellingWords()
+    change.add_words(parser)
+    said, next_day = parser.parse_args(asked), own.next_day()
+    with copy_of_next(own) as (office, there):
+        composing.last_day(office)
+        made = change.edits_of(said, own.text_of_next().head.lags)
+        return change.look_at(there, next_day, office, made, "nobody yet", "no reason yet")
+
+
+def first_rows(path: Path, most: int = 5) -> list[str]:
+    """The first lines of a file."""
+    with open(path, encoding="utf-8", errors="surrogateescape") as stream:
+        return [line.rstrip("\n") for _, line in zip(range(most), stream)]

@@ -1,0 +1,266 @@
+"""The pages that answer questions: accounts, compliance, what was done over all days, the journal, audits, packages,
+and what commands answered."""
+import io
+import tempfile
+import zipfile
+from pathlib import Path
+from typing import Any, Sequence
+
+import flask
+from werkzeug.exceptions import NotFound
+from werkzeug.wrappers import Response
+
+from registry_tools.calendars.dates import date_of
+from registry_tools.desk.served import Served
+from registry_tools.desk.shown import asked, number_of, show
+from registry_tools.desk.words import local
+from registry_tools.errors import FOUND, WordsFault
+from registry_tools.office.approvals import ASKED_FOR
+from registry_tools.office.changes import listing
+from registry_tools.office.labels import ACCOUNT
+from registry_tools.pages import compliance as standing
+from registry_tools.pages import html, month
+from registry_tools.pages.html import Markup, link
+from registry_tools.pages.rulebook import document_parts
+from registry_tools.pages.settled import Settled, in_words, joined_words, outcome_in_words
+from registry_tools.questions import compliance as answers
+from registry_tools.questions import find as finding
+from registry_tools.second import faults, rules
+from registry_tools.sheets.writing import Written, write_workbook
+from registry_tools.showing import as_csv
+from registry_tools.texts.in_words import grouped
+from registry_tools.texts.report import LogRow
+
+WORKBOOK = "application/vnd.openxmlformats-officedocument.spreadsheetml.sheet"
+WHAT = {
+    "hand-in": "Hand in", "take-back": "Take back", "change": "Change", "close": "Close", "undo": "Undo",
+    "release": "Release", "approve": "Approve", "audit": "Audit", "send": "Send", "try": "Look at the next day",
+    "status": "Put right",
+}  # fmt: skip
+
+
+# Accounts.
+
+
+def accounts(served: Served) -> Any:
+    """The page of all accounts, or of those that a word finds."""
+    settled, word = served.reading.settled(), asked("q")
+    rows = [*account_rows(settled, word)] if settled else []
+    return show("accounts", "Accounts", rows=rows, q=word, settled=settled, shown_row=cells_of_account)
+
+
+def account_rows(settled: Settled, word: str) -> list[tuple[Any, ...]]:
+    """Number, kind, holder, status, what they hold and the name, of the accounts that have the word as one of them, or
+    in the name of the account or of the holder."""
+    rows = (block.rows[0].split(",") for block in settled.report.book.values())
+    found: list[tuple[Any, ...]] = []
+    for row in rows:
+        holder, own = settled.names.holder(row[3]), settled.names.name_of(ACCOUNT, row[1])
+        if not word or word in row[1:5] or any(word.casefold() in name.casefold() for name in (holder, own)):
+            found.append((int(row[1]), row[2], holder, row[4], int(row[8]), int(row[9]), own))
+    return found
+
+
+def cells_of_account(row: Sequence[Any]) -> Sequence[Any]:
+    """The cells of an account, its number with a link."""
+    number, kind, holder, status, general, aviation, name = row
+    shown = joined_words(link(f"/accounts/{number}", number), name) if name else link(f"/accounts/{number}", number)
+    return shown, kind, holder, status, grouped(general), grouped(aviation)
+
+
+def account(served: Served, number: str) -> Any:
+    """The page of an account; NotFound if there is none."""
+    parts = served.reading.account(int(number))
+    if parts is None:
+        raise NotFound
+    history = served.reading.history(int(number)) if asked("history") else None
+    return show("account", f"Account {number}", parts=parts, number=number, history=history)
+
+
+# Compliance.
+
+
+def compliance(served: Served) -> Any:
+    """The page of compliance for a year. Raises WordsFault if no day is settled."""
+    settled = served.reading.settled()
+    if settled is None:
+        raise WordsFault("no day is settled yet")
+    year = number_of("year") or answers.last_year_over(settled.head)
+    word = asked("deadline")
+    deadline = date_of("the deadline", word) if word else served.reading.office().settings.due.surrender_of(year)
+
+    rows = standings_of(served, settled, year)
+    return show(
+        "compliance", f"Compliance for {year}", year=year, deadline=word, rows=[*map(row_of_standing, rows)],
+        columns=COLUMNS,
+        counts=standing.counts_table(rows) if rows else "", until=month.until_in_words(settled.head.date, deadline),
+        missing=sum(own.missing or 0 for own in rows), date=settled.head.date,
+        shown_row=lambda row: cells_of_standing(settled, row[-1]),
+    )  # fmt: skip
+
+
+def standings_of(served: Served, settled: Settled, year: int) -> list[answers.Standing]:
+    """How operators stand after the last day, those first of whom most is missing."""
+    standings = answers.standings(settled.day, settled.report, year)
+    own = served.reading
+    return own.once(("standings", year), own.office().journal.last_line, lambda: sorted(standings, key=standing.order))
+
+
+COLUMNS = ["Account", "Holder", "Surrendered", "Emissions", "Surrendered of emissions", "Figure now", "Verdict"]
+
+
+def row_of_standing(own: answers.Standing) -> tuple[Any, ...]:
+    """What a row is sorted by."""
+    account = own.account
+    share = own.surrendered - own.emissions
+    figure = "" if own.figure is None else own.figure
+    return account.number, account.holder, own.surrendered, own.emissions, share, figure, own.verdict, own
+
+
+def cells_of_standing(settled: Settled, own: answers.Standing) -> Sequence[Any]:
+    """The cells of an operator, its account with a link."""
+    verdict = own.verdict_in_words
+    return (
+        settled.named_account(own.account.number), settled.names.holder(own.account.holder), grouped(own.surrendered),
+        grouped(own.emissions), standing.bar(own), standing.amount(own.figure),
+        verdict if own.verdict in answers.SETTLED else html.tag("strong", verdict),
+    )  # fmt: skip
+
+
+def month_page(served: Served) -> Any:
+    """Several days on one page, as ./day month makes it."""
+    office, said = served.reading.office(), {name: asked(name) for name in ("from", "to", "deadline")}
+    dates = [own.date for own in reversed(office.journal.filed())]
+    if not dates:
+        raise WordsFault("no day is settled yet")
+    # (without a word, the month of the last day)
+    begin, end = said["from"] or str(dates[0].replace(day=1)), said["to"] or str(dates[0])
+    year = number_of("year")
+    title, count, parts = served.reading.month(begin=begin, end=end, year=year, deadline=said["deadline"] or None)
+    return show(
+        "month", title, count=count, own=parts, begin=begin, end=end, year=year or "", deadline=said["deadline"]
+    )
+
+
+# What was done.
+
+
+def filters() -> dict[str, Any]:
+    """What the address asks for, as the words of ./day find."""
+    act = asked("act") or None
+    if act not in (None, *faults.ACT_WORDS):
+        raise WordsFault(f"{act}: there is no such act")
+    return {
+        "account": number_of("account"), "user": number_of("user"), "act": act, "refused": bool(asked("refused")),
+        "begin": asked("from") or None, "end": asked("to") or None,
+    }  # fmt: skip
+
+
+def found(served: Served) -> list[LogRow]:
+    """The log rows that the filters of the page find."""
+    own, said = served.reading, filters()
+    return own.once(("found", *said.values()), own.office().journal.last_line, lambda: [*own.found(**said)])
+
+
+def find(served: Served) -> Any:
+    """The page of log rows over all days."""
+    rows = [*map(row_of_log, found(served))] if flask.request.args else None
+    query = flask.request.query_string.decode("ascii", "replace")
+    return show("find", "Find", rows=rows, said=flask.request.args, query=query, shown_row=cells_of_log)
+
+
+def row_of_log(own: LogRow) -> tuple[Any, ...]:
+    """A log row as texts."""
+    i = own.instruction
+    named = ", ".join(map(str, dict.fromkeys(rules.named(i))))
+    by = f"{i.proposer}, {i.approver}" if i.approver else i.proposer
+    return str(own.date), own.record, in_words(own), named, by, outcome_in_words(own)
+
+
+def cells_of_log(row: Sequence[Any]) -> Sequence[Any]:
+    """The cells of a log row, its day and its accounts with links."""
+    day, record, said, named, by, outcome = row
+    accounts = Markup(", ".join(f'<a href="/accounts/{own}">{own}</a>' for own in named.split(", ") if own))
+    return link(f"/days/{day}", day), record, said, accounts, by, outcome
+
+
+def rows_of_find(served: Served) -> list[list[Any]]:
+    """All columns of what was found, as ./day find writes them."""
+    account = filters()["account"]
+    meant = set() if account is None else {account}
+    return [row for own in found(served) for row in finding.cells_of(own, meant)]
+
+
+def find_csv(served: Served) -> Response:
+    """What was found, as a file of csv."""
+    text = as_csv(finding.COLUMNS.names, rows_of_find(served)).encode("utf-8", "surrogateescape")
+    return download(text, "text/csv; charset=utf-8", "found.csv")
+
+
+def find_xlsx(served: Served) -> Response:
+    """What was found, as a workbook."""
+    rows = (["" if cell is None else str(cell) for cell in row] for row in rows_of_find(served))
+    with tempfile.TemporaryDirectory(dir=served.jobs.private) as place:
+        path = Path(place) / "found.xlsx"
+        write_workbook(str(path), Written("found", [finding.COLUMNS.names, *rows]))
+        return download(path.read_bytes(), WORKBOOK, path.name)
+
+
+def download(content: bytes, kind: str, name: str) -> Response:
+    """A file for the browser to keep."""
+    return Response(content, content_type=kind, headers={"Content-Disposition": f'attachment; filename="{name}"'})
+
+
+def journal(served: Served) -> Any:
+    """The page of what was done in the folder, and changed by hand."""
+    office = served.reading.office()
+    events = [(local(own.at), own.event, str(own.date), own.who, own.why) for own in reversed(office.journal.events)]
+    by_hand = [(day, local(str(at)), who, why, row) for day, at, who, why, row in listing.changes_of(office)]
+    return show("journal", "Journal", events=events, by_hand=[*reversed(by_hand)])
+
+
+# What takes long.
+
+
+def audit(served: Served) -> Any:
+    """The page of audits."""
+    return show("audit", "Audit", jobs=served.jobs.of("audit"))
+
+
+def send(served: Served) -> Any:
+    """The page of packages for holders."""
+    office = served.reading.office()
+    dates = [own.date for own in reversed(office.journal.filed())]
+    return show("send", "Send", dates=dates, is_released=office.journal.is_released(), jobs=served.jobs.of("send"))
+
+
+def job(served: Served, number: str) -> Any:
+    """The page of what a command does or did. Raises WordsFault if the desk has forgotten it."""
+    there = served.jobs.jobs.get(number)
+    if there is None:
+        raise WordsFault("the desk knows nothing of this any more: Today and the journal say what was done")
+    has_changed = bool(there.seen) and there.seen != flask.g.state
+    date = next((word.partition("=")[2] for word in there.words if word.startswith("--date=")), "")
+    return show(
+        "job", WHAT[there.command], job=there, status=there.status, has_changed=has_changed, date=date,
+        is_asked_for=there.status == FOUND and any(ASKED_FOR in line for line in there.said("stdout")),
+        refresh=2 if there.status is None else None,
+    )  # fmt: skip
+
+
+def packages(served: Served, number: str) -> Response:
+    """What `send` has made, as one file."""
+    there = served.jobs.jobs.get(number)
+    if there is None or there.status != 0 or not there.made():
+        raise NotFound
+    content = io.BytesIO()
+    with zipfile.ZipFile(content, "w", zipfile.ZIP_DEFLATED) as archive:
+        for path in there.made():
+            archive.write(path, path.name)
+    return download(content.getvalue(), "application/zip", "packages.zip")
+
+
+def document(_served: Served, name: str) -> Any:
+    """The page of a document."""
+    title, body = document_parts(name)
+    return show("body", title, body=body)

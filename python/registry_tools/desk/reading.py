@@ -1,0 +1,280 @@
+"""What the pages show: read by the functions behind the commands, and kept as long as the folder is the same. Nothing
+here writes into the folder."""
+import argparse
+import contextlib
+import datetime
+import threading
+import time
+from collections import OrderedDict
+from dataclasses import replace
+from pathlib import Path
+from typing import Any, Callable, Iterator, TypeVar
+
+from registry_tools.errors import FileFault, WordsFault
+from registry_tools.office import close, composing, folder, handed, labels, lock, past, trial
+from registry_tools.office.composing import NextDay
+from registry_tools.office.folder import Office
+from registry_tools.office.journal import Event
+from registry_tools.office.labels import Labels
+from registry_tools.office.layout import JOURNAL, LABELS, SETTINGS
+from registry_tools.pages import month
+from registry_tools.pages.account import own_parts
+from registry_tools.pages.html import Frame, Markup, joined
+from registry_tools.pages.rulebook import Rulebook
+from registry_tools.pages.settled import ByHand, Settled, by_hand_before
+from registry_tools.pages.statement import DayOfAccounts, Statement
+from registry_tools.questions import find, history
+from registry_tools.texts.day_text import DayText
+from registry_tools.texts.pending import read_pending, waiting_before
+from registry_tools.texts.report import LogRow
+
+T = TypeVar("T")
+# A command that moves a day into its place is seen halfway for a moment: so often it is looked again.
+TIMES, PAUSE = 5, 0.2
+# So many things that were worked out are kept, and so many days have a statement of an account.
+MOST_KEPT, DAYS_OF_STATEMENT = 12, 31
+# So many dates a list offers.
+MOST_DATES = 10
+NEXT = Path("the next day")
+
+
+class DeskBook(Rulebook):
+    """The words of the rules, with links that lead there from each page."""
+
+    def words(self, markdown: str, root: str = "") -> str:
+        """Words of Markdown, whose links lead to the top of the desk."""
+        return super().words(markdown, "/")
+
+    def check_link(self, code: int, root: str = "") -> str:
+        """A link to a check in the rules."""
+        return super().check_link(code, "/")
+
+    def act_link(self, act: str, root: str = "") -> Markup:
+        """A link to an act in the rules."""
+        return super().act_link(act, "/")
+
+
+class DeskSettled(Settled):
+    """A settled day whose accounts have addresses of the desk."""
+
+    def account_address(self, number: int, root: str = "") -> str:
+        """Where the page of an account is."""
+        return f"/accounts/{number}"
+
+
+class Reading:
+    """A folder as it is now."""
+
+    def __init__(self, path: Path, private: Path) -> None:
+        self.path, self.private = path, private
+        self.lock = threading.Lock()
+        self.kept: OrderedDict[object, tuple[str, threading.Lock, list[Any]]] = OrderedDict()
+
+    def office(self) -> Office:
+        """The folder with its journal, which is read again as soon as a file of them is another one."""
+        path = folder.folder_of(str(self.path))
+        looks = " ".join(looks_of(path / name) for name in (SETTINGS, JOURNAL))
+        return replace(self.once("office", looks, lambda: folder.read_office(path)))
+
+    def has_leftovers(self) -> bool:
+        """Whether an interrupted command left something that the next one puts right."""
+        return folder.has_leftovers(self.path) and not lock.is_held(self.path / lock.NAME)
+
+    def holder(self) -> str:
+        """Who works on the folder now; nobody, if it is free."""
+        path = self.path / lock.NAME
+        return lock.holder_of(path) if lock.is_held(path) else ""
+
+    def state(self) -> str:
+        """What a change builds on; nothing, if the folder cannot be read."""
+        with contextlib.suppress(FileFault, WordsFault, OSError):
+            return folder.state_of(self.office())
+        return ""
+
+    def whole(self, work: Callable[[], T]) -> T:
+        """Does some reading once more if somebody changed the folder meanwhile."""
+        for _ in range(TIMES):
+            before = self.mark()
+            try:
+                return work()
+            except (FileFault, OSError):
+                if before == self.mark() and not lock.is_held(self.path / lock.NAME):
+                    raise
+                time.sleep(PAUSE)
+        return work()
+
+    def mark(self) -> tuple[int, ...]:
+        """When the two journals were changed last."""
+        paths = [self.path / name for name in ("journal.csv", "next/journal.csv")]
+        return tuple(path.stat().st_mtime_ns if path.exists() else 0 for path in paths)
+
+    def once(self, key: object, state: str, work: Callable[[], T]) -> T:
+        """What was worked out in this state of the folder: once, also if several ask at a time."""
+        with self.lock:
+            if key not in self.kept or self.kept[key][0] != state:
+                self.kept[key] = (state, threading.Lock(), [])
+            self.kept.move_to_end(key)
+            while len(self.kept) > MOST_KEPT:
+                self.kept.popitem(last=False)
+            _, own, there = self.kept[key]
+        with own:
+            if not there:
+                there.append(work())
+            answer: T = there[0]
+            return answer
+
+    def names(self) -> Labels:
+        """The names of users and holders."""
+        return labels.of_folder(self.path)
+
+    # Settled days.
+
+    def event(self, date: datetime.date | None = None) -> Event | None:
+        """The line of a settled day, of the last one if none is named; None, if there is none."""
+        filed = self.office().journal.filed()
+        return next((event for event in reversed(filed) if date in (None, event.date)), None)
+
+    def settled(self, date: datetime.date | None = None) -> Settled | None:
+        """A settled day, or the last one; None if there is none."""
+        found = self.event(date)
+        if found is None:
+            return None
+        event, state = found, f"{found.line} {looks_of(self.path / LABELS)}"
+        return self.once(("settled", event.date), state, lambda: read_settled(self.office(), event))
+
+    def by_hand(self, date: datetime.date) -> ByHand:
+        """What people changed before a settled day."""
+        office = self.office()
+        place = next(place for place, event in enumerate(office.journal.filed()) if event.date == date)
+        filed = office.journal.filed()[max(place - 1, 0) : place + 1]
+
+        def work() -> ByHand:
+            *before, own = past.read_all([past.pair_of(office, event) for event in filed])
+            pair = (before[0].day, before[0].report) if before else None
+            return by_hand_before(pair, own.day, str(office.day_folder(date)))
+
+        return self.once(("by hand", date), filed[-1].line, work)
+
+    def days_of_statement(self) -> list[DayOfAccounts]:
+        """The last days, of which the page of an account tells."""
+        office = self.office()
+
+        def work() -> list[DayOfAccounts]:
+            filed = office.journal.filed()[-DAYS_OF_STATEMENT:]
+            days = past.read_all([past.pair_of(office, event) for event in filed])
+            return [DayOfAccounts(own.day, own.report) for own in days]
+
+        return self.once("statement", office.journal.last_line, work)
+
+    def account(self, number: int) -> Markup | None:
+        """All that stands on the page of an account; None, if there is no such account."""
+        settled = self.settled()
+        if settled is None or number not in settled.report.book:
+            return None
+        statement = Statement(settled, number, self.days_of_statement())
+        return joined(*own_parts(settled, settled.report.book[number].account(), statement))
+
+    def asked(self, **more: Any) -> argparse.Namespace:
+        """The words of a question over all days."""
+        office = self.office()
+        office.aside = self.private / "index.sqlite"
+        known = {"opened": office, "office": None, "pairs": None, "begin": None, "end": None}
+        return argparse.Namespace(**{**known, **more})
+
+    def history(self, number: int) -> list[list[Any]]:
+        """All that became of an account, as the cells of rows."""
+        return [*history.in_folder(self.asked(account=number))]
+
+    def found(self, **filters: Any) -> Iterator[LogRow]:
+        """The log rows that a question asks for."""
+        said = self.asked(**filters)
+        yield from find.in_folder(said, *past.span_of(said))
+
+    def month(self, **more: Any) -> tuple[str, int, list[Markup]]:
+        """Several days together, as the page of ./day month has them."""
+        said = self.asked(**more)
+        key = ("month", said.begin, said.end, said.year, said.deadline)
+        state = f"{said.opened.journal.last_line} {looks_of(self.path / LABELS)}"
+        return self.once(key, state, lambda: month.parts_of(said))
+
+    def since(self, state: str) -> Iterator[str]:
+        """What was done behind a state that somebody has seen."""
+        line, parts, taken, _ = state.split(".")
+        office = self.office()
+        there, lines = office.handed_in(), [event.line for event in office.journal.events]
+        known = lines.index(line) + 1 if line in lines else 0
+        for event in office.journal.events[known:]:
+            yield f"{event.date} was {event.event} by {event.who}{f': {event.why}' if event.why else ''}"
+        is_same = office.journal.last_line == line
+        for part in there.parts[int(parts) if is_same else 0 :]:
+            yield f"{part.name} was handed in by {part.who}"
+        for own in there.taken[int(taken) if is_same else 0 :]:
+            yield f"place {own.place} was taken back by {own.who}: {own.why}"
+
+    # The next day.
+
+    def dates(self) -> list[datetime.date]:
+        """The days that may be settled next, the first of which is the one that is expected."""
+        office = self.office()
+        handed_in, last = office.handed_in(), office.last()
+        first = composing.settlement_date(None, office, handed_in)
+        if last is None:
+            return [first]
+        later = [date for date in composing.working_days(office, last, handed_in) if date > last.date]
+        return [first, *(date for date in later if date != first)][:MOST_DATES]
+
+    def next_day(self, word: str | None = None) -> NextDay:
+        """The next day, as it stands."""
+        office = self.office()
+        handed_in = office.handed_in()
+        date = composing.settlement_date(word, office, handed_in)
+        state = f"{folder.state_of(office)} {date}"
+        return self.once(("composed", date), state, lambda: composing.compose(office, handed_in.until(date), date))
+
+    def text_of_next(self) -> DayText:
+        """The text of the next day as it stands."""
+        next_day = self.next_day()
+        state = f"{folder.state_of(self.office())} {next_day.date}"
+        return self.once("text", state, lambda: next_day.day(NEXT))
+
+    def tried(self, word: str | None) -> tuple[NextDay, list[trial.Looked], list[str]]:
+        """The next day, what would come of each instruction, with what is new since the last look, and what the library
+        answers otherwise. The look is not kept."""
+        office, next_day = self.office(), self.next_day(word)
+
+        def work() -> tuple[list[trial.Looked], list[str]]:
+            looked = trial.look(next_day, next_day.day(NEXT), self.names())
+            return looked, trial.of_library(next_day, looked)
+
+        state = f"{folder.state_of(office)} {next_day.date}"
+        looked, otherwise = self.once(("tried", next_day.date), state, work)
+        trial.mark_new(office.next_folder / handed.LOOKED, looked)
+        return next_day, looked, otherwise
+
+    def closing(self, word: str | None) -> tuple[close.Outcome, list[str]]:
+        """What would come of it if the next day was closed now, by the second answer, and what is left for later."""
+        office, next_day = self.office(), self.next_day(word)
+        left = close.left_for_later(office.handed_in(), next_day.date)
+
+        def work() -> close.Outcome:
+            return close.outcome_of(close.settle(office, next_day, by_second=True))
+
+        state = f"{folder.state_of(office)} {next_day.date}"
+        return self.once(("closing", next_day.date), state, work), left
+
+
+def looks_of(path: Path) -> str:
+    """What tells that a file is another one than before; nothing, if it is not there."""
+    if not path.exists():
+        return ""
+    own = path.stat()
+    return f"{own.st_mtime_ns} {own.st_ctime_ns} {own.st_size} {own.st_ino}"
+
+
+def read_settled(office: Office, event: Event) -> Settled:
+    """A settled day with its report and the names."""
+    own = next(past.read_all([past.pair_of(office, event)]))
+    waits = read_pending(str(past.as_filed(office, event, "waiting")))
+    earlier = waiting_before(waits, own.day, own.report)
+    names = labels.of_folder(office.path)
+    return DeskSettled(own.day, own.report, DeskBook(), Frame([]), own.report.book.keys(), earlier, names)

@@ -1,0 +1,78 @@
+"""What goes wrong: each ends a command with a line on standard error and an exit status."""
+from pathlib import Path
+from typing import Any
+
+FOUND, WORDS, FILE = 1, 2, 3
+# As in the program: standard output did not take all.
+NOT_WRITTEN = 5
+# No value of a message is longer.
+MOST_SHOWN = 160
+
+
+class WordsFault(Exception):
+    """The words of the command do not fit together, or do not fit the files."""
+
+    status = WORDS
+
+
+class FileFault(Exception):
+    """A file is not what it must be: where, the name of the field or row, what was found there, and what was expected.
+    If the whole file is meant, `found` says all."""
+
+    status = FILE
+    # Of something that was handed in, its place.
+    place: int | None = None
+
+    def __init__(self, path: str | Path, line: int, field: str, found: object, expected: str) -> None:
+        super().__init__(path, line, field, found, expected)
+        self.path, self.line, self.field, self.found, self.expected = path, line, field, found, expected
+
+    def __str__(self) -> str:
+        place = f"{self.path}:{self.line}" if self.line else str(self.path)
+        if not self.expected:
+            return f"{place}: {self.found}"
+        field = f"{self.field}: " if self.field else ""
+        return f"{place}: {field}found {self.found}; expected {self.expected}"
+
+
+class RowFault(FileFault):
+    """A row has a fault: its number and the cause, as the program says it."""
+
+    def __init__(self, number: int, cause: str, *parts: Any) -> None:
+        super().__init__(*parts)
+        self.number, self.cause = number, cause
+
+    def as_program(self) -> str:
+        """The fault as the program tells it."""
+        return f"row {self.number}: {self.cause}"
+
+
+def shown(word: str) -> str:
+    """A field as a message shows it: between quotes, with what nobody sees made visible."""
+    if word == "":
+        return "nothing"
+    cut = word if len(word) <= MOST_SHOWN else word[:MOST_SHOWN] + ".."
+    return f"'{''.join(map(visible, cut))}'"
+
+
+def visible(character: str) -> str:
+    """A character that everybody sees, or what it is."""
+    is_seen = character.isprintable() and (character == " " or not character.isspace())
+    return character if is_seen else escaped(character)
+
+
+def escaped(character: str) -> str:
+    """A character that nobody sees, by its name or its number."""
+    names = {
+        "\0": "<NUL>",
+        "\t": "<tab>",
+        "\n": "<line feed>",
+        "\r": "<carriage return>",
+        "\ufeff": "<byte order mark>",
+        "\xa0": "<no-break space>",
+    }
+    if character in names:
+        return names[character]
+    number = ord(character)
+    # (a byte that is no UTF-8 is read as one of these)
+    return f"<byte {number - 0xDC00:02X}>" if 0xDC80 <= number <= 0xDCFF else f"<U+{number:04X}>"

@@ -1,0 +1,201 @@
+"""Finds the command that the words name, runs it, and answers the exit status."""
+import argparse
+import gc
+import importlib
+import signal
+import sys
+from typing import Protocol, cast
+
+from registry_tools import steps, streams, tables
+from registry_tools.errors import FILE, NOT_WRITTEN, FileFault, WordsFault
+from registry_tools.office import named_day
+from registry_tools.options import Words, look_at_files
+from registry_tools.progress import progress
+
+# Each command is a module of its own. It has its help as its own text, an EXAMPLE, and the functions `add_words`, which
+# tells a parser its words, and `run`, which answers the exit status.
+COMMANDS = {
+    "next": "writes the next day's text from a day and its report",
+    "chain": "looks whether days and reports follow from each other, and nothing is lost",
+    "verify": "works a day out once more, without the program, and compares the report",
+    "statements": "writes the statements of all accounts, each in a file",
+    "explain": "says what is wrong with a day text, and mends what a spreadsheet did to it",
+    "log": "writes the logs of reports as one table with a header",
+    "compliance": "shows which operators are compliant for a year, and why others are not",
+    "page": "makes HTML pages of a settled day: the day, compliance, accounts, and the rules",
+    "completion": "writes what a shell needs to complete the words of ./day and ./run",
+    "man": "writes the manual page",
+}
+# Those of a folder that remembers its days.
+OFFICE_COMMANDS = {
+    "init": "makes a folder that remembers its days, with the first day text",
+    "status": "shows how it stands: the last day, what waits, what was handed in",
+    "hand-in": "hands in instructions, working days and accounts for the next day",
+    "change": "changes an account or the rules by hand, as a difference",
+    "changes": "lists the changes by hand",
+    "label": "names users, holders and accounts, or lists the names",
+    "take-back": "takes something back that was handed in",
+    "try": "shows what would come of the next day as it stands",
+    "close": "settles the next day and files it",
+    "approve": "approves what another login asked for, or shows what waits for whom",
+    "undo": "takes the last day back, as long as it is not released",
+    "correct": "closes a settled day once more, without an instruction or with others, and all days behind it",
+    "release": "says that others know of the last day: it stays",
+    "anchor": "writes a line to be kept elsewhere, by which an audit sees later whether the folder has grown from here",
+    "audit": "looks whether anything in it was changed, and each day follows from the one before",
+    "due": "shows what is due: deadlines, ends of reversal windows, what waits, the end of the calendar",
+    "mend": "makes a lost or changed file of a day again, from what it follows from",
+    "find": "finds log rows over all days: of an account, a user, an act, what was refused",
+    "balance": "shows what an account held after a day",
+    "history": "shows all that became of an account",
+    "db": "makes a database of all days, for questions in SQL",
+    "month": "makes one page of several days: compliance, totals, refusals, changes by hand",
+    "send": "makes a package for each holder, to print or to send",
+    "desk": "serves the folder to a browser on this machine",
+    "import": "makes instructions or accounts of a table that a spreadsheet saved; needs no folder",
+    "export": "writes a table for a spreadsheet; needs no folder, if paths are named",
+    "form": "writes an empty table of an act, accounts or labels, to be filled in; needs no folder",
+}
+MODULES = {
+    "changes": "listing", "hand-in": "hand_in", "take-back": "take_back", "try": "trial", "import": "importing",
+    "export": "exporting",
+}  # fmt: skip
+# In which room of the package the module of a command lies; all others lie with the office.
+ROOMS = {
+    "questions": "chain verify statements explain log compliance due find balance history db",
+    "pages": "page month send",
+    "sheets": "import export form",
+    "office.changes": "change changes",
+    "desk": "desk",
+    "": "completion man",
+}
+ROOM_OF = {name: room for room, names in ROOMS.items() for name in names.split()}
+
+HEAD = """./day COMMAND ..
+
+The office round the program: the work of each day that needs no proof.
+
+"""
+TAIL = """
+There `--day DATE` stands in place of the paths of a day and its report: verify, statements, compliance, page, log,
+explain, export.
+./day COMMAND --help explains a command, with an example. ./day --version tells the version.
+
+exit status: 0 it is as it has to be, 1 something was found, 2 the words do not fit, 3 a file is not what it must be:
+then standard error has its name, the line, the field, what was found and what was expected. 5 standard output did not
+take all, or standard input is a folder. 130 somebody interrupted it.
+"""
+
+
+class Command(Protocol):
+    """A module that is a command."""
+
+    __doc__: str | None
+    EXAMPLE: str
+
+    def add_words(self, parser: argparse.ArgumentParser) -> None:
+        """Tells a parser the words of the command."""
+
+    def run(self, words: argparse.Namespace) -> int:
+        """Runs the command, and answers the exit status."""
+
+
+def help_text() -> str:
+    """The help of all commands."""
+    width = max(map(len, [*COMMANDS, *OFFICE_COMMANDS]))
+    lines = [f"  {name.ljust(width)}  {what}\n" for name, what in COMMANDS.items()]
+    own = [f"  {name.ljust(width)}  {what}\n" for name, what in OFFICE_COMMANDS.items()]
+    of_folder = "\nIn a folder that remembers its days, or with --office FOLDER:\n\n"
+    return streams.by_name("".join([HEAD, *lines, of_folder, *own, TAIL]))
+
+
+def parser_of(name: str, module: Command, names_day: bool = False) -> Words:
+    """The parser of a command. It reads no paths of a day if the words name a day of a folder in their place."""
+    parser = Words(names_day, prog=f"./day {name}", description=module.__doc__, epilog=f"example:\n  {module.EXAMPLE}")
+    module.add_words(parser)
+    named_day.add_words(name, parser)
+    return parser
+
+
+def module_of(name: str) -> Command:
+    """The module of a command."""
+    path = ["registry_tools", ROOM_OF.get(name, "office"), MODULES.get(name, name)]
+    return cast(Command, importlib.import_module(".".join(filter(None, path))))
+
+
+def run(name: str, arguments: list[str]) -> int:
+    """Runs a command. What it finds wrong is told on standard error."""
+    # (a book is a million small objects, none of which refers to itself: looking for such takes a third of the time)
+    gc.disable()
+    module = module_of(name)
+    try:
+        words = parser_of(name, module, named_day.is_named(name, arguments)).parse_args(arguments)
+        named_day.look_up(name, words)
+        look_at_files(words)
+        return module.run(words)
+    except SystemExit as end:
+        # (the help was written, or the words are not taken)
+        return int(end.code or 0)
+    except WordsFault as fault:
+        progress.clear()
+        print(f"./day {name}: {fault}", file=sys.stderr)
+        return fault.status
+    except FileFault as fault:
+        progress.clear()
+        print(fault, file=sys.stderr)
+        return fault.status
+    finally:
+        progress.clear()
+        steps.let_go()
+
+
+def begin(name: str, arguments: list[str]) -> int:
+    """Runs the words of the command line, by the name under which it was started, and answers the exit status."""
+    streams.make_ready(name, NOT_WRITTEN)
+    for number in (signal.SIGTERM, signal.SIGHUP):
+        # (what is half written is taken away, as after Ctrl-C; `nohup` stays in force)
+        if signal.getsignal(number) == signal.SIG_DFL:
+            signal.signal(number, signal.default_int_handler)
+    return main(arguments)
+
+
+def start() -> None:
+    """The command of an installation."""
+    sys.exit(begin("registry-day", sys.argv[1:]))
+
+
+def main(arguments: list[str]) -> int:
+    """Runs the words of a command line, and answers the exit status."""
+    if arguments[:1] == ["help"]:
+        arguments = [*arguments[1:2], "--help"]
+    if arguments[:1] in (["-h"], ["--help"], ["-V"], ["--version"]) and arguments[1:]:
+        print(f"./day: {arguments[0]} takes no other word: found {' '.join(arguments[1:])}", file=sys.stderr)
+        return 2
+    if arguments[:1] in (["-h"], ["--help"]):
+        return streams.write("./day", help_text(), NOT_WRITTEN)
+    if arguments[:1] in (["-V"], ["--version"]):
+        return streams.write("./day", streams.by_name(f"./day of registry {tables.VERSION}\n"), NOT_WRITTEN)
+    if not arguments:
+        print(help_text(), end="", file=sys.stderr)
+        return 2
+    name, *rest = arguments
+    if name not in COMMANDS and name not in OFFICE_COMMANDS:
+        print(f"./day: there is no command {name}\n\n{help_text()}", end="", file=sys.stderr)
+        return 2
+    try:
+        status = run(name, rest)
+        sys.stdout.flush()
+        return status
+    except OSError as error:
+        return cannot_go_on(f"./day {name}", error)
+    except KeyboardInterrupt:
+        return 130
+
+
+def cannot_go_on(name: str, error: OSError) -> int:
+    """Says what cannot be read or written: a file, or standard output, which has no name."""
+    if error.filename is None:
+        streams.cannot_be_written(name, error)
+        return NOT_WRITTEN
+    print(f"{error.filename}: it cannot be read or written: {error.strerror}", file=sys.stderr)
+    return FILE

@@ -1,0 +1,164 @@
+"""Heads of a journal, and the lines that keep them elsewhere.
+
+The head is the sum of the journal's last line; its first 12 digits are its short name. Whoever kept it can tell later
+whether a folder has grown from there: each line of the journal holds the sum of the line before it, so a folder that
+was restored from a backup, or a copy that went another way, does not have that line.
+
+  anchor,AT,DATE,HEAD,ENGINE,SIGNATURE
+
+AT is when the line was made, in UTC; DATE is the last day; HEAD is the whole sum; ENGINE is what settled that day.
+SIGNATURE is empty, or what `ssh-keygen -Y sign` made of all before it, in one line.
+"""
+import base64
+import binascii
+import datetime
+import re
+import subprocess
+import tempfile
+from collections.abc import Iterator
+from dataclasses import dataclass
+from pathlib import Path
+
+from registry_tools.errors import FileFault, WordsFault, shown
+from registry_tools.office import journal
+from registry_tools.office.journal import FILED, Event, Journal
+from registry_tools.texts.rows import rows_of
+
+TAG, FORM = "anchor", "anchor,AT,DATE,HEAD,ENGINE,SIGNATURE"
+FEWEST_DIGITS = 12
+HEAD = re.compile(f"[0-9a-f]{{{FEWEST_DIGITS},64}}")
+WHOLE = re.compile("[0-9a-f]{64}")
+# For what ssh-keygen signs: a signature of something else is none of an anchor.
+NAMESPACE, SIGNER = "registry-anchor", "anchor"
+BEGIN, END = "-----BEGIN SSH SIGNATURE-----", "-----END SSH SIGNATURE-----"
+COLUMNS_OF_ARMOUR = 70
+
+
+@dataclass(frozen=True)
+class Anchor:
+    """A head that is kept elsewhere."""
+
+    at: str
+    date: datetime.date
+    head: str
+    engine: str
+    signature: str = ""
+
+    def signed_text(self) -> str:
+        """What a signature is made of: all fields before it."""
+        return journal.row_of([TAG, self.at, str(self.date), self.head, self.engine])
+
+    def row(self) -> str:
+        """Its line."""
+        return f"{self.signed_text()},{self.signature}"
+
+
+def read(path: str | Path) -> Iterator[tuple[int, Anchor]]:
+    """The anchors of a file, each with its line. Raises FileFault at the first line that is none."""
+    source = rows_of(path)
+    for index in range(len(source)):
+        fields = source.fields(index)
+        try:
+            tag, at, date, head, engine, signature = fields
+            anchor = Anchor(at, datetime.date.fromisoformat(date), head, engine, signature)
+            if tag != TAG or not WHOLE.fullmatch(head):
+                raise ValueError
+        except ValueError:
+            raise source.fault(index, "row", shown(",".join(fields)), FORM) from None
+        yield source.line(index), anchor
+
+
+def head_of(word: str) -> str:
+    """A head as somebody typed it."""
+    if not HEAD.fullmatch(word):
+        raise WordsFault(f"--since {word} is no head: it has {FEWEST_DIGITS} to 64 digits, 0 to 9 and a to f")
+    return word
+
+
+def place_of(there: Journal, head: str) -> int | None:
+    """How many events stood in the journal when it had this head; None, if it never had it."""
+    lines = [there.beginning, *(event.line for event in there.events)]
+    return next((place for place, line in enumerate(lines) if line.startswith(head)), None)
+
+
+def not_grown(there: Journal, head: str, date: datetime.date | None) -> FileFault | None:
+    """What shows that a journal has not grown from a head, whose last day was `date`; nothing, if it has."""
+    if place_of(there, head) is not None:
+        return None
+    last = there.filed()[-1].date if there.filed() else None
+    found = f"no line with the head {head[:FEWEST_DIGITS]}"
+    if date is None:
+        return FileFault(there.path, 0, "head", found, "a journal that has grown from it; --date tells its last day")
+    if last is None or last < date:
+        ends = f"its last day is {last}" if last else "no day is settled"
+        expected = f"the day {date}, after which the head was taken: this is an earlier state, or another folder"
+        return FileFault(there.path, 0, "head", f"{found}: {ends}", expected)
+    expected = f"another history up to {date}: {parting(there, date)}"
+    return FileFault(there.path, line_of(there, date), "head", found, expected)
+
+
+def line_of(there: Journal, date: datetime.date) -> int:
+    """The line of the event that filed a day, or the one behind it."""
+    places = (place for place, event in enumerate(there.events, 2) if event.event == FILED and event.date >= date)
+    return next(places, 0)
+
+
+def parting(there: Journal, date: datetime.date) -> str:
+    """Up to when a journal and one with another head may have gone together."""
+    event: Event | None = next((own for own in reversed(there.filed()) if own.date <= date), None)
+    return f"here {event.date} was filed by {event.who} at {event.at}" if event else "here no day is filed up to then"
+
+
+# Signatures, by ssh-keygen.
+
+
+def signed(anchor: Anchor, key: Path) -> Anchor:
+    """An anchor with its signature by the key."""
+    armoured = keygen("sign", ["-f", str(key)], anchor.signed_text(), key)
+    lines = armoured.split("\n")
+    body = "".join(line for line in lines if line and not line.startswith("-----"))
+    return Anchor(anchor.at, anchor.date, anchor.head, anchor.engine, body)
+
+
+def wrong_signature(anchor: Anchor, key: Path) -> str:
+    """Why a signature is not that of the key; nothing, if it is."""
+    if not anchor.signature:
+        return "no signature"
+    try:
+        base64.b64decode(anchor.signature, validate=True)
+    except (binascii.Error, ValueError):
+        return f"a signature that is none: {shown(anchor.signature[:20])}"
+    public = key if key.suffix == ".pub" else key.with_name(key.name + ".pub")
+    with tempfile.TemporaryDirectory() as folder:
+        signers, signature = Path(folder) / "signers", Path(folder) / "signature"
+        try:
+            signers.write_text(f"{SIGNER} {public.read_text(encoding='utf-8').strip()}\n", encoding="utf-8")
+        except (OSError, UnicodeDecodeError) as error:
+            raise FileFault(public, 0, "", f"it cannot be read: {error}", "the public key of the anchors") from None
+        signature.write_text(armour(anchor.signature), encoding="ascii")
+        words = ["-f", str(signers), "-I", SIGNER, "-s", str(signature)]
+        try:
+            keygen("verify", words, anchor.signed_text(), public)
+        except FileFault:
+            return "a signature by another key, or of another line"
+    return ""
+
+
+def armour(signature: str) -> str:
+    """A signature in lines, as ssh-keygen reads it."""
+    parts = [signature[at : at + COLUMNS_OF_ARMOUR] for at in range(0, len(signature), COLUMNS_OF_ARMOUR)]
+    return "\n".join([BEGIN, *parts, END, ""])
+
+
+def keygen(what: str, words: list[str], text: str, key: Path) -> str:
+    """What `ssh-keygen -Y` answers of a text."""
+    command = ["ssh-keygen", "-Y", what, "-n", NAMESPACE, *words]
+    try:
+        ran = subprocess.run(command, input=text.encode("utf-8", "surrogateescape"), capture_output=True, check=False)
+    except OSError as error:
+        raise FileFault("ssh-keygen", 0, "", f"it cannot be run: {error.strerror}", "OpenSSH's, which signs") from None
+    if ran.returncode:
+        said = ran.stderr.decode("utf-8", "replace").strip().replace("\n", " ")
+        raise FileFault(key, 0, "key", f"ssh-keygen -Y {what}: {said}", "a key that signs anchors")
+    return ran.stdout.decode("ascii", "replace")
+

@@ -1,0 +1,132 @@
+"""Approves what another login asked for, where office.ini asks for four eyes: a change by its place, or a close, undo,
+release or correct by its date. Without words it shows what waits for whom.
+
+  ./day approve 3                              the change at place 3, with all that was handed in with it
+  ./day approve close --date 2025-09-24        the close that somebody asked for
+
+An approval is of exactly what was asked for. A change counts from then on; a command is done when it is given again, by
+another login than the one that approves. If what it would do has changed by then, it waits once more.
+
+Nobody approves what the same login asked for, and a name that is typed approves nothing: the login is that of the
+system.
+"""
+import argparse
+
+from registry_tools import streams
+from registry_tools.calendars import dates
+from registry_tools.errors import WordsFault
+from registry_tools.office import approvals, composing, files, folder, handed, people, words
+from registry_tools.office.approvals import COMMAND_OF, Asked
+from registry_tools.office.folder import Office
+from registry_tools.office.handed import HandedIn, Part
+from registry_tools.office.people import MAY_WAIT
+
+EXAMPLE = "./day approve --office out/office"
+OF_DATES = tuple(name for name in MAY_WAIT if name not in COMMAND_OF.values())
+NOTHING = "nothing waits for another login"
+
+
+def add_words(parser: argparse.ArgumentParser) -> None:
+    """Tells a parser the words of the command."""
+    what = f"the place of something that was handed in, or {', '.join(OF_DATES)}"
+    parser.add_argument("what", metavar="PLACE|COMMAND", nargs="*", help=what)
+    parser.add_argument("--date", metavar="DATE", help="the day of the command")
+    words.add_office(parser)
+    words.add_who(parser)
+
+
+def run(said: argparse.Namespace) -> int:
+    """Runs the command, and answers the exit status."""
+    who = words.one_line("--who", said.who)
+    if not said.what:
+        return show(said)
+    with folder.locked(said.office, "approve", who, folder.to_errors, said.seen, said.whom) as office:
+        if said.what[0] in OF_DATES:
+            return approve_command(office, said, who)
+        if said.date is not None:
+            raise WordsFault("--date stands behind a command: a place needs none")
+        handed_in = office.handed_in()
+        parts = [part_at(office, handed_in, word) for word in said.what]
+        for part in {part.start: part for part in parts}.values():
+            approve_part(office, handed_in, part, who)
+    return 0
+
+
+def show(said: argparse.Namespace) -> int:
+    """Shows what waits for whom."""
+    office = folder.opened(said.office, folder.to_errors)
+    handed_in = office.handed_in()
+    lines = [*approvals.told(office, handed_in)]
+    for part in handed_in.waiting:
+        rows = [row for item in handed_in.items(part.kind) if item.part is part for row in item.rows]
+        lines += [f"  {part.start}: {part.name}", *(f"    {row}" for row in rows)]
+    print(streams.by_name("\n".join(lines or [NOTHING])))
+    return 0
+
+
+# What was handed in.
+
+
+def part_at(office: Office, handed_in: HandedIn, word: str) -> Part:
+    """What waits at a place, and may be approved by this login."""
+    part = handed_in.part_at(int(word)) if word.isascii() and word.isdigit() else None
+    if part is None:
+        raise WordsFault(f"{word}: expected a place of ./day status, or one of {', '.join(OF_DATES)} with --date")
+    command = COMMAND_OF.get(part.kind)
+    if command is None or not approvals.waits(office, command):
+        raise WordsFault(f"place {word} does not wait for another login")
+    by = next((own for own in handed_in.approved if own.place == part.start), None)
+    if by is not None:
+        raise WordsFault(f"place {word} was approved by {by.login} at {by.at}")
+    must_be_other(office, command, part.who, part.login)
+    return part
+
+
+def approve_part(office: Office, handed_in: HandedIn, part: Part, who: str) -> None:
+    """Approves something that was handed in."""
+    items = [item for item in handed_in.items(part.kind) if item.part is part]
+    if not items:
+        raise WordsFault(f"place {part.start} was taken back")
+    where = handed.places(part.start, part.end)
+    left = approvals.approve(office, approvals.sum_of_part(handed_in, part), where, who)
+    print(f"approved: {where}, by {approvals.in_words(office, part.who, part.login)}: {part.name}{left}")
+    print("\n".join(f"  {row}" for item in items for row in item.rows))
+
+
+def must_be_other(office: Office, command: str, who: str, login: str) -> None:
+    """Ends the command if this login asked for it, or may not do it."""
+    if people.person_of(login) == people.person_of(office.login):
+        raise WordsFault(f"{approvals.in_words(office, who, login)} asked for it: another login approves it")
+    people.must_be_allowed(office.people, office.login, command)
+
+
+# Commands.
+
+
+def approve_command(office: Office, said: argparse.Namespace, who: str) -> int:
+    """Approves what somebody asked for."""
+    command, *more = said.what
+    if more or said.date is None:
+        raise WordsFault(f"name the day of what is approved: ./day approve {command} --date DATE")
+    date = str(dates.date_of("--date", said.date))
+    there = [asked for asked in approvals.all_asked(office) if (asked.command, asked.date) == (command, date)]
+    if not there:
+        raise WordsFault(f"nobody asked for {command} of {date} as the folder stands now: ./day {command} asks for it")
+    asked = there[0]
+    must_be_other(office, command, asked.who, asked.login)
+    must_be_same(office, asked)
+    left = approvals.approve(office, asked.sum, str(asked), who)
+    by = approvals.in_words(office, asked.who, asked.login)
+    print(f"approved: {asked}, asked for by {by}: another login than {office.login} gives it again{left}")
+    return 0
+
+
+def must_be_same(office: Office, asked: Asked) -> None:
+    """Ends the command if what is asked for would give another text by now."""
+    if asked.command != "close":
+        return
+    handed_in = office.handed_in()
+    date = dates.date_of("--date", asked.date)
+    composed = composing.compose(office, handed_in.until(date), date)
+    if files.sum_of(composed.text + composed.waiting_text()) != asked.result:
+        raise WordsFault(f"what closing {date} gives has changed since it was asked for: ./day close asks once more")

@@ -1,0 +1,105 @@
+"""What the index of a folder answers: log rows as a report has them, what an account was, and changes by hand."""
+import datetime
+import sqlite3
+from collections.abc import Iterator, Mapping, Sequence
+from typing import Any
+
+from registry_tools.office import past
+from registry_tools.office.daybase import MOST_STORED
+from registry_tools.office.folder import Office
+from registry_tools.second import faults, rules
+from registry_tools.tables import ACTS, DISTRIBUTE
+from registry_tools.texts.accounts import Reader
+from registry_tools.texts.books import Sums
+from registry_tools.texts.changes import HandChange
+from registry_tools.texts.report import CHECK_NAMES, LogRow, log_row
+from registry_tools.texts.rows import rows_of
+
+FIELDS = {act.word: act.fields.split() for act in ACTS}
+LOGGED = (
+    "SELECT i.record, i.date, i.proposed, i.proposer, i.approver, i.act, i.account, i.other, i.kind, i.amount,"
+    " i.reversed_record, i.status, i.year, i.tonnes, log.is_done, log.code, log.figure"
+    " FROM instructions AS i JOIN log ON log.record = i.record"
+)
+SHARES = "SELECT receiver, amount FROM shares WHERE record = ? ORDER BY place"
+# The records that name an account: as the first one, as the other one, or as one that receives.
+NAMING = (
+    "i.record IN (SELECT record FROM instructions WHERE account = :account"
+    " UNION SELECT record FROM instructions WHERE other = :account"
+    " UNION SELECT record FROM shares WHERE receiver = :account)"
+)
+# Those that name an account that a holder has had.
+HOLDER_HAS = NAMING.replace("= :account", "IN (SELECT account FROM accounts_by_day WHERE holder = :holder)")
+
+
+def logged(
+    office: Office, database: sqlite3.Connection, where: Sequence[str], values: Mapping[str, object]
+) -> Iterator[LogRow]:
+    """The log rows for which all conditions hold, by rising record, with what the accounts then held."""
+    said = f"{LOGGED} WHERE {' AND '.join(where) or '1'} ORDER BY i.record"
+    for row in database.execute(said, values).fetchall():
+        found = log_row_of(office, database, row)
+        for number, *held in database.execute("SELECT account, general, aviation FROM held WHERE record = ?", row[:1]):
+            found.held[number] = dict(zip(rules.KINDS, held))
+        yield found
+
+
+def log_row_of(office: Office, database: sqlite3.Connection, row: tuple[Any, ...]) -> LogRow:
+    """The log row of a row of the index."""
+    record, date, proposed, proposer, approver, act, first, other, kind, amount = row[:10]
+    number, status, year, tonnes, is_done, code, figure = row[10:]
+    shares = database.execute(SHARES, (record,)).fetchall()
+    if MOST_STORED in (amount, tonnes, *(part for _, part in shares)):
+        return as_reported(office, datetime.date.fromisoformat(date), record)
+    known = {
+        "FROM": first, "ACCOUNT": first, "TO": shares[0][0] if shares else first, "OTHER": other, "KIND": kind,
+        "AMOUNT": amount, "NUMBER": number, "STATUS": status, "YEAR": year, "TONNES": tonnes,
+    }  # fmt: skip
+    own = [known[name] for name in FIELDS[act]]
+    if act == DISTRIBUTE:
+        own[2:] = [field for share in shares for field in share]
+    fields = [proposed, proposer, "" if approver is None else approver, act, *own]
+    instruction = rules.read_instruction([*map(str, fields)])
+    name = CHECK_NAMES[code - 1] if code else ""
+    return LogRow(
+        "", 0, record, datetime.date.fromisoformat(date), instruction, bool(is_done), figure, code or 0, name
+    )
+
+
+def as_reported(office: Office, date: datetime.date, record: int) -> LogRow:
+    """A log row of the report itself: a number of it may be larger than a column can hold."""
+    event = next(event for event in office.journal.filed() if event.date == date)
+    source = rows_of(str(past.as_filed(office, event, "report")))
+    place = next(place for place, row in enumerate(source.rows) if row.startswith(f"log,{record},"))
+    return log_row(Reader(source, faults.Reading(last="work", version=2)), place)
+
+
+def balance(database: sqlite3.Connection, account: int, date: str) -> dict[str, Sums] | None:
+    """What an account held, had surrendered and had deleted after a day, by kind; None, if there was none."""
+    state = database.execute(
+        "SELECT date, general, aviation FROM accounts_by_day WHERE account = ? AND date <= ?"
+        " ORDER BY date DESC LIMIT 1",
+        (account, date),
+    ).fetchone()
+    if state is None:
+        return None
+    since, *held = state
+    gone = {(what, kind): 0 for what in ("surrender", "deletion") for kind in rules.KINDS}
+    gone |= {
+        (what, kind): amount
+        for what, kind, amount in database.execute(
+            "SELECT what, kind, sum(amount) FROM surrenders WHERE account = ? AND date = ? AND NOT is_reversed"
+            " GROUP BY what, kind",
+            (account, since),
+        )
+    }
+    return {
+        kind: Sums(own, gone["surrender", kind], gone["deletion", kind]) for kind, own in zip(rules.KINDS, held)
+    }
+
+
+def hand_changes(database: sqlite3.Connection, where: str, *values: object) -> Iterator[tuple[str, HandChange]]:
+    """What people changed, each with its day."""
+    said = f"SELECT date, account, sign, text FROM hand_changes WHERE {where} ORDER BY date, place"
+    for date, account, sign, text in database.execute(said, values):
+        yield date, HandChange(account, sign, text)

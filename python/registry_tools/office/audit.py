@@ -1,0 +1,362 @@
+"""Looks whether a folder of days is what it was: nothing in it was changed, and each day follows from the one before
+it.
+
+  the journal    each line has its own sum and that of the line before, and each event can follow
+  the files      each has the sum that the journal says; no day lacks, and none is there that the journal does not name
+  each pair      the report is that of the day, and its totals are the sums over its accounts
+  the index      it has of each day what its files have, if it is there and up to the journal
+  each seam      the day's text is, to the letter, what the day before, its report and what was handed in make; so is
+                 what waits
+  the names      labels.csv is the one with which the last day was filed or released
+
+With --settle each day is settled once more by the program, and must give the same bytes; with --second by the second
+answer. With --from the pairs before that date are not read; journal and files are always looked at as a whole.
+
+With --since HEAD it says also whether the folder has grown from the state whose journal had that head (./day status
+shows the head), with --date DATE where it left the one whose last day was DATE; with --anchors FILE of each line of
+./day anchor. A signature is looked at if office.ini names a key.
+
+With --csv or --json, a row for each difference.
+
+exit status: 0 if nothing was found, else 1.
+"""
+import argparse
+import datetime
+import itertools
+import sqlite3
+from dataclasses import dataclass, field
+from pathlib import Path
+from typing import Iterator
+
+from registry_tools import showing
+from registry_tools.calendars import dates
+from registry_tools.errors import FOUND, FileFault, WordsFault, shown
+from registry_tools.notes import LOOK, counted
+from registry_tools.office import (
+    anchors, approvals, composing, files, folder, handed, index, journal, lock, past, settling, words,
+)  # fmt: skip
+from registry_tools.office.composing import NextDay
+from registry_tools.office.folder import Office
+from registry_tools.office.handed import FIRST, HandedIn
+from registry_tools.office.journal import Event, Journal
+from registry_tools.office.layout import DAYS, JOURNAL, SETTINGS
+from registry_tools.office.past import PastDay
+from registry_tools.output import write_answer
+from registry_tools.progress import progress
+from registry_tools.texts.day_text import DayText, read_day
+from registry_tools.texts.follows import differences
+from registry_tools.texts.report import Report, read_report
+from registry_tools.texts.rows import bytes_of
+
+EXAMPLE = "./day audit --second --office out/office"
+
+
+def add_words(parser: argparse.ArgumentParser) -> None:
+    """Tells a parser the words of the command."""
+    parser.add_argument("--settle", action="store_true", help="settle each day once more by the program")
+    parser.add_argument("--second", action="store_true", help="settle each day once more by the second answer")
+    parser.add_argument("--from", dest="begin", metavar="DATE", help="read the pairs from this day on")
+    parser.add_argument("--since", metavar="HEAD", help="look whether the folder has grown from this head")
+    parser.add_argument("--date", metavar="DATE", help="the last day of the state with the head of --since")
+    parser.add_argument("--anchors", metavar="FILE", help="look whether it has grown from each of these anchors")
+    words.add_office(parser)
+    showing.add_words(parser)
+
+
+# How what is found is mended.
+JOURNAL_BACK = "put the journal back from a copy: audit --anchors tells whether it is the right one"
+JOURNAL_FIRST = "mend the journal first, and audit again"
+FILES_FIRST = "mend the files of this day first, and audit again"
+SETTLE_AGAIN = "./day undo takes the days back to this one, to be closed again; if released, a later day corrects it"
+AWAY, NEXT_BACK = "move it to another folder", "put it back from a copy, or take it back and hand it in again"
+WAITS_BACK = "put it back from a copy: else ./day undo and ./day close of the last day write it anew"
+APPROVES_NOTHING = "take the file away: it approves nothing"
+OTHER_FOLDER = "look for the folder or the copy that has grown from there"
+
+
+@dataclass
+class Audit:
+    """What was found."""
+
+    office: Office
+    found: list[FileFault] = field(default_factory=list)
+    told: set[str] = field(default_factory=set)
+    # The days whose files are not as they were filed.
+    changed: set[datetime.date] = field(default_factory=set)
+    days: int = 0
+    # What to do about files that the journal does not name: not before it is as it was.
+    away: str = AWAY
+
+    def mending(self, date: datetime.date) -> str:
+        """How a difference of a day is mended: first its files, if they are not as they were filed."""
+        return FILES_FIRST if date in self.changed else SETTLE_AGAIN
+
+    def add(self, *faults: FileFault, mend: str = "") -> None:
+        """Adds what was found, and how it is mended, each once: a file that lacks is missed by each that reads it."""
+        for fault in faults:
+            # (what to do about it is said by the first one alone)
+            told = str(fault) if fault.expected else str(fault).partition(";")[0]
+            if told not in self.told:
+                self.told.add(told)
+                self.found.append(fault)
+                if mend and folder.PUT_BACK not in str(fault):
+                    words = "expected" if fault.expected else "found"
+                    setattr(fault, words, f"{getattr(fault, words)}; {mend}")
+
+
+def run(said: argparse.Namespace) -> int:
+    """Runs the command, and answers the exit status."""
+    path = folder.folder_of(said.office)
+    folder.put_right_if_free(path, folder.to_errors)
+    begin = past.date_or("--from", said.begin, datetime.date.min)
+    settings = folder.read_settings(path / SETTINGS)
+    there = Journal(path / JOURNAL, files.bytes_in(path / JOURNAL).decode("utf-8", "surrogateescape"))
+    is_changing = lock.is_held(path / lock.NAME)
+    audit = Audit(Office(path, settings, there))
+    for fault in journal.faults_of(there):
+        audit.add(fault, mend=JOURNAL_BACK)
+        audit.away = JOURNAL_FIRST
+    look_at_heads(audit, said)
+    look_at_files(audit)
+    audit.add(*audit.office.changed_labels())
+    look_at_next(audit)
+    with index.there(audit.office) as database:
+        look_at_days(audit, begin, said.settle, said.second, database)
+    if showing.is_for_programs(said):
+        write_answer(
+            showing.for_programs(said, showing.FAULT, [showing.fault_row(finding) for finding in audit.found]), said.to
+        )
+    else:
+        write_answer("\n".join([*map(str, audit.found), summary(audit), ""]), said.to)
+    tell_engines(there)
+    tell_people(there)
+    if audit.found and (is_changing or has_changed(there)):
+        folder.to_errors(f"{LOOK}: another command changed {path} meanwhile, of which this may come: audit again")
+    return FOUND if audit.found else 0
+
+
+def tell_engines(there: Journal) -> None:
+    """Says how many days no proved engine has settled: that is no difference."""
+    days = [day for day in there.filed() if not settling.is_proved(day.engine)]
+    if days:
+        folder.to_errors(f"settled by no proved engine, as far as the journal says: {len(days)}, last {days[-1].date}")
+
+
+def tell_people(there: Journal) -> None:
+    """Says where office.ini came to name other people, or other commands of four eyes: whoever may write it may do
+    that, and nobody would see it later."""
+    for before, event in itertools.pairwise(there.events):
+        if event.people != before.people:
+            what = "other people or commands of four eyes" if before.people else "people, or commands of four eyes"
+            named = what if event.people else "nobody any more"
+            by = f"{event.event} by {event.who}, login {event.login}, at {event.at}"
+            folder.to_errors(f"from here on {SETTINGS} names {named}: {event.date}, {by}")
+
+
+def has_changed(there: Journal) -> bool:
+    """Whether a command has written the journal since it was read."""
+    return files.bytes_in(there.path).decode("utf-8", "surrogateescape") != there.text
+
+
+def summary(audit: Audit) -> str:
+    """The last line, with the counts."""
+    path, there = audit.office.path, audit.office.journal
+    counts = f"events {len(there.events)}, days {len(there.filed())}, pairs read {audit.days}"
+    return f"{path}: {counts}: {counted(len(audit.found), 'difference', 'differences')}"
+
+
+# Heads that were kept.
+
+
+def look_at_heads(audit: Audit, said: argparse.Namespace) -> None:
+    """Whether the journal has grown from each head that was kept elsewhere."""
+    there, key = audit.office.journal, audit.office.settings.key
+    if said.date is not None and said.since is None:
+        raise WordsFault("--date tells the last day of --since HEAD, which is not there")
+    if said.since is not None:
+        date = dates.date_of("--date", said.date) if said.date is not None else None
+        fault = anchors.not_grown(there, anchors.head_of(said.since), date)
+        audit.add(*([fault] if fault else []), mend=OTHER_FOLDER)
+    for line, anchor in anchors.read(said.anchors) if said.anchors is not None else ():
+        fault = anchors.not_grown(there, anchor.head, anchor.date)
+        audit.add(*([fault] if fault else []), mend=OTHER_FOLDER)
+        wrong = anchors.wrong_signature(anchor, key) if key else ""
+        if wrong:
+            audit.add(FileFault(said.anchors, line, "SIGNATURE", wrong, f"one by {key}"))
+
+
+# Files.
+
+
+def look_at_files(audit: Audit) -> None:
+    """Tells files that are not as they were filed, or that no command put there."""
+    office = audit.office
+    filed = office.journal.filed()
+    for event in progress.over(filed, "looking at the files", len(filed), step=10):
+        changed = [*office.changed_files(event)]
+        audit.add(*office.changed_tables(event))
+        if changed:
+            audit.changed.add(event.date)
+        audit.add(*changed)
+        audit.add(*office.strange_files(event), mend=audit.away)
+    try:
+        audit.add(*strange_days(office, {str(event.date) for event in filed}), mend=audit.away)
+    except FileFault as fault:
+        audit.add(fault, mend=folder.PUT_BACK)
+
+
+def strange_days(office: Office, named: set[str]) -> Iterator[FileFault]:
+    """What lies among the days, and is none."""
+    for path in files.listed(office.path / DAYS):
+        if path.name not in named:
+            found = "something that the journal does not name"
+            yield FileFault(path, 0, "", found, "the days of the journal alone")
+
+
+def look_at_next(audit: Audit) -> None:
+    """Whether what was handed in for the next day is as it was handed in, and stands behind the last day."""
+    try:
+        audit.office.handed_in()
+        audit.add(*approvals.all_approvals(audit.office).faults, mend=APPROVES_NOTHING)
+    except FileFault as fault:
+        audit.add(fault, mend=NEXT_BACK)
+
+
+# Pairs and seams.
+
+
+def look_at_days(
+    audit: Audit, begin: datetime.date, by_program: bool, by_second: bool, database: sqlite3.Connection | None
+) -> None:
+    """Each pair by itself, each day with the pair before it, and what the index has of it, if there is one."""
+    before: tuple[Event, DayText, Report] | None = None
+    filed = audit.office.journal.filed()
+    for event in progress.over(filed, "looking at the days", len(filed), step=1):
+        if event.date < begin:
+            continue
+        if not audit.office.day_folder(event.date).is_dir():
+            # (it was told with the files)
+            before = None
+            continue
+        try:
+            own = look_at_day(audit, event, before, by_program, by_second)
+            if database and (before or event is filed[0]):
+                look_at_index(audit, database, own, before)
+            before = own
+        except FileFault as fault:
+            audit.add(fault, mend=audit.mending(event.date))
+            before = None
+    look_at_waits(audit, before)
+
+
+def look_at_index(
+    audit: Audit,
+    database: sqlite3.Connection,
+    own: tuple[Event, DayText, Report],
+    before: tuple[Event, DayText, Report] | None,
+) -> None:
+    """Whether the index has of a day what its files have, if they are as they were filed."""
+    if {own[0].date, before and before[0].date} & audit.changed:
+        return
+    event, day, report = own
+    old = (before[2], before[1].heading) if before else (None, [])
+    audit.add(*index.differences(database, audit.office, PastDay(day, report, *old)))
+
+
+def look_at_waits(audit: Audit, last: tuple[Event, DayText, Report] | None) -> None:
+    """Whether next/ has what waits behind the last day, as the command wrote it that filed or undid a day."""
+    if last is None:
+        return
+    event, day, report = last
+    path = audit.office.next_folder / handed.WAITS
+    try:
+        expected = composing.waits_text(day, report, str(audit.office.file(event, "waiting")))
+        compare(audit, path, files.bytes_in(path), expected, f"the day {event.date}", WAITS_BACK)
+    except FileFault as fault:
+        audit.add(fault, mend=WAITS_BACK)
+
+
+def look_at_day(
+    audit: Audit, event: Event, before: tuple[Event, DayText, Report] | None, by_program: bool, by_second: bool
+) -> tuple[Event, DayText, Report]:
+    """Tells where a filed pair is not what its journal says, or what follows from the day before."""
+    office = audit.office
+    day = read_day(str(office.file(event, "day")), before and before[2].known(before[1]))
+    report = read_report(str(office.file(event, "report")), day)
+    audit.days += 1
+    mend = audit.mending(event.date)
+    audit.add(*differences(day, report), mend=mend)
+    for name, there, expected in (
+        ("date", day.head.date, event.date),
+        ("first", day.head.next_record, event.first),
+        ("next", report.next_record, event.next),
+    ):
+        if there != expected:
+            expected = f"{expected}, as {office.journal.path} says"
+            audit.add(FileFault(day.path, day.line_of_tag("day"), name, there, expected), mend=mend)
+    look_at_seam(audit, event, day, before)
+    text = bytes_of(report.path)
+    if by_program:
+        try:
+            settled = settling.by_engine(office.settings.program, bytes_of(day.path), day.path)
+            compare(audit, report.path, text, settled, "the program", mend)
+        except FileFault as fault:
+            # (the pair was read: the next day is looked at behind it)
+            audit.add(fault, mend=mend)
+    if by_second:
+        compare(audit, report.path, text, settling.by_rules(day), "the second answer", mend)
+    return event, day, report
+
+
+def look_at_seam(audit: Audit, event: Event, day: DayText, before: tuple[Event, DayText, Report] | None) -> None:
+    """Whether the day's text and what waits are what the day before and the files that were handed in make."""
+    office = audit.office
+    path = office.file(event, "handed")
+    filed = handed.from_text(path.parent, path, files.bytes_in(path))
+    is_first = any(part.kind == FIRST for part in filed.parts)
+    if not is_first and before is None:
+        return
+    composed = first_again(office, event, day, filed) if is_first else later_again(office, event, before)
+    mend = audit.mending(event.date)
+    compare(audit, day.path, bytes_of(day.path), composed.text, "what was handed in", mend)
+    waiting = office.file(event, "waiting")
+    compare(audit, str(waiting), files.bytes_in(waiting), composed.waiting_text(), "what was handed in", mend)
+
+
+def first_again(office: Office, event: Event, day: DayText, filed: HandedIn) -> NextDay:
+    """The first day of its own first rows and what was handed in."""
+    count = next(part.count for part in filed.parts if part.kind == FIRST)
+    new = files.bytes_in(office.file(event, "do")).decode("utf-8", "surrogateescape").splitlines()
+    rows = [*day.source.rows[: day.first_do + count], *new, "end"]
+    return NextDay(event.date, event.first, handed.text_of_rows(rows), [], [], [], {})
+
+
+def later_again(office: Office, event: Event, before: tuple[Event, DayText, Report] | None) -> NextDay:
+    """The day made once more of what was handed in for it. Raises FileFault if that cannot be done."""
+    assert before is not None
+    last, day, report = before
+    paths = {kind: path_of_rows(office.file(event, kind)) for kind in composing.MERGED}
+    try:
+        return composing.later_text(day, report, event.date, paths, str(office.file(last, "waiting")))
+    except WordsFault as fault:
+        raise FileFault(office.day_folder(event.date), 0, "", str(fault), "") from None
+
+
+def path_of_rows(path: Path) -> str | None:
+    """A file of rows; none, if nothing is in it."""
+    return str(path) if files.bytes_in(path) else None
+
+
+def compare(audit: Audit, path: str | Path, text: bytes, expected: bytes, whose: str, mend: str) -> None:
+    """Tells the first row in which a text is not what is expected."""
+    if text == expected:
+        return
+    rows, others = (content.decode("utf-8", "surrogateescape").split("\n") for content in (text, expected))
+    pairs = itertools.zip_longest(rows, others)
+    number, row, other = next((number, *pair) for number, pair in enumerate(pairs, 1) if pair[0] != pair[1])
+    audit.add(FileFault(path, number, "row", row_in_words(row), f"{row_in_words(other)}, by {whose}"), mend=mend)
+
+
+def row_in_words(row: str | None) -> str:
+    """A row as a fault tells it."""
+    return "the end of the file" if row is None else shown(row)

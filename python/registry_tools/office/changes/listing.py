@@ -1,0 +1,75 @@
+"""Lists the changes by hand of a folder: when, by whom, why, and which. Those that are handed in for the next day come
+last.
+
+With --pairs the rows that went (-) and came (+) between each day and the next one: paths do not tell who changed them.
+"""
+import argparse
+from pathlib import Path
+from typing import Iterator
+
+from registry_tools import showing, tables
+from registry_tools.office import files, folder, handed, past
+from registry_tools.office.folder import Office
+from registry_tools.office.handed import CHANGES, EDITS, HandedIn, Part
+from registry_tools.office.journal import FILES
+from registry_tools.office.past import Pair
+from registry_tools.showing import Cell
+
+EXAMPLE = "./day changes --office out/office"
+COLUMNS = tables.COLUMNS["changes"]
+NEXT, OF_RULES = "next day", "the rules"
+
+
+def add_words(parser: argparse.ArgumentParser) -> None:
+    """Tells a parser the words of the command."""
+    showing.add_words(parser)
+    past.add_words(parser)
+
+
+def run(said: argparse.Namespace) -> int:
+    """Runs the command, and answers the exit status."""
+    if said.pairs:
+        rows = [*changes_of_pairs(past.pairs_of(said))]
+    else:
+        rows = [*changes_of(folder.opened(said.office, folder.to_errors))]
+    showing.show(said, COLUMNS, rows)
+    return 0
+
+
+def changes_of_pairs(pairs: list[Pair]) -> Iterator[list[Cell]]:
+    """The changes between the days of pairs of paths."""
+    for past_day in past.read_all(pairs):
+        for change in past_day.changes():
+            yield [str(past_day.date), None, None, None, f"{change.account or OF_RULES}: {change.words}"]
+
+
+def changes_of(office: Office) -> Iterator[list[Cell]]:
+    """The changes of a folder, those for the next day last. Raises FileFault if a file was changed."""
+    for event in office.journal.filed():
+        for key in past.OF_CHANGES:
+            past.as_filed(office, event, key)
+        yield from changes_of_day(office.day_folder(event.date), str(event.date))
+    there: HandedIn = office.handed_in()
+    for item in there.items(CHANGES, EDITS):
+        yield row_of(NEXT, item.part, item.rows)
+
+
+def changes_of_day(path: Path, date: str) -> Iterator[list[Cell]]:
+    """The changes before a settled day, by the folder that has its files."""
+    handed_path = path / FILES["handed"]
+    filed = handed.from_text(path, handed_path, files.bytes_in(handed_path))
+    left = {
+        kind: handed.items_of_text(path / FILES[kind], kind, files.bytes_in(path / FILES[kind]))
+        for kind in (CHANGES, EDITS)
+    }
+    gone = {taking.place for taking in filed.taken}
+    for part in filed.parts:
+        if part.kind in left:
+            for _ in range(sum(place not in gone for place in range(part.start, part.end))):
+                yield row_of(date, part, handed.next_item(left[part.kind], path / FILES[part.kind]))
+
+
+def row_of(day: str, part: Part, rows: list[str]) -> list[Cell]:
+    """A change: a difference with its reason, or a whole account with the name of the file that it came in."""
+    more = f" and {len(rows) - 1} rows" if len(rows) > 1 else ""
+    return [day, part.at, part.who, part.name, f"{rows[0]}{more}"]

@@ -1,0 +1,366 @@
+"""Makes the text of the next day of a folder: of the last day with its report, and of what was handed in since."""
+import contextlib
+import datetime
+import gzip
+import itertools
+import re
+import tempfile
+import zlib
+from dataclasses import dataclass, field, replace
+from pathlib import Path
+from typing import Iterator
+
+from registry_tools import tables
+from registry_tools.calendars import dates, working_days as calendars
+from registry_tools.calendars.due_days import due_day_after, head_after
+from registry_tools.errors import FileFault, WordsFault, shown
+from registry_tools.notes import BY_HAND, Notes
+from registry_tools.office import next as next_day, files, handed, past
+from registry_tools.office.changes import edits
+from registry_tools.office.changes.edits import Edit, EditFault
+from registry_tools.office.folder import Office
+from registry_tools.office.handed import CHANGES, DO, EDITS, FIRST, WORK, HandedIn, Item
+from registry_tools.office.journal import Event
+from registry_tools.second import faults, rules
+from registry_tools.texts import pending
+from registry_tools.texts.accounts import Accounts, Reader
+from registry_tools.texts.day_text import DayText, day_of
+from registry_tools.texts.repeated import tell_dates
+from registry_tools.texts.report import Report
+from registry_tools.texts.rows import Rows, rows_of_text
+
+
+# What is merged into one file of a filed day, and what it is called as a whole.
+MERGED = (DO, CHANGES, EDITS, WORK)
+WHAT = {
+    DO: "the instructions handed in", CHANGES: "the accounts handed in", EDITS: "the changes handed in",
+    WORK: "the working days handed in",
+}  # fmt: skip
+
+
+# How a row begins behind which the rows of an account stand.
+ACCOUNT = re.compile("account,([0-9]{1,9}),")
+
+
+@dataclass
+class NextDay:
+    """The next day as it stands: its text, what waits behind it, and what is to be told."""
+
+    date: datetime.date
+    # Its first record number.
+    first: int
+    text: bytes
+    waiting: list[pending.Waiting]
+    # The instructions that waited and are due now: they stand before those that were handed in.
+    entered: list[pending.Waiting]
+    # The instructions that were handed in, in order.
+    new: list[Item]
+    # The merged contents of what was handed in, by kind.
+    contents: dict[str, bytes]
+    notes: list[str] = field(default_factory=list)
+    # The day before it, if there is one.
+    before: tuple[DayText, Report] | None = None
+
+    def waiting_text(self) -> bytes:
+        """The pending file of the day."""
+        return pending.text_of(self.waiting, pending.Made(self.date, self.first)).encode("utf-8", "surrogateescape")
+
+    def day(self, path: Path) -> DayText:
+        """The text, read again with all checks. A fault names the path."""
+        known = self.before[1].known(self.before[0]) if self.before else None
+        return day_of(rows_of_text(str(path), self.text.decode("utf-8", "surrogateescape")), known)
+
+
+def settlement_date(word: str | None, office: Office, handed_in: HandedIn) -> datetime.date:
+    """The settlement day: the named one, or the first working day behind the last day."""
+    first = handed_in.first_text()
+    if word is not None:
+        return dates.date_of("--date", word)
+    if first:
+        return first.head.date
+    last = office.last()
+    assert last is not None  # (without a filed day there is the first text)
+    undone = [item.part.day for item in handed_in.items(*handed.KINDS) if item.part.day]
+    if undone:
+        return min(undone)
+    later = [date for date in working_days(office, last, handed_in) if date > last.date]
+    if later:
+        return later[0]
+    # (behind the end of the calendar, the next day serves to show what would come of it)
+    following = last.date + datetime.timedelta(1)
+    if following.year > tables.LAST_YEAR:
+        raise WordsFault(f"{last.date} is settled, and no text has a later date: {office.path} has no next day")
+    return following
+
+
+def working_days(office: Office, last: Event, handed_in: HandedIn) -> list[datetime.date]:
+    """The calendar with the working days that were handed in."""
+    new = [datetime.date.fromisoformat(item.rows[0].split(",")[1]) for item in handed_in.items(WORK)]
+    return sorted({*filed_calendar(office, last), *new})
+
+
+def last_day(office: Office) -> Event:
+    """The last day of a folder. Ends the command if no day is settled yet."""
+    last = office.last()
+    if last is None:
+        raise WordsFault(f"{office.path} has no settled day yet: ./day init puts another first text there")
+    return last
+
+
+def last_pair(office: Office) -> tuple[DayText, Report]:
+    """The last day of a folder, and its report."""
+    last = last_day(office)
+    for fault in office.changed_files(last):
+        raise fault
+    return past.read(past.pair_of(office, last), None)
+
+
+def filed_calendar(office: Office, event: Event) -> list[datetime.date]:
+    """The working days of a filed day. Only its first rows are unpacked."""
+    path, days = past.as_filed(office, event, "day"), []
+    try:
+        with gzip.open(path, "rt", encoding="utf-8", errors="surrogateescape") as stream:
+            for line in itertools.takewhile(lambda row: not row.startswith(("account,", "do,", "end")), stream):
+                if line.startswith("work,"):
+                    days.append(datetime.date.fromisoformat(line.split(",")[1].strip()))
+    except (OSError, EOFError, zlib.error, ValueError) as error:
+        raise FileFault(path, 0, "", f"it cannot be read: {error}", "") from None
+    return days
+
+
+def contents_of(handed_in: HandedIn) -> dict[str, bytes]:
+    """What was handed in, the files of each kind as one."""
+    return {kind: handed.text_of_rows([row for item in handed_in.items(kind) for row in item.rows]) for kind in MERGED}
+
+
+@contextlib.contextmanager
+def telling_the_way_out() -> Iterator[None]:
+    """Says of something that was handed in and that the next day can't have how it is taken back."""
+    try:
+        yield
+    except FileFault as fault:
+        if fault.place is not None and fault.expected:
+            fault.expected += f"; ./day take-back {fault.place} takes it back"
+        raise
+
+
+def compose(office: Office, handed_in: HandedIn, date: datetime.date) -> NextDay:
+    """The next day, as it stands."""
+    first = handed_in.first_text()
+    return first_day(first, handed_in, date) if first else later_day(office, handed_in, date)
+
+
+def first_day(first: DayText, handed_in: HandedIn, date: datetime.date) -> NextDay:
+    """The first day: its text as it is, and behind its instructions those that were handed in."""
+    if date != first.head.date:
+        raise WordsFault(f"--date {date}: the first text of this folder is that of {first.head.date}")
+    for kind in (CHANGES, EDITS, WORK):
+        item = next(handed_in.items(kind), None)
+        if item:
+            raise WordsFault(
+                f"place {item.place}: {kind} are for later days; correct the first text by ./day init in its place"
+            )
+    new = [*handed_in.items(DO)]
+    next_day.check_count(first.head.next_record, len(first.instructions) + len(new))
+    rows = [*first.source.rows[:-1], *(row for item in new for row in item.rows), "end"]
+    items, notes = [*handed_in.items(FIRST), *new], [*about_first(first, new)]
+    text = handed.text_of_rows(rows)
+    return NextDay(date, first.head.next_record, text, [], [], items, contents_of(handed_in), notes)
+
+
+def about_first(first: DayText, new: list[Item]) -> Iterator[str]:
+    """What is to be told of the first day, as of a later one: of its date, its calendar, and what was handed in."""
+    notes = Notes()
+    notes.warn(*next_day.about_weekday(first.head))
+    calendars.look_at_calendar(first.head, first.book, notes, "./day init takes a first text with more work rows")
+    for name, items in itertools.groupby(new, lambda item: item.part.name):
+        own = [*items]
+        rows = [row for item in own for row in item.rows], [line for item in own for line in item.lines]
+        tell_dates(Rows(name, *rows), first.head, notes)
+    yield from notes.lines
+
+
+def later_day(office: Office, handed_in: HandedIn, date: datetime.date) -> NextDay:
+    """A later day, as `./day next` writes it."""
+    last = last_day(office)
+    day, report = last_pair(office)
+    if date <= last.date:
+        raise WordsFault(f"--date {date} is not later than {last.date}, the last day")
+    contents = contents_of(handed_in)
+    with tempfile.TemporaryDirectory() as work:
+        paths = {kind: written(Path(work) / f"{kind}.csv", content) for kind, content in contents.items()}
+        merged = Merged(work, handed_in)
+        try:
+            composed = later_text(day, report, date, paths, str(office.file(last, "waiting")), work)
+        except FileFault as fault:
+            if str(fault.path).startswith(f"{work}/"):
+                item, _ = merged.item(str(fault.path), fault.line)
+                fault.place = item.place if item else None
+                fault.path, fault.line = merged.origin(str(fault.path), fault.line)
+            raise
+        except EditFault as fault:
+            place = next((item.place for item in handed_in.items(EDITS) if item.rows[0] == fault.edit.row()), None)
+            raise EditFault(fault.edit, fault.why, place) from None
+        composed.notes = [*map(merged.with_origins, composed.notes)]
+    return replace(composed, new=[*handed_in.items(DO)], contents=contents, before=(day, report))
+
+
+class Merged:
+    """The files that are merged of what was handed in. Nobody finds them later: a message names the file that was
+    handed in, with its line."""
+
+    def __init__(self, work: str, handed_in: HandedIn) -> None:
+        self.work = work
+        self.rows = {
+            f"{work}/{kind}.csv": [(item, line) for item in handed_in.items(kind) for line in item.lines]
+            for kind in (DO, CHANGES, WORK)
+        }
+        self.path = re.compile(rf"({re.escape(work)}/(?:\w+/)?\w+\.csv)(?::([0-9]+))?")
+
+    def origin(self, path: str, line: int) -> tuple[str, int]:
+        """Where a row of a merged file came from. A block of several changes has no single line."""
+        item, own = self.item(path, line)
+        return (item.part.name, own) if item else (WHAT[Path(path).stem], 0)
+
+    def item(self, path: str, line: int) -> tuple[Item | None, int]:
+        """What was handed in that has a row of a merged file, and the line where it has it."""
+        rows = self.rows.get(path, [])
+        return rows[line - 1] if 0 < line <= len(rows) else (None, 0)
+
+    def with_origins(self, note: str) -> str:
+        """A line in which each place of the merged file is that of the file that it came from."""
+        return self.path.sub(self.named, note)
+
+    def named(self, found: re.Match[str]) -> str:
+        """The file and the line from which a place of the merged file came."""
+        name, line = self.origin(found[1], int(found[2] or 0))
+        return f"{name}:{line}" if line else name
+
+
+def written(path: Path, content: bytes) -> str | None:
+    """A file with a content; none, if there is nothing in it."""
+    if not content:
+        return None
+    files.write_synced(path, content)
+    return str(path)
+
+
+def later_text(
+    day: DayText, report: Report, date: datetime.date, paths: dict[str, str | None], waits: str, work: str | None = None
+) -> NextDay:
+    """The text of a later day. What is made on the way lies in the folder `work`, if one is named."""
+    notes = Notes()
+    calendar = calendars.next_calendar(day, paths[WORK], notes)
+    made = edits_in(paths[EDITS])
+    heading = edits.edited_heading(made, [*next_day.heading_of(day, date, report.next_record, calendar)])
+    head = head_of(heading)
+    with edited_changes(made, report, paths[CHANGES], work) as changes:
+        book = next_day.book_with_changes(day, report, changes, notes, head.periods)
+    notes.lines += [
+        f"{BY_HAND}: the rules: {difference}"
+        for difference in edits.differences(day.heading, heading)
+        if not difference[2:].startswith(("day,", "work,"))
+    ]
+    head = replace(head, accounts=Accounts(book))
+    notes.warn(*next_day.about_date(day, head), *about_past(day, calendar, head))
+    calendars.look_at_calendar(head, book, notes)
+    waiting = next_day.waiting_after(day, report, pending.read_pending(waits), date, notes)
+    entered = next_day.enter_due(head, waiting, notes)
+    new = next_day.new_instructions(paths[DO], report, len(entered))
+    tell_dates(new, head, notes)
+    next_day.check_count(report.next_record, len(entered) + len(new))
+    rows = heading
+    rows += report.book_rows if book is report.book else [row for block in book.values() for row in block.rows]
+    rows += [*(waits.do_row() for waits in entered), *new.rows, "end"]
+    return NextDay(date, report.next_record, handed.text_of_rows(rows), waiting, entered, [], {}, notes.lines)
+
+
+def about_past(before: DayText, calendar: list[datetime.date], head: rules.Day) -> Iterator[str]:
+    """Tells if a hand changes the working days before the day."""
+    dates = [date for date in sorted({*calendar} ^ {*head.working_days}) if date <= before.head.date]
+    if dates:
+        yield f"the calendar of settled days changes, and with it due days and windows: {calendars.in_words(dates)}"
+
+
+def head_of(heading: list[str]) -> rules.Day:
+    """The rules that these rows say, without accounts. Ends the command at the first row that cannot stand there."""
+    reader = Reader(Rows("the first rows of the next day", heading, range(1, len(heading) + 1)), faults.Reading())
+    for place in range(len(heading)):
+        reader.add(place)
+    return rules.day_of(row.split(",") for row in heading)
+
+
+def rows_in(path: str | None) -> list[str]:
+    """The rows of a file; none, if there is none."""
+    return files.bytes_in(Path(path)).decode("utf-8", "surrogateescape").splitlines() if path else []
+
+
+def edits_in(path: str | None) -> list[Edit]:
+    """The differences of a file, which a command of the folder wrote: each other row is a fault of the file."""
+    made = []
+    for line, row in enumerate(rows_in(path), 1):
+        try:
+            made.append(edits.edit_of(row))
+            edits.must_be_readable(made[-1])
+        except WordsFault:
+            raise FileFault(str(path), line, "row", shown(row), "a change by hand, as ./day change writes it") from None
+    return made
+
+
+def blocks_in(path: str | None) -> dict[int, list[str]]:
+    """The rows of each account of a file of accounts, which need not rise."""
+    blocks: dict[int, list[str]] = {}
+    own: list[str] | None = None
+    for line, row in enumerate(rows_in(path), 1):
+        begins = ACCOUNT.match(row)
+        if begins:
+            own = blocks[int(begins[1])] = []
+        if own is None or (row.startswith("account,") and not begins):
+            raise FileFault(str(path), line, "row", shown(row), "accounts, as they were handed in")
+        own.append(row)
+    return blocks
+
+
+@contextlib.contextmanager
+def edited_changes(
+    made: list[Edit], report: Report, path: str | None, work: str | None
+) -> Iterator[str | None]:
+    """A file of the accounts that are changed by hand: by whole blocks, and by differences. Without differences, the
+    file of blocks, if its accounts rise."""
+    blocks = blocks_in(path)
+    if not any(edit.number for edit in made) and [*blocks] == sorted(blocks):
+        yield path
+        return
+    changed = edits.edited_blocks(made, report, blocks)
+    with tempfile.TemporaryDirectory(dir=work) as inner:
+        yield written(
+            Path(inner) / "changes.csv", handed.text_of_rows([row for rows in changed.values() for row in rows])
+        )
+
+
+def waits_of(office: Office) -> list[pending.Waiting]:
+    """What waits behind the last day, with its due days: it comes into a text by itself. It is kept when that day is
+    filed."""
+    path = office.next_folder / handed.WAITS
+    return pending.read_waits(str(path)) if path.exists() else []
+
+
+def write_waits(folder: Path, day: DayText, report: Report, waits: str) -> None:
+    """Puts what waits behind a day into the next/ that is made."""
+    files.write_synced(folder / handed.WAITS, waits_text(day, report, waits))
+
+
+def waits_text(day: DayText, report: Report, waits: str) -> bytes:
+    """What waits behind a day, with the due days by the calendar and the accounts after the day. `waits` is the pending
+    file of the day."""
+    waiting = next_day.waiting_after(day, report, pending.read_pending(waits), datetime.date.max, Notes())
+    head = head_after(day, report)
+    for own in waiting:
+        own.due, own.entered = due_day_after(head, own.instruction), None
+    made = pending.Made(day.head.date, report.next_record)
+    return pending.text_of(waiting, made).encode("utf-8", "surrogateescape")
+
+
+def asked_rules(day: DayText) -> list[rules.Logged]:
+    """What comes of each instruction of a day, by the second answer. Only the accounts that it asks for are read."""
+    return [*rules.settle(day.day())]

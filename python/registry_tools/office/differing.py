@@ -1,0 +1,145 @@
+"""What a day becomes that is closed once more, as a difference: what comes of its instructions, what accounts hold
+then, who is compliant, and what waits."""
+import itertools
+from typing import Iterator
+
+from registry_tools.errors import FileFault, WordsFault
+from registry_tools.office.close import Settled
+from registry_tools.office.past import PastDay
+from registry_tools.calendars.due_days import NOT_DUE
+from registry_tools.questions.compliance import last_year_over, standings
+from registry_tools.second import rules
+from registry_tools.texts.accounts import Block
+from registry_tools.texts.books import Sums, sums_of
+from registry_tools.texts.day_text import DayText
+from registry_tools.texts.in_words import grouped, instruction_in_words
+from registry_tools.texts.report import LogRow, Report
+
+# So many lines of each kind are shown.
+MOST_SHOWN = 30
+# The fields of an account that it holds, and rows that other record numbers change.
+HELD, OF_RECORDS = 2, ("retired,",)
+
+
+def differences(before: PastDay, after: Settled) -> list[str]:
+    """All that differs, in words; nothing, if a day becomes what it was."""
+    parts = (
+        of_instructions(before.report, after.report), of_accounts(before.report, after.report),
+        of_compliance(before, after), of_waiting(before.report, after.report),
+    )  # fmt: skip
+    return [line for part in parts for line in shown([*part])]
+
+
+def shown(lines: list[str]) -> list[str]:
+    """The first lines, and how many more there are."""
+    more = len(lines) - MOST_SHOWN
+    return [*lines[:MOST_SHOWN], *([f"and {more} more"] if more > 0 else [])]
+
+
+# Instructions.
+
+
+def of_instructions(before: Report, after: Report) -> Iterator[str]:
+    """What comes of each instruction that is new, left out, or has another outcome."""
+    old, new = by_row(before), by_row(after)
+    others = 0
+    for row in dict.fromkeys([*old, *new]):
+        for was, becomes in itertools.zip_longest(old.get(row, []), new.get(row, [])):
+            if was is None:
+                yield f"record {becomes.record}, new: {words_of(becomes)}: {outcome(becomes)}"
+            elif becomes is None:
+                yield f"record {was.record}, left out: {words_of(was)}: {outcome(was)}"
+            elif outcome(was) != outcome(becomes):
+                number = f"record {was.record}" + ("" if was.record == becomes.record else f", now {becomes.record}")
+                yield f"{number}: {words_of(was)}: {outcome(was)} before, {outcome(becomes)} now"
+            else:
+                others += was.record != becomes.record
+    if others:
+        yield f"of the others get another record number: {others}"
+
+
+def by_row(report: Report) -> dict[str, list[LogRow]]:
+    """The log rows, by what was to be done."""
+    found: dict[str, list[LogRow]] = {}
+    for own in report.log:
+        found.setdefault(",".join(own.instruction.fields), []).append(own)
+    return found
+
+
+def words_of(logged: LogRow) -> str:
+    """An instruction in words."""
+    return instruction_in_words(logged.instruction)
+
+
+def outcome(logged: LogRow) -> str:
+    """What came of an instruction."""
+    if logged.is_done:
+        return "done" if logged.figure is None else f"done, figure {grouped(logged.figure)}"
+    return "waits" if logged.name == NOT_DUE else f"refused: {logged.name}"
+
+
+# Accounts.
+
+
+def of_accounts(before: Report, after: Report) -> Iterator[str]:
+    """Which accounts hold something else after the day, or have other rows."""
+    for number in sorted({*before.book, *after.book}):
+        old, new = before.book.get(number), after.book.get(number)
+        if old is not None and new is not None and old.rows == new.rows:
+            continue
+        yield from of_account(number, old, new)
+
+
+def of_account(number: int, old: Block | None, new: Block | None) -> Iterator[str]:
+    """What differs of an account."""
+    was, becomes = sums_of(old.rows if old else []), sums_of(new.rows if new else [])
+    for kind in rules.KINDS:
+        told = [*of_sums(was[kind], becomes[kind])]
+        if told:
+            yield f"account {number}, {kind}: {', '.join(told)}"
+    rows_before, rows_after = other_rows(old), other_rows(new)
+    for sign, rows in (("-", rows_before - rows_after), ("+", rows_after - rows_before)):
+        yield from (f"account {number}: {sign} {row}" for row in sorted(rows))
+
+
+def of_sums(was: Sums, becomes: Sums) -> Iterator[str]:
+    """Which sums are other ones."""
+    for name, old, new in zip(Sums._fields, was, becomes):
+        if old != new:
+            yield f"{name} {grouped(old)} before, {grouped(new)} now"
+
+
+def other_rows(block: Block | None) -> set[str]:
+    """The rows of an account without what it holds, and without record numbers."""
+    if block is None:
+        return set()
+    account = block.rows[0].rsplit(",", HELD)[0]
+    return {account, *(row for row in block.list_rows if not row.startswith(OF_RECORDS))}
+
+
+# Compliance, and what waits.
+
+
+def of_compliance(before: PastDay, after: Settled) -> Iterator[str]:
+    """Whose standing is another one, for the last year that is over."""
+    old, new = verdicts(before.day, before.report), verdicts(after.day, after.report)
+    for number in sorted({*old, *new}):
+        was, becomes = old.get(number, "not there"), new.get(number, "not there")
+        if was != becomes:
+            yield f"account {number}: {was} before, {becomes} now"
+
+
+def verdicts(day: DayText, report: Report) -> dict[int, str]:
+    """The standing of each operator, in words; nothing, if no year is over."""
+    try:
+        year = last_year_over(day.head)
+        return {own.account.number: f"{own.verdict_in_words} for {year}" for own in standings(day, report, year)}
+    except (WordsFault, FileFault):
+        return {}
+
+
+def of_waiting(before: Report, after: Report) -> Iterator[str]:
+    """How many instructions of the day wait, if that differs."""
+    old, new = (sum(own.name == NOT_DUE for own in report.log) for report in (before, after))
+    if old != new:
+        yield f"waiting of this day: {old} before, {new} now"

@@ -1,0 +1,160 @@
+"""Files that are there whole or not at all, also if the machine stops: what is written is synced before it gets its
+name.
+
+Compressed files have no time stamp and no name inside, so equal content gives equal bytes.
+"""
+import contextlib
+import gzip
+import hashlib
+import io
+import os
+import shutil
+from pathlib import Path
+
+from registry_tools import steps
+from registry_tools.errors import FileFault
+from registry_tools.output import cannot, write_all
+
+COMPRESSED = ".gz"
+# How hard `gzip` tries: a higher level takes three times as long for a tenth less.
+LEVEL = 6
+
+
+def sum_of(content: bytes) -> str:
+    """The SHA-256 of some bytes, in hexadecimal digits."""
+    return hashlib.sha256(content).hexdigest()
+
+
+def compressed(content: bytes) -> bytes:
+    """Bytes packed by gzip, the same on each machine and day."""
+    buffer = io.BytesIO()
+    with gzip.GzipFile(filename="", mode="wb", fileobj=buffer, compresslevel=LEVEL, mtime=0) as stream:
+        stream.write(content)
+    return buffer.getvalue()
+
+
+def stored(path: Path, content: bytes) -> bytes:
+    """The bytes with which a content lies under a name."""
+    return compressed(content) if path.suffix == COMPRESSED else content
+
+
+def bytes_in(path: Path) -> bytes:
+    """The bytes of a file, as they lie there."""
+    try:
+        return path.read_bytes()
+    except OSError as error:
+        raise FileFault(path, 0, "", f"it cannot be read: {error.strerror}", "") from None
+
+
+def listed(path: Path) -> list[Path]:
+    """What lies in a folder, by name."""
+    try:
+        return sorted(path.iterdir())
+    except OSError as error:
+        raise FileFault(path, 0, "", f"it cannot be read: {error.strerror}", "") from None
+
+
+def sync_folder(path: Path) -> None:
+    """Has the names of a folder kept, also if the machine stops."""
+    folder = os.open(path, os.O_RDONLY | os.O_DIRECTORY)
+    try:
+        os.fsync(folder)
+    finally:
+        os.close(folder)
+
+
+def write_synced(path: Path, content: bytes, mode: int | None = None) -> None:
+    """Writes a file whose name nobody asks for yet. With a mode it is a new one, of this user."""
+    try:
+        if mode is not None:
+            path.unlink(missing_ok=True)
+        how = os.O_TRUNC if mode is None else os.O_EXCL
+        file = os.open(path, os.O_WRONLY | os.O_CREAT | how, 0o666 if mode is None else mode)
+        try:
+            if mode is not None:
+                # (whatever the mask of the process leaves out: others have to read it)
+                os.fchmod(file, mode)
+            write_all(file, content)
+            os.fsync(file)
+        finally:
+            os.close(file)
+    except OSError as error:
+        raise cannot(path, error) from None
+
+
+def beside(path: Path) -> Path:
+    """Where a file is written before it gets its name."""
+    return path.parent / f".{path.name}.new"
+
+
+def remove_beside(path: Path) -> None:
+    """Removes what an interrupted command wrote beside a file."""
+    with contextlib.suppress(OSError):
+        beside(path).unlink(missing_ok=True)
+
+
+def replace(path: Path, content: bytes) -> None:
+    """Puts a file in the place of the one that has this name: in one step."""
+    try:
+        write_synced(beside(path), content)
+        os.replace(beside(path), path)
+        sync_folder(path.parent)
+    except OSError as error:
+        raise cannot(path, error) from None
+    finally:
+        remove_beside(path)
+
+
+def step(path: Path, content: bytes, mode: int | None = None) -> str:
+    """Puts a file in the place of the one that has this name, as the one step by which a command changes a folder:
+    signals wait behind it. Answers what could not be done behind it, in words; nothing, if all was."""
+    try:
+        write_synced(beside(path), content, mode)
+        steps.hold()
+        os.replace(beside(path), path)
+    except OSError as error:
+        steps.let_go()
+        raise cannot(path, error) from None
+    finally:
+        remove_beside(path)
+    try:
+        sync_folder(path.parent)
+    except OSError as error:
+        return f"{path} may be lost if the machine stops: {error.strerror}"
+    return ""
+
+
+def make_folder(path: Path) -> None:
+    """Makes a folder. Raises FileFault if that cannot be done."""
+    try:
+        path.mkdir()
+    except OSError as error:
+        raise cannot(path, error) from None
+
+
+def move(old: Path, new: Path) -> None:
+    """Gives a file or folder another name."""
+    try:
+        os.rename(old, new)
+        sync_folder(new.parent)
+        if old.parent != new.parent:
+            sync_folder(old.parent)
+    except OSError as error:
+        raise cannot(new, error) from None
+
+
+def sync_tree(path: Path) -> None:
+    """Has all names below a folder kept. Its files were synced when they were written, or are synced now."""
+    for folder, _, names in os.walk(path):
+        for name in names:
+            file = os.open(os.path.join(folder, name), os.O_RDONLY)
+            try:
+                os.fsync(file)
+            finally:
+                os.close(file)
+        sync_folder(Path(folder))
+
+
+def remove_tree(path: Path) -> None:
+    """Removes a folder that nobody asks for. What cannot be removed stays, and is removed another time."""
+    shutil.rmtree(path, ignore_errors=True)

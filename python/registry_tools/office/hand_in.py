@@ -1,0 +1,245 @@
+"""Hands in instructions, working days, or accounts that are new or changed by hand, for the next day of a folder.
+
+What a file has is told by its first row: do, work or account rows, with or without a row end; or the names of columns,
+as ./day form writes them. A table may be csv, .xlsx or .ods, and somebody else's by --mapping (./day import --help
+shows one): the folder keeps it as it came, with its sum, beside the rows that are made of it. Each row is looked at. An
+instruction that a settled day has done, that waits, or that was handed in is refused, and so is an account that the
+folder has had with the same rows: unless --again names the row, by FILE:LINE or by the PLACE of the one that was handed
+in. What a settled day refused may come again, and is told. Then the next day is tried as it stands: what would be
+refused is told, and stays handed in.
+
+Each instruction, account or working day gets a place, by which ./day take-back takes it back.
+
+exit status: 0 if nothing of it would be refused, 1 if something would.
+"""
+import argparse
+from dataclasses import dataclass, field
+from pathlib import Path
+from typing import NamedTuple, Sequence
+
+from registry_tools.errors import FileFault, WordsFault
+from registry_tools.office import (
+    approvals, composing, files, folder, had, handed, incoming, labels, people, trial, words,
+)  # fmt: skip
+from registry_tools.office.composing import NextDay
+from registry_tools.office.folder import Office
+from registry_tools.office.handed import CHANGES, DO, HandedIn, Part, places
+from registry_tools.office.incoming import Forms, Incoming
+
+EXAMPLE = "./day hand-in examples/week/tuesday-do.csv examples/week/tuesday-work.csv --office out/office"
+
+
+def add_words(parser: argparse.ArgumentParser) -> None:
+    """Tells a parser the words of the command."""
+    parser.add_argument("files", metavar="FILE", nargs="+", help="do rows, work rows or account blocks, or a table")
+    again = "a row that is meant once more, by its line, or by the place of the one that was handed in"
+    parser.add_argument("--again", metavar="FILE:LINE|PLACE", nargs=1, default=[], help=again)
+    incoming.add_words(parser)
+    words.add_office(parser)
+    words.add_who(parser)
+
+
+def run(said: argparse.Namespace) -> int:
+    """Runs the command, and answers the exit status."""
+    who, forms = words.one_line("--who", said.who), incoming.forms_of(said)
+    with folder.locked(said.office, "hand-in", who, folder.to_errors, said.seen, said.whom) as office:
+        handed_in = office.handed_in()
+        handed_in.remove_unnamed()
+        try:
+            added = look_at(office, handed_in, said.files, who, said.again, forms)
+            left = handed_in.make_count()
+        except BaseException:
+            # (what does not count is taken away at once)
+            office.handed_in().remove_unnamed()
+            raise
+        folder.tell_left("handed in", left)
+        for part in added.parts:
+            print(f"handed in: {part.name}: {words_of_count(part)}, {places(part.start, part.end)}")
+        approvals.tell_new(office, added.parts)
+        print("".join(f"again: {line}\n" for line in added.again), end="")
+        return trial.tell(added.looked, added.next_day, added.places())
+
+
+@dataclass
+class Added:
+    """Files that were put into next/, and the next day as it stands with them."""
+
+    parts: list[Part]
+    next_day: NextDay
+    looked: list[trial.Looked]
+    # What the folder has had before, and may come again.
+    again: list[str]
+
+    def places(self) -> set[int]:
+        """The places of all that was added."""
+        return {place for part in self.parts for place in range(part.start, part.end)}
+
+
+def look_at(
+    office: Office, handed_in: HandedIn, paths: list[str], who: str, again: Sequence[str] = (), forms: Forms = Forms()
+) -> Added:
+    """Puts files into the folder of what was handed in, where they do not count yet, and tries the next day with them.
+    Ends the command at a fault of a file, or of the next day as a whole."""
+    here = Here(handed_in, *meant_again(paths, again))
+    parts = [add(office, here, incoming.read(path, forms), who) for path in paths]
+    date = composing.settlement_date(None, office, handed_in)
+    next_day = composing.compose(office, handed_in.until(date), date)
+    names = labels.of_folder(office.path)
+    looked = trial.look(next_day, next_day.day(office.next_folder / "the next day"), names)
+    return Added(parts, next_day, looked, here.told)
+
+
+def words_of_count(part: Part) -> str:
+    """How many items a file has, with their word."""
+    names = {
+        handed.DO: "instructions",
+        handed.CHANGES: "accounts",
+        handed.WORK: "working days",
+        handed.EDITS: "changes",
+    }
+    return f"{names[part.kind]} {part.count}"
+
+
+def meant_again(paths: list[str], words: Sequence[str]) -> tuple[set[tuple[str, int]], set[int]]:
+    """The rows that are meant once more: by file and line, and by the place of an equal one."""
+    lines, numbers = set(), set()
+    for word in words:
+        path, _, number = word.rpartition(":")
+        if not number.isascii() or not number.isdigit() or (path and path not in paths):
+            raise WordsFault(f"--again {word}: found no FILE:LINE of a file that is handed in, and no PLACE")
+        if path:
+            lines.add((path, int(number)))
+        else:
+            numbers.add(int(number))
+    return lines, numbers
+
+
+@dataclass
+class Here:
+    """What was handed in, and by which of the files that this command names, of which nothing counts yet."""
+
+    handed_in: HandedIn
+    # What is meant once more.
+    lines: set[tuple[str, int]] = field(default_factory=set)
+    numbers: set[int] = field(default_factory=set)
+    named: list[tuple[Part, str]] = field(default_factory=list)
+    # What is told of what comes again.
+    told: list[str] = field(default_factory=list)
+
+    def named_as(self, part: Part) -> str:
+        """The file of this command that a part is, in words; nothing, if it was handed in before."""
+        return next((f"{path}, named in this command" for own, path in self.named if own is part), "")
+
+    def takes(self, path: str, line: int, before: "Before") -> bool:
+        """Whether something that the folder has had comes again: if a day refused it, or the words say that it is
+        meant."""
+        is_meant = (path, line) in self.lines or before.place in self.numbers
+        if is_meant or before.may_come:
+            self.told.append(f"{path}:{line}: {before.words}")
+        return is_meant or before.may_come
+
+
+class HadFault(FileFault):
+    """A row or a file that the folder has had before. By `path` and `at`, its line, it may come once more."""
+
+    at = 0
+
+
+class Before(NamedTuple):
+    """Something that the folder has had before: in words, its place if it was handed in, and whether it may come
+    again by itself."""
+
+    words: str
+    place: int | None = None
+    may_come: bool = False
+
+
+def add(office: Office, here: Here, own: Incoming, who: str) -> Part:
+    """Puts a file into next/, where it does not count yet."""
+    for line in (line for path, line in here.lines if path == own.path and line not in own.begun):
+        raise WordsFault(f"--again {own.path}:{line}: no instruction or account begins there")
+    if own.kind == DO:
+        refuse_instructions(office, here, own)
+    if own.kind == CHANGES:
+        # (an account that is handed in as a whole is changed by hand)
+        people.must_be_allowed(office.people, office.login, approvals.COMMAND_OF[own.kind])
+        refuse_accounts(here, own)
+        refuse_blocks(office, here, own)
+    part = handed.put(here.handed_in, own.kind, own.content, own.count, own.name, who, own.originals)
+    here.named.append((part, own.path))
+    return part
+
+
+def refuse(office: Office, here: Here, own: Incoming, line: int, what: tuple[str, str], before: Before) -> None:
+    """Ends the command at something that the folder has had, unless it may come again. If the whole file is one that it
+    has had, that is told."""
+    path, there = own.path, here.handed_in
+    if here.takes(path, line, before):
+        return
+    checksum = files.sum_of(own.content)
+    same = next((part for part in there.parts if part.sum == checksum and is_there(there, part)), None)
+    when = f"by {same.who} at {same.at} as {same.name}" if same else had.file_had(office, checksum)
+    more = f"--again {path}:{line} hands in once more what stands there"
+    if when:
+        found = (same and here.named_as(same)) or f"was handed in {when}"
+        fault = HadFault(path, 0, "file", f"the same as {found}", f"another file; {more}")
+    else:
+        name, expected = what
+        fault = HadFault(path, line, name, before.words, f"{expected}; {more}")
+    fault.at = line
+    raise fault
+
+
+def is_there(handed_in: HandedIn, part: Part) -> bool:
+    """Whether something of a file was not taken back."""
+    gone = {taking.place for taking in handed_in.taken}
+    return any(place not in gone for place in range(part.start, part.end))
+
+
+def refuse_instructions(office: Office, here: Here, own: Incoming) -> None:
+    """Ends the command at an instruction that is there already, or is done."""
+    source = own.rows
+    rows = {row for row in source.rows if row != "end"}
+    there = {
+        row: Before(f"one that {earlier}: {row}", None, earlier.may_come_again)
+        for row, earlier in had.instructions_had(office, rows).items()
+    }
+    for row in rows & {waits.do_row() for waits in composing.waits_of(office)}:
+        there[row] = Before(f"one that waits for its due day, and comes by itself: {row}")
+    for item in here.handed_in.items(handed.FIRST, DO):
+        row = item.rows[0]
+        if row in rows:
+            named = here.named_as(item.part)
+            where = f"stands in {named}" if named else f"was handed in, place {item.place}"
+            there[row] = Before(f"one that {where}: {row}", item.place)
+    for place, row in enumerate(source.rows):
+        if row != "end":
+            line = source.line(place)
+            if row in there:
+                refuse(office, here, own, line, ("do row", "an instruction that is new"), there[row])
+            there[row] = Before(f"one as in line {line}: {row}")
+
+
+def refuse_blocks(office: Office, here: Here, own: Incoming) -> None:
+    """Ends the command at an account that a settled day has had with the same rows: since then it may have changed."""
+    days = had.accounts_had(office)
+    for line, rows in zip(own.begun, handed.items_of_text(Path(own.path), CHANGES, own.content)):
+        date = days.get(tuple(rows))
+        if date:
+            before = Before(f"the rows that {date} has had of this account")
+            refuse(office, here, own, line, ("account", "an account that is new or has changed"), before)
+
+
+def refuse_accounts(here: Here, own: Incoming) -> None:
+    """Ends the command at an account that was handed in before: nobody knows which of its blocks is meant."""
+    there = {item.rows[0].split(",")[1]: item for item in here.handed_in.items(CHANGES)}
+    source = own.rows
+    for place, row in enumerate(source.rows):
+        tag, _, rest = row.partition(",")
+        number = rest.partition(",")[0]
+        if tag == "account" and number in there:
+            item, expected = there[number], "another account; ./day take-back takes that one back"
+            found, named = f"account {number}, which was handed in at place {item.place}", here.named_as(item.part)
+            if named:
+                found, expected = f"account {number}, which stands in {named}", "another account"
+            raise FileFault(own.path, source.line(place), "NO", found, expected)

@@ -1,0 +1,128 @@
+"""What somebody hands in: rows of a day text, or a table of which rows are made. A table is a workbook, a csv whose
+first row names columns, or whatever is handed in with a mapping."""
+import argparse
+import csv
+import os
+from collections.abc import Sequence
+from dataclasses import dataclass
+
+from registry_tools.errors import FileFault
+from registry_tools.office import handed
+from registry_tools.office.handed import CHANGES, DO
+from registry_tools.office.sources import MAPPING, TABLE, Original
+from registry_tools.sheets import columns, importing, sheets
+from registry_tools.sheets.mapping import Mapping
+from registry_tools.texts.rows import Rows, bytes_of, packed_bytes_of, rows_of, rows_of_text
+
+UTF_16 = (b"\xff\xfe", b"\xfe\xff")
+TAGS = ("do", "work", "account")
+COLUMNS = {*columns.INSTRUCTION_COLUMNS, *columns.ACCOUNT_COLUMNS}
+# The first row of a table is not longer.
+FIRST_BYTES = 65_536
+
+
+@dataclass(frozen=True)
+class Forms:
+    """How tables are written."""
+
+    mapping: Mapping = Mapping()
+    dates: str | None = None
+    are_accounts: bool | None = None
+
+
+@dataclass(frozen=True)
+class Incoming:
+    """A file that is handed in: what it has, its rows with the lines or the rows of the table where they stand, how
+    many things it has, the content that is kept, and what it was made of."""
+
+    path: str
+    kind: str
+    rows: Rows
+    count: int
+    content: bytes
+    originals: Sequence[Original] = ()
+
+    @property
+    def name(self) -> str:
+        """What the file is called."""
+        return os.path.basename(self.path)
+
+    @property
+    def begun(self) -> list[int]:
+        """The lines on which something begins."""
+        rows = self.rows
+        return [rows.line(place) for place, row in enumerate(rows.rows) if handed.begins_item(self.kind, row)]
+
+
+class TableFault(FileFault):
+    """All that is wrong with the cells of a table."""
+
+    def __init__(self, path: str, wrong: list[FileFault]) -> None:
+        super().__init__(path, 0, "", "", "")
+        self.wrong = wrong
+
+    def __str__(self) -> str:
+        return "\n".join(importing.told(self.wrong, "nothing was handed in"))
+
+
+def add_words(parser: argparse.ArgumentParser) -> None:
+    """Tells a parser the words that say how tables are written."""
+    kinds = parser.add_mutually_exclusive_group()
+    kinds.add_argument("--instructions", action="store_true", help="the rows of a table are instructions")
+    kinds.add_argument("--accounts", action="store_true", help="the rows of a table are accounts, as with a column no")
+    importing.add_forms(parser)
+
+
+def forms_of(said: argparse.Namespace) -> Forms:
+    """How the words say that tables are written."""
+    are_accounts = said.accounts if said.accounts or said.instructions else None
+    return Forms(importing.read_mapping(said.mapping), said.dates, are_accounts)
+
+
+def read(path: str, forms: Forms = Forms()) -> Incoming:
+    """What a file hands in. Ends the command at the first fault of a row, or with all those of a table's cells."""
+    content = packed_bytes_of(path)
+    if forms.mapping.path or is_table(content):
+        return read_table(path, content, forms)
+    source = rows_of(path)
+    kind = handed.kind_of(source)
+    count = handed.checked_count(path, kind)
+    # (checking takes the row `end` away)
+    return Incoming(path, kind, rows_of(path), count, bytes_of(path))
+
+
+def read_table(path: str, content: bytes, forms: Forms) -> Incoming:
+    """What a table hands in."""
+    made = importing.imported(sheets.read_content(path, content), forms.are_accounts, forms.dates, forms.mapping)
+    if made.wrong:
+        raise TableFault(path, made.wrong)
+    kind = CHANGES if made.are_accounts else DO
+    if not made.made:
+        raise FileFault(path, 0, "", "no row below the names of the columns", "at least one")
+    rows = Rows(path, made.rows, made.lines)
+    originals = [Original(TABLE, ending_of(content), content, os.path.basename(path))]
+    if forms.mapping.path:
+        own = forms.mapping.path
+        originals.append(Original(MAPPING, ".ini", packed_bytes_of(own), os.path.basename(own)))
+    handed.checked_count(Rows(path, [*rows.rows], rows.lines), kind)
+    return Incoming(path, kind, rows, len(made.made), handed.text_of_rows(made.rows), originals)
+
+
+def is_table(content: bytes) -> bool:
+    """Whether a file is a table, and not rows of a day text: a workbook, or a csv whose first row names columns."""
+    if sheets.is_workbook(content) or content.startswith(UTF_16):
+        return True
+    first = rows_of_text("", content[:FIRST_BYTES].partition(b"\n")[0].decode("utf-8-sig", "replace")).rows[:1]
+    for separator in sheets.SEPARATORS:
+        fields = [own.strip().lower() for own in next(csv.reader(first, delimiter=separator), [])]
+        is_row = len(fields) > 1 and fields[0] in TAGS and fields[1][:1].isdigit()
+        if is_row or not fields or fields[0] == "format":
+            return False
+        if len(fields) > 1 and COLUMNS & {*fields}:
+            return True
+    return False
+
+
+def ending_of(content: bytes) -> str:
+    """The ending of a table's name, by what it is: names may say anything."""
+    return sheets.ending_of(content) if sheets.is_workbook(content) else ".csv"

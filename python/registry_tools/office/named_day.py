@@ -1,0 +1,134 @@
+"""The words `--day DATE` of the commands that take a day and its report: they name a day of a folder in place of two
+paths. The words stay as they are given: where they name a day, the parser of the command has no paths to read, and what
+it read is looked up in the folder."""
+import argparse
+import itertools
+import os
+import re
+from typing import Any
+
+from registry_tools.calendars.dates import DATE, date_of, is_date
+from registry_tools.errors import WordsFault
+from registry_tools.office import folder, past
+from registry_tools.office.folder import Office
+from registry_tools.office.journal import Event
+from registry_tools.office.layout import LABELS
+from registry_tools.options import A_DATE, Given, Words
+
+# The commands that take them, and what each takes of a day.
+PAIR, REPORTS, TEXT = "pair", "reports", "text"
+TAKES = {
+    "verify": PAIR,
+    "statements": PAIR,
+    "compliance": PAIR,
+    "page": PAIR,
+    "export": PAIR,
+    "log": REPORTS,
+    "explain": TEXT,
+}
+# Those that show names.
+TAKE_NAMES = ("page", "compliance")
+DAY, OFFICE = "--day", "--office"
+# How other forms of a date look: digits, and what stands between them.
+LIKE_A_DATE = re.compile("[0-9][0-9./W-]*")
+
+
+class Named(Given):
+    """The option with the date of a day behind it; that of logs takes several, also if it is given twice."""
+
+    def __call__(
+        self,
+        parser: argparse.ArgumentParser,
+        namespace: argparse.Namespace,
+        values: Any,
+        option_string: str | None = None,
+    ) -> None:
+        if values is None or values == []:
+            raise WordsFault(f"{DAY} has nothing behind it; expected {DATE.expected}")
+        for word in values if isinstance(values, list) else [values]:
+            date_of(DAY, word)
+        super().__call__(parser, namespace, values, option_string)
+
+
+def add_words(name: str, parser: Words) -> None:
+    """Tells the parser of a command the words by which a day is named. Where no day is named they are only told."""
+    if name not in TAKES:
+        return
+    group = parser.add_argument_group("of a folder of days, in place of paths")
+    if parser.names_day:
+        of_one = "*" if TAKES[name] == REPORTS else "?"
+        group.add_argument(DAY, metavar=A_DATE, dest="_dates", action=Named, nargs=of_one, default=None)
+    elif TAKES[name] != REPORTS:
+        group.add_argument(DAY, metavar=A_DATE, dest="_dates", help="a settled day")
+    group.add_argument(OFFICE, metavar="FOLDER", dest="_office", default=None, help=folder.WHERE)
+
+
+def is_named(name: str, arguments: list[str]) -> bool:
+    """Whether words name a day of a folder. Behind `--day` of a log there may be paths of day texts, too. Raises
+    WordsFault if they name a folder and no day."""
+    given = [*itertools.takewhile(lambda word: word != "--", arguments)]
+    if name not in TAKES or {"-h", "--help"} & {*given}:
+        return False
+    has_office = any(word.partition("=")[0] == OFFICE for word in given)
+    place = next((place for place, word in enumerate(given) if word.partition("=")[0] == DAY), None)
+    if place is None:
+        if has_office:
+            raise WordsFault(f"{OFFICE} FOLDER stands with {DAY} DATE, in place of paths")
+        return False
+    if TAKES[name] != REPORTS or has_office:
+        return True
+    _, has_value, value = given[place].partition("=")
+    return is_meant_as_date(value if has_value else "".join(given[place + 1 : place + 2]))
+
+
+def is_meant_as_date(word: str) -> bool:
+    """Whether a word is a date, or a slip in one, and no path."""
+    return is_date(word) or bool(LIKE_A_DATE.fullmatch(word) and not os.path.exists(word))
+
+
+def look_up(name: str, words: argparse.Namespace) -> None:
+    """Puts the files of the days that words name into them, as if their paths had been given. Raises WordsFault if the
+    folder has no such day, and FileFault if somebody changed a file of it."""
+    named = getattr(words, "_dates", None)
+    if named is None:
+        return
+    office = folder.opened(words._office, folder.to_errors)  # noqa: SLF001
+    if TAKES[name] == REPORTS:
+        words.days, words.reports = map(list, zip(*(paths_of(office, date) for date in named)))
+        return
+    words.day, report = paths_of(office, named)
+    if TAKES[name] == PAIR:
+        words.report = report
+    if name in TAKE_NAMES and words.labels is None and (office.path / LABELS).exists():
+        words.labels = str(office.path / LABELS)
+    if name == "page":
+        look_up_more(office, named, words)
+
+
+def look_up_more(office: Office, date: str, words: argparse.Namespace) -> None:
+    """Puts into the words of `./day page` what a folder knows of a day beside its pair: what waits, the day before, and
+    who changed something."""
+    day, before = event_of(office, date), [event for event in office.journal.filed() if str(event.date) < date]
+    for key in past.OF_CHANGES:
+        past.as_filed(office, day, key)
+    words.pending = words.pending or str(past.as_filed(office, day, "waiting"))
+    words.by_hand = words.by_hand or str(office.day_folder(day.date))
+    if before and not words.history and not words.before:
+        words.before = [str(past.as_filed(office, before[-1], key)) for key in past.PAIR]
+
+
+def event_of(office: Office, date: str) -> Event:
+    """The line of the journal that files a day. Raises WordsFault if none does."""
+    event = next((event for event in office.journal.filed() if str(event.date) == date), None)
+    if event is None:
+        there = [str(event.date) for event in office.journal.filed()]
+        known = f"days from {there[0]} to {there[-1]}, {len(there)} of them" if there else "no settled day"
+        raise WordsFault(f"--day {date}: {office.path} has {known}, and not this one")
+    return event
+
+
+def paths_of(office: Office, date: str) -> tuple[str, str]:
+    """The day text and the report of a day of the folder."""
+    event = event_of(office, date)
+    day, report = (str(past.as_filed(office, event, key)) for key in past.PAIR)
+    return day, report

@@ -1,0 +1,275 @@
+"""Writes the next day's text, from a day and its report.
+
+  heading       that of DAY, with --date and the next record number of REPORT
+  calendar      every work row of DAY, and those of --work, rising; a repeated one is left out
+  accounts      the book of REPORT; whole account blocks of --changes are added, or put in place of those of the book
+  instructions  what DAY refused as NotDue, and what waits in the --pending file, with their old dates, as far as they
+                are due on --date; then those of --do. The others go to the pending file, each with its due day
+
+REPORT must be what follows from DAY. --work, --do and --changes have only such rows, with or without a row end.
+--pending-new makes the pending file, and --pending reads it and writes it anew; the command may be run again for the
+same day. Standard error tells each change by hand, what to look at, and the counts.
+
+Nothing is written if something is wrong.
+
+exit status: 0 if the text was written, 1 if it was written and something is to be looked at.
+"""
+import argparse
+import dataclasses
+import datetime
+import sys
+from typing import Iterator
+
+from registry_tools import tables
+from registry_tools.calendars.dates import date_of
+from registry_tools.calendars.due_days import NOT_DUE, due_day_after, is_due
+from registry_tools.calendars.working_days import in_words, look_at_calendar, next_calendar
+from registry_tools.errors import FOUND, FileFault, RowFault, WordsFault
+from registry_tools.notes import BY_HAND, ROW, Notes
+from registry_tools.options import add_to
+from registry_tools.output import NewFile, write_answer
+from registry_tools.second import faults, rules
+from registry_tools.texts import changes as made, pending
+from registry_tools.texts.accounts import Accounts, Block
+from registry_tools.texts.changes import refusals
+from registry_tools.texts.day_text import DayText, read_blocks, read_rows_of
+from registry_tools.texts.pairs import read_pair
+from registry_tools.texts.repeated import Handed, tell_dates, tell_repeated
+from registry_tools.texts.report import Report
+from registry_tools.texts.rows import Rows, begins_with
+
+EXAMPLE = (
+    "./day next examples/week/monday.csv examples/week/monday-report.csv --date 2025-09-23 "
+    "--do examples/week/tuesday-do.csv --pending-new out/waiting.csv --to out/tuesday.csv"
+)
+OUTSIDE = rules.name_of(rules.outside_calendar)
+
+
+def add_words(parser: argparse.ArgumentParser) -> None:
+    """Tells a parser the words of the command."""
+    parser.add_argument("day", metavar="DAY", help="a day text")
+    parser.add_argument("report", metavar="REPORT", help="its report")
+    parser.add_argument("--date", required=True, metavar="DATE", help="the next settlement day")
+    parser.add_argument("--do", metavar="FILE", help="the new instructions: do rows")
+    parser.add_argument(
+        "--again", action="store_true", help="new instructions may stand in DAY, in the pending file or twice in --do"
+    )
+    parser.add_argument("--work", metavar="FILE", help="more working days: work rows")
+    parser.add_argument(
+        "--changes", metavar="FILE", help="accounts that are new, or changed by hand: whole account blocks"
+    )
+    parser.add_argument("--pending", metavar="FILE", help="the instructions that wait for their due day")
+    parser.add_argument("--pending-new", metavar="FILE", help="the same, for the first time: the file is made")
+    add_to(parser)
+
+
+# The accounts.
+
+
+def book_with_changes(
+    day: DayText, report: Report, path: str | None, notes: Notes, periods: list[tuple[int, int]] | None = None
+) -> dict[int, Block]:
+    """The book of the next day, with the blocks of a file. The periods are those of DAY, if no others are named."""
+    if path is None:
+        return report.book
+    changes = read_changes(day, report, path, periods or day.head.periods)
+    for number, block in changes.items():
+        old = report.book.get(number)
+        for fault in refusals(old, block):
+            raise fault
+        tell_change(report, old, block, notes)
+    if all(number in report.book and report.book[number].rows == block.rows for number, block in changes.items()):
+        notes.warn(f"{path}: nothing of this file was applied: {len(changes)} accounts, and none is new or another one")
+    both = {**report.book, **changes}
+    book = {number: both[number] for number in sorted(both)}
+    if len(book) > faults.MOST["account"]:
+        raise FileFault(
+            path, 0, "", f"with it there are {len(book)} accounts, and at most {faults.MOST['account']} may be", ""
+        )
+    return book
+
+
+def read_changes(day: DayText, report: Report, path: str, periods: list[tuple[int, int]]) -> dict[int, Block]:
+    """The accounts of a file of changes. One that names a period which the day does not have is told what the day
+    lacks."""
+    years = [last for _, last in periods]
+    reading = faults.Reading(last="work", version=2, next_record=report.next_record, last_years=years)
+    try:
+        return read_blocks(path, reading)
+    except RowFault as fault:
+        if fault.field != "PERIOD":
+            raise
+        count = "1 period" if len(years) == 1 else f"{len(years)} periods"
+        expected = (
+            f"a period of the day, and {day.path} has {count}: add the row of that period to it, and in version 1 also "
+            "format,2 and current,1; in a folder, ./day change --period does so (see "
+            "docs/FORMATS.md#from-version-1-to-version-2)"
+        )
+        raise FileFault(fault.path, fault.line, fault.field, fault.found, expected) from None
+
+
+def tell_change(report: Report, old: Block | None, new: Block, notes: Notes) -> None:
+    """Tells what a block of the changes changes, row by row."""
+    where = f"{new.source.path}:{new.line}"
+    if old is None:
+        notes.add(f"{BY_HAND}: {where}: account {new.number} is new")
+    elif old.rows == new.rows:
+        notes.add(f"{BY_HAND}: {where}: account {new.number} stays as it is")
+    else:
+        notes.add(f"{BY_HAND}: {where}: account {new.number}, which stands in {report.path}:{old.line}")
+        notes.lines += [f"{ROW}{change.words}" for change in made.rows_changed(new.number, old.rows, new.rows)]
+
+
+# The instructions.
+
+
+def waiting_after(
+    day: DayText, report: Report, file: pending.PendingFile | None, date: datetime.date, notes: Notes
+) -> list[pending.Waiting]:
+    """The instructions that wait after the day: those of the pending file, and those that the day refused as NotDue."""
+    waiting = []
+    if file:
+        found = pending.still_waiting(file, day, report, date)
+        notes.warn(*found.warnings)
+        notes.warn(
+            *(
+                f"{lost.place}: this was entered into {day.path}, which does not have it: {lost.do_row()}"
+                for lost in found.lost
+            )
+        )
+        waiting += found.waiting
+    not_due = (logged for logged in report.log if logged.name == NOT_DUE)
+    return waiting + [
+        pending.Waiting(logged.record, logged.instruction, place=f"{report.path}:{logged.line}") for logged in not_due
+    ]
+
+
+def enter_due(head: rules.Day, waiting: list[pending.Waiting], notes: Notes) -> list[pending.Waiting]:
+    """Marks those that are due on the day as entered, and gives each other one its due day."""
+    for waits in waiting:
+        if is_due(head, waits.instruction):
+            waits.entered = head.date
+            continue
+        waits.due = due_day_after(head, waits.instruction)
+        if waits.due is None:
+            notes.warn(f"the calendar has no due day for this, which goes on waiting: {waits.do_row()}")
+    return [waits for waits in waiting if waits.entered]
+
+
+def new_instructions(path: str | None, report: Report, count: int) -> Rows:
+    """The `do` rows of a file; so many stand before them."""
+    if path is None:
+        return Rows("", [], [])
+    return read_rows_of("do", path, faults.Reading(last="do", next_record=report.next_record, counts={"do": count}))
+
+
+def tell_refused(report: Report, notes: Notes) -> None:
+    """Tells what the day refused, and nobody enters again."""
+    for logged in (own for own in report.log if own.name == OUTSIDE):
+        notes.warn(f"{report.path}:{logged.line}: refused as {OUTSIDE}. Add working days and enter it again: "
+                   f"do,{','.join(logged.instruction.fields)}")  # fmt: skip
+    others = sum(not logged.is_done and logged.name not in (NOT_DUE, OUTSIDE) for logged in report.log)
+    notes.add(
+        f"refused by {report.path} for other reasons: {others}{' (./day log --refused shows each)' if others else ''}"
+    )
+
+
+# All together.
+
+
+def heading_of(day: DayText, date: datetime.date, next_record: int, calendar: list[datetime.date]) -> Iterator[str]:
+    """The rows before the accounts."""
+    for row in day.heading:
+        if row.startswith("day,"):
+            yield f"day,{date},{next_record}"
+        elif not row.startswith("work,"):
+            yield row
+    yield from (f"work,{working}" for working in calendar)
+
+
+def later_date(word: str, day: DayText) -> datetime.date:
+    """The date that a word says. Raises WordsFault if it is not later than the day."""
+    date = date_of("--date", word)
+    if date <= day.head.date:
+        raise WordsFault(f"--date {date} is not later than {day.head.date}, the day of {day.path}")
+    return date
+
+
+def in_order(first: str, second: str, notes: Notes) -> tuple[str, str]:
+    """The paths of the day and of its report, also if they are named the other way round, as it was before."""
+    if begins_with(first, ("log,", "book,")) and begins_with(second, ("format,",)):
+        notes.add(f"{first} is a report, and {second} its day: the day is named first")
+        return second, first
+    return first, second
+
+
+def about_weekday(head: rules.Day) -> Iterator[str]:
+    """Tells if the day is no working day."""
+    if head.date not in head.working_days:
+        yield f"{head.date:%A} {head.date} is no working day by the calendar"
+
+
+def about_date(before: DayText, head: rules.Day) -> Iterator[str]:
+    """Tells if the day is no working day, and which working days lie between."""
+    yield from about_weekday(head)
+    between = [skipped for skipped in head.working_days if before.head.date < skipped < head.date]
+    if between:
+        yield f"working days that have no text: {in_words(between)}"
+
+
+def next_head(
+    words: argparse.Namespace, day: DayText, report: Report, notes: Notes
+) -> tuple[rules.Day, dict[int, Block]]:
+    """The next day as the rules see it, without instructions: its calendar and its book; and the book in blocks."""
+    date = later_date(words.date, day)
+    calendar = next_calendar(day, words.work, notes)
+    book = book_with_changes(day, report, words.changes, notes)
+    head = dataclasses.replace(day.head, date=date, working_days=calendar, accounts=Accounts(book))
+    notes.lines += about_date(day, head)
+    look_at_calendar(head, book, notes)
+    return head, book
+
+
+def run(words: argparse.Namespace) -> int:
+    """Runs the command, and answers the exit status."""
+    notes = Notes()
+    path = pending.chosen_path(words.pending, words.pending_new)
+    file = pending.read_pending(words.pending) if words.pending else None
+    day, report = read_pair(*in_order(words.day, words.report, notes))
+    head, book = next_head(words, day, report, notes)
+    waiting = waiting_after(day, report, file, head.date, notes)
+    entered = enter_due(head, waiting, notes)
+    left = len(waiting) - len(entered)
+    if left and not path:
+        raise WordsFault(
+            f"instructions that are not due on {head.date}: {left}; name a file for them by --pending or --pending-new"
+        )
+    new = new_instructions(words.do, report, len(entered))
+    tell_repeated(Handed(new, day, report, waiting), words.again, notes)
+    tell_dates(new, head, notes)
+    check_count(report.next_record, len(entered) + len(new))
+    tell_refused(report, notes)
+    notes.add(f"accounts: {len(book)}")
+    counts = f"{len(entered)} waited and {len(new)} are new; {left} go on waiting"
+    notes.add(f"instructions: {len(entered) + len(new)}, of which {counts}")
+    notes.add(f"next day: {head.date}, records from {report.next_record}")
+    rows = [*heading_of(day, head.date, report.next_record, head.working_days)]
+    for block in book.values():
+        rows += block.rows
+    rows += [*(own.do_row() for own in entered), *new.rows, "end", ""]
+    made = pending.Made(head.date, report.next_record)
+    others = [NewFile(path, pending.text_of(waiting, made))] if path else []
+    write_answer("\n".join(rows), words.to, *others)
+    print("\n".join(notes.lines), file=sys.stderr)
+    return FOUND if notes.has_warnings else 0
+
+
+def check_count(first: int, count: int) -> None:
+    """Ends the command if the day would have more instructions than it may, or records above the last one."""
+    if count > faults.MOST["do"]:
+        most = faults.MOST["do"]
+        raise WordsFault(
+            f"the day would have {count} instructions, and at most {most} may be: move some to another day"
+        )
+    if count and first + count - 1 > tables.MOST_RECORD:
+        raise WordsFault(f"the day would need records above {tables.MOST_RECORD}")

@@ -1,0 +1,164 @@
+"""Who works on a folder: the login by which the system knows them, the people whom office.ini names, and what each may
+do.
+
+  [people]
+  anna = Anna Berg: hand in, change     login = NAME: what this person may do, or `all` of it
+  desk = The desk: proxy                a desk behind a proxy, which says for whom it works
+  [four eyes]
+  commands = change, close              what counts only if another login approves it (office/approvals.py)
+
+Without [people] every login may do everything, as far as the system lets it write the folder. A login is that of the
+process: no word and no variable of a command says it. Only `proxy` may speak for others: their login is then written as
+DESK:LOGIN.
+"""
+import configparser
+import os
+import pwd
+from dataclasses import dataclass, field
+from pathlib import Path
+
+from registry_tools.errors import FileFault, WordsFault, shown
+from registry_tools.office.files import sum_of
+from registry_tools.office.layout import SETTINGS
+
+SECTION, FOUR_EYES, COMMANDS = "people", "four eyes", "commands"
+HAND_IN, CHANGE, CLOSE, RELEASE, LOOK, PROXY = RIGHTS = ("hand in", "change", "close", "release", "look", "proxy")
+ALL = "all"
+OF_ALL = frozenset({HAND_IN, CHANGE, CLOSE, RELEASE, LOOK})
+# The right that each command needs; another one that changes a folder needs that its login is named.
+RIGHT_OF = {
+    "hand-in": HAND_IN, "change": CHANGE, "label": CHANGE, "init": CHANGE, "close": CLOSE,
+    "undo": CLOSE, "correct": CLOSE, "mend": CLOSE, "release": RELEASE,
+}  # fmt: skip
+# The commands that may be asked to wait for another login.
+MAY_WAIT = ("hand-in", "change", "close", "undo", "release", "correct")
+# Between the login of a desk and the login for which it speaks: no login has it.
+SPEAKS_FOR = ":"
+
+
+@dataclass(frozen=True)
+class Person:
+    """Somebody whom office.ini names."""
+
+    login: str
+    name: str
+    rights: frozenset[str]
+
+    def __str__(self) -> str:
+        return f"{self.name} ({self.login})"
+
+    def may(self, command: str) -> bool:
+        """Whether this person may give a command."""
+        return command not in RIGHT_OF or RIGHT_OF[command] in self.rights
+
+
+@dataclass(frozen=True)
+class People:
+    """The people whom office.ini names, by login, and the commands that wait for a second one."""
+
+    named: dict[str, Person] = field(default_factory=dict)
+    four_eyes: tuple[str, ...] = ()
+
+    def sum(self) -> str:
+        """The sum of all that is said here; nothing, if nothing is."""
+        rows = [f"{each.login}={each.name}:{','.join(sorted(each.rights))}" for each in self.named.values()]
+        text = "\n".join([*sorted(rows), *sorted(self.four_eyes)])
+        return sum_of(text.encode("utf-8", "surrogateescape")) if text else ""
+
+    def may(self, login: str, command: str) -> bool:
+        """Whether a login may give a command."""
+        person = self.named.get(person_of(login))
+        return not self.named or (person is not None and person.may(command))
+
+    def others_for(self, command: str, login: str) -> list[str]:
+        """Who may approve what this login asks for; nothing, if office.ini names nobody."""
+        return [str(own) for own in self.named.values() if own.may(command) and own.login != person_of(login)]
+
+    def in_words(self, login: str) -> str:
+        """A login with the name of its person, if office.ini names one."""
+        person = self.named.get(person_of(login))
+        desk = login.rpartition(SPEAKS_FOR)[0]
+        return f"{person or person_of(login)}{f', as {desk} says' if desk else ''}"
+
+
+def person_of(login: str) -> str:
+    """For whom a login speaks: for itself, or for the one that a desk names."""
+    return login.rpartition(SPEAKS_FOR)[2]
+
+
+def owner_of(login: str) -> str:
+    """The login that the system knows."""
+    return login.partition(SPEAKS_FOR)[0]
+
+
+def login_of(uid: int) -> str:
+    """The login of a user of the system, or the number of one without a login."""
+    try:
+        return pwd.getpwuid(uid).pw_name
+    except KeyError:
+        return f"user {uid}"
+
+
+def system_login() -> str:
+    """The login of whoever started this process: of its real user, whatever rights it has beside."""
+    return login_of(os.getuid())
+
+
+def login_for(people: People, whom: str | None) -> str:
+    """The login that gives a command: that of the system, or the one for which it may speak."""
+    own = system_login()
+    if whom is None:
+        return own
+    person = people.named.get(own)
+    if person is None or PROXY not in person.rights:
+        raise WordsFault(f"--for {whom}: {own} may not speak for others: {SETTINGS} gives it no right {PROXY}")
+    if not whom.strip() or SPEAKS_FOR in whom or not whom.isprintable():
+        raise WordsFault(f"--for {shown(whom)}: that is no login")
+    return f"{own}{SPEAKS_FOR}{whom}"
+
+
+def must_be_allowed(people: People, login: str, command: str) -> None:
+    """Ends the command if office.ini names people, and this login is nobody's who may give it."""
+    if people.may(login, command):
+        return
+    person = people.named.get(person_of(login))
+    if person is None:
+        raise WordsFault(f"{person_of(login)} is no login that {SETTINGS} names under [{SECTION}]: nothing was done")
+    right, others = RIGHT_OF[command], people.others_for(command, login)
+    may = ", ".join(own for own in RIGHTS if own in person.rights)
+    who = f"{' or '.join(others)} may" if others else "nobody may"
+    raise WordsFault(f"{person} may {may}, and not {right}: {SETTINGS} says so; {who}")
+
+
+def read(path: Path, text: str) -> People:
+    """The people that a settings file names. Raises FileFault."""
+    parser = configparser.ConfigParser(interpolation=None)
+    # (a login may have capital letters)
+    setattr(parser, "optionxform", str)
+    parser.read_string(text, str(path))
+    named = {}
+    for login, words in parser[SECTION].items() if SECTION in parser else ():
+        named[login] = person_named(path, login, words)
+    return People(named, commands_in(path, parser))
+
+
+def person_named(path: Path, login: str, words: str) -> Person:
+    """A person, by a line of the settings."""
+    name, colon, rights = (part.strip() for part in words.rpartition(":"))
+    said = frozenset(own.strip() for own in rights.split(","))
+    if not colon or not name or not said <= {*RIGHTS, ALL} or SPEAKS_FOR in login:
+        raise FileFault(path, 0, login, shown(words), f"NAME: and behind it some of {', '.join(RIGHTS)}, or {ALL}")
+    return Person(login, name, (said - {ALL}) | OF_ALL if ALL in said else said)
+
+
+def commands_in(path: Path, parser: configparser.ConfigParser) -> tuple[str, ...]:
+    """The commands that wait for a second login."""
+    if FOUR_EYES not in parser:
+        return ()
+    section = parser[FOUR_EYES]
+    unknown = next((name for name in section if name != COMMANDS), None)
+    words = tuple(own.strip() for own in section.get(COMMANDS, "").split(","))
+    if unknown is not None or not {*words} <= {*MAY_WAIT}:
+        found = shown(unknown or section.get(COMMANDS, ""))
+        raise FileFault(path, 0, f"[{FOUR_EYES}]", found, f"{COMMANDS} = some of {', '.join(MAY_WAIT)}")
+    return words

@@ -1,0 +1,216 @@
+"""Writes files whole: what is written appears under its name only when all of it is there."""
+import contextlib
+import errno
+import os
+import re
+import shutil
+import stat
+import sys
+from pathlib import Path
+from types import TracebackType
+
+from registry_tools import steps
+from registry_tools.errors import FileFault
+from registry_tools.office.layout import must_not_be_of_folder
+
+# How the name of a file or folder ends that is being written: `.NAME.PROCESS` stands before it.
+UNFINISHED = ".day-unfinished"
+# (of a database that is being written there is a journal beside it)
+LEFT = re.compile(rf"\..*\.([0-9]{{1,9}}){re.escape(UNFINISHED)}(-journal)?", re.DOTALL)
+ANYBODY_WRITES = stat.S_IWUSR | stat.S_IWGRP | stat.S_IWOTH
+
+
+def cannot(path: Path, error: OSError) -> FileFault:
+    """The fault of a file that cannot be written."""
+    return FileFault(path, 0, "", f"it cannot be written: {error.strerror}", "")
+
+
+def write_all(file: int, content: bytes) -> None:
+    """Writes all bytes to an open file. Raises OSError."""
+    while content:
+        content = content[os.write(file, content) :]
+
+
+def must_be_writable(path: str | Path) -> None:
+    """Ends the command if a file may not be written, before any work is done for it."""
+    must_not_be_of_folder(path)
+    real = Path(os.path.realpath(path))
+    if real.exists() and not real.is_file():
+        raise FileFault(path, 0, "", f"it cannot be written: it is {'a folder' if real.is_dir() else 'no file'}", "")
+    # (to the superuser each file is open, also one that nobody may write)
+    if real.exists() and (not real.stat().st_mode & ANYBODY_WRITES or not os.access(real, os.W_OK)):
+        raise FileFault(path, 0, "", "it may not be written", "")
+    if not real.parent.is_dir():
+        is_file = real.parent.exists() or not_a_folder(real.parent)
+        why = "Not a directory" if is_file else f"there is no folder {Path(path).parent}"
+        raise FileFault(path, 0, "", f"it cannot be written: {why}", "")
+    if not os.access(real.parent, os.W_OK | os.X_OK):
+        raise FileFault(path, 0, "", "it cannot be written: its folder may not be written", "")
+
+
+def not_a_folder(path: Path) -> bool:
+    """Whether a file stands where a folder has to be."""
+    return any(parent.exists() and not parent.is_dir() for parent in path.parents)
+
+
+def name_beside(name: str) -> str:
+    """The name of what is written before it gets its own."""
+    return f".{name}.{os.getpid()}{UNFINISHED}"
+
+
+def remove_left(folder: Path) -> None:
+    """Removes what commands left in a folder that were killed while they wrote there."""
+    with contextlib.suppress(OSError):
+        for path in [*folder.iterdir()]:
+            left = LEFT.fullmatch(path.name)
+            if left and not is_running(int(left[1])):
+                if path.is_dir():
+                    shutil.rmtree(path, ignore_errors=True)
+                else:
+                    path.unlink(missing_ok=True)
+
+
+def is_running(process: int) -> bool:
+    """Whether a process with this number is there."""
+    try:
+        os.kill(process, 0)
+    except OverflowError:
+        return False
+    except OSError as error:
+        return error.errno != errno.ESRCH
+    return True
+
+
+class NewFolder:
+    """A folder that is not there yet, or empty. Its files are written aside, and get their names at the end of the
+    block: with the folder, or if it is there already, also as `.` or by a link, in it."""
+
+    def __init__(self, path: str | Path) -> None:
+        self.path = Path(path)
+        self.is_there = self.path.is_dir()
+        name = name_beside(self.path.name or "new")
+        self.beside = self.path / name if self.is_there else self.path.parent / name
+
+    def __enter__(self) -> "NewFolder":
+        must_not_be_of_folder(self.path)
+        remove_left(self.beside.parent)
+        # (of a process that had the number of this one)
+        shutil.rmtree(self.beside, ignore_errors=True)
+        if self.is_there and any(self.path.iterdir()):
+            raise FileFault(
+                self.path, 0, "", "a folder with files in it", "a folder that is not there yet, or is empty"
+            )
+        if not self.is_there and self.path.is_symlink():
+            raise FileFault(self.path, 0, "", "a link to nothing", "a folder that is not there yet, or is empty")
+        if self.path.exists() and not self.is_there:
+            raise FileFault(self.path, 0, "", "a file", "a folder that is not there yet, or is empty")
+        if not self.path.parent.exists() and not not_a_folder(self.path.parent):
+            raise FileFault(self.path, 0, "", f"it cannot be written: there is no folder {self.path.parent}", "")
+        try:
+            self.beside.mkdir()
+        except OSError as error:
+            raise cannot(self.path, error) from None
+        return self
+
+    def make(self, name: str) -> None:
+        """Makes a folder inside."""
+        try:
+            (self.beside / name).mkdir()
+        except OSError as error:
+            raise cannot(self.path / name, error) from None
+
+    def write(self, name: str, text: str) -> None:
+        """Writes a file of the folder."""
+        try:
+            # (there may be 100,000 of them: no stream is made for each)
+            file = os.open(f"{self.beside}/{name}", os.O_WRONLY | os.O_CREAT | os.O_EXCL, 0o666)
+            try:
+                write_all(file, text.encode("utf-8", "surrogateescape"))
+            finally:
+                os.close(file)
+        except OSError as error:
+            raise cannot(self.path / name, error) from None
+
+    def __exit__(self, kind: type | None, _error: BaseException | None, _traceback: TracebackType | None) -> None:
+        try:
+            if kind is None:
+                self.keep()
+        except OSError as error:
+            raise cannot(self.path, error) from None
+        finally:
+            shutil.rmtree(self.beside, ignore_errors=True)
+
+    def keep(self) -> None:
+        """Puts the folder in its place, or what is in it into a folder that is there. Raises OSError."""
+        steps.hold()
+        if not self.is_there:
+            try:
+                os.replace(self.beside, self.path)
+            except OSError:
+                steps.let_go()
+                raise
+            return
+        kept = []
+        try:
+            for made in sorted(self.beside.iterdir()):
+                os.rename(made, self.path / made.name)
+                kept.append(made.name)
+        except BaseException:
+            for name in kept:
+                os.rename(self.path / name, self.beside / name)
+            steps.let_go()
+            raise
+
+
+class NewFile:
+    """A file that is written beside its name, and gets its name by `keep`. If that is never called, nothing has
+    changed. A file that was there before keeps its mode, and a link to it stays one."""
+
+    def __init__(self, path: str | Path, text: str | bytes) -> None:
+        must_be_writable(path)
+        self.path, self.real = Path(path), Path(os.path.realpath(path))
+        self.beside = self.real.parent / name_beside(self.real.name)
+        remove_left(self.real.parent)
+        try:
+            self.beside.write_bytes(text if isinstance(text, bytes) else text.encode("utf-8", "surrogateescape"))
+            if self.real.exists():
+                os.chmod(self.beside, stat.S_IMODE(self.real.stat().st_mode))
+        except BaseException as error:
+            self.forget()
+            if isinstance(error, OSError):
+                raise cannot(self.path, error) from None
+            raise
+
+    def keep(self) -> None:
+        """Puts the file in its place. Raises FileFault if that cannot be done."""
+        steps.hold()
+        try:
+            os.replace(self.beside, self.real)
+        except OSError as error:
+            steps.let_go()
+            self.forget()
+            raise cannot(self.path, error) from None
+
+    def forget(self) -> None:
+        """Takes the file away that was not kept."""
+        with contextlib.suppress(OSError):
+            self.beside.unlink()
+
+
+def write_answer(text: str, to: str | None, *others: NewFile) -> None:
+    """Writes what a command answers: to standard output, or whole to a file. The other files get their names if that
+    could be written, and else stay as they were."""
+    files = [*others]
+    try:
+        if to is None:
+            sys.stdout.write(text)
+            sys.stdout.flush()
+        else:
+            files.append(NewFile(to, text))
+        for file in files:
+            file.keep()
+    except BaseException:
+        # (of a file that has its name already, nothing is left beside it)
+        for file in files:
+            file.forget()
+        raise

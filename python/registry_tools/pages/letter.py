@@ -1,0 +1,175 @@
+"""The page of a holder, to print or to send: all accounts of the holder, in words for somebody outside, with nothing on
+it that belongs to others."""
+import datetime
+import re
+from collections.abc import Iterator
+
+from registry_tools.calendars.due_days import NOT_DUE
+from registry_tools.office.labels import ACCOUNT
+from registry_tools.pages.account import entry_parts, facts_of, refused_parts, standing_parts, waiting_parts
+from registry_tools.pages.html import HEAD, PARTS, Cells, Markup, Table, heading, joined, style_of, tag
+from registry_tools.pages.rulebook import Rulebook
+from registry_tools.pages.settled import Settled, long_date
+from registry_tools.pages.statement import DayOfAccounts, Own, Statement
+from registry_tools.texts.checks import Check, plain
+from registry_tools.texts.own import OwnRow
+from registry_tools.texts.report import LogRow
+
+DONE_LATER = Table(["Asked for on", "Record", "Instruction", "Why not then", "Done on", "As record"])
+NOT_DUE_YET = "It was not due yet."
+# What the registry's own words are called in a letter.
+IN_A_LETTER = {
+    "FROM": "the account that gives", "TO": "the account that receives", "ACCOUNT": "the account",
+    "OTHER": "the other account",
+}  # fmt: skip
+NAMED = re.compile(r"\b(" + "|".join(IN_A_LETTER) + r")\b")
+# Sentences that only an administrator can do something about.
+OF_OFFICE = re.compile(
+    r"\s*(An act of administrators: [^.]*\.|For an act of administrators: [^.]*\.|See docs/\S+|: see docs/\S+\.?)"
+)
+# What would not read well by these words.
+MEANING = {
+    "UnknownAccount": "There is no account with one of the numbers in the instruction.",
+    "HoldingTooLarge": "An account that receives would hold more than 10^15 allowances of the kind.",
+}
+ADVICE = {
+    "OutsideCalendar": "Ask the registry for more working days, and enter it again.",
+    "YearOutsidePeriod": "Check the year.",
+}
+STYLE = (
+    "@page{size:A4;margin:18mm 15mm 20mm;@bottom-center{content:counter(page) ' / ' counter(pages)}}"
+    "table.sheet{width:100%;border:0}"
+    "table.sheet>thead>tr>td,table.sheet>tbody>tr>td{border:0;padding:0;background:none}"
+    "table.sheet>thead>tr>td{padding-bottom:.6rem;font-weight:600}"
+    "@media screen{table.sheet,table.sheet>*,table.sheet>*>tr,table.sheet>*>tr>td{display:block}"
+    "table.sheet{max-width:none}"
+    "table.sheet>thead{display:none}}table.sheet table thead th{font-weight:700}"
+    "@media print{section+section{break-before:page}table.sheet>tbody>tr{break-inside:auto}}"
+)
+
+
+class LetterWords(Rulebook):
+    """The words of the rules as they stand in a letter: without links, and without what only the registry does."""
+
+    def check_link(self, code: int, root: str = "") -> str:
+        """What a check means: a letter has no rules to lead to."""
+        return meaning_of(self.checks[code])
+
+    def words(self, markdown: str, root: str = "") -> str:
+        """What to do after a refusal, in words for a holder."""
+        name = next((check.name for check in self.checks.values() if check.advice == markdown), "")
+        return ADVICE.get(name) or letter_words(plain(markdown))
+
+
+def meaning_of(check: Check) -> str:
+    """Why the check refuses, in a letter."""
+    return MEANING.get(check.name) or letter_words(plain(check.meaning))
+
+
+def letter_words(text: str) -> str:
+    """A sentence of the rules without what only the office does."""
+    words_only = NAMED.sub(lambda found: IN_A_LETTER[found[1]], OF_OFFICE.sub("", text)).rstrip(".") + "."
+    return re.sub(
+        r"(^|[.:] )([a-z])", lambda found: found[1] + found[2].upper() if found[1] != ": " else found[0], words_only
+    )
+
+
+class LetterStatement(Statement):
+    """The statement of an account in a letter: what was not due is no refusal, but waits; and what was not done at
+    first and was done later is told as done later."""
+
+    def __init__(self, settled: Settled, number: int, days: list[DayOfAccounts]) -> None:
+        # The tries of what was not done, by its fields: it is the same instruction if all of them are the same.
+        self.asked: dict[tuple[str, ...], list[list[LogRow]]] = {}
+        self.done_later: list[Cells] = []
+        super().__init__(settled, number, days)
+
+    def take(self, date: datetime.date, own_row: OwnRow) -> None:
+        """Enters a log row; of equal instructions the later ones tell what became of them."""
+        logged = own_row.logged
+        if own_row.is_whole:
+            equal = self.asked.setdefault(tuple(logged.instruction.fields), [])
+            tries = tries_before(equal, logged)
+            if logged.is_done:
+                self.tell_done_later(tries, date, logged)
+            else:
+                equal.append([*tries, logged])
+        if logged.name != NOT_DUE:
+            super().take(date, own_row)
+
+    def tell_done_later(self, before: list[LogRow], date: datetime.date, done: LogRow) -> None:
+        """Takes what was refused and is done now out of the refusals."""
+        records = {row.record for row in before}
+        self.refused[:] = [row for row in self.refused if row[1] not in records]
+        what = Own(done, self.number, self.users).words_with_amount
+        for row in before:
+            why = NOT_DUE_YET if row.name == NOT_DUE else self.refusal(row)[0]
+            self.done_later.append((row.date, row.record, what, why, date, done.record))
+
+    def refusal(self, logged: LogRow) -> tuple[str, str]:
+        """What refused an instruction, and what to do."""
+        book = self.settled.rulebook
+        return book.check_link(logged.code), book.words(book.checks[logged.code].advice)
+
+
+def tries_before(equal: list[list[LogRow]], logged: LogRow) -> list[LogRow]:
+    """Takes the earlier tries of an instruction out of those of all that are equal to it. If several were asked for on
+    a day, each of them is tried again on a later one, in their order."""
+    place = next((place for place, tries in enumerate(equal) if tries[-1].date < logged.date), None)
+    if place is None and equal and logged.is_done:
+        place = 0
+    return [] if place is None else equal.pop(place)
+
+
+def parts_of(settled: Settled, statement: LetterStatement) -> Iterator[Markup]:
+    """What a holder has to know comes first: what waits, what was refused, and what was done later than it was asked
+    for."""
+    account = settled.report.book[statement.number].account()
+    yield facts_of(settled, account, statement)
+    yield from waiting_parts(statement)
+    yield from refused_parts(statement)
+    if statement.done_later:
+        yield heading("Done later")
+        yield DONE_LATER.of("These were not done when they were asked for, and were done later", statement.done_later)
+    yield from entry_parts(statement)
+    yield from standing_parts(settled, account, statement)
+
+
+def section_of(settled: Settled, statement: LetterStatement, holder: str, is_taken_over: bool) -> Markup:
+    """An account: its number and holder stand at the head of each page on which it is printed."""
+    own = settled.names.name_of(ACCOUNT, statement.number)
+    name = ", ".join(filter(None, [f"Account {statement.number}", own, holder]))
+    since = f"This account has had another holder: its statement begins on {long_date(statement.first_day)}."
+    lead = [tag("p", since)] if is_taken_over else []
+    content = joined(tag("h2", f"Account {statement.number}"), *lead, *parts_of(settled, statement))
+    head = f"<thead><tr><td>{tag('span', name)}</td></tr></thead>"
+    sheet = f"<table class='sheet'>{head}<tbody><tr><td>{content}</td></tr></tbody></table>"
+    return Markup(f"<section>{sheet}</section>")
+
+
+def page_of(title: str, lead: str, sections: list[Markup]) -> str:
+    """A page that leads nowhere else, and that prints."""
+    body = f"<main id='main'>\n{tag('h1', title)}\n{tag('p', lead)}\n{joined(*sections)}\n</main>"
+    style = style_of("colours", "style") + "".join(make() for name, make in PARTS.items() if name in body) + STYLE
+    head = f"{HEAD}<title>{tag('x', title)[3:-4]}</title>\n<style>{style}</style>\n</head>\n"
+    return f"{head}<body>\n{body}\n</body>\n</html>\n"
+
+
+def letter(
+    settled: Settled, days: list[DayOfAccounts], holder: int, places: dict[int, int], head: str
+) -> str:
+    """The page of a holder: each account from the day at its place on; and the head of the folder that it was made
+    of."""
+    name = settled.names.holder(holder)
+    sections = []
+    for number, place in places.items():
+        statement = LetterStatement(settled, number, days[place:])
+        sections.append(section_of(settled, statement, name, place > 0))
+    begin, end = days[0].date, days[-1].date
+    lead = f"From {long_date(begin)} to {long_date(end)}." if begin != end else f"{long_date(end)}."
+    return page_of(f"Holder {name}", f"{lead} {head_in_words(head)}".rstrip(), sections)
+
+
+def head_in_words(head: str) -> str:
+    """The head of the folder that a page was made of, for whoever keeps the page; nothing of paths."""
+    return f"Head of the registry: {head}." if head else ""

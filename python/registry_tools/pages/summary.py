@@ -1,0 +1,261 @@
+"""The page of the day, and the pages of its refusals, if there are many."""
+from collections import Counter
+from typing import Callable, Iterator
+
+from registry_tools.pages import index
+from registry_tools.pages.html import Cells, Markup, Table, link, paragraph, table, tag
+from registry_tools.pages.plan import plan_parts
+from registry_tools.pages.rulebook import ACTS
+from registry_tools.pages.settled import (
+    NO_DUE_DAY, ByHand, LongTable, Settled, by_hand_parts, count_of, in_words, long_date,
+)  # fmt: skip
+from registry_tools.second.rules import KINDS
+from registry_tools.texts.books import Movements, sums_of
+from registry_tools.texts.checks import Check
+from registry_tools.texts.in_words import grouped, instruction_in_words
+from registry_tools.texts.report import LogRow
+
+# Of a check with more refusals, the page of the day shows the first ones, and pages of their own show all; so of what
+# was done.
+MOST_REFUSED = MOST_DONE = 100
+LOG_COLUMNS = ["Record", "Accounts", "Instruction", "Proposed", "Proposer", "Approver"]
+DONE, DONE_CAPTION = "done.html", "Instructions that were done"
+WAITING, WAITING_COLUMNS = "waiting.html", ["Record", "Instruction", "Proposed", "Due"]
+WAITING_CAPTION = "Instructions that wait for their due day"
+WAY_BACK = "The page of the day"
+ENTERED_AGAIN = "./day next and ./day close enter each of them again on its due day, with its old date of proposal."
+ELSEWHERE = "What waits since earlier days stands in the pending file of ./day next."
+
+
+def lead(settled: Settled) -> Markup:
+    """The first sentences of the page."""
+    log = settled.log
+    if not log:
+        return paragraph(
+            f"The day has no instruction. The next record number is {settled.report.next_record}.", class_="lead"
+        )
+    done = sum(logged.is_done for logged in log)
+    numbers = (
+        f"record number {log[0].record}" if len(log) == 1 else f"record numbers {log[0].record} to {log[-1].record}"
+    )
+    return paragraph(
+        f"{count_of(len(log), 'instruction', 'instructions')} got the {numbers}: {grouped(done)} done, "
+        f"{grouped(len(log) - done)} refused. The next record number is {settled.report.next_record}.",
+        class_="lead",
+    )
+
+
+def acts_table(settled: Settled) -> Markup:
+    """How many instructions of each act were done and refused."""
+    done = Counter(logged.instruction.act for logged in settled.log if logged.is_done)
+    refused = Counter(logged.instruction.act for logged in settled.log if not logged.is_done)
+    rows = [
+        (settled.rulebook.act_link(act), grouped(done[act]), grouped(refused[act]), grouped(done[act] + refused[act]))
+        for act in ACTS
+        if done[act] + refused[act]
+    ]
+    foot = ("all acts", grouped(done.total()), grouped(refused.total()), grouped(len(settled.log)))
+    columns = ["Act", "Done", "Refused", "All"]
+    return table("Instructions by act", columns, rows, right=columns[1:], foot=[foot], is_short=True)
+
+
+def totals_parts(settled: Settled) -> list[Markup]:
+    """The totals before and after the day, as a sum that adds up."""
+    before, moved = sums_of(settled.day.book_rows), Movements(settled.report)
+    after = {kind: settled.report.totals[kind] for kind in KINDS}
+    steps = [
+        ("Held before the day", lambda kind: before[kind].held),
+        ("Surrendered before the day", lambda kind: before[kind].surrendered),
+        ("Together before the day", lambda kind: before[kind].allowances),
+        ("Created", lambda kind: moved.created[kind]),
+        ("Deleted", lambda kind: -moved.deleted[kind]),
+        ("Deletions reversed", lambda kind: moved.undeleted[kind]),
+        ("Together after the day", lambda kind: after[kind][0] + after[kind][1]),
+        ("Held after the day", lambda kind: after[kind][0]),
+        ("Surrendered after the day", lambda kind: after[kind][1]),
+    ]
+    kept = [("Before the day", lambda kind: before[kind].deleted), ("After the day", lambda kind: after[kind][2])]
+    return [
+        amounts_table("Allowances before and after the day", steps),
+        *(equation(kind, before[kind].allowances, moved, after[kind][0] + after[kind][1]) for kind in KINDS),
+        amounts_table("Deleted allowances, without those of reversed deletions", kept),
+    ]
+
+
+def amounts_table(caption: str, steps: list[tuple[str, Callable[[str], int]]]) -> Markup:
+    """A table with a row for each step, and a column for each kind of allowance. Sums are bold."""
+    rows = [(name, *(grouped(amount(kind)) for kind in KINDS)) for name, amount in steps]
+    columns = ["Allowances", *(kind.capitalize() for kind in KINDS)]
+    shown = (row if not row[0].startswith("Together") else [tag("strong", cell) for cell in row] for row in rows)
+    return table(caption, columns, shown, right=columns[1:], is_short=True)
+
+
+def equation(kind: str, before: int, moved: Movements, after: int) -> Markup:
+    """The equation of conservation in a line, and whether it holds."""
+    created, deleted, undeleted = moved.created[kind], moved.deleted[kind], moved.undeleted[kind]
+    expected = before + created - deleted + undeleted
+    sum_in_words = (
+        f"{grouped(before)} + {grouped(created)} - {grouped(deleted)} + {grouped(undeleted)} = {grouped(expected)}"
+    )
+    verdict = "It adds up." if expected == after else f"It does not add up: the report has {grouped(after)}."
+    return paragraph(
+        f"{kind.capitalize()}: {sum_in_words}. ", tag("strong", verdict, class_=None if expected == after else "alert")
+    )
+
+
+def log_row(settled: Settled, logged: LogRow) -> Cells:
+    """An instruction as a row of LOG_COLUMNS. Of an assessment that was done, with its figure."""
+    i = logged.instruction
+    figure = "" if logged.figure is None else f": figure {grouped(logged.figure)}"
+    proposer, approver = (("" if own is None else settled.names.user(own)) for own in (i.proposer, i.approver))
+    return (logged.record, settled.accounts_of(logged), in_words(logged) + figure, i.proposed, proposer, approver)
+
+
+def done_rows(settled: Settled) -> list[Cells]:
+    """The rows of what was done."""
+    return [log_row(settled, logged) for logged in settled.log if logged.is_done]
+
+
+def done_parts(settled: Settled) -> list[Markup]:
+    """The instructions that were done; of many, the first ones."""
+    rows = done_rows(settled)
+    if not rows:
+        return [paragraph("No instruction was done.")]
+    if len(rows) <= MOST_DONE:
+        return [table(DONE_CAPTION, LOG_COLUMNS, rows)]
+    shown = table(f"{DONE_CAPTION}: the first {MOST_DONE} of {grouped(len(rows))}", LOG_COLUMNS, rows[:MOST_DONE])
+    return [shown, paragraph(link(DONE, f"All {grouped(len(rows))} that were done"))]
+
+
+def done_pages(settled: Settled, files: dict[str, str], note: str) -> Iterator[tuple[str, str]]:
+    """The pages of all instructions that were done, if the page of the day does not show all of them."""
+    rows = done_rows(settled)
+    if len(rows) > MOST_DONE:
+        first = [paragraph(link(files["day"], WAY_BACK))]
+        title = f"Done on {settled.head.date}"
+        yield from LongTable(DONE, title, Table(LOG_COLUMNS), DONE_CAPTION, rows, first).pages(settled.frame, note=note)
+
+
+def refused_page(code: int) -> str:
+    """The file of the page of a check that refused much."""
+    return f"refused-{code}.html"
+
+
+def refusals_of(settled: Settled, code: int, own: list[LogRow]) -> Iterator[Markup]:
+    """A check with its meaning, its remedy and the instructions that it refused."""
+    rulebook, check = settled.rulebook, settled.rulebook.checks[code]
+    rows = [log_row(settled, logged) for logged in own[:MOST_REFUSED]]
+    caption = (
+        f"Refused as {check.name}"
+        if len(rows) == len(own)
+        else f"Refused as {check.name}: the first {len(rows)} of {grouped(len(own))}"
+    )
+    yield tag(
+        "h3",
+        f"{code} ",
+        rulebook.check_link(code),
+        f": {count_of(len(own), 'instruction', 'instructions')}",
+        id=f"refused-{code}",
+    )
+    yield from meaning(settled, check)
+    yield table(caption, LOG_COLUMNS, rows)
+    if len(rows) < len(own):
+        yield paragraph(link(refused_page(code), f"All {grouped(len(own))} that were refused as {check.name}"))
+
+
+def meaning(settled: Settled, check: Check) -> Iterator[Markup]:
+    """When a check refuses, and what to do then."""
+    yield paragraph(tag("strong", "It refuses if: "), settled.rulebook.words(check.meaning))
+    yield paragraph(tag("strong", "What to do: "), settled.rulebook.words(check.advice))
+
+
+def refusals_parts(settled: Settled) -> list[Markup]:
+    """The refusals: how many of each check, and then each check with its instructions."""
+    refused = settled.refused()
+    if not refused:
+        return [paragraph("No instruction was refused.")]
+    rows = (
+        (link(f"#refused-{code}", f"{code} {settled.rulebook.checks[code].name}"), grouped(len(own)))
+        for code, own in refused.items()
+    )
+    return [
+        table("Refusals by check", ["Check", "Refused"], rows, right=("Refused",), is_short=True),
+        *(part for code, own in refused.items() for part in refusals_of(settled, code, own)),
+    ]
+
+
+def waiting_note(settled: Settled) -> str:
+    """Since when the instructions of the table wait."""
+    if settled.has_pending:
+        return f"They were refused as NotDue on this day or before. {ENTERED_AGAIN}"
+    return f"They were refused as NotDue on this day. {ENTERED_AGAIN} {ELSEWHERE}"
+
+
+def waiting_rows(settled: Settled) -> list[Cells]:
+    """The instructions that wait, those first that are due first."""
+    pairs = ((waits, waits.instruction) for waits in settled.waiting)
+    return [(waits.record or "", instruction_in_words(i), i.proposed, waits.due or NO_DUE_DAY) for waits, i in pairs]
+
+
+def waiting_parts(settled: Settled) -> list[Markup]:
+    """The instructions that wait for their due day; of many, the first ones."""
+    rows = waiting_rows(settled)
+    if not rows:
+        return [
+            paragraph(
+                "No instruction waits." if settled.has_pending else f"No instruction of this day waits. {ELSEWHERE}"
+            )
+        ]
+    note = paragraph(waiting_note(settled))
+    if len(rows) <= MOST_REFUSED:
+        return [note, table(WAITING_CAPTION, WAITING_COLUMNS, rows)]
+    first = f"{WAITING_CAPTION}: the first {MOST_REFUSED} of {grouped(len(rows))}"
+    shown = table(first, WAITING_COLUMNS, rows[:MOST_REFUSED])
+    return [note, shown, paragraph(link(WAITING, f"All {grouped(len(rows))} that wait"))]
+
+
+def waiting_pages(settled: Settled, files: dict[str, str], note: str) -> Iterator[tuple[str, str]]:
+    """The pages of all instructions that wait, if the page of the day does not show all of them."""
+    rows = waiting_rows(settled)
+    if len(rows) > MOST_REFUSED:
+        first = [paragraph(link(files["day"], WAY_BACK)), paragraph(waiting_note(settled))]
+        title = f"Waiting after {settled.head.date}"
+        yield from LongTable(WAITING, title, Table(WAITING_COLUMNS), WAITING_CAPTION, rows, first).pages(
+            settled.frame, note=note
+        )
+
+
+def refused_pages(settled: Settled, files: dict[str, str], note: str) -> Iterator[tuple[str, str]]:
+    """The pages of each check that refused more than the page of the day shows."""
+    for code, own in settled.refused().items():
+        if len(own) > MOST_REFUSED:
+            check = settled.rulebook.checks[code]
+            rows = [log_row(settled, logged) for logged in own]
+            first = [paragraph(link(f"{files['day']}#refused-{code}", WAY_BACK)), *meaning(settled, check)]
+            title = f"Refused as {check.name} on {settled.head.date}"
+            own_table = LongTable(
+                refused_page(code), title, Table(LOG_COLUMNS), f"Refused as {check.name}", rows, first
+            )
+            yield from own_table.pages(settled.frame, note=note)
+
+
+def sections(settled: Settled, files: dict[str, str], by_hand: ByHand) -> Iterator[tuple[str, list[Markup]]]:
+    """The headings of the page, and what stands under each."""
+    yield "Accounts", [index.of_all(settled, files["accounts"])] if settled.report.numbers else []
+    yield "Instructions", [acts_table(settled)] if settled.log else []
+    yield "Allowances", totals_parts(settled)
+    yield "Refused", refusals_parts(settled) if settled.log else []
+    yield "Waiting for their due day", waiting_parts(settled) if settled.log or settled.waiting else []
+    yield "Changed by hand", by_hand_parts(settled, by_hand)
+    yield "Done", done_parts(settled) if settled.log else []
+    yield "The order of the instructions", plan_parts(settled) if settled.log else []
+
+
+def summary_pages(settled: Settled, files: dict[str, str], by_hand: ByHand, note: str) -> Iterator[tuple[str, str]]:
+    """The file and the text of each page of the day."""
+    parts = [part for name, own in sections(settled, files, by_hand) if own for part in (tag("h2", name), *own)]
+    title = f"Settlement day: {long_date(settled.head.date)}"
+    yield files["day"], settled.frame.page(title, lead(settled), *parts, current=files["day"], note=note)
+    yield from waiting_pages(settled, files, note)
+    yield from done_pages(settled, files, note)
+    yield from refused_pages(settled, files, note)

@@ -1,0 +1,103 @@
+"""The page of the workers: who executed what. Which worker executes what differs from run to run, and is in no report:
+it comes from a text of lanes, with a line for each worker."""
+from collections import Counter
+from collections.abc import Iterator
+
+from registry_tools.errors import FileFault, shown
+from registry_tools.pages.grid import Names
+from registry_tools.pages.html import Markup, paragraph, table, tag
+from registry_tools.pages.plan import MOST_BOXES, Task, arrows_of, bars, both, box_of, figure, plan_of
+from registry_tools.pages.rulebook import ACTS
+from registry_tools.pages.settled import Settled, count_of, in_words, outcome_in_words
+from registry_tools.texts.in_words import grouped
+from registry_tools.texts.lanes import LanesFault, columns, read_lanes
+from registry_tools.texts.rows import bytes_of
+
+
+def lanes_of(path: str, settled: Settled, tasks: dict[int, Task]) -> tuple[list[list[int]], dict[int, int]]:
+    """The records that each worker executed, in its order, and the column of each."""
+    try:
+        lanes = read_lanes(bytes_of(path).decode())
+    except UnicodeDecodeError as error:
+        raise FileFault(path, 0, "", f"no file that can be read ({error})", "lanes: a line for each worker") from None
+    except LanesFault as fault:
+        raise FileFault(path, fault.line, "", shown(fault.found), fault.expected) from None
+    first = settled.head.next_record
+    records = [[first + place - 1 for place in lane] for lane in lanes]
+    found = sorted(record for lane in records for record in lane)
+    if found != [*tasks]:
+        raise FileFault(
+            path,
+            0,
+            "",
+            f"{len(found)} places",
+            f"each place from 1 to {len(tasks)} once, as {settled.day.path} has them",
+        )
+    arrows = [(tail, head) for head, task in tasks.items() for tail, _ in task.tails]
+    column = columns(records, arrows)
+    if column is None:
+        raise FileFault(
+            path,
+            0,
+            "",
+            "an order in which an instruction does not wait for another one",
+            "an order that follows the plan",
+        )
+    return records, column
+
+
+def name_of(worker: int) -> str:
+    """The name of a worker."""
+    return f"worker {worker}"
+
+
+def lanes_parts(tasks: dict[int, Task], records: list[list[int]], column: dict[int, int]) -> Iterator[Markup]:
+    """The lanes as a picture, with the arrows of the plan, and as a table."""
+    boxes = {
+        record: box_of(tasks[record].logged, column[record], worker)
+        for worker, lane in enumerate(records)
+        for record in lane
+    }
+    names = Names(rows=[name_of(worker) for worker in range(len(records))])
+    said = f"A lane for each of {count_of(len(records), 'worker', 'workers')}, with the arrows of the plan"
+    yield figure(said, both(said, boxes, [*arrows_of(tasks, tasks)], names))
+    rows = (
+        (name_of(worker), place, record, in_words(tasks[record].logged), outcome_in_words(tasks[record].logged))
+        for worker, lane in enumerate(records)
+        for place, record in enumerate(lane, 1)
+    )
+    yield table(
+        "The lanes in words", ["Worker", "Its turn", "Record", "Instruction", "Outcome"], rows, right=("Its turn",)
+    )
+
+
+def shares_parts(tasks: dict[int, Task], records: list[list[int]]) -> Iterator[Markup]:
+    """How many instructions of each act each worker executed."""
+    counts = [Counter(tasks[record].logged.instruction.act for record in lane) for lane in records]
+    said = "Instructions by worker"
+    yield figure(said, bars(said, [(name_of(worker), len(lane)) for worker, lane in enumerate(records)]))
+    acts = [act for act in ACTS if any(count[act] for count in counts)]
+    columns = ["Worker", *acts, "all"]
+    rows = (
+        (name_of(worker), *(grouped(count[act]) for act in acts), grouped(count.total()))
+        for worker, count in enumerate(counts)
+    )
+    yield table("Instructions by worker and act", columns, rows, right=columns[1:])
+
+
+def workers_page(settled: Settled, files: dict[str, str], path: str, note: str) -> str:
+    """The page of who executed what."""
+    tasks = plan_of(settled.log)
+    records, column = lanes_of(path, settled, tasks)
+    lead = paragraph(
+        f"{count_of(len(records), 'worker', 'workers')} settled {count_of(len(tasks), 'instruction', 'instructions')}. "
+        "Workers count from 0. They take single instructions and pass accounts on to each other, as those of "
+        "bench_workers do; the program leaves all instructions on common accounts to one worker. "
+        "Another run may give other lanes, but always the same report.",
+        class_="lead",
+    )
+    parts = [*shares_parts(tasks, records)] if tasks else []
+    if 0 < len(tasks) <= MOST_BOXES:
+        parts += [tag("h2", "Lanes"), *lanes_parts(tasks, records, column)]
+    title = f"Who executed what on {settled.head.date}"
+    return settled.frame.page(title, lead, *parts, current=files["workers"], note=note)

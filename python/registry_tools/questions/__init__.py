@@ -1,0 +1,1 @@
+"""What a day, or all days, are asked: commands that only read."""

@@ -1,0 +1,254 @@
+"""Looks whether days follow from each other: each report from its day, and each day from the report before it.
+
+  each pair      the report is what follows from the day, as docs/FORMATS.md says it of a pair
+  the next day   its date is later, its NEXT is that of the report, its accounts are those of the report; each
+                 difference is shown. One that somebody may make by hand, since no act makes it, is called `by hand`,
+                 and so is each difference of the first rows. One of an account that stands so in a file of --changes,
+                 as it was given to ./day next, does not count
+  what waits     what was refused as NotDue comes on its due day, with the same fields
+  the rules      periods are kept, and only added to; calendars agree where they overlap, and none of them brings
+                 back a window for a reversal that was over
+  allowances     of each kind, what there is at the end is what there was at the beginning, and what was created,
+                 deleted, reversed and changed by hand
+
+With --settle, PROGRAM settles each day again by `PROGRAM settle`, or without PROGRAM the library does, if it was built:
+the report must have the same bytes. Of many equal differences the first three are shown, and the others counted.
+
+exit status: 0 if nothing was found, else 1.
+"""
+import argparse
+import itertools
+
+from registry_tools import tables
+from registry_tools.calendars.due_days import Waits
+from registry_tools.calendars.working_days import Calendars
+from registry_tools.engine import NotSettled, Settler, settler_of
+from registry_tools.errors import FOUND, FileFault, WordsFault, shown
+from registry_tools.findings import Findings
+from registry_tools.notes import counted
+from registry_tools.options import add_to
+from registry_tools.output import write_answer
+from registry_tools.progress import progress
+from registry_tools.questions.allowances import Balance, count_changes, look_at_allowances
+from registry_tools.second import faults, rules
+from registry_tools.texts.accounts import Block
+from registry_tools.texts.books import Sums, sums_of
+from registry_tools.texts.changes import differences_of, refusals, why_not
+from registry_tools.texts.day_text import DayText, read_blocks, read_day
+from registry_tools.texts.follows import differences, line_behind
+from registry_tools.texts.headings import heading_differences, lost_period
+from registry_tools.texts.report import Report, read_report
+from registry_tools.texts.rows import bytes_of
+
+EXAMPLE = (
+    "./day chain examples/week/monday.csv examples/week/monday-report.csv examples/week/tuesday.csv "
+    "examples/week/tuesday-report.csv"
+)
+
+
+def add_words(parser: argparse.ArgumentParser) -> None:
+    """Tells a parser the words of the command."""
+    parser.add_argument(
+        "files", metavar="DAY REPORT", nargs="+", help="day texts, each with its report behind it, in order"
+    )
+    parser.add_argument(
+        "--settle",
+        metavar="PROGRAM",
+        nargs="?",
+        const=True,
+        help="settle each day again: by a program, such as ./run, or else the library",
+    )
+    parser.add_argument(
+        "--changes", metavar="FILE", nargs="+", default=[], help="files that were given to ./day next as changes"
+    )
+    add_to(parser)
+
+
+# A day and its report.
+
+
+def settle_again(settler: Settler, day: DayText, report: Report, found: Findings) -> None:
+    """Compares the report with what the engine writes."""
+    progress.tell(f"settling {day.path}")
+    try:
+        settled = settler.settle(bytes_of(day.path))
+    except NotSettled as fault:
+        found.add(FileFault(day.path, 0, "", str(fault), ""))
+        return
+    if settled != bytes_of(report.path):
+        pairs = enumerate(itertools.zip_longest(settled.split(b"\n"), bytes_of(report.path).split(b"\n")), 1)
+        line, (row, other) = next((line, pair) for line, pair in pairs if pair[0] != pair[1])
+        expected = f"{row_in_words(row)}, as {settler.name} settles it"
+        found.add(FileFault(report.path, line, "row", row_in_words(other), expected))
+
+
+def row_in_words(row: bytes | None) -> str:
+    """A row of a text that was cut at its line ends: the last one is empty if the text ends with a line end."""
+    if row is None:
+        return "no line end"
+    return shown(row.decode("utf-8", "surrogateescape")) if row else "a line end and nothing behind it"
+
+
+# The next day.
+
+
+def look_at_next_day(before: DayText, report: Report, day: DayText, changes: "Changes", found: Findings) -> None:
+    """Whether a day begins as the report of the day before ends."""
+    line = day.line_of_tag("day")
+    if day.head.date <= before.head.date:
+        found.add(
+            FileFault(day.path, line, "DATE", day.head.date, f"a day after {before.head.date}, that of {before.path}")
+        )
+    if day.head.next_record != report.next_record:
+        expected = f"{report.next_record}, as {report.path}:{report.book_line}"
+        found.add(FileFault(day.path, line, "NEXT", day.head.next_record, expected))
+    lost = lost_period(before, day)
+    if lost:
+        found.add(lost)
+    for fault in heading_differences(before, day):
+        found.add_by_hand(fault)
+    if is_copied_from(before, report, day):
+        first = next(block for block in day.book.values() if block.rows != report.book[block.number].rows)
+        found.add(
+            FileFault(day.path, first.line, "accounts", f"the accounts of {before.path}", f"those of {report.path}")
+        )
+    for number in sorted({*report.book, *day.book}):
+        look_at_account(report, day, number, changes, found)
+
+
+def is_copied_from(before: DayText, report: Report, day: DayText) -> bool:
+    """Whether the accounts of a day are those of the day before, and not those of its report."""
+    if before.book.keys() != day.book.keys() or day.book.keys() != report.book.keys():
+        return False
+    others = [block for block in day.book.values() if block.rows != report.book[block.number].rows]
+    return bool(others) and all(block.rows == before.book[block.number].rows for block in others)
+
+
+def look_at_account(report: Report, day: DayText, number: int, changes: "Changes", found: Findings) -> None:
+    """What is different in an account."""
+    old, new = report.book.get(number), day.book.get(number)
+    if old and new and old.rows == new.rows:
+        return
+    if new is None:
+        if old:
+            where = f"account {number} of {report.path}:{old.line}"
+            found.add(FileFault(day.path, line_behind(day, number), "account", f"no account {number}", where))
+        return
+    agreed = changes.place_of(new)
+    if old is None:
+        fault = FileFault(
+            day.path, new.line, "account", f"account {number}, which is new", f"the accounts of {report.path}"
+        )
+        found.add_by_hand(fault, agreed)
+        for fault in refusals(None, new):
+            found.add(fault)
+        return
+    for difference in differences_of(old.rows, new.rows):
+        place = f"{report.path}:{old.line_of(difference.place_before or 0)}"
+        line, why = new.line_of(difference.place_after or 0), why_not(difference)
+        fault = FileFault(
+            day.path,
+            line,
+            f"{difference.name} of account {number}",
+            difference.found,
+            f"{difference.expected}, as {place}",
+        )
+        if why:
+            found.add(fault)
+        else:
+            found.add_by_hand(fault, agreed)
+
+
+class Changes:
+    """The accounts of files of changes, and which of them a day has so."""
+
+    def __init__(self, paths: list[str]) -> None:
+        self.blocks: dict[int, list[Block]] = {}
+        self.unused = [*paths]
+        years = [*range(tables.MOST_PERIODS)]
+        for path in paths:
+            reading = faults.Reading(last="work", version=2, next_record=tables.MOST_RECORD + 1, last_years=years)
+            for number, block in read_blocks(path, reading).items():
+                self.blocks.setdefault(number, []).append(block)
+
+    def place_of(self, block: Block) -> str:
+        """Where an account stands so in a file of changes; nothing if it does not."""
+        own = next((known for known in self.blocks.get(block.number, []) if known.rows == block.rows), None)
+        if own is None:
+            return ""
+        path = own.source.path
+        if str(path) in self.unused:
+            self.unused.remove(str(path))
+        return f"{path}:{own.line}"
+
+    def in_words(self) -> list[str]:
+        """A line for each file of which no day has anything."""
+        return [
+            f"{path}: nothing of this file was applied: no day has one of its accounts as a change"
+            for path in self.unused
+        ]
+
+
+# All together.
+
+
+class Chain:
+    """What is found of days that were read one after another, and what there is at the end."""
+
+    def __init__(self, changes: Changes, settler: Settler | None) -> None:
+        self.changes, self.settler = changes, settler
+        self.found, self.calendars, self.waits = Findings(), Calendars(), Waits()
+        self.balances: dict[str, Balance] = {}
+        self.end: dict[str, int] = {}
+        self.before: tuple[DayText, Report] | None = None
+
+    def follow(self, day_path: str, report_path: str) -> None:
+        """Looks at the next day and its report."""
+        day = read_day(day_path, self.before and self.before[1].known(self.before[0]))
+        report = read_report(report_path, day)
+        begin, sums = sums_of(day.book_rows), sums_of(report.book_rows)
+        self.look_at_begin(day, begin)
+        self.calendars.look_at(day, self.found)
+        self.waits.look_at(day, self.found)
+        for difference in differences(day, report, sums):
+            self.found.add(difference)
+        if self.settler:
+            settle_again(self.settler, day, report, self.found)
+        count_changes(report, self.balances)
+        self.end = {kind: sums[kind].allowances for kind in rules.KINDS}
+        look_at_allowances(self.balances, report, self.end, self.found)
+        self.waits.add(report)
+        self.before = day, report
+
+    def look_at_begin(self, day: DayText, begin: dict[str, Sums]) -> None:
+        """Whether a day follows from the report before it, if there is one."""
+        if self.before is None:
+            self.balances = {kind: Balance(begin[kind].allowances) for kind in rules.KINDS}
+            return
+        look_at_next_day(*self.before, day, self.changes, self.found)
+        for kind, balance in self.balances.items():
+            balance.by_hand += begin[kind].allowances - self.end[kind]
+
+    def lines(self) -> list[str]:
+        """All that is told: what was found, changes by hand, what waits, and the balances."""
+        words = (balance.in_words(kind, self.end[kind]) for kind, balance in self.balances.items())
+        return [*map(str, self.found.lines), *self.changes.in_words(), *self.waits.in_words(), *words]
+
+
+def run(words: argparse.Namespace) -> int:
+    """Runs the command, and answers the exit status."""
+    if len(words.files) % 2:
+        program = f"; {words.settle} is the program of --settle" if isinstance(words.settle, str) else ""
+        raise WordsFault(f"{len(words.files)} files: each DAY needs its REPORT behind it{program}")
+    pairs = [*zip(words.files[::2], words.files[1::2])]
+    settler = None if words.settle is None else settler_of(words.settle, "--settle")
+    chain = Chain(Changes(words.changes), settler)
+    for pair in pairs:
+        chain.follow(*pair)
+    found = chain.found
+    agreed = f", {found.agreed} by hand as files of changes say" if words.changes else ""
+    faults = counted(found.faults, "difference", "differences")
+    by_hand = counted(found.by_hand, "change by hand", "changes by hand")
+    last = f"{counted(len(pairs), 'day', 'days')}: {faults}, {by_hand}{agreed}"
+    write_answer("\n".join([*chain.lines(), last, ""]), words.to)
+    return FOUND if found.faults or found.by_hand else 0

@@ -1,0 +1,259 @@
+"""Shows which operators and aircraft operators are compliant for a year: a row each, and counts at the end.
+
+  holder, status  of the account
+  surrendered     what it has surrendered for the period of the year, on or before the day
+  emissions       what was entered of this period, up to and including the year
+  correction      its correction factor of the period
+  determined      the figure as it was last determined; empty if it was not
+  figure          the figure as it would be determined now; empty if emissions are missing
+  verdict         one of these:
+    compliant          the determined figure is 0 or more, and so is the one of now
+    missing N          N allowances are missing now
+    emissions missing  of the years that are named there is no entry, so there is no figure
+    not assessed       no figure of the year was determined
+    surrendered since  the determined figure is below 0, and as much was surrendered since, also for later years: assess
+                       the year again
+    outdated           emissions up to the year, or the correction factor, changed after the figure was determined:
+                       assess the year again
+    excluded           no figure is determined for an excluded account
+
+Without --year it is the last year of the current period that is over on the day. REPORT must be that of DAY.
+
+exit status: 0 if each account that is open is compliant, else 1. An excluded or closed account counts as it is; a
+blocked one counts as an open one.
+"""
+import argparse
+import bisect
+import operator
+import sys
+from collections.abc import Iterable, Iterator, Sequence
+from dataclasses import dataclass
+
+from registry_tools import showing, tables
+from registry_tools.engine import confirm_figures
+from registry_tools.errors import FOUND, WordsFault
+from registry_tools.office import labels
+from registry_tools.office.labels import Labels
+from registry_tools.options import add_pair
+from registry_tools.output import write_answer
+from registry_tools.progress import progress
+from registry_tools.second import rules
+from registry_tools.showing import Cell
+from registry_tools.texts.day_text import DayText
+from registry_tools.texts.in_words import grouped, table
+from registry_tools.texts.outdated import Entries, was_once_right
+from registry_tools.texts.pairs import read_pair
+from registry_tools.texts.report import Report
+
+EXAMPLE = "./day compliance examples/week/monday.csv examples/week/monday-report.csv --year 2024"
+COLUMNS = tables.COLUMNS["compliance"]
+# Where the accounts of a text begin.
+AT = operator.attrgetter("index")
+COMPLIANT, MISSING, NO_EMISSIONS = "compliant", "missing", "emissions missing"
+NOT_ASSESSED, SINCE, OUTDATED, EXCLUDED = "not assessed", "surrendered since", "outdated", "excluded"
+# In the order in which they are counted.
+VERDICTS = (COMPLIANT, MISSING, NO_EMISSIONS, NOT_ASSESSED, SINCE, OUTDATED, EXCLUDED)
+# Nobody has to do anything about these.
+SETTLED = {COMPLIANT, EXCLUDED}
+
+
+@dataclass
+class Standing:
+    """How an account stands for a year. `figure` is that of now; without all emissions there is none."""
+
+    account: rules.Account
+    year: int
+    surrendered: int
+    emissions: int
+    correction: int
+    determined: int | None
+    figure: int | None
+    years_without_emissions: list[int]
+    verdict: str
+
+    @property
+    def missing(self) -> int | None:
+        """How many allowances are missing now; None if that is not known, or nobody asks for it."""
+        return None if self.figure is None or self.verdict == EXCLUDED else max(0, -self.figure)
+
+    @property
+    def verdict_in_words(self) -> str:
+        """The verdict, with what is missing."""
+        if self.verdict == MISSING:
+            return f"missing {grouped(self.missing or 0)}"
+        if self.verdict == NO_EMISSIONS:
+            return f"{NO_EMISSIONS}: {' '.join(map(str, self.years_without_emissions))}"
+        return self.verdict
+
+
+def add_words(parser: argparse.ArgumentParser) -> None:
+    """Tells a parser the words of the command."""
+    add_pair(parser)
+    parser.add_argument("--year", type=int, metavar="Y", help="the year; its period is the one that has it")
+    labels.add_words(parser)
+    showing.add_words(parser)
+
+
+def last_year_over(head: rules.Day) -> int:
+    """The last year of the current period that is over on the day."""
+    first, last = head.periods[head.current - 1]
+    year = min(last, head.date.year - 1)
+    if year < first:
+        raise WordsFault(
+            f"no year of the current period, {first} to {last}, is over on {head.date}: name a year by --year"
+        )
+    return year
+
+
+def period_of(head: rules.Day, year: int) -> int:
+    """The period of a year."""
+    period = head.period_of(year)
+    if period is None:
+        there = ", ".join(f"{first} to {last}" for first, last in head.periods)
+        raise WordsFault(f"--year {year} is in no period of the day: there is {there}")
+    return period
+
+
+def verdict_of(account: rules.Account, determined: int | None, figure: int | None, is_outdated: bool) -> str:
+    """Whether an account is compliant, by its figures and what is determined."""
+    if account.status == "excluded":
+        return EXCLUDED
+    if figure is None:
+        return NO_EMISSIONS
+    if determined is None:
+        return NOT_ASSESSED
+    if is_outdated:
+        return OUTDATED
+    if figure < 0:
+        return MISSING
+    return COMPLIANT if determined >= 0 else SINCE
+
+
+def standing_of(head: rules.Day, account: rules.Account, year: int, entries: Entries | None = None) -> Standing:
+    """How an account stands for a year, by the periods of the day. `entries` are those of the day: they may tell
+    whether a figure is outdated."""
+    period = period_of(head, year)
+    first = head.periods[period - 1][0]
+    years = range(first, year + 1)
+    figure, determined = head.figure(account, year), account.figures.get(year)
+    emitted = sum(account.emissions.get(each, 0) for each in years)
+    have_changed = entries.have_changed(account.number, first, year) if entries else None
+    if have_changed is None:
+        have_changed = determined is not None and not was_once_right(account, period, determined, emitted)
+    return Standing(
+        account=account,
+        year=year,
+        surrendered=account.surrendered_for(period),
+        emissions=emitted,
+        correction=account.corrections.get(period, 0),
+        determined=determined,
+        figure=figure,
+        years_without_emissions=[each for each in years if each not in account.emissions],
+        verdict=verdict_of(account, determined, figure, have_changed and determined != figure),
+    )
+
+
+def standings(day: DayText, report: Report, year: int) -> Iterator[Standing]:
+    """How each operator and aircraft operator stands, rising by account. Raises FileFault if the library was built, and
+    determines other figures than the report has."""
+    period_of(day.head, year)
+    confirm_figures(day, report)
+    entries = Entries(day, report)
+    for block in progress.over(report.book.values(), "looking at the accounts", len(report.book)):
+        if block.kind in rules.OPERATORS:
+            yield standing_of(day.head, block.account(), year, entries)
+
+
+def compliant_share(day: DayText, report: Report, year: int) -> tuple[int, int]:
+    """How many operators and aircraft operators are compliant for a year, of how many. Who has no figure of the year is
+    not, whatever else it has: so most accounts are not read. Raises FileFault as `standings` does."""
+    period_of(day.head, year)
+    confirm_figures(day, report)
+    entries, begins = Entries(day, report), f"figure,{year},"
+    rows, blocks = report.source.rows, [*report.book.values()]
+    count = sum(rows[block.index].split(",", 3)[2] in rules.OPERATORS for block in blocks)
+    places = [place for place in range(report.first_account, report.first_totals) if rows[place].startswith(begins)]
+    determined = [blocks[bisect.bisect_right(blocks, place, key=AT) - 1] for place in places]
+    accounts = (block.account() for block in determined if block.kind in rules.OPERATORS)
+    verdicts = (standing_of(day.head, account, year, entries).verdict for account in accounts)
+    return sum(verdict == COMPLIANT for verdict in verdicts), count
+
+
+def cells(standing: Standing) -> list[Cell]:
+    """The columns of an account."""
+    own = standing.account
+    start: list[Cell] = [
+        own.number,
+        own.kind,
+        own.holder,
+        own.status,
+        standing.year,
+        standing.surrendered,
+        standing.emissions,
+        standing.correction,
+    ]
+    verdict = standing.verdict if standing.verdict == MISSING else standing.verdict_in_words
+    return [*start, standing.determined, standing.figure, verdict, standing.missing]
+
+
+def counts(rows: Sequence[Standing]) -> list[str]:
+    """The last lines: how many accounts have each verdict, and what is missing in all."""
+    of = {verdict: sum(own.verdict == verdict for own in rows) for verdict in VERDICTS}
+    missing = sum(own.missing or 0 for own in rows)
+    said = ", ".join(f"{count} {verdict}" for verdict, count in of.items() if count)
+    lines = [
+        f"accounts {len(rows)}: {said or 'none'}",
+        f"{grouped(missing)} allowances are missing now, as far as there are figures",
+    ]
+    return [*lines, *closed_words(rows)]
+
+
+def closed_words(rows: Iterable[Standing]) -> list[str]:
+    """A line on the closed accounts about which something would have to be done, if there are some."""
+    count = sum(own.account.status == "closed" and own.verdict not in SETTLED for own in rows)
+    own = (
+        "1 account that is not compliant is" if count == 1 else f"{grouped(count)} accounts that are not compliant are"
+    )
+    return [f"{own} closed: no act is done on a closed account, so that stays"] if count else []
+
+
+def in_words(standing: Standing, names: Labels) -> list[str]:
+    """The cells of an account in the table, which says the year and what is missing once."""
+    own, figures = standing.account, (
+        standing.surrendered,
+        standing.emissions,
+        standing.correction,
+        standing.determined,
+        standing.figure,
+    )
+    amounts = ["" if figure is None else grouped(figure) for figure in figures]
+    account, holder = names.account(own.number), names.holder(own.holder)
+    return [account, own.kind, holder, own.status, *amounts, standing.verdict_in_words]
+
+
+def as_table(day: DayText, rows: Sequence[Standing], year: int, names: Labels) -> str:
+    """The table of compliance for a year, with its counts."""
+    period = period_of(day.head, year)
+    first, last = day.head.periods[period - 1]
+    head = [column for column in COLUMNS.names if column not in ("year", "missing")]
+    right = {*head} - {"kind", "status", "verdict"}
+    title = f"Compliance for {year}, in the period {first} to {last}, after {day.head.date}"
+    return "\n".join([title, "", *table(head, [in_words(own, names) for own in rows], right), "", *counts(rows), ""])
+
+
+def run(words: argparse.Namespace) -> int:
+    """Runs the command, and answers the exit status."""
+    day, report = read_pair(words.day, words.report)
+    year = last_year_over(day.head) if words.year is None else words.year
+    rows = [*standings(day, report, year)]
+    if showing.is_for_programs(words):
+        write_answer(showing.for_programs(words, COLUMNS.names, [cells(own) for own in rows]), words.to)
+        print("\n".join(counts(rows)), file=sys.stderr)
+    else:
+        write_answer(as_table(day, rows, year, labels.named_by(words)), words.to)
+    return FOUND if any(is_to_do(own) for own in rows) else 0
+
+
+def is_to_do(standing: Standing) -> bool:
+    """Whether somebody has to do something about an account: on a closed one no act is done."""
+    return standing.verdict not in SETTLED and standing.account.status != "closed"

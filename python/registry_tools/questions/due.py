@@ -1,0 +1,199 @@
+"""Shows what is due from the last settled day on, up to DATE, in the order of the dates:
+
+  deadline          by when an operator has to have surrendered what is missing for a year, or by when its emissions
+                    of a year have to be entered
+  reversal ends     the last day on which a surrender or a deletion may still be reversed
+  list takes effect when an account that was added to a trusted list may be used
+  waiting           when an instruction that waits is due
+  working day       one that is over and has no settlement
+  calendar ends     the last working day that the text knows
+
+Deadlines are those of office.ini; no rule of a day text tells one. Without --until it shows as many days ahead as
+office.ini says under [due] lead; without that, 30. An operator whose surrendered allowances suffice is not shown.
+
+--ics writes the same as a calendar (iCalendar), which other programs take in.
+"""
+import argparse
+import contextlib
+import datetime
+from collections import Counter
+from typing import Iterator, NamedTuple
+
+from registry_tools import showing, streams, tables
+from registry_tools.calendars.deadlines import DueDates
+from registry_tools.calendars.due_days import head_after
+from registry_tools.calendars.ics import calendar_of
+from registry_tools.errors import FileFault
+from registry_tools.notes import counted
+from registry_tools.office import composing, folder, labels, naming, past, words
+from registry_tools.office.folder import Office
+from registry_tools.office.labels import Labels
+from registry_tools.output import NewFile
+from registry_tools.questions.compliance import NO_EMISSIONS, SETTLED, Standing, standings
+from registry_tools.showing import Cell
+from registry_tools.texts.day_text import DayText
+from registry_tools.texts.in_words import grouped, instruction_in_words
+from registry_tools.texts.report import Report
+
+EXAMPLE = "./day due --until 2025-10-31 --office out/office"
+COLUMNS = tables.COLUMNS["due"]
+DEADLINE, REVERSAL, LIST = "deadline", "reversal ends", "list takes effect"
+WAITING, MISSED, CALENDAR = "waiting", "working day", "calendar ends"
+NO_MORE = "no working day behind it: hand in more by ./day hand-in"
+# A year has deadlines in the next one: so those of these years, counted back from the last day, may still come.
+YEARS_BACK = (1, 0)
+
+
+class Due(NamedTuple):
+    """Something that is due on a day."""
+
+    date: datetime.date
+    what: str
+    account: int | None
+    record: int | None
+    text: str
+
+    def cells(self) -> list[Cell]:
+        """The columns."""
+        return [str(self.date), self.what, self.account, self.record, self.text]
+
+
+def add_words(parser: argparse.ArgumentParser) -> None:
+    """Tells a parser the words of the command."""
+    parser.add_argument("--until", metavar="DATE", help="the last day that is shown")
+    parser.add_argument("--ics", metavar="FILE", help="write a calendar to this file")
+    words.add_office(parser)
+    showing.add_words(parser)
+
+
+def run(said: argparse.Namespace) -> int:
+    """Runs the command, and answers the exit status."""
+    office = folder.opened(said.office, folder.to_errors)
+    last = composing.last_day(office)
+    ahead = last.date + datetime.timedelta(office.settings.due.lead)
+    until = past.date_or("--until", said.until, ahead)
+    found = due_until(office, until)
+    if said.ics is not None:
+        title = f"Registry: what is due up to {until}"
+        NewFile(said.ics, calendar_of(title, [(own.date, f"{own.what}: {own.text}") for own in found])).keep()
+        print(f"{said.ics}: entries {len(found)}")
+        return 0
+    rows = [own.cells() for own in found]
+    showing.show(said, COLUMNS, naming.rows_shown(said, COLUMNS, rows, labels.of_folder(office.path)))
+    return 0
+
+
+def due_until(office: Office, until: datetime.date) -> list[Due]:
+    """All that is due from the last settled day up to a date, by rising date."""
+    day, report = composing.last_pair(office)
+    names = labels.of_folder(office.path)
+    every = [
+        *deadlines(office.settings.due, day, report, names),
+        *of_rows(day, report, names),
+        *waiting(office, names),
+        *of_calendar(office),
+    ]
+    return sorted((own for own in every if own.date <= until), key=lambda own: (own.date, own.what, own.account or 0))
+
+
+def deadlines(dates: DueDates, day: DayText, report: Report, names: Labels) -> Iterator[Due]:
+    """By when operators have to do something about each year of the current period that is over."""
+    head = day.head
+    first, last = head.periods[head.current - 1]
+    for year in range(first, min(last, head.date.year - 1) + 1):
+        surrender, emissions = dates.surrender_of(year), dates.emissions_of(year)
+        if not any(date and date >= head.date for date in (surrender, emissions)):
+            continue
+        for standing in standings(day, report, year):
+            yield from (own for own in of_standing(standing, surrender, emissions, names) if own.date >= head.date)
+
+
+def of_standing(
+    standing: Standing, surrender: datetime.date | None, emissions: datetime.date | None, names: Labels
+) -> Iterator[Due]:
+    """What an operator has to do for a year."""
+    account, year = standing.account, standing.year
+    if standing.verdict in SETTLED or account.status == "closed":
+        return
+    holder = names.holder(str(account.holder))
+    if standing.verdict == NO_EMISSIONS and emissions:
+        lacking = ", ".join(map(str, standing.years_without_emissions))
+        yield Due(emissions, DEADLINE, account.number, None, f"emissions of {lacking} are not entered: holder {holder}")
+    if standing.missing and surrender:
+        missing = grouped(standing.missing)
+        yield Due(surrender, DEADLINE, account.number, None, f"{missing} are missing for {year}: holder {holder}")
+
+
+def of_rows(day: DayText, report: Report, names: Labels) -> Iterator[Due]:
+    """When the rows of accounts change what may be done: the end of a reversal window, an entry that takes effect."""
+    head = head_after(day, report)
+    window = head.lags["reversal"]
+    for block in report.book.values():
+        if not any(row.startswith(("retired,", "trusted,")) for row in block.rows):
+            continue
+        account = block.account()
+        for other, takes_effect in account.trusted.items():
+            if takes_effect > head.date:
+                text = f"{other} on the list of holder {names.holder(str(account.holder))}"
+                yield Due(takes_effect, LIST, account.number, None, text)
+        for record, row in account.rows.items():
+            end = None if row.is_reversed else head.due(row.date, window)
+            if end is not None and end >= head.date:
+                yield Due(end, REVERSAL, account.number, record, f"{row.what} of {grouped(row.amount)} {row.kind}")
+
+
+def waiting(office: Office, names: Labels) -> Iterator[Due]:
+    """The instructions that wait. One without a due day in the calendar is not due on a day that is known."""
+    for own in composing.waits_of(office):
+        if own.due:
+            text = instruction_in_words(own.instruction, names.account)
+            yield Due(own.due, WAITING, own.instruction.first, own.record, text)
+
+
+def of_calendar(office: Office) -> Iterator[Due]:
+    """The working days that lack a settlement, and where the calendar ends."""
+    for date in missed_days(office):
+        yield Due(date, MISSED, None, None, "it is over, and was not settled")
+    last = composing.working_days(office, composing.last_day(office), office.handed_in())[-1:]
+    for date in last:
+        yield Due(date, CALENDAR, None, None, streams.by_name(NO_MORE))
+
+
+# What comes next, as far as no account has to be read for it: so it is told at once, however many accounts there are.
+
+
+def missed_days(office: Office) -> list[datetime.date]:
+    """The working days behind the last day that are over; none, if its text cannot be read, which is told as a
+    fault."""
+    last, today = office.last(), datetime.date.today()
+    with contextlib.suppress(FileFault):
+        return [own for own in composing.filed_calendar(office, last) if last.date < own < today] if last else []
+    return []
+
+
+def next_dates(office: Office, most: int) -> list[tuple[datetime.date, str]]:
+    """The next days on which something is due, at most so many, each with what it is."""
+    last = office.last()
+    if last is None:
+        return []
+    found = [*waiting_dates(office), *deadline_dates(office, last.date)]
+    with contextlib.suppress(FileFault):
+        calendar = composing.filed_calendar(office, last)
+        found += [(calendar[-1], "the calendar ends")] if calendar else []
+    return sorted(own for own in found if own[0] >= last.date)[:most]
+
+
+def waiting_dates(office: Office) -> Iterator[tuple[datetime.date, str]]:
+    """On which days instructions that wait are due."""
+    count = Counter(own.due for own in composing.waits_of(office) if own.due)
+    for date, often in count.items():
+        yield date, f"{counted(often, 'instruction that waits is', 'instructions that wait are')} due"
+
+
+def deadline_dates(office: Office, date: datetime.date) -> Iterator[tuple[datetime.date, str]]:
+    """The deadlines of office.ini for the years around a day."""
+    due = office.settings.due
+    for year in (date.year - back for back in YEARS_BACK):
+        for deadline, what in ((due.surrender_of(year), "surrender"), (due.emissions_of(year), "emissions")):
+            if deadline:
+                yield deadline, f"deadline of {what} for {year}"

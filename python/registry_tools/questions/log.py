@@ -1,0 +1,190 @@
+"""Writes the logs of reports as one table: CSV with a header, the reports one after another, a row for each
+instruction, and for a distribution a row for each account that receives.
+
+  record, date              the record number, and the settlement day
+  proposed, proposer, approver, act
+  from                      the account that gives, or the account of the act; empty for a creation
+  to                        the account that receives; of a trusted list, the other account
+  kind                      the kind of allowance
+  amount                    how many allowances; the tonnes of an entry of emissions
+  year                      of an entry of emissions, or of an assessment
+  outcome, code, name       done, or refused with the code and the name of the check
+  figure                    what an assessment determined
+  due                       of an addition that was done, the day on which the entry takes effect; with --day, of each
+                            other instruction whose accounts are there its due day, and of one that waits the day on
+                            which ./day next enters it
+  advice                    what to do after a refusal
+  status                    the new status, of a change of a status
+  record_named              the record number that a reversal names
+
+Each column has values of one kind: where an act has no such thing, the field is empty, and null in JSON. With
+--account, only the rows in which this account is FROM or TO. The reports stand in the order of their record numbers,
+each once.
+"""
+import argparse
+import datetime
+from typing import Any, Iterator, NamedTuple
+
+from registry_tools import showing, tables
+from registry_tools.calendars.due_days import NOT_DUE, due_day_after, head_after
+from registry_tools.errors import WordsFault
+from registry_tools.options import is_day_named
+from registry_tools.output import write_answer
+from registry_tools.progress import progress
+from registry_tools.second import rules
+from registry_tools.showing import Cell
+from registry_tools.texts.accounts import Accounts
+from registry_tools.texts.checks import advice_for
+from registry_tools.texts.day_text import DayText, read_day
+from registry_tools.texts.pairs import must_follow
+from registry_tools.texts.report import Report, read_report
+
+EXAMPLE = "./day log examples/week/monday-report.csv examples/week/tuesday-report.csv --refused > out/refused.csv"
+COLUMNS = tables.COLUMNS["log"]
+
+
+def add_words(parser: argparse.ArgumentParser) -> None:
+    """Tells a parser the words of the command."""
+    is_named = is_day_named(parser)
+    if not is_named:
+        parser.add_argument("reports", metavar="REPORT", nargs="+", help="a report")
+    parser.add_argument("--refused", action="store_true", help="only what was refused")
+    parser.add_argument("--account", type=int, metavar="N", help="only rows with this account")
+    texts_of = "the day texts of reports, for due days; or dates of days of a folder, in place of reports"
+    if not is_named:
+        parser.add_argument("--day", dest="days", metavar="DAY", nargs="+", default=[], help=texts_of)
+    showing.add_words(parser)
+
+
+# The cells of a row, in the order of the columns.
+LogCells = tuple[Any, ...]
+
+
+class ActColumns(NamedTuple):
+    """What the columns of an act say."""
+
+    first: int | str = ""
+    to: int | str = ""
+    kind: str = ""
+    amount: int | str = ""
+    year: int | str = ""
+    status: str = ""
+    record_named: int | str = ""
+
+
+def act_columns(i: rules.Instruction) -> list[ActColumns]:
+    """The columns of an instruction: once, or for each account that receives."""
+    if i.act == "create":
+        return [ActColumns("", i.first, rules.known(i.kind), i.amounts[0])]
+    if i.shares:
+        return [ActColumns(i.first, to, rules.known(i.kind), amount) for to, amount in i.shares]
+    more: dict[str, dict[str, Any]] = {
+        "surrender": {"kind": i.kind, "amount": sum(i.amounts)},
+        "delete": {"kind": i.kind, "amount": sum(i.amounts)},
+        "reverse": {"record_named": i.number},
+        "trust": {"to": i.other},
+        "untrust": {"to": i.other},
+        "status": {"status": i.status},
+        "emissions": {"amount": i.tonnes, "year": i.year},
+        "assess": {"year": i.year},
+    }
+    return [ActColumns(i.first, **more[i.act])]
+
+
+def entry_in_effect(accounts: Accounts, i: rules.Instruction) -> datetime.date | str:
+    """The day from which an added entry of a trusted list is in effect, if it was not taken off again."""
+    account = accounts.get(i.first)
+    return account.trusted.get(rules.known(i.other), "") if account else ""
+
+
+def rows_of(report: Report, due_days: dict[int, datetime.date | None]) -> Iterator[LogCells]:
+    """The rows of a report. `due_days` has the due day of each record, where it is known."""
+    accounts = Accounts(report.book)
+    for logged in report.log:
+        i = logged.instruction
+        if logged.is_done:
+            outcome: LogCells = ("done", "", "", "" if logged.figure is None else logged.figure)
+        else:
+            outcome = ("refused", logged.code, logged.name, "")
+        is_entry = i.act == "trust" and logged.is_done
+        due = entry_in_effect(accounts, i) if is_entry else due_days.get(logged.record) or ""
+        advice = "" if logged.is_done else advice_for(logged.name)
+        start = (logged.record, logged.date, *i.fields[:4])
+        for own in act_columns(i):
+            named = (own.first, own.to, own.kind, own.amount, own.year)
+            yield (*start, *named, *outcome, due, advice, own.status, own.record_named)
+
+
+def due_days_of(report: Report, days: list[DayText]) -> dict[int, datetime.date | None]:
+    """The due day of each record of a report, if its day text is among these. What waits has the one on which ./day
+    next enters it."""
+    day = next((own for own in days if own.head.date == report_date(report)), None)
+    if day is None:
+        return {}
+    must_follow(day, report)
+    log = progress.over(rules.settle(day.day()), "working out due days", len(day.instructions))
+    due = {record: logged.due for record, logged in enumerate(log, day.head.next_record)}
+    head = head_after(day, report)
+    return due | {
+        logged.record: due_day_after(head, logged.instruction) for logged in report.log if logged.name == NOT_DUE
+    }
+
+
+def report_date(report: Report) -> datetime.date | None:
+    """The day of a report; None, if its log is empty."""
+    return report.log[0].date if report.log else None
+
+
+def is_wanted(row: LogCells, words: argparse.Namespace) -> bool:
+    """Whether a row is one that the words ask for."""
+    of = dict(zip(COLUMNS.names, row))
+    return (not words.refused or of["outcome"] == "refused") and (
+        words.account is None or words.account in (of["from"], of["to"])
+    )
+
+
+def look_for_account(reports: list[Report], number: int | None) -> None:
+    """Ends the command if there is no such account, and no instruction names it: an empty table would say that nothing
+    happened."""
+    is_named = (
+        number in (*rules.named(logged.instruction), logged.instruction.other)
+        for report in reports
+        for logged in report.log
+    )
+    if number is not None and not any(number in report.book for report in reports) and not any(is_named):
+        raise WordsFault(f"--account {number}: no report has such an account, and no instruction names it")
+
+
+def look_at_order(reports: list[Report]) -> None:
+    """Ends the command if a report is named twice, or stands before an earlier one."""
+    for place, (report, later) in enumerate(zip(reports, reports[1:])):
+        # (two days without instructions may have the same report)
+        again = next(
+            (earlier for earlier in reports[: place + 1] if later.log and earlier.source.rows == later.source.rows),
+            None,
+        )
+        if again:
+            raise WordsFault(f"{later.path} is {again.path} again: its rows would stand twice")
+        first = later.next_record - len(later.log)
+        if first < report.next_record:
+            earlier = f"its records from {first} on come before {report.next_record}, the next one of {report.path}"
+            raise WordsFault(f"{later.path} is an earlier report, or one of the same day: {earlier}")
+
+
+def run(words: argparse.Namespace) -> int:
+    """Runs the command, and answers the exit status."""
+    reports, days = [read_report(path) for path in words.reports], [read_day(path) for path in words.days]
+    look_at_order(reports)
+    for day in days:
+        if day.instructions and day.head.date not in map(report_date, reports):
+            raise WordsFault(f"no report is of {day.head.date}, the day of {day.path}")
+    rows = [row for report in reports for row in rows_of(report, due_days_of(report, days)) if is_wanted(row, words)]
+    look_for_account(reports, words.account)
+    write_answer(showing.for_programs(words, COLUMNS.names, [cells_of(cells) for cells in rows]), words.to)
+    return 0
+
+
+def cells_of(row: LogCells) -> list[Cell]:
+    """The cells of a row: numbers, texts, or nothing."""
+    named = zip(COLUMNS.names, row)
+    return [None if cell == "" else int(cell) if name in COLUMNS.numbers else str(cell) for name, cell in named]

@@ -1,0 +1,1 @@
+"""Tables of spreadsheets: read, written, and made into rows."""

@@ -1,0 +1,265 @@
+"""Makes instructions, or accounts, as rows of a day text, of a table that a spreadsheet saved. Standard output gets the
+rows, standard error a preview.
+
+FILE is csv with commas, semicolons or tabs, in UTF-8 or UTF-16, or .xlsx or .ods, whose first sheet is read. Its first
+row names the columns, in any order; ./day form makes an empty table. Columns that nobody knows are refused, empty rows
+are passed over. Dates are as 2026-12-14, or as --dates shows the last day of 2026: 31.12.2026, 12/31/2026. A number
+with a separator is refused, and nothing is guessed: neither what a formula without a stored value would give, nor which
+day a time belongs to. ./day hand-in takes such tables too, and keeps them.
+
+The file of --mapping tells how others write it, a line each:
+
+  [columns]           headings, and the columns that they are; behind = nothing: passed over
+  Betrag = amount
+  [act]               of a column, words and what they are
+  Ausbuchung = surrender
+  [always]            what all rows have in a column that is not there
+  kind = general
+  [form]              how the last day of 2026 is written, and the number 1234567
+  dates = 31.12.2026
+  amounts = 1.234.567
+
+Nothing is written if a cell is wrong: then the first 100 are told, each with what was found and what is expected.
+"""
+import argparse
+import re
+import sys
+from dataclasses import dataclass
+from typing import Callable, Iterator
+
+from registry_tools import tables
+from registry_tools.errors import FILE, FileFault, shown
+from registry_tools.options import add_to
+from registry_tools.output import write_answer
+from registry_tools.second import faults
+from registry_tools.sheets import columns, mapping as mappings, sheets
+from registry_tools.sheets.mapping import Mapping
+from registry_tools.sheets.sheet import Sheet
+from registry_tools.sheets.table import Table
+from registry_tools.texts import in_words
+
+EXAMPLE = (
+    "./day export examples/week/monday.csv examples/week/monday-report.csv --instructions --xlsx out/new.xlsx\n"
+    "  ./day import out/new.xlsx > out/new.csv"
+)
+MOST_SHOWN, MOST_TOLD = 5, 100
+OTHER_FORM = "--dates tells another form"
+
+
+@dataclass(frozen=True)
+class Made:
+    """The rows that a row of a table makes, with the number of that row, which counts from 1."""
+
+    line: int
+    rows: list[str]
+
+
+@dataclass(frozen=True)
+class Imported:
+    """What a table says: accounts or instructions; or all that is wrong with it."""
+
+    are_accounts: bool
+    made: list[Made]
+    wrong: list[FileFault]
+
+    @property
+    def rows(self) -> list[str]:
+        """The rows of a day text."""
+        return [row for own in self.made for row in own.rows]
+
+    @property
+    def lines(self) -> list[int]:
+        """For each of them the row of the table."""
+        return [own.line for own in self.made for _ in own.rows]
+
+
+def add_words(parser: argparse.ArgumentParser) -> None:
+    """Tells a parser the words of the command."""
+    parser.add_argument("file", metavar="FILE", help="csv, .xlsx or .ods")
+    kinds = parser.add_mutually_exclusive_group()
+    kinds.add_argument("--instructions", action="store_true", help="the rows are instructions")
+    kinds.add_argument("--accounts", action="store_true", help="the rows are accounts, as with a column no")
+    add_forms(parser)
+    add_to(parser)
+
+
+def add_forms(parser: argparse.ArgumentParser) -> None:
+    """The words that tell how a table is written."""
+    parser.add_argument("--dates", metavar="31.12.2026", help="how the last day of 2026 is written in this file")
+    parser.add_argument("--mapping", metavar="FILE", help="the columns and words of a table of others")
+
+
+def instructions_of(table: Table) -> Iterator[Made | FileFault]:
+    """The `do` row of each row, or all that is wrong with it."""
+    for number, said in table.rows():
+        fields = columns.fields_of_instruction(table.with_always(said))
+        act = dict(fields).get("act", "")
+        used = {name for name, _ in fields}
+        wrong = [*unused(table, number, said, act, used), *wrong_cells(table, number, fields)]
+        yield from wrong
+        if not wrong:
+            yield Made(number + 1, [",".join(["do", *(word for _, word in fields)])])
+
+
+def wrong_cells(table: Table, number: int, fields: list[tuple[str, str]]) -> Iterator[FileFault]:
+    """What is wrong in the cells of an instruction."""
+    words = [word for _, word in fields]
+    try:
+        expected = faults.Reading(last="do").fields("do", words if len(words) > 4 else [*words, ""])
+    except faults.Fault:
+        # (the act is none, so nobody knows which other fields there are)
+        expected = [*faults.PROPOSAL, faults.act]
+    for (name, word), own in zip(fields, expected):
+        try:
+            own.read(word)
+        except faults.Fault:
+            yield table.fault(number, name, shown(word), expected_of(table, own.expected, word))
+
+
+def unused(table: Table, number: int, said: dict[str, str], act: str, used: set[str]) -> Iterator[FileFault]:
+    """Cells with something that the act does not have."""
+    for name, word in said.items():
+        if word and name not in used and act in faults.ACT_WORDS:
+            yield table.fault(number, name, shown(word), f"nothing: {act} has no {name.upper()}")
+
+
+def expected_of(table: Table, expected: str, word: str) -> str:
+    """What is expected: of a date in the form that was told, and else how another form is told."""
+    if table.dates is not None:
+        return expected.replace("YYYY-MM-DD", f"as {table.dates}")
+    if "date" in expected and re.fullmatch(r"[0-9]{1,4}[./-][0-9]{1,2}[./-][0-9]{1,4}", word):
+        return f"{expected}; {OTHER_FORM}"
+    return expected
+
+
+def accounts_of(table: Table) -> Iterator[Made | FileFault]:
+    """The rows of each account, or all that is wrong with it."""
+    numbers: dict[str, int] = {}
+    for number, own in table.rows():
+        said = table.with_always(own)
+        first = numbers.setdefault(said.get("no", ""), number)
+        if first != number:
+            yield table.fault(number, "no", shown(said.get("no", "")), f"another account than in row {first + 1}")
+            continue
+        rows = [with_dates(row, table.read_date) for row in columns.rows_of_account(said)]
+        wrong = [*wrong_rows(table, number, said, rows)]
+        yield from wrong
+        if not wrong:
+            yield Made(number + 1, [",".join(row) for row in rows])
+
+
+def with_dates(row: list[str], read_date: Callable[[str], str]) -> list[str]:
+    """A row of an account, whose dates are those of a day text."""
+    places = {place for place, field in enumerate(faults.FIELDS.get(row[0], []), 1) if field.name == "DATE"}
+    return [read_date(word) if place in places else word for place, word in enumerate(row)]
+
+
+def wrong_rows(table: Table, number: int, said: dict[str, str], rows: list[list[str]]) -> Iterator[FileFault]:
+    """What is wrong with an account: each field of its rows, and else the first thing of each row that does not fit the
+    others."""
+    reading = faults.Reading(
+        last="work", version=2, next_record=tables.MOST_RECORD + 1, last_years=[*range(tables.MOST_PERIODS)]
+    )
+    for row in rows:
+        wrong = [*wrong_fields(reading, row)]
+        if wrong:
+            # (the rows behind it are looked at as if it stood there without a fault)
+            reading.last = row[0]
+        else:
+            wrong += misplaced(reading, row)
+        yield from (fault_of(table, number, said, row, fault) for fault in wrong)
+
+
+def misplaced(reading: faults.Reading, row: list[str]) -> list[faults.Fault]:
+    """Why a row whose fields have no fault does not fit those before it, if it does not."""
+    try:
+        reading.add(row)
+        return []
+    except faults.Fault as fault:
+        return [fault]
+
+
+def wrong_fields(reading: faults.Reading, row: list[str]) -> Iterator[faults.Fault]:
+    """The faults of a row: each field that is not what it must be."""
+    tag, *words = row
+    try:
+        fields = reading.fields(tag, words)
+    except faults.Fault as fault:
+        yield fault
+        return
+    for place, (field, word) in enumerate(zip(fields, words), 2):
+        try:
+            faults.read_field(field, word, place)
+        except faults.Fault as fault:
+            yield fault
+
+
+def fault_of(table: Table, number: int, said: dict[str, str], row: list[str], fault: faults.Fault) -> FileFault:
+    """A fault of a row of an account, at the cell that has it."""
+    if row[0] != "account":
+        found = columns.BETWEEN_FIELDS.join(row[1:])
+        name = f"{fault.name}: " if fault.name else ""
+        wrong = row[fault.place - 1] if fault.place else ""
+        expected = f"{name}{expected_of(table, fault.expected, wrong)}"
+        return table.fault(number, columns.LISTS[row[0]], shown(found), expected)
+    name = columns.ACCOUNT_FIELDS[fault.place - 2] if fault.place >= 2 else "no"
+    word = said.get(name, "")
+    return table.fault(number, name, shown(word), expected_of(table, fault.expected, word))
+
+
+def imported(sheet: Sheet, are_accounts: bool | None, dates: str | None, mapping: Mapping = Mapping()) -> Imported:
+    """What a table says, or else all that is wrong with it. If no word says whether its rows are accounts, its headings
+    do."""
+    headings = {mapping.column(heading) or heading.strip().lower() for heading in (sheet.rows or [[]])[0]}
+    if are_accounts is None:
+        are_accounts = columns.ACCOUNT_FIELDS[0] in headings
+    table = Table(sheet, columns.ACCOUNT_COLUMNS if are_accounts else columns.INSTRUCTION_COLUMNS, dates, mapping)
+    wrong = [*table.wrong_heading()]
+    # (under a heading that is wrong, nobody knows what a cell is)
+    made = [] if wrong else [*(accounts_of if are_accounts else instructions_of)(table)]
+    wrong += [own for own in made if isinstance(own, FileFault)]
+    right = [] if wrong else [own for own in made if isinstance(own, Made)]
+    if are_accounts:
+        # (as a day text has them)
+        right.sort(key=lambda own: int(own.rows[0].split(",")[1]))
+    return Imported(are_accounts, right, wrong)
+
+
+def told(wrong: list[FileFault], end: str) -> list[str]:
+    """What is wrong with the cells of a table, in lines, as far as somebody reads them; and how many there are."""
+    more = [f"and {len(wrong) - MOST_TOLD} more"] if len(wrong) > MOST_TOLD else []
+    return [*map(str, wrong[:MOST_TOLD]), *more, f"cells that are wrong: {len(wrong)}; {end}"]
+
+
+def run(said: argparse.Namespace) -> int:
+    """Runs the command, and answers the exit status."""
+    mapping = read_mapping(said.mapping)
+    are_accounts = said.accounts if said.accounts or said.instructions else None
+    made = imported(sheets.read(said.file), are_accounts, said.dates, mapping)
+    if made.wrong:
+        print("\n".join(told(made.wrong, "nothing was written")), file=sys.stderr)
+        return FILE
+    preview(made.rows, made.are_accounts)
+    write_answer("".join(f"{row}\n" for row in made.rows), said.to)
+    return 0
+
+
+def read_mapping(path: str | None) -> Mapping:
+    """The mapping that a word names; without it one that says nothing."""
+    if path is None:
+        return Mapping()
+    return mappings.read(path, dict.fromkeys([*columns.INSTRUCTION_COLUMNS, *columns.ACCOUNT_COLUMNS]))
+
+
+def preview(rows: list[str], are_accounts: bool) -> None:
+    """Tells what was read, in words."""
+    if are_accounts:
+        count = sum(row.startswith("account,") for row in rows)
+        print(f"accounts {count}, rows {len(rows)}", file=sys.stderr)
+        return
+    for row in rows[:MOST_SHOWN]:
+        _, proposed, proposer, approver, act, *own = row.split(",")
+        approval = f", approved by {approver}" if approver else ""
+        print(f"{in_words.words_of(act, own)}, proposed on {proposed} by {proposer}{approval}", file=sys.stderr)
+    more = f", of which {MOST_SHOWN} are shown" if len(rows) > MOST_SHOWN else ""
+    print(f"instructions {len(rows)}{more}", file=sys.stderr)

@@ -1,0 +1,90 @@
+"""Shows rows to people or programs: a text table on a terminal, csv, or JSON. docs/FORMATS.md states the columns of
+each command."""
+import argparse
+import csv
+import io
+import json
+from collections.abc import Iterable, Sequence, Set
+
+from registry_tools.errors import FileFault
+from registry_tools.options import add_to
+from registry_tools.output import write_answer
+from registry_tools.tables import COLUMNS, Columns
+from registry_tools.texts import in_words
+
+Cell = str | int | None
+# The columns of a fault.
+FAULT = COLUMNS["audit"].names
+
+
+def add_forms(parser: argparse.ArgumentParser) -> None:
+    """The options by which a command writes for programs."""
+    forms = parser.add_mutually_exclusive_group()
+    forms.add_argument("--csv", action="store_true", help="write csv with a header row")
+    forms.add_argument("--json", action="store_true", help="write JSON: a list of objects whose names are the columns")
+
+
+def add_words(parser: argparse.ArgumentParser) -> None:
+    """Tells a parser the words of the command."""
+    add_forms(parser)
+    add_to(parser)
+
+
+def is_for_programs(said: argparse.Namespace) -> bool:
+    """Whether the words ask for csv or JSON."""
+    return bool(said.csv or said.json)
+
+
+def as_csv(columns: Sequence[str], rows: Iterable[Sequence[object]]) -> str:
+    """Rows as csv with a header."""
+    stream = io.StringIO()
+    writer = csv.writer(stream, lineterminator="\n")
+    writer.writerow(columns)
+    writer.writerows(rows)
+    return stream.getvalue()
+
+
+def as_json(columns: Sequence[str], rows: Sequence[Sequence[Cell]]) -> str:
+    """Rows as a JSON list of objects."""
+    objects = [dict(zip(columns, row)) for row in rows]
+    return json.dumps(objects, indent=1, ensure_ascii=False) + "\n"
+
+
+def for_programs(said: argparse.Namespace, columns: Sequence[str], rows: Sequence[Sequence[Cell]]) -> str:
+    """Rows as the words ask for them: as JSON, or else as csv."""
+    return as_json(columns, rows) if said.json else as_csv(columns, rows)
+
+
+def show(said: argparse.Namespace, columns: Columns, rows: Sequence[Sequence[Cell]]) -> None:
+    """Writes rows under their columns."""
+    names = columns.names
+    shown = for_programs(said, names, rows) if is_for_programs(said) else as_table(names, rows, columns.numbers)
+    write_answer(shown, said.to)
+
+
+def as_table(columns: Sequence[str], rows: Sequence[Sequence[Cell]], numbers: Set[str]) -> str:
+    """Rows as a text table; numbers stand at the right, those that name nothing with commas."""
+    grouped = numbers - NAMES
+    shown = [
+        ["" if own is None else f"{own:,}" if name in grouped and type(own) is int else str(own)
+         for name, own in zip(columns, row)]
+        for row in rows
+    ]
+    return "\n".join([*in_words.table([*columns], shown, numbers), ""])
+
+
+# Numbers that name something: they are not grouped.
+NAMES = {
+    "record", "account", "year", "user", "code", "proposer", "approver", "from", "to", "place", "line", "number",
+}  # fmt: skip
+
+
+def fault_row(fault: FileFault | None) -> list[Cell]:
+    """A fault as a row of FAULT; of none, nothing. If the whole file is meant, `found` says all."""
+    if fault is None:
+        return [None] * len(FAULT)
+    return [
+        str(fault.path),
+        fault.line or None,
+        *(str(own) or None for own in (fault.field, fault.found, fault.expected)),
+    ]

@@ -1,0 +1,38 @@
+"""What each check means and what to do about it, in plain words, of the table of checks."""
+import functools
+import re
+from dataclasses import dataclass
+
+from registry_tools import streams, tables
+
+LINK = re.compile(r"\[([^]]+)\]\(([^)]*)\)")
+
+
+@dataclass(frozen=True)
+class Check:
+    """A check: its code and its name, when it fails, and what to do then."""
+
+    code: int
+    name: str
+    meaning: str
+    advice: str
+
+
+def plain(text: str) -> str:
+    """A sentence of a table without its marks. A link that only says `below` names the place."""
+    words = LINK.sub(lambda link: f"docs/RULES.md{link[2]}" if link[1] == "below" else link[1], text)
+    return streams.by_name(words.replace("`", ""))
+
+
+@functools.lru_cache(maxsize=None)
+def checks() -> dict[str, Check]:
+    """All checks by their names, in the order in which they are asked."""
+    return {
+        own.name: Check(code, own.name, plain(own.meaning), plain(own.advice))
+        for code, own in enumerate(tables.CHECKS, 1)
+    }
+
+
+def advice_for(name: str) -> str:
+    """What to do after a refusal by the check of this name."""
+    return checks()[name].advice

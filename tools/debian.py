@@ -1,0 +1,243 @@
+"""Makes packages for Debian of an unpacked archive of a version, by dpkg-deb: registry, libregistry1, libregistry-dev
+and python3-registry. None has a script that runs when it is installed.
+
+usage: debian.py ARCHIVE FOLDER
+"""
+import gzip
+import hashlib
+import os
+import re
+import shutil
+import subprocess
+import sys
+import tempfile
+import time
+from collections.abc import Iterator
+from dataclasses import dataclass
+from pathlib import Path
+
+import package  # noqa: F401
+import versions
+
+TOP = Path(__file__).resolve().parent.parent
+REVISION = "1"
+MAINTAINER = "Duqisway maintainers <maintainers@users.noreply.duqisway.example>"
+PYTHON = "usr/lib/python3/dist-packages"
+# What the commands find useful beside them.
+ASKS = "Recommends: python3-registry\nSuggests: python3-flask, python3-waitress\n"
+# The long lines of a description.
+ENGINE = """\
+ It settles one day of an allowance registry: who gets which allowances, what
+ is refused and why, and whether an operator has surrendered enough. Each
+ function of the engine is proved to do what its contract says.
+"""
+
+
+@dataclass(frozen=True)
+class Package:
+    """A package: what it is called, on what it depends, in which section it is, and what it says of itself."""
+
+    name: str
+    section: str
+    depends: str
+    what: str
+    more: str
+    is_for_all: bool = False
+
+
+def asked(*words: str | Path) -> str:
+    return subprocess.run(words, stdin=subprocess.DEVNULL, capture_output=True, text=True, check=True).stdout.strip()
+
+
+def libc_of(*paths: Path) -> str:
+    """The C library that these files ask for. (A script asks for none.)"""
+    said = "".join(asked("objdump", "-T", path) for path in paths if path.read_bytes()[:4] == b"\x7fELF")
+    found = [tuple(map(int, own.split("."))) for own in re.findall(r"GLIBC_([0-9]+[.][0-9]+)", said)]
+    major, minor = max(found, default=(2, 34))
+    return f"libc6 (>= {major}.{minor})"
+
+
+def packages(archive: Path, full: str) -> Iterator[Package]:
+    libc, library = libc_of(archive / "bin/registry"), libc_of(archive / "lib/libregistry.so.1")
+    same = f"libregistry1 (= {full})"
+    yield Package(
+        "registry", "science", f"{libc}, python3 (>= 3.10)", "settlement engine of an emission allowance registry",
+        ENGINE + " .\n This package has the program registry, and registry-day, the office round it.\n",
+    )  # fmt: skip
+    yield Package(
+        "libregistry1", "libs", library, "settlement engine of an allowance registry: library",
+        ENGINE + " .\n This package has the shared library.\n",
+    )  # fmt: skip
+    yield Package(
+        "libregistry-dev", "libdevel", same, "settlement engine of an allowance registry: for C compilers",
+        ENGINE + " .\n This package has the header, the static library and its manual page.\n",
+    )  # fmt: skip
+    yield Package(
+        "python3-registry", "python", f"{same}, python3 (>= 3.9)",
+        "settlement engine of an allowance registry: calls for Python",
+        ENGINE + " .\n This package has the calls of the library for Python.\n",
+    )  # fmt: skip
+
+
+class Tree:
+    """The files of a package before it is made."""
+
+    def __init__(self, own: Package, folder: Path, archive: Path, full: str) -> None:
+        self.own, self.folder, self.archive, self.full = own, folder, archive, full
+        self.multiarch = asked("gcc", "-print-multiarch") or f"{os.uname().machine}-linux-gnu"
+
+    def put(self, source: str, target: str) -> None:
+        """Copies a file or a folder of the archive."""
+        path = self.folder / target
+        path.parent.mkdir(parents=True, exist_ok=True)
+        if (self.archive / source).is_dir():
+            shutil.copytree(self.archive / source, path, symlinks=True)
+        else:
+            shutil.copy(self.archive / source, path, follow_symlinks=False)
+
+    def write(self, target: str, text: str | bytes) -> None:
+        path = self.folder / target
+        path.parent.mkdir(parents=True, exist_ok=True)
+        path.write_bytes(text.encode() if isinstance(text, str) else text)
+
+    def zip(self, source: str, target: str) -> None:
+        content = (self.archive / source).read_bytes()
+        self.write(f"{target}.gz", gzip.compress(content, mtime=0))
+
+    def fill(self) -> None:
+        getattr(self, f"fill_{self.own.name.replace('-', '_')}")()
+        doc = f"usr/share/doc/{self.own.name}"
+        self.zip("CHANGELOG.md", f"{doc}/changelog")
+        self.write(f"{doc}/changelog.Debian.gz", gzip.compress(changelog(self.full).encode(), mtime=0))
+        self.write(f"{doc}/copyright", COPYRIGHT)
+
+    def fill_registry(self) -> None:
+        for name in ("registry", "registry-day", "registry-rules"):
+            self.put(f"bin/{name}", f"usr/bin/{name}")
+        for name in ("registry-day", "registry-rules"):
+            path = self.folder / f"usr/bin/{name}"
+            # (Debian's own Python, and no other one of the PATH)
+            path.write_text(path.read_text().replace("exec python3 ", "exec /usr/bin/python3 ", 1))
+        self.put("share/registry/registry_tools", "usr/share/registry/registry_tools")
+        self.put("share/registry/registry.source", "usr/share/registry/registry.source")
+        for shell in ("bash-completion", "zsh"):
+            self.put(f"share/{shell}", f"usr/share/{shell}")
+        zsh = self.folder / "usr/share/zsh"
+        (zsh / "site-functions").rename(zsh / "vendor-completions")
+        for page in ("man1/registry.1", "man1/registry-day.1", "man5/registry-day-text.5"):
+            self.zip(f"share/man/{page}", f"usr/share/man/{page}")
+        self.write("usr/share/man/man1/registry-rules.1.gz", gzip.compress(RULES_PAGE.encode(), mtime=0))
+        for name in ("RULES.md", "FORMATS.md", "examples"):
+            self.put(f"share/doc/registry/{name}", f"usr/share/doc/registry/{name}")
+        self.put("MANIFEST", "usr/share/doc/registry/MANIFEST")
+        overrides = "registry: unstripped-binary-or-object [usr/bin/registry]\n"
+        # (the program is the file that was built behind its proof, byte for byte)
+        self.write("usr/share/lintian/overrides/registry", overrides)
+
+    def fill_libregistry1(self) -> None:
+        self.put("lib/libregistry.so.1", f"usr/lib/{self.multiarch}/libregistry.so.1")
+        self.write("DEBIAN/shlibs", f"libregistry 1 libregistry1 (>= {versions.version_of(TOP)})\n")
+        self.write("DEBIAN/triggers", "activate-noawait ldconfig\n")
+        self.write(
+            "usr/share/lintian/overrides/libregistry1",
+            f"libregistry1: unstripped-binary-or-object [usr/lib/{self.multiarch}/libregistry.so.1]\n"
+            "libregistry1: no-symbols-control-file *\n",
+        )
+
+    def fill_libregistry_dev(self) -> None:
+        room = f"usr/lib/{self.multiarch}"
+        self.put("lib/libregistry.a", f"{room}/libregistry.a")
+        self.put("lib/libregistry.so", f"{room}/libregistry.so")
+        self.put("include/registry.h", "usr/include/registry.h")
+        self.zip("share/man/man3/registry.3", "usr/share/man/man3/registry.3")
+        text = (self.archive / "lib/pkgconfig/registry.pc").read_text()
+        text = text.replace("prefix=${pcfiledir}/../..", "prefix=/usr").replace("-L${prefix}/lib ", "")
+        self.write(f"{room}/pkgconfig/registry.pc", text.replace("Cflags: -I${prefix}/include\n", ""))
+
+    def fill_python3_registry(self) -> None:
+        self.put("share/registry/registry", f"{PYTHON}/registry")
+        about = f"{PYTHON}/registry-{versions.version_of(TOP)}.dist-info"
+        self.write(f"{about}/METADATA", f"Metadata-Version: 2.1\nName: registry\nVersion: {versions.version_of(TOP)}\n")
+        self.write(f"{about}/INSTALLER", "debian\n")
+
+    def control(self, architecture: str) -> str:
+        size = sum(path.lstat().st_size for path in self.folder.rglob("*") if not path.is_dir())
+        same = "Multi-Arch: same\n" if self.own.name.startswith("lib") else ""
+        asks = ASKS if self.own.name == "registry" else ""
+        return (
+            f"Package: {self.own.name}\nVersion: {self.full}\nArchitecture: {architecture}\nMaintainer: {MAINTAINER}\n"
+            f"Installed-Size: {-(-size // 1024)}\nDepends: {self.own.depends}\n{asks}{same}"
+            f"Section: {self.own.section}\nPriority: optional\nDescription: {self.own.what}\n{self.own.more}"
+        )
+
+    def sums(self) -> str:
+        files = sorted(path for path in self.folder.rglob("*") if path.is_file() and not path.is_symlink())
+        own = [path for path in files if path.relative_to(self.folder).parts[0] != "DEBIAN"]
+        lines = (f"{hashlib.md5(path.read_bytes()).hexdigest()}  {path.relative_to(self.folder)}\n" for path in own)
+        return "".join(lines)
+
+    def settle_modes(self) -> None:
+        """Each file may be read by all, and only programs run; all have one time, so that equal files make equal
+        packages."""
+        moment = int(os.environ.get("SOURCE_DATE_EPOCH", "0"))
+        for path in [*self.folder.rglob("*"), self.folder]:
+            if not path.is_symlink():
+                runs = path.is_dir() or path.parent.name == "bin"
+                path.chmod(0o755 if runs else 0o644)
+            os.utime(path, (moment, moment), follow_symlinks=False)
+
+
+COPYRIGHT = """\
+Format: https://www.debian.org/doc/packaging-manuals/copyright-format/1.0/
+Upstream-Name: registry
+
+Files: *
+Copyright: the owner of registry
+License: none-yet
+ The owner has not chosen a licence yet.
+"""
+RULES_PAGE = """\
+.TH REGISTRY\\-RULES 1 "" "registry" "The second answer"
+.SH NAME
+registry\\-rules \\- the rules of a settlement in plain Python
+.SH SYNOPSIS
+.B registry\\-rules
+.I COMMAND
+< DAY
+.SH DESCRIPTION
+It writes what registry writes, by a program that is compared and not proved.
+registry\\-rules \\-\\-help tells its commands.
+.SH SEE ALSO
+.BR registry (1)
+"""
+
+
+def changelog(full: str) -> str:
+    """What Debian keeps of the package itself."""
+    moment = time.gmtime(int(os.environ.get("SOURCE_DATE_EPOCH", "0")))
+    at = time.strftime("%a, %d %b %Y %H:%M:%S +0000", moment)
+    return f"registry ({full}) unstable; urgency=medium\n\n  * Version of the archive.\n\n -- {MAINTAINER}  {at}\n"
+
+
+def make(own: Package, archive: Path, folder: Path, full: str) -> None:
+    architecture = "all" if own.is_for_all else asked("dpkg", "--print-architecture")
+    with tempfile.TemporaryDirectory() as place:
+        tree = Tree(own, Path(place) / own.name, archive, full)
+        (tree.folder / "DEBIAN").mkdir(parents=True)
+        tree.fill()
+        tree.write("DEBIAN/md5sums", tree.sums())
+        tree.write("DEBIAN/control", tree.control(architecture))
+        tree.settle_modes()
+        target = folder / f"{own.name}_{full}_{architecture}.deb"
+        asked("dpkg-deb", "--root-owner-group", "-Zxz", "--build", tree.folder, target)
+
+
+def main(archive: Path, folder: Path) -> None:
+    os.umask(0o022)
+    full = f"{versions.version_of(TOP)}-{REVISION}"
+    for own in packages(archive, full):
+        make(own, archive, folder, full)
+
+
+if __name__ == "__main__":
+    main(Path(sys.argv[1]), Path(sys.argv[2]))

@@ -1,1 +1,0 @@
-"""The commands of `./day`: a module for each, and what they share."""
