@@ -16,7 +16,7 @@ from typing import Any
 
 import browser
 from desks import DeskPage
-from harness import TOP
+from harness import TOP, differs
 
 WEEK = TOP / "examples" / "week"
 SAVED = TOP / "out" / "desk"
@@ -289,4 +289,4 @@ def killed(office: Path, private: Path) -> Iterator[tuple[str, object]]:
         yield "what a killed desk left is gone", None if len(now) == 1 and now != left else now
     yield "nothing is left", [*private.glob("day-desk-*")] or None
     server = Server(office, "--who", "ana")
-    yield "ends by Ctrl-C", None if server.end(signal.SIGINT) in (0, 130) else "otherwise"
+    yield "ends by Ctrl-C at once", differs(server.end(signal.SIGINT), 0)

@@ -77,9 +77,12 @@ def serve(path: Path, port: int, who: str | None, header: str | None, is_look: b
         except OSError as error:
             raise WordsFault(f"--port {port}: {error.strerror}; another number may be free") from None
         link = f"http://{served.host}/?key={served.key}"
-        print(f"the desk of {path}; Ctrl-C ends it. Open\n{link}", flush=True)
         try:
+            print(f"the desk of {path}; Ctrl-C ends it. Open\n{link}", flush=True)
             server.run()
+        except KeyboardInterrupt:
+            # (the server takes it by itself, once it waits for requests)
+            pass
         finally:
             server.close()
             served.jobs.end()
