@@ -1,7 +1,8 @@
 -- Settled regions counted: each number once, and each place as often as it was dealt out.
 use Rattle.std.proofs.Common.{◌≡◌, ℕ, zero, suc, ◌+◌, ◌<◌, ◌≤◌, ◌==◌, ◌&&◌, nat_le, true, false, List, [], ◌∷◌, ◌++◌}
 use Rattle.std.proofs.lemmas.Grind.{flat_map-append}
-use Rattle.std.proofs.Common.{append-nil, length, length-append, map, refl, sym, ap, ◌∙◌, arith, add-one}
+use Rattle.std.proofs.Common.{Bool, append_assoc, append-nil, length, length-append, map, refl, sym, ap, ◌∙◌, arith}
+use Rattle.std.proofs.Common.{add-one}
 use Rattle.std.specs.Prelude.{IsPermutation, All}
 use Rattle.std.specs.List.{flat_map, sum_by}
 use Rattle.std.specs.List.Sorted.{IsNonDecreasingBy}
@@ -18,9 +19,8 @@ use Rattle.reg_base.specs.Rising.{count_up}
 use Rattle.reg_facts.specs.Counting.{one_if, total, times, once}
 use Rattle.reg_facts.proofs.lemmas.Totals.{total-append}
 use Rattle.reg_regions.specs.declared.running.settled_list.SettledList.{SettledList}
-use Rattle.reg_regions.specs.declared.running.shift.WorkShift.{WorkShift}
-use Rattle.reg_regions.specs.Settling.{places_in}
-use Rattle.reg_regions.specs.Stealing.{numbers_of, settled_places, times_in_shifts, first_numbers}
+use Rattle.reg_regions.specs.Settling.{kept, places_in}
+use Rattle.reg_regions.specs.Stealing.{numbers_of, settled_places, times_noted, first_numbers}
 
 -- a sum is the same in another order
 total-sum : {X : Type 0} (f : X → ℕ) (xs : List X) → total f xs ≡ sum_by f xs
@@ -151,11 +151,29 @@ sorted-numbers n ss ts same rise each =
     spans-are n 1 (numbers_of ts) (rise-numbers ts rise)
     (λ p. numbers-permuted p ss ts same ∙ each p ∙ once-span n p)
 
--- ---- shifts
+-- ---- what workers noted
 
-pub shifts-more : (p : ℕ) (shifts : List WorkShift) (s : WorkShift)
-    → times_in_shifts p (shifts ++ s ∷ []) ≡ times_in_shifts p shifts + times p s.places.items
-shifts-more p shifts s = omega (arith, total-append (λ (x : WorkShift). times p x.places.items) shifts (s ∷ []))
+-- the notes of one worker more
+pub noted-times : {N : Type 0} (places : N → List ℕ) (p : ℕ) (all : List N) (n : N)
+    → times_noted places p (all ++ n ∷ []) ≡ times_noted places p all + times p (places n)
+noted-times places p all n = omega (arith, total-append (λ x. times p (places x)) all (n ∷ []))
+
+kept-append : (keeps : Bool) (ps qs : List ℕ) → kept keeps (ps ++ qs) ≡ kept keeps ps ++ kept keeps qs
+kept-append true ps qs = refl
+kept-append false ps qs = refl
+
+-- a worker noted places behind others
+pub noted-more : (keeps : Bool) {noted : List ℕ} (old ps qs : List ℕ) → noted ≡ old ++ kept keeps ps
+    → noted ++ kept keeps qs ≡ old ++ kept keeps (ps ++ qs)
+noted-more keeps old ps qs before =
+    ap (λ ns. ns ++ kept keeps qs) before ∙ append_assoc old (kept keeps ps) (kept keeps qs)
+    ∙ ap (λ ns. old ++ ns) (sym (kept-append keeps ps qs))
+
+-- how often a place stands in what is kept of places
+pub kept-times : (keeps : Bool) (p : ℕ) (ps qs : List ℕ)
+    → times p (kept keeps (ps ++ qs)) ≡ times p (kept keeps ps) + times p (kept keeps qs)
+kept-times keeps p ps qs =
+    ap (times p) (kept-append keeps ps qs) ∙ times-append p (kept keeps ps) (kept keeps qs)
 
 -- one settled region more
 pub settled-more : (ss : List SettledList) (s : SettledList)

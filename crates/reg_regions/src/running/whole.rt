@@ -9,14 +9,15 @@ ghost use Rattle.reg_rules.specs.Laws.{IsReady};
 ghost use Rattle.reg_rules.specs.State.{numbers};
 ghost use Rattle.reg_book.specs.Book.{directory_of};
 ghost use Rattle.reg_book.specs.Indexes.{AllStandAt, index_lists};
-ghost use Rattle.reg_regions.specs.Outcomes.{AreShiftsOf};
 ghost use Rattle.reg_regions.specs.Dealing.{AreTurned};
 ghost use Rattle.reg_regions.specs.Homes.{AreHome};
 ghost use Rattle.reg_regions.specs.Lists.{joined_lists};
+ghost use Rattle.reg_regions.specs.Stealing.{AreNotesOf};
 
 use crate::dealing::Deal;
 use crate::gate::PlaceGate;
 use crate::region::Indexes;
+use crate::running::shift::Notes;
 use crate::running::{SettledLists, settle_lists};
 use crate::runs::runs_of;
 use reg_account::Account;
@@ -31,7 +32,7 @@ use std::thread::Threads;
 ///
 /// # Errors
 /// `NoMemory` if memory ran out.
-pub(crate) fn settle_whole<R: Threads + Sync, G: PlaceGate>(
+pub(crate) fn settle_whole<N: Notes + Send, R: Threads + Sync, G: PlaceGate>(
     rt: &R,
     alloc: Global,
     setting: &Setting,
@@ -39,7 +40,7 @@ pub(crate) fn settle_whole<R: Threads + Sync, G: PlaceGate>(
     lists: Vec<Vec<Account>>,
     workers: u32,
     gate: &G,
-) -> Result<SettledLists, NoMemory>
+) -> Result<SettledLists<N>, NoMemory>
     requires workers { (1 ≤ workers) × (workers ≤ 8) }
     requires rules { AreRules setting.now.rules }
     requires ready { IsReady (batch.now.base + 1) (joined_lists lists.items) }
@@ -48,7 +49,8 @@ pub(crate) fn settle_whole<R: Threads + Sync, G: PlaceGate>(
     requires directory { setting.now.directory ≡ directory_of (joined_lists lists.items) }
     ensures turned { IfOk result
         (λ s. AreTurned setting.now batch.now (joined_lists lists.items) (joined_lists s.lists.items) s.replies.items) }
-    ensures shifts { IfOk result (λ s. AreShiftsOf workers (length batch.now.instructions) s.shifts.items) }
+    ensures notes { IfOk result
+        (λ s. AreNotesOf N.worker N.keeps N.places workers (length batch.now.instructions) s.notes.items) }
 {
     let accounts = join_all(alloc, lists)?;
     let runs = runs_of(batch.len(), workers);
