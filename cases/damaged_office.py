@@ -13,7 +13,7 @@ from harness import Said
 from offices import FIRST, must_do, new_office, told
 
 from registry_tools import main
-from registry_tools.office import audit, folder
+from registry_tools.office import audit, audited, folder
 from registry_tools.office.close import inside
 
 ROW = "do,2025-04-01,101,102,transfer,1,2,general,{}\n"
@@ -309,9 +309,9 @@ def interrupted_trials(work: Path) -> Iterator[Trial]:
     yield "close that is interrupted", None if status == 130 and (office / "prepared").is_dir() else status
     has = [f"{DAY} is filed, and all is in its place now", "days 2, pairs read 2: 0 differences"]
     yield "audit behind it", told(0, has, "audit", *own)
-    look = audit.look_at_files
+    look = audit.look_at_filed_files
 
-    def meanwhile(seen: audit.Audit) -> None:
+    def meanwhile(seen: audited.Audit) -> None:
         must_do([*CLOSE, "2025-04-02", *own])
         look(seen)
 
