@@ -5,11 +5,11 @@ from pathlib import Path
 from typing import Iterator
 
 from registry_tools.errors import FileFault
-from registry_tools.office import files, journal
+from registry_tools.office import files, journal, prepared
 from registry_tools.office.folder import Office, tell_left
 from registry_tools.office.journal import Event
 from registry_tools.office.layout import DAYS, JOURNAL, PREPARED
-from registry_tools.office.prepared import BUILT, CORRECTED, DONE, VALID, put_in_place, what_is_done
+from registry_tools.office.prepared import BUILT, CORRECTED, DONE, VALID
 
 
 class Change:
@@ -30,20 +30,20 @@ class Change:
 
     def keep(self, *events: Event) -> None:
         """Makes the change, with its line in the journal; of a correction, with its lines."""
-        office, prepared, last = self.office, self.office.path / PREPARED, events[-1]
+        office, last = self.office, events[-1]
         what = last.event if len(events) == 1 else CORRECTED
         date = str(min(event.date for event in events))
         files.write_synced(self.folder / VALID, f"{last.line}\n{what} {date}\n".encode())
         with telling(self.folder):
             files.sync_tree(self.folder)
         must_be_movable(office, events)
-        files.move(self.folder, prepared)
+        files.move(self.folder, office.path / PREPARED)
         left = files.step(office.path / JOURNAL, office.journal.with_event(*events).encode("utf-8", "surrogateescape"))
         try:
-            put_in_place(office.path, what, date)
+            prepared.put_in_place(office.path, what, date)
         except (FileFault, OSError) as fault:
             left = f"the next command puts the rest in place: {fault}"
-        tell_left(what_is_done(what, date), left)
+        tell_left(prepared.what_is_done(what, date), left)
         with contextlib.suppress(FileFault):
             office.journal = journal.read(office.path / JOURNAL)
 
