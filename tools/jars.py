@@ -2,7 +2,7 @@
 
 usage: jars.py LIBRARY FOLDER
 
-LIBRARY is a folder that `tools/library` has made. The jar is FOLDER/registry-VERSION.jar; equal files give an equal jar.
+LIBRARY is a folder that `tools/library` has made. The jar is FOLDER/registry-VERSION.jar; equal files give equal ones.
 It needs javac and the headers of its JDK, of 17 or later, and a C compiler, cc.
 """
 import os
@@ -27,10 +27,10 @@ MACHINES = {"x86_64": "amd64"}
 
 
 def folder_of_jdk() -> Path | None:
-    """The JDK whose javac is on the PATH; None, if there is none with headers for C."""
+    """The JDK whose javac is on the PATH; None, if there is none with headers for C, or no C compiler."""
     javac = shutil.which("javac")
-    home = Path(os.path.realpath(javac)).parent.parent if javac else Path()
-    return home if javac and (home / "include/jni.h").exists() else None
+    home = Path(os.path.realpath(javac)).parent.parent if javac and shutil.which("cc") else Path()
+    return home if (home / "include/jni.h").exists() else None
 
 
 def compile_classes(folder: Path) -> None:
@@ -81,7 +81,7 @@ def make(library: Path, folder: Path, jdk: Path) -> Path:
 def main(library: Path, folder: Path) -> int:
     jdk = folder_of_jdk()
     if jdk is None:
-        print("library: there is no javac with the headers of its JDK: a JDK of 17 or later makes the jar.", file=sys.stderr)
+        print("library: a jar needs javac of 17 or later with the headers of its JDK, and cc.", file=sys.stderr)
         return 1
     make(library, folder, jdk)
     return 0
