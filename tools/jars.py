@@ -29,7 +29,9 @@ MACHINES = {"x86_64": "amd64"}
 def folder_of_jdk() -> Path | None:
     """The JDK whose javac is on the PATH; None, if there is none with headers for C, or no C compiler."""
     javac = shutil.which("javac")
-    home = Path(os.path.realpath(javac)).parent.parent if javac and shutil.which("cc") else Path()
+    if javac is None or shutil.which("cc") is None:
+        return None
+    home = Path(os.path.realpath(javac)).parent.parent
     return home if (home / "include/jni.h").exists() else None
 
 

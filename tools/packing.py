@@ -35,7 +35,7 @@ PYTHON = TOP / "examples/python/src/registry"
 DOCUMENTS = ("CHANGELOG.md", "docs/RULES.md", "docs/FORMATS.md")
 # What is read of examples/.
 WEEK = ("week", "first-transfer.csv", "morning-batch.csv")
-# The sources of the Rust crate and of the Java binding, without what a build leaves, and without tests: they read cases.
+# The sources of the bindings, without what a build leaves, and without tests, which read cases.
 SOURCES = {"src/rust": "examples/rust", "src/java": "examples/java", "src/python": "examples/python"}
 LEFT_OUT = shutil.ignore_patterns("target", "out", "tests", "__pycache__", "*.class", "*.so", "*.jar", "*.pyc")
 # The day texts that the examples among these read.
