@@ -15,11 +15,13 @@ from pathlib import Path
 from typing import Any
 
 from harness import TOP, LeftOut, Trial, Word, answer_of, differs
+from notebooks import script_of
 from standins import RULES, VERSION
 
 from registry_tools import main
 
 WEEK = TOP / "examples" / "week"
+PYTHON = TOP / "examples" / "python"
 PARTS = [
     "bin/registry", "bin/registry-day", "bin/registry-rules", "lib/libregistry.a", "lib/libregistry.so",
     "lib/libregistry.so.1", "lib/pkgconfig/registry.pc", "include/registry.h", "share/man/man1/registry.1",
@@ -51,6 +53,8 @@ def refused(path: Path) -> dict[str, int]:
     report = registry.settle(path.read_bytes())
     for account in report.accounts():
         print(account.number + report.next_record)
+    for row in report.log.refused():
+        print(row.outcome.sentence, row.outcome.what_to_do)
     return registry.refusals(report.log)
 """
 
@@ -255,13 +259,16 @@ def folder_fault(sources: Path, room: Path) -> object:
 
 
 def types_fault(made: Path, room: Path) -> object:
-    """What mypy says of the package, and of a program that calls it."""
+    """What mypy says of the package, and of programs that call it."""
     if not shutil.which("mypy"):
         return None
-    caller = room / "caller.py"
-    caller.write_text(CALLER)
+    callers = {"caller": CALLER, "first": (PYTHON / "first.py").read_text()}
+    callers["notebook"] = script_of(PYTHON / "notebook.ipynb")
+    for name, text in callers.items():
+        (room / f"{name}.py").write_text(text)
     words: list[Word] = ["mypy", "--strict", "--cache-dir", room / "cache", "--python-version", "3.10"]
-    looked_at: list[list[Word]] = [["-p", "registry"], [caller]]
+    looked_at: list[list[Word]] = [["-p", "registry"]]
+    looked_at += [[room / f"{name}.py"] for name in callers]
     for paths in looked_at:
         said = answer_of([*words, *paths], cwd=made, env={**os.environ, "MYPYPATH": str(made)})
         if said[2]:

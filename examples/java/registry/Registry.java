@@ -28,7 +28,7 @@ public final class Registry {
     private static final long FAULT = 3;
 
     static {
-        System.loadLibrary("registry_jni");
+        Shim.load();
     }
 
     private Registry() {}

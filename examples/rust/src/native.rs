@@ -22,13 +22,8 @@ extern "C" {
     fn registry_plan(day: *const u8, day_length: usize, room: *mut u8, room_length: usize) -> Answer;
     fn registry_figures(day: *const u8, day_length: usize, room: *mut u8, room_length: usize) -> Answer;
     fn registry_totals(day: *const u8, day_length: usize, room: *mut u8, room_length: usize) -> Answer;
-    fn registry_statement(
-        day: *const u8,
-        day_length: usize,
-        account: u32,
-        room: *mut u8,
-        room_length: usize,
-    ) -> Answer;
+    fn registry_statement(day: *const u8, day_length: usize, account: u32, room: *mut u8, room_length: usize)
+        -> Answer;
     fn registry_version_string(room: *mut u8, room_length: usize) -> Answer;
     fn registry_cause_word(cause: u32, room: *mut u8, room_length: usize) -> Answer;
     fn registry_refusal_word(code: u32, room: *mut u8, room_length: usize) -> Answer;
@@ -57,10 +52,7 @@ fn ask(guess: usize, mut call: impl FnMut(&mut [u8]) -> Answer) -> Result<Vec<u8
 }
 
 fn fault_of(answer: &Answer) -> Fault {
-    Fault::Row {
-        row: answer.row,
-        cause: Cause::ALL[answer.cause as usize - 1],
-    }
+    Fault::Row { row: answer.row, cause: Cause::ALL[answer.cause as usize - 1] }
 }
 
 fn command(call: Call, day: &[u8]) -> Result<Vec<u8>, Fault> {

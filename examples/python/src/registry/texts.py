@@ -9,7 +9,7 @@ from io import BytesIO, TextIOWrapper
 from typing import TYPE_CHECKING, Any, Iterable, Iterator, Sequence, Union, overload
 
 from registry import native
-from registry.rows import Account, Determined, Holding, Instruction, LogRow, Refused, Task, Totals
+from registry.rows import Account, Determined, Holding, Instruction, LogRow, Refused, RefusedRow, Task, Totals
 
 if TYPE_CHECKING:
     import pandas  # type: ignore[import]
@@ -65,8 +65,8 @@ class Log(Sequence[LogRow]):
     def __len__(self) -> int:
         return len(self._lines)
 
-    def refused(self) -> Iterator[LogRow]:
-        return (row for row in self if not row.is_done)
+    def refused(self) -> Iterator[RefusedRow]:
+        return (row for row in self if isinstance(row, RefusedRow))
 
     def columns(self) -> Iterator[dict[str, Any]]:
         """Simple values by the columns of `./day log`: once for each instruction, and of a distribution once for each
