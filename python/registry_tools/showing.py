@@ -70,7 +70,7 @@ def as_table(columns: Sequence[str], rows: Sequence[Sequence[Cell]], numbers: Se
          for name, own in zip(columns, row)]
         for row in rows
     ]
-    return "\n".join([*in_words.table([*columns], shown, numbers), ""])
+    return "\n".join([*in_words.table_lines([*columns], shown, numbers), ""])
 
 
 # Numbers that name something: they are not grouped.

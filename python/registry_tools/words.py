@@ -148,7 +148,7 @@ class Value:
             return "cannot parse integer from empty string"
         if not re.fullmatch(r"[+-]?[0-9]+", self.word):
             return "invalid digit found in string"
-        number = number_of(self.word)
+        number = number_spelled(self.word)
         if number not in self.read:
             return f"number too {'large' if number > 0 else 'small'} to fit in target type"
         if number not in self.taken:
@@ -156,7 +156,7 @@ class Value:
         return None
 
 
-def number_of(word: str) -> int:
+def number_spelled(word: str) -> int:
     """The number that a word spells. Of one that is far too large the first digits stand for it: Python does not read
     numbers of thousands of digits."""
     digits = word.lstrip("+-").lstrip("0")[:MOST_DIGITS]
