@@ -28,8 +28,8 @@ PARTS = [
     "share/man/man1/registry-day.1", "share/man/man3/registry.3", "share/man/man5/registry-day-text.5",
     "share/bash-completion/completions/registry", "share/bash-completion/completions/registry-day",
     "share/zsh/site-functions/_registry", "share/zsh/site-functions/_registry-day", "share/doc/registry/RULES.md",
-    "src/rust/Cargo.toml", "src/java/registry_jni.c", "src/python/notebook.ipynb", "src/first-transfer.csv", "README", "INSTALL", "CHANGELOG.md", "MANIFEST",
-    "SHA256SUMS", "install",
+    "src/rust/Cargo.toml", "src/java/registry_jni.c", "src/python/notebook.ipynb", "src/first-transfer.csv", "README",
+    "INSTALL", "CHANGELOG.md", "MANIFEST", "SHA256SUMS", "install",
 ]  # fmt: skip
 MANIFEST = (
     f"registry {VERSION} for ", "source: commit 0123456789ab", "proved and built with rattle-kit-of-this-case",
