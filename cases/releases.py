@@ -28,8 +28,8 @@ PARTS = [
     "share/man/man1/registry-day.1", "share/man/man3/registry.3", "share/man/man5/registry-day-text.5",
     "share/bash-completion/completions/registry", "share/bash-completion/completions/registry-day",
     "share/zsh/site-functions/_registry", "share/zsh/site-functions/_registry-day", "share/doc/registry/RULES.md",
-    "src/rust/Cargo.toml", "src/java/registry_jni.c", "README", "INSTALL", "CHANGELOG.md", "MANIFEST",
-    "SHA256SUMS", "install",
+    "src/rust/Cargo.toml", "src/java/registry_jni.c", "src/python/notebook.ipynb", "src/first-transfer.csv", "README",
+    "INSTALL", "CHANGELOG.md", "MANIFEST", "SHA256SUMS", "install",
 ]  # fmt: skip
 MANIFEST = (
     f"registry {VERSION} for ", "source: commit 0123456789ab", "proved and built with rattle-kit-of-this-case",
@@ -233,7 +233,14 @@ def wheels_fault(folder: Path, room: Path) -> object:
     place = new_room(room / "venv", *sorted(folder.glob("python/*.whl")))
     # (the Python of such a place may be one that another user can't run)
     wrong = week_fault(place / "bin/registry-day", Somebody(room / "somebody", is_other=False), "library")
-    return wrong or engine_fault(place)
+    return wrong or engine_fault(place) or notebook_fault(place, folder / "src/python")
+
+
+def notebook_fault(place: Path, folder: Path) -> object:
+    """What is wrong with the notebook of an archive, which is run in its folder."""
+    script = script_of(folder / "notebook.ipynb")
+    said = answer_of([place / "bin/python", "-B", "-c", script], cwd=folder, env={})
+    return None if said[2] == 0 and b"outcomes change" in said[0] else said
 
 
 def engine_fault(place: Path) -> object:
@@ -274,6 +281,32 @@ def types_fault(made: Path, room: Path) -> object:
         if said[2]:
             return f"mypy of {paths}: {said}"
     return None
+
+
+# What an archive has for Java and Rust.
+
+
+def java_fault(folder: Path, room: Path) -> object:
+    """What is wrong with the jar: beside it Java asks for nothing but the source of a program."""
+    jars = [*folder.glob(f"share/java/registry-{VERSION}.jar")]
+    if not jars or not shutil.which("java"):
+        raise LeftOut("there is no JDK or no C compiler here, so the archive has no jar")
+    room.mkdir(parents=True)
+    day, report = folder / "src/first-transfer.csv", TOP / "cases/examples/first-transfer.stdout"
+    said = answer_of(["java", "-cp", jars[0], folder / "src/java/Settle.java", day], cwd=room)
+    return differs((said[0], said[2]), (report.read_bytes(), 0))
+
+
+def rust_fault(folder: Path, room: Path) -> object:
+    """What is wrong with the crate of an archive, which links the library of that archive without a word."""
+    if not shutil.which("cargo"):
+        raise LeftOut("cargo is not here")
+    own = {**os.environ, "CARGO_TARGET_DIR": str(room)}
+    own.pop("REGISTRY_FOLDER", None)
+    # (the stand-in for the library tells no words of faults and checks)
+    words = ["cargo", "test", "--doc", "--offline", "--locked", "--", "settle", "accounts", "LogRow"]
+    said = answer_of(words, cwd=folder / "src/rust", env=own)
+    return None if said[2] == 0 and b"3 passed; 0 failed" in said[0] else said
 
 
 # Packages of Debian.
@@ -365,4 +398,6 @@ def own_trials(made: Path, sources: Path, room: Path, is_built: bool) -> Iterato
     if is_built:
         yield "both wheels", lambda: wheels_fault(folder(), room / "wheels")
         yield "the folder for Python", lambda: folder_fault(sources, room / "of-python")
+        yield "the jar", lambda: java_fault(folder(), room / "java")
+        yield "the Rust crate", lambda: rust_fault(folder(), room / "rust")
     yield "packages of Debian", lambda: debian_fault(made, room / "debian")

@@ -36,7 +36,7 @@ DOCUMENTS = ("CHANGELOG.md", "docs/RULES.md", "docs/FORMATS.md")
 # What is read of examples/.
 WEEK = ("week", "first-transfer.csv", "morning-batch.csv")
 # The sources of the bindings, without what a build leaves, and without tests, which read cases.
-SOURCES = {"src/rust": "examples/rust", "src/java": "examples/java", "src/python": "examples/python"}
+SOURCES = {f"src/{name}": f"examples/{name}" for name in ("c", "java", "python", "rust")}
 LEFT_OUT = shutil.ignore_patterns("target", "out", "tests", "__pycache__", "*.class", "*.so", "*.jar", "*.pyc")
 # The day texts that the examples among these read.
 READ = ("first-transfer.csv", "morning-batch.csv", "compliance-year.csv", "wrong-date.csv")

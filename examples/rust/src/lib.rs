@@ -88,6 +88,23 @@ pub fn statement(day: &[u8], account: u32) -> Result<Vec<u8>, Fault> {
     native::statement(day, account)
 }
 
+/// The texts of the statements of all accounts, by rising number, one behind another, after one settlement. Each ends
+/// with its row `end`.
+///
+/// ```
+/// let day = std::fs::read("../first-transfer.csv")?;
+/// let all = String::from_utf8(registry::statements(&day)?)?;
+/// let first = all.split_inclusive("\nend\n").next().ok_or("no account")?;
+/// assert_eq!(first.as_bytes(), registry::statement(&day, 1)?);
+/// # Ok::<(), Box<dyn std::error::Error>>(())
+/// ```
+///
+/// # Errors
+/// As [`settle`].
+pub fn statements(day: &[u8]) -> Result<Vec<u8>, Fault> {
+    native::statements(day)
+}
+
 /// The text of the determined compliance figures after the day.
 ///
 /// ```

@@ -43,6 +43,9 @@ fn other_questions_are_answered() {
     assert_eq!(registry::plan(&day).unwrap(), stored("morning-batch-plan.stdout").into_bytes());
     let statement = registry::statement(&day, 100210).unwrap();
     assert_eq!(statement, stored("morning-batch-statement.stdout").into_bytes());
+    let numbers = registry::settle(&day).unwrap().accounts().map(|own| own.number).collect::<Vec<_>>();
+    let each = numbers.into_iter().flat_map(|number| registry::statement(&day, number).unwrap());
+    assert_eq!(registry::statements(&day).unwrap(), each.collect::<Vec<_>>());
     let figures = registry::figures(&example("compliance-year.csv")).unwrap();
     assert_eq!(figures, stored("compliance-year-figures.stdout").into_bytes());
     assert!(registry::totals(&day).unwrap().starts_with(b"totals,general,"));

@@ -14,6 +14,8 @@ from registry.rows import Account, Determined, Holding, Instruction, LogRow, Ref
 if TYPE_CHECKING:
     import pandas  # type: ignore[import]
 
+# How a statement ends.
+_END = b"\nend\n"
 # The byte order mark, which may stand before a day text.
 _MARK = b"\xef\xbb\xbf"
 
@@ -180,6 +182,14 @@ class Day:
     def statement(self, account: int) -> Statement:
         """Raises `NoAccount` if the day has no such account."""
         return Statement(native.statement(self.text, account))
+
+    def statements(self) -> Iterator[Statement]:
+        """The statements of all accounts, by rising number, after one settlement."""
+        text, start = native.statements(self.text), 0
+        while start < len(text):
+            end = text.index(_END, start) + len(_END)
+            yield Statement(text[start:end])
+            start = end
 
     def totals(self) -> dict[str, Totals]:
         """What all accounts together hold, have surrendered and have deleted after the day, by kind of allowance."""
