@@ -150,7 +150,7 @@ class Correction:
     def leave_out(self, record: int, place: int, filed: HandedIn, contents: dict[str, bytes]) -> None:
         """Takes an instruction out of what was handed in for a day, by its place there."""
         if place < 0:
-            row = do_row(self.logged(record)[1])
+            row = self.logged(record)[1].instruction.row
             raise WordsFault(f"--without {record}: it waited since an earlier day, which it was handed in for: {row}")
         first = next((part for part in filed.parts if part.kind == FIRST), None)
         count = first.count if first else 0
@@ -170,25 +170,20 @@ class Correction:
         """Ends the command if a reversal names a record that becomes another one."""
         old = {own.record: own for day in self.before for own in day.report.log}
         new = {own.record: own for day in settled for own in day.report.log}
-        rows = [do_row(own) for day in settled for own in day.report.log]
+        rows = [own.instruction.row for day in settled for own in day.report.log]
         rows += [row for item in self.office.handed_in().items(DO) for row in item.rows]
-        rows += [own.do_row() for own in waits_of(self.office)]
+        rows += [own.instruction.row for own in waits_of(self.office)]
         for row in dict.fromkeys(rows):
             fields = row.split(",")
             if fields[4] != REVERSE or not (fields[6].isascii() and fields[6].isdigit()):
                 continue
             number = int(fields[6])
             was, becomes = old.get(number), new.get(number)
-            if (was and do_row(was)) != (becomes and do_row(becomes)):
+            if (was and was.instruction.row) != (becomes and becomes.instruction.row):
                 raise WordsFault(
                     f"record {number} would be another one, and {row} names it: leave that reversal out too, and hand "
                     "it in once more for a later day"
                 )
-
-
-def do_row(logged: LogRow) -> str:
-    """The row that a log row is of."""
-    return ",".join(["do", *logged.instruction.fields])
 
 
 def without_row(content: bytes, place: int) -> bytes:
