@@ -217,6 +217,11 @@ class Kills:
         shutil.rmtree(self.there, ignore_errors=True)
         shutil.copytree(self.base, self.there)
 
+    def office_of(self, name: str) -> Path:
+        """The folder of days on which a command works, or else the one beside what it makes."""
+        words = self.words[name]
+        return Path(words[words.index("--office") + 1]) if "--office" in words else self.there / "office"
+
     def run_whole(self, name: str) -> str | None:
         """A command that nobody ends; what is wrong with it, if something is."""
         self.begin()
@@ -234,14 +239,15 @@ class Kills:
         wanted = {KILLED} if end == 0 else {done, FILE} if end > 0 else {done, INTERRUPTED}
         if status not in wanted or "Traceback" in says:
             return f"status {status}: {says}"
-        looked = Said("status", "--office", self.there / "office")
+        office = self.office_of(name)
+        looked = Said("status", "--office", office)
         now = all_of(self.there)
         if looked.status != 0:
             return f"status behind it: {looked}"
         wrong = self.stands(name, status, now, says)
         if wrong is None and now != ended:
             wrong = self.again(name, now)
-        audit = Said("audit", "--office", self.there / "office")
+        audit = Said("audit", "--office", office)
         return wrong or (f"audit behind it: {audit}" if audit.status else None)
 
     def stands(self, name: str, status: int, now: dict[str, object], says: str) -> str | None:
