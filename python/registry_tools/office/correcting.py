@@ -10,6 +10,7 @@ from dataclasses import dataclass, field, replace
 from pathlib import Path
 from typing import Iterator
 
+from registry_tools.calendars.due_days import NOT_DUE
 from registry_tools.errors import FileFault, WordsFault
 from registry_tools.office import (
     close, composing, files, folder, hand_in, handed_files, incoming, journal, past, prepared, rebasing, undo,
@@ -78,6 +79,18 @@ class Correction:
             f"--without {record}: {first.date} has the records {first.first} to {first.next - 1}, and the days behind "
             f"it have them up to {last.next - 1}"
         )
+
+    def waited(self, record: int) -> str:
+        """That a record waited since an earlier day, and the words by which it is left out of that one."""
+        event, logged = self.logged(record)
+        row = logged.instruction.row
+        said = f"--without {record}: it waited since an earlier day, which it was handed in for: {row}"
+        for earlier in reversed([own for own in self.office.journal.filed() if own.date < event.date]):
+            _, report = past.read(past.pair_of(self.office, earlier), None)
+            waited = [own.record for own in report.log if own.name == NOT_DUE and own.instruction.row == row]
+            if waited:
+                return f"{said}; ./day correct {earlier.date} --without {waited[0]} leaves it out"
+        return said
 
     # The days once more.
 
@@ -150,8 +163,7 @@ class Correction:
     def leave_out(self, record: int, place: int, filed: HandedIn, contents: dict[str, bytes]) -> None:
         """Takes an instruction out of what was handed in for a day, by its place there."""
         if place < 0:
-            row = self.logged(record)[1].instruction.row
-            raise WordsFault(f"--without {record}: it waited since an earlier day, which it was handed in for: {row}")
+            raise WordsFault(self.waited(record))
         first = next((part for part in filed.parts if part.kind == FIRST), None)
         count = first.count if first else 0
         if first and place < count:
