@@ -8,7 +8,8 @@ import unicodedata
 import zlib
 
 OBJECT = re.compile(rb"(?:^|\n)([0-9]+) 0 obj\s(.*?)\sendobj", re.DOTALL)
-STREAM = re.compile(rb"stream\r?\n(.*?)\r?\nendstream", re.DOTALL)
+# (a packed stream may end with any byte, a carriage return too)
+STREAM = re.compile(rb"stream\n(.*?)\nendstream", re.DOTALL)
 FONT = re.compile(rb"/(F[0-9]+) ([0-9]+) 0 R")
 SHOWN = re.compile(rb"/(F[0-9]+) [0-9.]+ Tf|<([0-9A-Fa-f]+)> Tj|\[(.*?)\] TJ|(BT)|(ET)", re.DOTALL)
 HEX = re.compile(rb"<([0-9A-Fa-f]+)>")
