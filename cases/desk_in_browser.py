@@ -33,7 +33,7 @@ ARRIVED = (
     "document.readyState == 'complete' && document.body && !document.body.dataset.old"
     " && document.querySelector('footer') && !document.body.innerText.includes('At work')"
 )
-OF_KEY = {"Tab": 9, "Enter": 13, " ": 32}
+OF_KEY = {"Tab": 9, "Enter": 13, "ArrowDown": 40}
 
 
 class Server:
@@ -132,7 +132,7 @@ class Visitor:
         return self.after(f"{found}.click()")
 
     def key(self, key: str) -> None:
-        more: dict[str, Any] = {"text": "\r"} if key == "Enter" else {"text": " "} if key == " " else {}
+        more: dict[str, Any] = {"text": "\r"} if key == "Enter" else {}
         for kind in ("keyDown", "keyUp"):
             own = more if kind == "keyDown" else {}
             self.browser.do("Input.dispatchKeyEvent", type=kind, key=key, windowsVirtualKeyCode=OF_KEY[key], **own)
@@ -185,9 +185,10 @@ def by_keys(ana: Visitor) -> str:
     ana.browser.value("document.body.dataset.old = 'yes'")
     ana.key("Enter")
     ana.arrived()
-    if not ana.browser.value("document.querySelector('main [name=second]').checked"):
-        ana.tab_to("by the second answer alone")
-        ana.key(" ")
+    # (of choices that shut each other out, the key Tab finds the chosen one, and an arrow goes on)
+    ana.tab_to("by ")
+    if not ana.browser.value("document.activeElement.value"):
+        ana.key("ArrowDown")
     ana.tab_to("Your name")
     ana.browser.do("Input.insertText", text="ana")
     ana.tab_to("Yes, close")
@@ -215,7 +216,7 @@ def by_hand(ana: Visitor) -> Iterator[tuple[str, object]]:
     ana.open("/change?account=100377")
     ana.choose("user-5204", "both")
     looked = ana.press("Look at the change")
-    yield "a change side by side", told(looked, "user 5204 approve\tuser 5204 both")
+    yield "a change side by side", told(looked, "user 5204: approve\tuser 5204: propose and approve")
     ana.fill("why", "a letter")
     yield "a change by hand", told(ana.press("Yes, change it"), "handed in for 2025-09-26")
     ana.open("/change?of=rules")

@@ -32,8 +32,8 @@ GET: dict[str, Callable[..., Any]] = {
     "/": pages.today, "/hand-in": pages.hand_in, "/next": pages.next_day, "/change": pages.change,
     "/close": pages.close, "/days": pages.days, "/days/<date:date>": pages.day, "/name": pages.name,
     "/accounts": questions.accounts, "/accounts/<n:number>": questions.account, "/compliance": questions.compliance,
-    "/month": questions.month_page, "/find": questions.find, "/find.csv": questions.find_csv,
-    "/find.xlsx": questions.find_xlsx,
+    "/month": questions.month_page, "/find": questions.find, "/find.<any(csv, xlsx):kind>": questions.find_file,
+    "/table.<any(csv, xlsx):kind>": questions.table_file,
     "/journal": questions.journal, "/audit": questions.audit, "/send": questions.send,
     "/jobs/<number>": questions.job, "/jobs/<number>/packages.zip": questions.packages,
 }  # fmt: skip
@@ -142,9 +142,10 @@ def dress(app: flask.Flask, served: Served) -> None:
         who=lambda: gate.known_name(served), says_name=not served.who and not served.header,
         has_leftovers=served.reading.has_leftovers,
         table=tables.table, address=tables.address, meaning=lambda name: checks()[name].meaning, advice=advice_for,
-        acts=sorted(faults.ACT_WORDS), lag_words=words.LAGS,
+        acts=faults.ACT_WORDS, lag_words=words.LAGS,
     )  # fmt: skip
     app.jinja_env.filters.update(grouped=grouped, local=words.local, label=words.label, date=words.date_in_words)
+    app.jinja_env.filters["called"] = lambda word: words.CALLED.get(word, word)
     app.jinja_env.trim_blocks = app.jinja_env.lstrip_blocks = True
 
 

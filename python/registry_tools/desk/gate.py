@@ -83,7 +83,9 @@ def said(code: int, text: str, is_again: bool = False) -> Response:
     path = flask.request.full_path.rstrip("?") if is_again and flask.request.method == "GET" else ""
     # (two slashes would lead to another host)
     path = "/" + path.lstrip("/\\") if path else ""
-    page = flask.render_template("said.html", title="No", text=text, path=path, is_in="token" in flask.session)
+    page = flask.render_template(
+        "base.html", page="said.html", title="No", text=text, path=path, is_in="token" in flask.session
+    )
     return flask.make_response(words.seen(page, flask.current_app.config["OFFICE"]), code)
 
 

@@ -5,7 +5,6 @@ from typing import Any, Callable, Iterator, Sequence
 import flask
 from werkzeug.exceptions import NotFound
 
-from registry_tools.calendars import working_days
 from registry_tools.calendars.due_days import NOT_DUE
 from registry_tools import installed
 from registry_tools.desk import forms, gate, tables
@@ -25,12 +24,14 @@ from registry_tools.pages.settled import Settled, by_hand_parts, in_words, long_
 from registry_tools.questions import due
 from registry_tools.second import faults, rules
 from registry_tools.sheets import columns as sheets
+from registry_tools.sheets import form
 from registry_tools.tables import RIGHTS
 from registry_tools.texts.in_words import grouped, instruction_in_words
 from registry_tools.texts.report import LogRow
 
 NAMES_OF_SUMS = ("held", "surrendered", "deleted")
-# How the last day of a year may be written in a spreadsheet.
+# What there are empty tables of; and how the last day of a year may be written in a spreadsheet.
+EMPTY = [own for own in form.WHAT if own != form.LABELS]
 DATES = ("31.12.2026", "31/12/2026", "12/31/2026")
 # Of more accounts none is offered in a list; and so many dates are told that come next.
 MOST_OFFERED, MOST_COMING = 1_000, 5
@@ -41,7 +42,6 @@ def today(served: Served) -> Any:
     own = served.reading
     office = own.office()
     handed_in, last = office.handed_in(), office.last()
-    passed = due.missed_days(office)
     items = [
         (item.place, item_in_words(item), item.part.name, item.part.who, local(item.part.at))
         for item in handed_in.items(*handed.KINDS)
@@ -52,7 +52,7 @@ def today(served: Served) -> Any:
     ]
     return show(
         "today", "Today", last=last, is_released=office.journal.is_released(), items=items, waits=waits,
-        missed=working_days.in_words(passed), taken=handed_in.taken, holder=own.holder(), dates=own.dates(),
+        missed=due.missed_days(office), taken=handed_in.taken, holder=own.holder(), dates=own.dates(),
         coming=due.next_dates(office, MOST_COMING), faults=[*office.changed_files(last)] if last else [],
         new=new_of(own) if items or waits else [], seconds=[*approvals.all_waiting(office, handed_in)],
         forged=approvals.all_approvals(office).faults,
@@ -73,7 +73,7 @@ def hand_in(served: Served) -> Any:
     act = asked("act")
     columns = sheets.columns_of_act(act) if act in faults.ACT_WORDS else []
     return show(
-        "hand_in", "Hand in", act=act if columns else "", columns=columns, said=flask.request.args,
+        "hand_in", "Hand in", act=act if columns else "", columns=columns, said=flask.request.args, empty=EMPTY,
         known=forms.accounts_offered(served.reading, MOST_OFFERED) if columns else [], dates=DATES,
         proposed=forms.dates_of_proposal(served.reading) if columns else [], choices=forms.CHOICES,
     )  # fmt: skip
@@ -163,7 +163,7 @@ def alerts(notes: list[str]) -> list[str]:
 
 
 def settler(own: Reading) -> str:
-    """What settles the day, in words."""
+    """What settles the day, in words; nothing, if only the second answer does."""
     program = own.office().settings.program or installed.program()
     if program:
         return f"the program {program}"
@@ -171,7 +171,7 @@ def settler(own: Reading) -> str:
         return "the library"
     if installed.is_checkout():
         return "./run, which builds the program first if it is not there"
-    return "nothing yet: office.ini has to name a program, or the second answer settles"
+    return ""
 
 
 def totals_of(own: closing.Outcome) -> Iterator[tuple[str, str, str, str, str]]:
@@ -205,7 +205,7 @@ def day(served: Served, date: datetime.date) -> Any:
     log = [own for own in settled.log if only not in ("done", "refused") or own.is_done == (only == "done")]
     rows = [(own.record, in_words(own), named_in(own), outcome_in_words(own), own) for own in log]
     return show(
-        "day", long_date(date), date=date, parts=parts_of(settled, served.reading), rows=rows, only=only,
+        "day", long_date(date), date=date, above=parts_of(settled, served.reading), rows=rows, only=only,
         shown_row=lambda row: (row[0], row[1], settled.accounts_of(row[4]), row[3]),
         plan=plan_parts(settled) if settled.log else [],
     )  # fmt: skip

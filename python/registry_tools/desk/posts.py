@@ -5,7 +5,7 @@ from typing import Any
 
 import flask
 
-from registry_tools.desk import forms, gate, looks
+from registry_tools.desk import forms, gate, looks, tables
 from registry_tools.desk.jobs import Job
 from registry_tools.desk.served import Served
 from registry_tools.desk.shown import outcome, show, whys
@@ -17,8 +17,8 @@ from registry_tools.office.words import one_line
 NUMBER, STATE = re.compile("[0-9a-f]{16}"), re.compile("[0-9a-f]{64}[.][0-9]{1,9}[.][0-9]{1,9}[.][0-9a-f]{16}")
 PLACE, AGAIN = re.compile("[1-9][0-9]{0,8}"), re.compile("([0-9]{1,3}):([1-9][0-9]{0,8})")
 NOT_WHOLE = "the form is not whole: nothing was done"
-# What an instruction that was typed is called.
-TYPED = "typed at the desk.csv"
+# Of a field that was typed so much is kept in the way back to it.
+LONGEST_FIELD = 80
 # The words of a form that are no fields of what it asks for.
 OF_FORM = {"token", "number", "state", "who", "why"}
 
@@ -77,14 +77,15 @@ def look(served: Served) -> Any:
     """What would come of files, or of one instruction. They wait in the private folder for a yes."""
     if form("place"):
         return look_at_upload(served, form("place"))
-    place = served.jobs.new_upload()
+    place, typed = served.jobs.new_upload(), {}
     if form("act"):
         table = forms.table_of_instruction(flask.request.form)
-        served.jobs.place_for(place, TYPED).write_bytes(forms.rows_of_typed(table))
+        served.jobs.place_for(place, looks.TYPED).write_bytes(forms.rows_of_typed(table))
+        typed = {name: form(name)[:LONGEST_FIELD] for name in flask.request.form if name not in OF_FORM}
     for upload in flask.request.files.getlist("files"):
         if upload.filename:
             upload.save(served.jobs.place_for(place, upload.filename))
-    return look_at_upload(served, place.name)
+    return look_at_upload(served, place.name, typed)
 
 
 def meant_again(count: int) -> list[tuple[int, int]]:
@@ -96,8 +97,9 @@ def meant_again(count: int) -> list[tuple[int, int]]:
     return pairs
 
 
-def look_at_upload(served: Served, place: str) -> Any:
-    """Shows what would be handed in by the files of an upload. Raises WordsFault if it has none."""
+def look_at_upload(served: Served, place: str, typed: dict[str, Any] | None = None) -> Any:
+    """Shows what would be handed in by the files of an upload, with a way back to the form that has what was typed.
+    Raises WordsFault if it has none."""
     paths = served.jobs.upload(place)
     if not paths:
         raise WordsFault("no file was chosen")
@@ -110,6 +112,7 @@ def look_at_upload(served: Served, place: str) -> Any:
     return show(
         "look", "A look before it is handed in", own=own, place=place, again=again, dates=dates, whys=whys(own.looked),
         counts=[(part.name, count_in_words(part)) for part in own.parts], names=[path.name for path in paths],
+        back=tables.address_of("/hand-in", typed or {}),
         rows=[(tried.place, tried.words, tried.said(), tried) for tried in own.looked],
         shown_row=lambda row: (row[0], row[1], outcome(row[3])),
     )  # fmt: skip

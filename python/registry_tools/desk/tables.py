@@ -14,14 +14,20 @@ NUMBER = re.compile("[-+]?[0-9]{1,30}")
 
 def address(**more: object) -> str:
     """The address of this page with other words in it; with None, without this word."""
+    return address_of(flask.request.path, {**flask.request.args.to_dict(), **more})
+
+
+def address_of(path: str, args: dict[str, object]) -> str:
+    """The address of a page with these words in it; with None, without this word."""
     # (not by url_for: words of the address such as _external would be its own)
-    args: dict[str, object] = {**flask.request.args.to_dict(), **more}
     query = urllib.parse.urlencode({key: own for key, own in args.items() if own is not None}, errors="replace")
-    return urllib.parse.quote(flask.request.path) + (f"?{query}" if query else "")
+    return urllib.parse.quote(path) + (f"?{query}" if query else "")
 
 
 def sort_key(cell: object) -> tuple[bool, int, str]:
     """Numbers by what they are, and behind them words."""
+    if isinstance(cell, int):
+        return False, cell, ""
     text = visible(cell)
     digits = text.replace(",", "")
     return (False, int(digits), "") if NUMBER.fullmatch(digits) else (True, 0, text)

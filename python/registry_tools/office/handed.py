@@ -34,6 +34,7 @@ from registry_tools.office.journal import row_of
 from registry_tools.office.layout import TABLES
 from registry_tools.office.sources import Original, Source
 from registry_tools.second import faults
+from registry_tools.sheets.table import OTHER_HEADINGS
 from registry_tools.texts.day_text import DayText, day_of, read_blocks, read_rows_of
 from registry_tools.texts.rows import Rows, rows_of, rows_of_text
 
@@ -260,10 +261,8 @@ def begins_item(kind: str, row: str) -> bool:
     return row.startswith(begins[kind])
 
 
-EXPECTED = (
-    "rows do, work or account in the first row: what is to be handed in; or the names of columns: ./day form makes an "
-    "empty table, and --mapping names other headings"
-)
+EMPTY_TABLE = f"./day form makes an empty table, and {OTHER_HEADINGS}"
+EXPECTED = f"rows do, work or account in the first row: what is to be handed in; or the names of columns: {EMPTY_TABLE}"
 
 
 def kind_of(source: Rows) -> str:
