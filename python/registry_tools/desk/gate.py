@@ -33,12 +33,6 @@ NO_NAME = "The proxy before this desk has to say who you are, and it does not."
 LONGEST_NAME = 80
 
 
-def build(app: flask.Flask, served: Served) -> None:
-    """Puts the gate before all pages, also those that are not there."""
-    app.before_request(lambda: let_in(served))
-    app.after_request(with_headers)
-
-
 def let_in(served: Served) -> Any:
     """Answers nothing to who may go on, or why not."""
     request = flask.request

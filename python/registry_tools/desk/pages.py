@@ -1,10 +1,10 @@
 """The pages of the day's work: today, what is handed in, the next day, a change by hand, closing, and the days."""
-import datetime
 from typing import Any, Callable, Iterator, Sequence
 
 import flask
 from werkzeug.exceptions import NotFound
 
+from registry_tools.calendars.dates import date_of
 from registry_tools.calendars.due_days import NOT_DUE
 from registry_tools import installed
 from registry_tools.desk import forms, gate, tables
@@ -27,7 +27,6 @@ from registry_tools.sheets import columns as sheets
 from registry_tools.sheets import form
 from registry_tools.tables import RIGHTS
 from registry_tools.texts.in_words import grouped, instruction_in_words
-from registry_tools.texts.report import LogRow
 
 NAMES_OF_SUMS = ("held", "surrendered", "deleted")
 # What there are empty tables of; and how the last day of a year may be written in a spreadsheet.
@@ -132,10 +131,11 @@ def change(served: Served) -> Any:
     day = own.text_of_next()
     if number is not None and number not in day.book:
         raise WordsFault(f"there is no account {number} in the next day's text")
-    block = day.book[number] if number is not None else None
-    more = forms.account_fields(block) if block else forms.rule_fields(day) if of == "rules" else {}
+    more: dict[str, Any] = forms.rule_fields(day) if of == "rules" else {}
+    if number is not None:
+        of, more = "account", forms.account_fields(day.book[number], len(day.head.periods))
     return show(
-        "change", "Change", account=number, of=of if block is None else "account", date=day.head.date, **more,
+        "change", "Change", account=number, of=of, date=day.head.date, **more,
         known=forms.accounts_offered(own, MOST_OFFERED), kinds=faults.ACCOUNT_KINDS, rights=RIGHTS,
     )  # fmt: skip
 
@@ -151,15 +151,11 @@ def close(served: Served) -> Any:
     except (WordsFault, FileFault) as fault:
         why, notes = str(fault), []
     return show(
-        "close", "Close", date=date, dates=dates, why=why, own=outcome_of, alerts=alerts(notes), notes=notes,
+        "close", "Close", date=date, dates=dates, why=why, own=outcome_of, notes=notes,
+        alerts=[note for note in notes if note.startswith(LOOK)],
         totals=[*totals_of(outcome_of)] if outcome_of else [], settler=settler(own),
         asks_second=not own.office().settings.program and not installed.program() and find_library() is None,
     )  # fmt: skip
-
-
-def alerts(notes: list[str]) -> list[str]:
-    """Of these lines, those that somebody has to look at."""
-    return [note for note in notes if note.startswith(LOOK)]
 
 
 def settler(own: Reading) -> str:
@@ -196,24 +192,20 @@ def days(served: Served) -> Any:
     )  # fmt: skip
 
 
-def day(served: Served, date: datetime.date) -> Any:
+def day(served: Served, word: str) -> Any:
     """The page of a day: what the pages of ./day page say, with its log as one table."""
+    date = date_of("the day", word)
     settled = served.reading.settled(date)
     if settled is None:
         raise NotFound
     only = asked("only")
     log = [own for own in settled.log if only not in ("done", "refused") or own.is_done == (only == "done")]
-    rows = [(own.record, in_words(own), named_in(own), outcome_in_words(own), own) for own in log]
+    rows = [(own.record, in_words(own), rules.named(own.instruction), outcome_in_words(own), own) for own in log]
     return show(
         "day", long_date(date), date=date, above=parts_of(settled, served.reading), rows=rows, only=only,
         shown_row=lambda row: (row[0], row[1], settled.accounts_of(row[4]), row[3]),
         plan=plan_parts(settled) if settled.log else [],
     )  # fmt: skip
-
-
-def named_in(own: LogRow) -> str:
-    """The accounts of an instruction, by which its row is sorted."""
-    return ", ".join(map(str, rules.named(own.instruction)))
 
 
 def parts_of(settled: Settled, own: Reading) -> list[Markup]:

@@ -13,6 +13,7 @@ from registry_tools.desk.words import count_in_words, side_by_side
 from registry_tools.errors import WordsFault
 from registry_tools.office.people import MAY_WAIT
 from registry_tools.office.words import one_line
+from registry_tools.options import word_of
 
 NUMBER, STATE = re.compile("[0-9a-f]{16}"), re.compile("[0-9a-f]{64}[.][0-9]{1,9}[.][0-9]{1,9}[.][0-9a-f]{16}")
 PLACE, AGAIN = re.compile("[1-9][0-9]{0,8}"), re.compile("([0-9]{1,3}):([1-9][0-9]{0,8})")
@@ -123,7 +124,7 @@ def take(served: Served) -> Any:
     place = form("place")
     if number() in served.jobs.jobs:
         return do(served, "hand-in")
-    files = served.jobs.words_of_upload(place)
+    files = [word_of(path.name) for path in served.jobs.upload(place)]
     more = [f"--again={files[own]}:{line}" for own, line in meant_again(len(files))]
     more += [f"--dates={form('dates')}"] if form("dates") else []
     return do(served, "hand-in", *more, "--", *files, upload=place)
@@ -135,16 +136,6 @@ def take_back(served: Served) -> Any:
     if not places or not all(map(PLACE.fullmatch, places)):
         raise WordsFault("no row was chosen")
     return do(served, "take-back", why(), "--", *places)
-
-
-def keep_look(served: Served) -> Any:
-    """Keeps what the next day looks like now: the next look tells what is new."""
-    return begin(served, "try")
-
-
-def put_right(served: Served) -> Any:
-    """Has a command put right what an interrupted one left."""
-    return begin(served, "status")
 
 
 # Changes by hand.

@@ -70,12 +70,12 @@ def cells_of_account(row: Sequence[Any]) -> Sequence[Any]:
     return shown, kind, holder, status, grouped(general), grouped(aviation)
 
 
-def account(served: Served, number: str) -> Any:
+def account(served: Served, number: int) -> Any:
     """The page of an account; NotFound if there is none."""
-    parts = served.reading.account(int(number))
+    parts = served.reading.account(number)
     if parts is None:
         raise NotFound
-    history = [*map(row_of_history, served.reading.history(int(number)))] if asked("history") else None
+    history = [*map(row_of_history, served.reading.history(number))] if asked("history") else None
     return show("account", f"Account {number}", own=parts, number=number, history=history)
 
 

@@ -64,16 +64,11 @@ def table(
     word = flask.request.args.get(sort, "")
     rows = sorted_rows(columns, rows, word)
     last = max(-(-len(rows) // ROWS), 1)
-    number = min(max(number_of(flask.request.args.get(page, "")), 1), last)
+    number = min(max(flask.request.args.get(page, 1, type=int), 1), last)
     part = [["" if cell is None else cell for cell in show(row)] for row in rows[(number - 1) * ROWS : number * ROWS]]
     own = Table(columns, right, heads=heads(columns, sort, word) if len(rows) > 1 else None)
     counted = f"{caption} ({len(rows):,})" if last > 1 else caption
     return joined(own.of(counted, part), *([ways(page, number, last)] if last > 1 else []))
-
-
-def number_of(word: str) -> int:
-    """The number of a page that an address names; else the first."""
-    return int(word) if re.fullmatch("[0-9]{1,9}", word, re.ASCII) else 1
 
 
 def ways(page: str, number: int, last: int) -> Markup:

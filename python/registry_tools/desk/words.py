@@ -10,7 +10,6 @@ from registry_tools.office import handed
 from registry_tools.office.changes import edits
 from registry_tools.office.handed import EMPTY_TABLE, Item
 from registry_tools.pages.html import markup
-from registry_tools.pages.settled import long_date
 from registry_tools.sheets.importing import OTHER_FORM
 from registry_tools.sheets.table import OTHER_HEADINGS
 from registry_tools.texts import in_words
@@ -76,11 +75,6 @@ def local(at: str) -> str:
     except ValueError:
         return at
     return moment.astimezone().strftime("%Y-%m-%d %H:%M")
-
-
-def date_in_words(date: datetime.date) -> str:
-    """A date as people write it."""
-    return long_date(date)
 
 
 def item_in_words(item: Item) -> str:
