@@ -20,7 +20,7 @@ from harness import TOP, differs
 
 WEEK = TOP / "examples" / "week"
 SAVED = TOP / "out" / "desk"
-MOST_SECONDS = 120
+MOST_SECONDS, TIMES = 240, 5
 # The pages that are looked at in windows of several widths, and on paper.
 LOOKED_AT = (
     "/", "/hand-in?act=transfer", "/hand-in?act=distribute", "/next", "/change?account=100377", "/change?of=rules",
@@ -40,6 +40,15 @@ class Server:
     """`./day desk` over a folder. Use it as a context."""
 
     def __init__(self, office: Path, *words: str) -> None:
+        # (between looking for a free port and its use, somebody else may have taken it)
+        for _ in range(TIMES):
+            self.start(office, *words)
+            if self.link:
+                break
+            self.process.wait(MOST_SECONDS)
+
+    def start(self, office: Path, *words: str) -> None:
+        """Starts it at a free port, and reads its link, or nothing if it does not answer there."""
         with socket.socket() as free:
             free.bind(("127.0.0.1", 0))
             port = free.getsockname()[1]

@@ -3,6 +3,7 @@ here writes into the folder."""
 import argparse
 import contextlib
 import datetime
+import gc
 import threading
 import time
 from collections import OrderedDict
@@ -31,6 +32,8 @@ from registry_tools.texts.report import LogRow
 T = TypeVar("T")
 # A command that moves a day into its place is seen halfway for a moment: so often it is looked again.
 TIMES, PAUSE = 5, 0.2
+# What takes longer than so many seconds is large.
+LONG = 1.0
 # So many things that were worked out are kept, and so many days have a statement of an account.
 MOST_KEPT, DAYS_OF_STATEMENT = 12, 31
 # So many dates a list offers.
@@ -103,7 +106,13 @@ class Reading:
             _, own, there = self.kept[key]
         with own:
             if not there:
+                begun = time.monotonic()
                 there.append(work())
+                if time.monotonic() - begun > LONG:
+                    # (what takes long is large: it is looked through for circles now, and not while others ask)
+                    gc.unfreeze()
+                    gc.collect()
+                    gc.freeze()
             answer: T = there[0]
             return answer
 
