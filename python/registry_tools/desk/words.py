@@ -47,7 +47,7 @@ ITEMS = {
 AT_THE_DESK = {
     OTHER_FORM: "another form is chosen with the file",
     EMPTY_TABLE: "the page Hand in has empty tables", OTHER_HEADINGS: "the page Hand in has empty tables",
-    MORE_WORK: "add working days (Change, the rules)",
+    MORE_WORK: "add working days (Change, the rules)", "--release releases it": "its box on the page Send releases it",
 }  # fmt: skip
 PAGES = {
     "hand-in": "Hand in", "take-back": "The next day", "try": "The next day", "change": "Change", "close": "Close",
