@@ -12,7 +12,7 @@ from werkzeug.wrappers import Response
 
 from registry_tools.calendars.dates import date_of
 from registry_tools.desk.served import Served
-from registry_tools.desk.shown import asked, number_of, show
+from registry_tools.desk.shown import asked, number_asked, show_page
 from registry_tools.desk.words import item_in_words, local, words_of_row
 from registry_tools.errors import FOUND, WordsFault
 from registry_tools.notes import BY_HAND
@@ -23,7 +23,7 @@ from registry_tools.pages import compliance as standing
 from registry_tools.pages import html, month
 from registry_tools.pages.html import Markup, link
 from registry_tools.pages.rulebook import document_parts
-from registry_tools.pages.settled import Settled, in_words, joined_words, outcome_in_words
+from registry_tools.pages.settled import Settled, joined_words, outcome_in_words, record_in_words
 from registry_tools.questions import compliance as answers
 from registry_tools.questions import find as finding
 from registry_tools.second import faults, rules
@@ -48,7 +48,7 @@ def accounts(served: Served) -> Any:
     """The page of all accounts, or of those that a word finds."""
     settled, word = served.reading.settled(), asked("q")
     rows = [*account_rows(settled, word)] if settled else []
-    return show("accounts", "Accounts", rows=rows, q=word, settled=settled, shown_row=cells_of_account)
+    return show_page("accounts", "Accounts", rows=rows, q=word, settled=settled, shown_row=cells_of_account)
 
 
 def account_rows(settled: Settled, word: str) -> list[tuple[Any, ...]]:
@@ -76,7 +76,7 @@ def account(served: Served, number: int) -> Any:
     if parts is None:
         raise NotFound
     history = [*map(row_of_history, served.reading.history(number))] if asked("history") else None
-    return show("account", f"Account {number}", own=parts, number=number, history=history)
+    return show_page("account", f"Account {number}", own=parts, number=number, history=history)
 
 
 def row_of_history(row: Sequence[Any]) -> Sequence[Any]:
@@ -98,12 +98,12 @@ def compliance(served: Served) -> Any:
     settled = served.reading.settled()
     if settled is None:
         raise WordsFault("no day is settled yet")
-    year = number_of("year") or answers.last_year_over(settled.head)
+    year = number_asked("year") or answers.last_year_over(settled.head)
     word = asked("deadline")
     deadline = date_of("the deadline", word) if word else served.reading.office().settings.due.surrender_of(year)
 
     rows = standings_of(served, settled, year)
-    return show(
+    return show_page(
         "compliance", f"Compliance for {year}", year=year, deadline=word, rows=[*map(row_of_standing, rows)],
         columns=COLUMNS,
         counts=standing.counts_table(rows) if rows else "", until=month.until_in_words(settled.head.date, deadline),
@@ -148,9 +148,9 @@ def month_page(served: Served) -> Any:
         raise WordsFault("no day is settled yet")
     # (without a word, the month of the last day)
     begin, end = said["from"] or str(dates[0].replace(day=1)), said["to"] or str(dates[0])
-    year = number_of("year")
+    year = number_asked("year")
     title, count, parts = served.reading.month(begin=begin, end=end, year=year, deadline=said["deadline"] or None)
-    return show(
+    return show_page(
         "month", title, count=count, own=parts, begin=begin, end=end, year=year or "", deadline=said["deadline"]
     )
 
@@ -180,7 +180,7 @@ def find(served: Served) -> Any:
     """The page of log rows over all days."""
     rows = found(served) if flask.request.args else None
     query = flask.request.query_string.decode("ascii", "replace")
-    return show("find", "Find", rows=rows, said=flask.request.args, query=query, shown_row=cells_of_log)
+    return show_page("find", "Find", rows=rows, said=flask.request.args, query=query, shown_row=cells_of_log)
 
 
 def row_of_log(own: LogRow) -> tuple[Any, ...]:
@@ -188,7 +188,7 @@ def row_of_log(own: LogRow) -> tuple[Any, ...]:
     i = own.instruction
     named = ", ".join(map(str, dict.fromkeys(rules.named(i))))
     by = f"{i.proposer}, {i.approver}" if i.approver else i.proposer
-    return str(own.date), own.record, in_words(own), named, by, outcome_in_words(own)
+    return str(own.date), own.record, record_in_words(own), named, by, outcome_in_words(own)
 
 
 def cells_of_log(row: Sequence[Any]) -> Sequence[Any]:
@@ -239,7 +239,7 @@ def journal(served: Served) -> Any:
         (day, local(own.part.at), own.part.who, own.part.name, item_in_words(own))
         for day, own in listing.items_of(office)
     ]
-    return show("journal", "Journal", events=events, by_hand=[*reversed(by_hand)])
+    return show_page("journal", "Journal", events=events, by_hand=[*reversed(by_hand)])
 
 
 # What takes long.
@@ -247,14 +247,14 @@ def journal(served: Served) -> Any:
 
 def audit(served: Served) -> Any:
     """The page of audits."""
-    return show("audit", "Audit", jobs=served.jobs.of("audit"))
+    return show_page("audit", "Audit", jobs=served.jobs.of("audit"))
 
 
 def send(served: Served) -> Any:
     """The page of packages for holders."""
     office = served.reading.office()
     dates = [own.date for own in reversed(office.journal.filed())]
-    return show("send", "Send", dates=dates, is_released=office.journal.is_released(), jobs=served.jobs.of("send"))
+    return show_page("send", "Send", dates=dates, is_released=office.journal.is_released(), jobs=served.jobs.of("send"))
 
 
 def job(served: Served, number: str) -> Any:
@@ -264,7 +264,7 @@ def job(served: Served, number: str) -> Any:
         raise WordsFault("the desk knows nothing of this any more: Today and the journal say what was done")
     has_changed = bool(there.seen) and there.seen != flask.g.state
     date = next((word.partition("=")[2] for word in there.words if word.startswith("--date=")), "")
-    return show(
+    return show_page(
         "job", WHAT[there.command], job=there, status=there.status, has_changed=has_changed, date=date,
         is_asked_for=there.status == FOUND and any(ASKED_FOR in line for line in there.said("stdout")),
         refresh=2 if there.status is None else None,

@@ -6,7 +6,7 @@ from typing import Any, Callable, Collection, Sequence
 
 import flask
 
-from registry_tools.pages.html import Markup, Table, joined, link, tag, visible
+from registry_tools.pages.html import Markup, Table, joined, link, tag, words_in_cell
 
 ROWS, NEAR = 100, 4
 NUMBER = re.compile("[-+]?[0-9]{1,30}")
@@ -28,7 +28,7 @@ def sort_key(cell: object) -> tuple[bool, int, str]:
     """Numbers by what they are, and behind them words."""
     if isinstance(cell, int):
         return False, cell, ""
-    text = visible(cell)
+    text = words_in_cell(cell)
     digits = text.replace(",", "")
     return (False, int(digits), "") if NUMBER.fullmatch(digits) else (True, 0, text)
 
@@ -50,7 +50,7 @@ def heads(columns: Sequence[str], key: str, word: str) -> list[object]:
     ]
 
 
-def table(
+def sorted_table(
     caption: str,
     columns: Sequence[str],
     rows: Sequence[Sequence[Any]],

@@ -8,7 +8,8 @@ from registry_tools.calendars.working_days import MORE_WORK
 from registry_tools.errors import escaped
 from registry_tools.office import handed
 from registry_tools.office.changes import edits
-from registry_tools.office.handed import EMPTY_TABLE, Item
+from registry_tools.office.handed import Item
+from registry_tools.office.incoming import EMPTY_TABLE
 from registry_tools.pages.html import markup
 from registry_tools.sheets.importing import OTHER_FORM
 from registry_tools.sheets.table import OTHER_HEADINGS

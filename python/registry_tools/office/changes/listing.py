@@ -8,7 +8,7 @@ from pathlib import Path
 from typing import Iterator
 
 from registry_tools import showing, tables
-from registry_tools.office import files, folder, handed, past
+from registry_tools.office import files, folder, handed_files, handed_journal, past
 from registry_tools.office.folder import Office
 from registry_tools.office.handed import CHANGES, EDITS, Item
 from registry_tools.office.journal import FILES
@@ -45,7 +45,7 @@ def changes_of_pairs(pairs: list[Pair]) -> Iterator[list[Cell]]:
 
 def changes_of(office: Office) -> Iterator[list[Cell]]:
     """The changes of a folder, those for the next day last. Raises FileFault if a file was changed."""
-    return (row_of(day, item) for day, item in items_of(office))
+    return (change_row(day, item) for day, item in items_of(office))
 
 
 def items_of(office: Office) -> Iterator[tuple[str, Item]]:
@@ -59,25 +59,24 @@ def items_of(office: Office) -> Iterator[tuple[str, Item]]:
 
 def changes_of_day(path: Path, date: str) -> Iterator[list[Cell]]:
     """The changes before a settled day, by the folder that has its files."""
-    return (row_of(date, item) for item in items_of_day(path))
+    return (change_row(date, item) for item in items_of_day(path))
 
 
 def items_of_day(path: Path) -> Iterator[Item]:
     """The same as they were handed in."""
-    handed_path = path / FILES["handed"]
-    filed = handed.from_text(path, handed_path, files.bytes_in(handed_path))
+    filed = handed_journal.read_journal(path / FILES["handed"])
     left = {
-        kind: handed.items_of_text(path / FILES[kind], kind, files.bytes_in(path / FILES[kind]))
+        kind: handed_files.items_of_text(path / FILES[kind], kind, files.bytes_in(path / FILES[kind]))
         for kind in (CHANGES, EDITS)
     }
     gone = {taking.place for taking in filed.taken}
     for part in filed.parts:
         if part.kind in left:
             for place in (place for place in range(part.start, part.end) if place not in gone):
-                yield Item(place, part, handed.next_item(left[part.kind], path / FILES[part.kind]), [])
+                yield Item(place, part, handed_files.next_item(left[part.kind], path / FILES[part.kind]), [])
 
 
-def row_of(day: str, item: Item) -> list[Cell]:
+def change_row(day: str, item: Item) -> list[Cell]:
     """A change: a difference with its reason, or a whole account with the name of the file that it came in."""
     part, rows = item.part, item.rows
     more = f" and {len(rows) - 1} rows" if len(rows) > 1 else ""
