@@ -281,8 +281,10 @@ def shown(ana: Visitor, path: str, width: int, name: str) -> object:
         "[...document.querySelectorAll('main td, main tbody th, main p, main label, main button')]"
         ".filter(it => it.scrollWidth > it.clientWidth + 1 && it.clientWidth > 1).map(it => it.innerText).slice(0, 3)"
     )
+    unseen = own.value("[...document.querySelectorAll('thead:has(a)')].filter(it => it.clientWidth < 20).length")
     faults = DeskPage("<!DOCTYPE html>\n" + str(own.value("document.documentElement.outerHTML"))).faults
     wrong = [f"{needed} points are needed"] if needed > width else []
+    wrong += [f"{unseen} tables can't be sorted by what is seen"] if unseen else []
     return [*wrong, *own.log(), *others, *(f"cut off: {each}" for each in cut), *faults] or None
 
 
