@@ -34,10 +34,9 @@ T = TypeVar("T")
 TIMES, PAUSE = 5, 0.2
 # What takes longer than so many seconds is large.
 LONG = 1.0
-# So many things that were worked out are kept, and so many days have a statement of an account.
-MOST_KEPT, DAYS_OF_STATEMENT = 12, 31
-# So many dates a list offers.
-MOST_DATES = 10
+# So many things that were worked out are kept; so many days have a statement of an account, so many rows a table of a
+# month, and so many dates a list.
+MOST_KEPT, DAYS_OF_STATEMENT, MOST_ROWS, MOST_DATES = 12, 31, 100, 10
 NEXT = Path("the next day")
 
 
@@ -192,7 +191,7 @@ class Reading:
         """Several days together, as the page of ./day month has them."""
         said = self.asked(**more)
         key = ("month", said.begin, said.end, said.year, said.deadline)
-        return self.once(key, self.state_of_names(), lambda: month.parts_of(said))
+        return self.once(key, self.state_of_names(), lambda: month.parts_of(said, MOST_ROWS))
 
     def since(self, state: str) -> Iterator[str]:
         """What was done behind a state that somebody has seen."""
