@@ -198,7 +198,7 @@ class Maker:
             day = text_of(heading(date, number, self.calendar)) + book.rows() + do + b"end\n"
             first = number
             head = [*heading(date, first, self.calendar), *do.decode().splitlines()]
-            report = book.settle(rules.day_of(row.split(",") for row in head))
+            report = book.settle(rules.day_of_fields(row.split(",") for row in head))
             number += self.count
             contents = {"day": day, "report": report, "do": do}
             packed = {key: self.pool.submit(stored, key, own) for key, own in contents.items()}

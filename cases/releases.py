@@ -15,19 +15,21 @@ from pathlib import Path
 from typing import Any
 
 from harness import TOP, LeftOut, Trial, Word, answer_of, differs
+from notebooks import script_of
 from standins import RULES, VERSION
 
 from registry_tools import main
 
 WEEK = TOP / "examples" / "week"
+PYTHON = TOP / "examples" / "python"
 PARTS = [
     "bin/registry", "bin/registry-day", "bin/registry-rules", "lib/libregistry.a", "lib/libregistry.so",
     "lib/libregistry.so.1", "lib/pkgconfig/registry.pc", "include/registry.h", "share/man/man1/registry.1",
     "share/man/man1/registry-day.1", "share/man/man3/registry.3", "share/man/man5/registry-day-text.5",
     "share/bash-completion/completions/registry", "share/bash-completion/completions/registry-day",
     "share/zsh/site-functions/_registry", "share/zsh/site-functions/_registry-day", "share/doc/registry/RULES.md",
-    "src/rust/Cargo.toml", "src/java/registry_jni.c", "README", "INSTALL", "CHANGELOG.md", "MANIFEST",
-    "SHA256SUMS", "install",
+    "src/rust/Cargo.toml", "src/java/registry_jni.c", "src/python/notebook.ipynb", "src/first-transfer.csv", "README",
+    "INSTALL", "CHANGELOG.md", "MANIFEST", "SHA256SUMS", "install",
 ]  # fmt: skip
 MANIFEST = (
     f"registry {VERSION} for ", "source: commit 0123456789ab", "proved and built with rattle-kit-of-this-case",
@@ -51,6 +53,8 @@ def refused(path: Path) -> dict[str, int]:
     report = registry.settle(path.read_bytes())
     for account in report.accounts():
         print(account.number + report.next_record)
+    for row in report.log.refused():
+        print(row.outcome.sentence, row.outcome.what_to_do)
     return registry.refusals(report.log)
 """
 
@@ -229,7 +233,14 @@ def wheels_fault(folder: Path, room: Path) -> object:
     place = new_room(room / "venv", *sorted(folder.glob("python/*.whl")))
     # (the Python of such a place may be one that another user can't run)
     wrong = week_fault(place / "bin/registry-day", Somebody(room / "somebody", is_other=False), "library")
-    return wrong or engine_fault(place)
+    return wrong or engine_fault(place) or notebook_fault(place, folder / "src/python")
+
+
+def notebook_fault(place: Path, folder: Path) -> object:
+    """What is wrong with the notebook of an archive, which is run in its folder."""
+    script = script_of(folder / "notebook.ipynb")
+    said = answer_of([place / "bin/python", "-B", "-c", script], cwd=folder, env={})
+    return None if said[2] == 0 and b"outcomes change" in said[0] else said
 
 
 def engine_fault(place: Path) -> object:
@@ -255,18 +266,47 @@ def folder_fault(sources: Path, room: Path) -> object:
 
 
 def types_fault(made: Path, room: Path) -> object:
-    """What mypy says of the package, and of a program that calls it."""
+    """What mypy says of the package, and of programs that call it."""
     if not shutil.which("mypy"):
         return None
-    caller = room / "caller.py"
-    caller.write_text(CALLER)
+    callers = {"caller": CALLER, "first": (PYTHON / "first.py").read_text()}
+    callers["notebook"] = script_of(PYTHON / "notebook.ipynb")
+    for name, text in callers.items():
+        (room / f"{name}.py").write_text(text)
     words: list[Word] = ["mypy", "--strict", "--cache-dir", room / "cache", "--python-version", "3.10"]
-    looked_at: list[list[Word]] = [["-p", "registry"], [caller]]
+    looked_at: list[list[Word]] = [["-p", "registry"]]
+    looked_at += [[room / f"{name}.py"] for name in callers]
     for paths in looked_at:
         said = answer_of([*words, *paths], cwd=made, env={**os.environ, "MYPYPATH": str(made)})
         if said[2]:
             return f"mypy of {paths}: {said}"
     return None
+
+
+# What an archive has for Java and Rust.
+
+
+def java_fault(folder: Path, room: Path) -> object:
+    """What is wrong with the jar: beside it Java asks for nothing but the source of a program."""
+    jars = [*folder.glob(f"share/java/registry-{VERSION}.jar")]
+    if not jars or not shutil.which("java"):
+        raise LeftOut("there is no JDK or no C compiler here, so the archive has no jar")
+    room.mkdir(parents=True)
+    day, report = folder / "src/first-transfer.csv", TOP / "cases/examples/first-transfer.stdout"
+    said = answer_of(["java", "-cp", jars[0], folder / "src/java/Settle.java", day], cwd=room)
+    return differs((said[0], said[2]), (report.read_bytes(), 0))
+
+
+def rust_fault(folder: Path, room: Path) -> object:
+    """What is wrong with the crate of an archive, which links the library of that archive without a word."""
+    if not shutil.which("cargo"):
+        raise LeftOut("cargo is not here")
+    own = {**os.environ, "CARGO_TARGET_DIR": str(room)}
+    own.pop("REGISTRY_FOLDER", None)
+    # (the stand-in for the library tells no words of faults and checks)
+    words = ["cargo", "test", "--doc", "--offline", "--locked", "--", "settle", "accounts", "LogRow"]
+    said = answer_of(words, cwd=folder / "src/rust", env=own)
+    return None if said[2] == 0 and b"3 passed; 0 failed" in said[0] else said
 
 
 # Packages of Debian.
@@ -358,4 +398,6 @@ def own_trials(made: Path, sources: Path, room: Path, is_built: bool) -> Iterato
     if is_built:
         yield "both wheels", lambda: wheels_fault(folder(), room / "wheels")
         yield "the folder for Python", lambda: folder_fault(sources, room / "of-python")
+        yield "the jar", lambda: java_fault(folder(), room / "java")
+        yield "the Rust crate", lambda: rust_fault(folder(), room / "rust")
     yield "packages of Debian", lambda: debian_fault(made, room / "debian")

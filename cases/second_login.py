@@ -16,7 +16,7 @@ from damaged_office import unchanged
 from harness import TOP, LeftOut, Said, differs
 from offices import must_do, told
 
-from registry_tools.office import files, folder, handed, journal, people
+from registry_tools.office import files, folder, handed, handed_journal, journal, people
 
 WEEK, RULES = TOP / "examples" / "week", TOP / "tools" / "rules.py"
 MONDAY, TUESDAY, WEDNESDAY = (f"2025-09-{day}" for day in (22, 23, 24))
@@ -109,7 +109,7 @@ def login_trials(work: Path) -> Iterator[Told]:
     yield "the login of each line", differs({event.login for event in there.events}, {login})
     yield "the names that were given", differs([event.who for event in there.events[1:]], ["eve"] * 4)
     path = office / "days" / TUESDAY / "handed-in.csv"
-    filed = handed.from_text(path.parent, path, path.read_bytes())
+    filed = handed_journal.read_journal(path)
     yield "of what was handed in", differs([(part.who, part.login) for part in filed.parts], [("Eve", login)])
     yield "status tells it", told(0, [f"filed by eve, login {login} at "], "status", *own)
     yield "a row for programs", told(0, [f"login,{TUESDAY},,,eve,", f",{login}"], "status", "--csv", *own)

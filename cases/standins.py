@@ -53,6 +53,8 @@ CALL(try, "settle | grep ^log,")
 CALL(plan, "plan")
 CALL(figures, "figures")
 CALL(totals, "totals")
+/* (no trial asks it) */
+CALL(statements, "settle")
 
 struct registry_answer registry_statement(const char *day, size_t length, uint32_t account, char *room, size_t most) {{
   char words[64];

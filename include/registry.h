@@ -23,7 +23,8 @@
  *
  * A call takes memory by malloc and realloc and gives all of it back by free. It has no state, starts no thread, takes
  * no lock, and uses no file and no stream. So calls may come from several threads at once, each with a room of its own;
- * day texts may be shared. Not from a signal handler, and not in a forked child of a process with several threads.
+ * day texts may be shared. Not from a signal handler, and not in a forked child of a process with several threads. A
+ * call needs less than 64 KiB of the stack of its thread, however long the day text is.
  *
  * The library was proved to answer as it is said here (crates/registry_c). This header is written by hand.
  */
@@ -85,6 +86,10 @@ struct registry_answer registry_plan(const char *day, size_t day_length, char *r
  * number will do: REGISTRY_NO_ACCOUNT says that no account of the day has it. */
 struct registry_answer registry_statement(const char *day, size_t day_length, uint32_t account, char *room,
                                           size_t room_length);
+
+/* The statements of all accounts in one text, in the order of the accounts: each is that of registry_statement, and ends
+ * with its row `end`. The day is settled once. */
+struct registry_answer registry_statements(const char *day, size_t day_length, char *room, size_t room_length);
 
 /* The determined compliance figures of all accounts after the day, as `registry figures`. */
 struct registry_answer registry_figures(const char *day, size_t day_length, char *room, size_t room_length);

@@ -4,6 +4,8 @@
  *   calls threads TIMES    asks all requests from eight threads at once, so many times, and compares the answers
  *   calls refuse           refuses each allocation of each request in turn, in rooms that fit and in such that do not, and
  *                          counts the memory that each call has not given back
+ *   calls stack            asks each request in a thread of its own, on a stack of which each byte is marked, and writes for
+ *                          each command the most bytes of stack that a call took
  *   calls time TIMES       asks each request so many times in the same room, and writes the processor milliseconds of the
  *                          first call and of the fastest one
  *
@@ -19,7 +21,7 @@
 #include <string.h>
 #include <time.h>
 
-enum { THREADS = 8, MOST_REQUESTS = 1 << 16 };
+enum { THREADS = 8, MOST_REQUESTS = 1 << 16, STACK = 1 << 20 };
 
 /* What stands in a room before a call, so that a byte that is written shows: each byte is another one than its neighbours. */
 static char mark(size_t at) { return (char)(0x80 | (at * 37 % 127)); }
@@ -93,6 +95,7 @@ static struct registry_answer call(const struct request *r, char *room, size_t l
   } calls[] = {{"settle", registry_settle},
                {"try", registry_try},
                {"plan", registry_plan},
+               {"statements", registry_statements},
                {"figures", registry_figures},
                {"totals", registry_totals}};
   /* (a null pointer will do for no bytes) */
@@ -244,6 +247,45 @@ static void refuse_all(void) {
   printf("%zu requests, %ld allocations refused, %ld of them made up for\n", count, all, made_up_for);
 }
 
+/* ---- stack */
+
+static void *take_nothing(void *none) { return none; }
+
+static void *call_once(void *request) {
+  call(request, NULL, 0);
+  return NULL;
+}
+
+/* How many bytes of its stack a thread has written, whose own data lies at the end of it. */
+static size_t written_by(void *(*work)(void *), void *of) {
+  static char *stack;
+  if (!stack && posix_memalign((void **)&stack, 1 << 16, STACK)) fail("no stack", "stack");
+  memset(stack, mark(0), STACK);
+  pthread_attr_t attributes;
+  pthread_t thread;
+  if (pthread_attr_init(&attributes) || pthread_attr_setstack(&attributes, stack, STACK)) fail("no stack", "stack");
+  if (pthread_create(&thread, &attributes, work, of)) fail("no thread", "stack");
+  pthread_join(thread, NULL);
+  pthread_attr_destroy(&attributes);
+  size_t free_bytes = 0;
+  while (free_bytes < STACK && stack[free_bytes] == mark(0)) free_bytes++;
+  return STACK - free_bytes;
+}
+
+static void measure_stacks(void) {
+  size_t own = written_by(take_nothing, NULL);
+  for (size_t at = 0; at < count; at++) {
+    size_t most = 0;
+    for (size_t other = at; other < count; other++) {
+      if (!*requests[other].command || strcmp(requests[other].command, requests[at].command)) continue;
+      size_t bytes = written_by(call_once, &requests[other]) - own;
+      if (bytes > most) most = bytes;
+      if (other != at) *requests[other].command = 0;
+    }
+    if (most) printf("%s %zu\n", requests[at].command, most);
+  }
+}
+
 /* ---- time */
 
 static double milliseconds(void) {
@@ -278,9 +320,11 @@ int main(int words, char **word) {
     ask_from_threads();
   else if (words == 2 && !strcmp(word[1], "refuse"))
     refuse_all();
+  else if (words == 2 && !strcmp(word[1], "stack"))
+    measure_stacks();
   else if (words == 3 && !strcmp(word[1], "time") && (times = atol(word[2])) > 0)
     time_all();
   else
-    fail("write answer, threads TIMES, refuse or time TIMES", "words");
+    fail("write answer, threads TIMES, refuse, stack or time TIMES", "words");
   return 0;
 }

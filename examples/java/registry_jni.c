@@ -6,7 +6,8 @@
 
 typedef struct registry_answer (*command)(const char *, size_t, char *, size_t);
 
-static const command commands[] = {registry_settle, registry_try, registry_plan, registry_figures, registry_totals};
+static const command commands[] = {registry_settle,  registry_try,    registry_plan,
+                                   registry_figures, registry_totals, registry_statements};
 enum { STATEMENT = sizeof commands / sizeof *commands };
 
 static struct registry_answer ask(jint number, const char *day, size_t length, jint account, char *room, size_t size) {

@@ -1,1 +1,2 @@
 mod Nobody
+pub mod EachAccount

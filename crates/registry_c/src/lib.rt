@@ -11,12 +11,13 @@ ghost use Rattle.registry_c.specs.Answers.{Tells};
 ghost use Rattle.registry_c.specs.Names.{TellsText, cause_with, check_with};
 ghost use Rattle.registry_c.specs.Names.{sentence_of_check, word_of_cause, word_of_check};
 ghost use Rattle.registry_c.specs.declared.question.Question.TheVariants.{Figures, Log, Plan};
-ghost use Rattle.registry_c.specs.declared.question.Question.TheVariants.{Report, Statement, Totals};
+ghost use Rattle.registry_c.specs.declared.question.Question.TheVariants.{Report, Statement, Statements, Totals};
 
 mod answer;
 mod fault;
 mod names;
 mod question;
+mod statements;
 mod texts;
 
 use crate::answer::{tell, tell_text};
@@ -66,6 +67,15 @@ pub extern "C" fn registry_statement(
     ensures { Tells (Statement account) day.now result room.old room.new }
 {
     tell(alloc, Question::Statement { account }, day, room)
+}
+
+/// The statements of all accounts, in the order of the accounts, one behind another: each is that of
+/// [`registry_statement`], and ends with its row `end`. The day is settled once.
+#[unsafe(no_mangle)]
+pub extern "C" fn registry_statements(alloc: Global, day: &[u8], room: &mut [u8]) -> Answer
+    ensures { Tells Statements day.now result room.old room.new }
+{
+    tell(alloc, Question::Statements, day, room)
 }
 
 /// The determined compliance figures of all accounts after the day.

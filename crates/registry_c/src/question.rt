@@ -14,6 +14,8 @@ pub enum Question {
         /// The number of the account, which may be any number.
         account: u32,
     },
+    /// The statements of all accounts, one behind another.
+    Statements,
     /// The determined compliance figures of all accounts after the day.
     Figures,
     /// The totals after the day.

@@ -14,6 +14,7 @@ ghost use Rattle.registry_c.specs.declared.question.Question.TheVariants as aske
 
 use crate::fault::Fault;
 use crate::question::Question;
+use crate::statements::all_statements;
 use reg_base::{AccountNo, NoMemory};
 use reg_book::{ClosedDay, SettleFault, Settled, log_is_made_again, settle_in_place, settle_plain};
 use reg_plan::Plan;
@@ -49,6 +50,7 @@ fn make_text(alloc: Global, question: Question, day: DayInput) -> Result<Vec<u8>
         Question::Log => Ok(make_log(alloc, &day)?),
         Question::Plan => Ok(make_plan(alloc, &day)?),
         Question::Statement { account } => make_statement(alloc, &day, account),
+        Question::Statements => Ok(make_statements(alloc, &day)?),
         Question::Figures => Ok(make_figures(alloc, day)?),
         Question::Totals => Ok(make_totals(alloc, day)?),
     }
@@ -105,6 +107,15 @@ fn make_statement(alloc: Global, day: &DayInput, account: u32) -> Result<Vec<u8>
         Err(StatementFault::NoMemory) => Err(Fault::NoMemory),
         Err(StatementFault::UnknownAccount) => unreachable!(),
     }
+}
+
+// The statements of all accounts.
+fn make_statements(alloc: Global, day: &DayInput) -> Result<Vec<u8>, NoMemory>
+    requires { day.now.batch.base + 1 ≡ day.now.book.next }
+    ensures { IfOk result (λ text. IsAnswer asked.Statements (day_of_input day.now) text.items) }
+{
+    let settled = settle(alloc, day)?;
+    all_statements(alloc, &day.book, settled.rows())
 }
 
 // The determined figures of all accounts after the day.

@@ -14,7 +14,8 @@ public final class Registry {
     private static final int PLAN = 2;
     private static final int FIGURES = 3;
     private static final int TOTALS = 4;
-    private static final int STATEMENT = 5;
+    private static final int STATEMENTS = 5;
+    private static final int STATEMENT = 6;
 
     // What words are asked for, as registry_jni.c knows it.
     private static final int VERSION_STRING = 0;
@@ -28,7 +29,7 @@ public final class Registry {
     private static final long FAULT = 3;
 
     static {
-        System.loadLibrary("registry_jni");
+        Shim.load();
     }
 
     private Registry() {}
@@ -61,6 +62,14 @@ public final class Registry {
     /** The statement of an account over the day. */
     public static String statement(byte[] day, int account) throws Fault {
         return ask(STATEMENT, day, account);
+    }
+
+    /**
+     * The statements of all accounts, by rising number, one behind another, after one settlement. Each ends with its row
+     * {@code end}.
+     */
+    public static String statements(byte[] day) throws Fault {
+        return ask(STATEMENTS, day, 0);
     }
 
     /** The version of the engine, such as {@code 1.1}. */

@@ -22,13 +22,9 @@ extern "C" {
     fn registry_plan(day: *const u8, day_length: usize, room: *mut u8, room_length: usize) -> Answer;
     fn registry_figures(day: *const u8, day_length: usize, room: *mut u8, room_length: usize) -> Answer;
     fn registry_totals(day: *const u8, day_length: usize, room: *mut u8, room_length: usize) -> Answer;
-    fn registry_statement(
-        day: *const u8,
-        day_length: usize,
-        account: u32,
-        room: *mut u8,
-        room_length: usize,
-    ) -> Answer;
+    fn registry_statement(day: *const u8, day_length: usize, account: u32, room: *mut u8, room_length: usize)
+        -> Answer;
+    fn registry_statements(day: *const u8, day_length: usize, room: *mut u8, room_length: usize) -> Answer;
     fn registry_version_string(room: *mut u8, room_length: usize) -> Answer;
     fn registry_cause_word(cause: u32, room: *mut u8, room_length: usize) -> Answer;
     fn registry_refusal_word(code: u32, room: *mut u8, room_length: usize) -> Answer;
@@ -57,10 +53,7 @@ fn ask(guess: usize, mut call: impl FnMut(&mut [u8]) -> Answer) -> Result<Vec<u8
 }
 
 fn fault_of(answer: &Answer) -> Fault {
-    Fault::Row {
-        row: answer.row,
-        cause: Cause::ALL[answer.cause as usize - 1],
-    }
+    Fault::Row { row: answer.row, cause: Cause::ALL[answer.cause as usize - 1] }
 }
 
 fn command(call: Call, day: &[u8]) -> Result<Vec<u8>, Fault> {
@@ -88,6 +81,10 @@ pub(crate) fn figures(day: &[u8]) -> Result<Vec<u8>, Fault> {
 
 pub(crate) fn totals(day: &[u8]) -> Result<Vec<u8>, Fault> {
     command(registry_totals, day)
+}
+
+pub(crate) fn statements(day: &[u8]) -> Result<Vec<u8>, Fault> {
+    command(registry_statements, day)
 }
 
 pub(crate) fn statement(day: &[u8], account: u32) -> Result<Vec<u8>, Fault> {

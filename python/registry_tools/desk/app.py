@@ -95,7 +95,7 @@ def make(served: Served) -> flask.Flask:
     for fault in (FileFault, WordsFault, OSError, HTTPException):
         app.register_error_handler(fault, functools.partial(failed, served))
     for rule, view in GET.items():
-        app.add_url_rule(rule, f"GET {rule}", functools.partial(shown, served, view), methods=["GET"])
+        app.add_url_rule(rule, f"GET {rule}", functools.partial(shown_now, served, view), methods=["GET"])
     for rule, view in POST.items():
         app.add_url_rule(rule, f"POST {rule}", functools.partial(changed, served, view), methods=["POST"])
     app.add_url_rule("/style.css", "style", style, methods=["GET"])
@@ -111,7 +111,7 @@ def look_at_state(served: Served) -> None:
     flask.g.state = served.reading.state()
 
 
-def shown(served: Served, view: Callable[..., Any], **more: Any) -> Any:
+def shown_now(served: Served, view: Callable[..., Any], **more: Any) -> Any:
     """What a view shows of the folder as it is at one moment."""
     return served.reading.whole(functools.partial(view, served, **more))
 
@@ -141,8 +141,8 @@ def dress(app: flask.Flask, served: Served) -> None:
         token=lambda: flask.session["token"], number=lambda: secrets.token_hex(8), state=lambda: flask.g.state,
         who=lambda: gate.known_name(served), says_name=not served.who and not served.header,
         has_leftovers=served.reading.has_leftovers,
-        table=tables.table, address=tables.address, meaning=lambda name: checks()[name].meaning, advice=advice_for,
-        acts=sorted(faults.ACT_WORDS), lag_words=words.LAGS,
+        table=tables.sorted_table, address=tables.address, advice=advice_for,
+        meaning=lambda name: checks()[name].meaning, acts=sorted(faults.ACT_WORDS), lag_words=words.LAGS,
     )  # fmt: skip
     app.jinja_env.filters.update(grouped=grouped, local=words.local, label=words.label, date=words.date_in_words)
     app.jinja_env.trim_blocks = app.jinja_env.lstrip_blocks = True

@@ -10,7 +10,7 @@ from typing import Iterator, NoReturn
 
 from registry_tools.desk.reading import Reading
 from registry_tools.errors import FileFault, WordsFault
-from registry_tools.office import composing, hand_in, handed, trial
+from registry_tools.office import composing, hand_in, handed, handed_journal, trial
 from registry_tools.office.changes import change
 from registry_tools.office.folder import Office
 from registry_tools.office.incoming import Forms
@@ -48,7 +48,7 @@ def copy_of_next(own: Reading) -> Iterator[tuple[Office, handed.HandedIn]]:
     office = own.office()
     with tempfile.TemporaryDirectory(dir=own.private) as place:
         shutil.copytree(office.next_folder, place, dirs_exist_ok=True)
-        there = handed.read(Path(place))
+        there = handed_journal.read(Path(place))
         try:
             yield office, there
         except FileFault as fault:
@@ -57,7 +57,7 @@ def copy_of_next(own: Reading) -> Iterator[tuple[Office, handed.HandedIn]]:
             raise
 
 
-def look_at_files(own: Reading, paths: list[Path], again: list[tuple[int, int]], dates: str = "") -> Look:
+def look_at_incoming(own: Reading, paths: list[Path], again: list[tuple[int, int]], dates: str = "") -> Look:
     """What would come of files, if they were handed in; with the rows, by file and line, that are meant once more, and
     with how tables write dates."""
     words, forms = [f"{paths[place]}:{line}" for place, line in again], Forms(dates=dates or None)

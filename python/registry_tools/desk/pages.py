@@ -11,17 +11,18 @@ from registry_tools import installed
 from registry_tools.desk import forms, gate, tables
 from registry_tools.desk.reading import Reading
 from registry_tools.desk.served import Served
-from registry_tools.desk.shown import asked, number_of, outcome, show, whys
+from registry_tools.desk.shown import asked, number_asked, outcome, show_page, whys
 from registry_tools.desk.words import item_in_words, local
 from registry_tools.engine import find_library
 from registry_tools.errors import FileFault, WordsFault
 from registry_tools.notes import LOOK
-from registry_tools.office import approvals, close as closing, composing, handed, release
+from registry_tools.office import approvals, awaited, close as closing, handed, release
 from registry_tools.office.trial import Looked
+from registry_tools.office.waits import waits_of
 from registry_tools.pages import html, summary
 from registry_tools.pages.html import Markup, link, tag
 from registry_tools.pages.plan import plan_parts
-from registry_tools.pages.settled import Settled, by_hand_parts, in_words, long_date, outcome_in_words
+from registry_tools.pages.settled import Settled, by_hand_parts, long_date, outcome_in_words, record_in_words
 from registry_tools.questions import due
 from registry_tools.second import faults, rules
 from registry_tools.sheets import columns as sheets
@@ -48,13 +49,13 @@ def today(served: Served) -> Any:
     ]
     waits = [
         (str(w.due or "no due day in the calendar"), w.record, instruction_in_words(w.instruction))
-        for w in composing.waits_of(office)
+        for w in waits_of(office)
     ]
-    return show(
+    return show_page(
         "today", "Today", last=last, is_released=office.journal.is_released(), items=items, waits=waits,
-        missed=working_days.in_words(passed), taken=handed_in.taken, holder=own.holder(), dates=own.dates(),
+        missed=working_days.days_in_words(passed), taken=handed_in.taken, holder=own.holder(), dates=own.dates(),
         coming=due.next_dates(office, MOST_COMING), faults=[*office.changed_files(last)] if last else [],
-        new=new_of(own) if items or waits else [], seconds=[*approvals.all_waiting(office, handed_in)],
+        new=new_of(own) if items or waits else [], seconds=[*awaited.all_waiting(office, handed_in)],
         forged=approvals.all_approvals(office).faults,
     )  # fmt: skip
 
@@ -72,7 +73,7 @@ def hand_in(served: Served) -> Any:
     """The page with the forms for instructions and files."""
     act = asked("act")
     columns = sheets.columns_of_act(act) if act in faults.ACT_WORDS else []
-    return show(
+    return show_page(
         "hand_in", "Hand in", act=act if columns else "", columns=columns, said=flask.request.args,
         known=forms.accounts_offered(served.reading, MOST_OFFERED) if columns else [], dates=DATES,
         proposed=forms.dates_of_proposal(served.reading) if columns else [], choices=forms.CHOICES,
@@ -94,7 +95,7 @@ def next_day(served: Served) -> Any:
     ]
     counts = {name: sum(map(is_so, looked)) for name, is_so in kinds.items()}
     rows = [(tried.place or 0, tried.words, tried.said(), tried) for tried in shown]
-    return show(
+    return show_page(
         "next", "The next day", date=own.date, rows=rows, shown_row=row_of_looked(served), only=only, counts=counts,
         all=len(looked), whys=whys(shown), notes=[*own.notes, *otherwise], others=others, shown_other=with_box(served),
     )  # fmt: skip
@@ -125,7 +126,7 @@ def box(served: Served, place: int) -> object:
 
 def change(served: Served) -> Any:
     """The form of an account, of the rules, or of a new account."""
-    number, own = number_of("account"), served.reading
+    number, own = number_asked("account"), served.reading
     of = asked("of")
     if own.event() is None:
         raise WordsFault("no day is settled yet: another first text stands in place of a change")
@@ -134,7 +135,7 @@ def change(served: Served) -> Any:
         raise WordsFault(f"there is no account {number} in the next day's text")
     block = day.book[number] if number is not None else None
     more = forms.account_fields(block) if block else forms.rule_fields(day) if of == "rules" else {}
-    return show(
+    return show_page(
         "change", "Change", account=number, of=of if block is None else "account", date=day.head.date, **more,
         known=forms.accounts_offered(own, MOST_OFFERED), kinds=faults.ACCOUNT_KINDS, rights=RIGHTS,
     )  # fmt: skip
@@ -150,7 +151,7 @@ def close(served: Served) -> Any:
         notes = [*outcome_of.notes, *left]
     except (WordsFault, FileFault) as fault:
         why, notes = str(fault), []
-    return show(
+    return show_page(
         "close", "Close", date=date, dates=dates, why=why, own=outcome_of, alerts=alerts(notes), notes=notes,
         totals=[*totals_of(outcome_of)] if outcome_of else [], settler=settler(own),
         asks_second=not own.office().settings.program and not installed.program() and find_library() is None,
@@ -189,7 +190,7 @@ def days(served: Served) -> Any:
     events = [*reversed(office.journal.filed())]
     rows = [(str(own.date), own.who, local(own.at), own.next - own.first) for own in events]
     last = office.last()
-    return show(
+    return show_page(
         "days", "Days", rows=rows, last=last, is_released=office.journal.is_released(),
         doubt=release.doubt_of(last) if last else "",
         shown_row=lambda row: (link(f"/days/{row[0]}", row[0]), *row[1:]),
@@ -203,8 +204,8 @@ def day(served: Served, date: datetime.date) -> Any:
         raise NotFound
     only = asked("only")
     log = [own for own in settled.log if only not in ("done", "refused") or own.is_done == (only == "done")]
-    rows = [(own.record, in_words(own), named_in(own), outcome_in_words(own), own) for own in log]
-    return show(
+    rows = [(own.record, record_in_words(own), named_in(own), outcome_in_words(own), own) for own in log]
+    return show_page(
         "day", long_date(date), date=date, parts=parts_of(settled, served.reading), rows=rows, only=only,
         shown_row=lambda row: (row[0], row[1], settled.accounts_of(row[4]), row[3]),
         plan=plan_parts(settled) if settled.log else [],
@@ -228,9 +229,10 @@ def parts_of(settled: Settled, own: Reading) -> list[Markup]:
     if settled.log:
         parts.append(summary.acts_table(settled))
     if refused:
-        parts.append(tables.table("Refused", ["Check", "How many", "What to do"], refused, ["How many"], name="why-"))
+        columns = ["Check", "How many", "What to do"]
+        parts.append(tables.sorted_table("Refused", columns, refused, ["How many"], name="why-"))
     if waiting:
-        parts.append(tables.table("Waiting", summary.WAITING_COLUMNS, waiting, name="waits-"))
+        parts.append(tables.sorted_table("Waiting", summary.WAITING_COLUMNS, waiting, name="waits-"))
     by_hand = own.by_hand(settled.head.date)
     told = by_hand_parts(settled, by_hand) if by_hand.rows is not None else [html.paragraph("This is the first day.")]
     return [*parts, *summary.totals_parts(settled), tag("h2", "Changed by hand"), *told]
@@ -238,4 +240,4 @@ def parts_of(settled: Settled, own: Reading) -> list[Markup]:
 
 def name(served: Served) -> Any:
     """The page that asks who sits at the desk."""
-    return show("name", "Your name", known=gate.known_name(served))
+    return show_page("name", "Your name", known=gate.known_name(served))

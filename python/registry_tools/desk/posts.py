@@ -8,7 +8,7 @@ import flask
 from registry_tools.desk import forms, gate, looks
 from registry_tools.desk.jobs import Job
 from registry_tools.desk.served import Served
-from registry_tools.desk.shown import outcome, show, whys
+from registry_tools.desk.shown import outcome, show_page, whys
 from registry_tools.desk.words import count_in_words, side_by_side
 from registry_tools.errors import WordsFault
 from registry_tools.office.people import MAY_WAIT
@@ -102,12 +102,12 @@ def look_at_upload(served: Served, place: str) -> Any:
     if not paths:
         raise WordsFault("no file was chosen")
     again, reading, dates = meant_again(len(paths)), served.reading, form("dates")
-    own = reading.whole(lambda: looks.look_at_files(reading, paths, again, dates))
+    own = reading.whole(lambda: looks.look_at_incoming(reading, paths, again, dates))
     if own.faults and not own.meant:
         served.jobs.forget_upload(place)
     if own.meant:
         again.append(own.meant)
-    return show(
+    return show_page(
         "look", "A look before it is handed in", own=own, place=place, again=again, dates=dates, whys=whys(own.looked),
         counts=[(part.name, count_in_words(part)) for part in own.parts], names=[path.name for path in paths],
         rows=[(tried.place, tried.words, tried.said(), tried) for tried in own.looked],
@@ -152,7 +152,7 @@ def look_at_change(served: Served) -> Any:
     words = forms.words_of_change(flask.request.form, served.reading)
     difference = served.reading.whole(lambda: looks.look_at_change(served.reading, words))
     fields = [(key, value) for key, value in flask.request.form.items() if key not in OF_FORM]
-    return show(
+    return show_page(
         "look_at_change", "A look before it is changed", rows=side_by_side(difference.rows()), notes=difference.notes,
         fields=fields, date=difference.after.head.date,
     )  # fmt: skip
@@ -217,5 +217,3 @@ def send(served: Served) -> Any:
             raise WordsFault("this desk releases no day")
         return do(served, "send", "--release", *own, makes=True)
     return begin(served, "send", *own, makes=True)
-
-

@@ -15,14 +15,14 @@ PREFIX, LOCK = "day-desk-", "lock"
 def folder() -> Iterator[Path]:
     """A new folder for the time of the block, whose lock is held: so another desk leaves it alone."""
     place = Path(tempfile.gettempdir())
-    remove_left(place)
+    remove_left_folders(place)
     with tempfile.TemporaryDirectory(prefix=PREFIX, ignore_cleanup_errors=True) as own:
         with open(Path(own) / LOCK, "wb") as lock:
             fcntl.flock(lock, fcntl.LOCK_EX)
             yield Path(own)
 
 
-def remove_left(place: Path) -> None:
+def remove_left_folders(place: Path) -> None:
     """Removes the folders of desks that were killed: nobody holds their locks."""
     for own in place.glob(f"{PREFIX}*"):
         with contextlib.suppress(OSError):

@@ -12,7 +12,7 @@ from werkzeug.wrappers import Response
 
 from registry_tools.calendars.dates import date_of
 from registry_tools.desk.served import Served
-from registry_tools.desk.shown import asked, number_of, show
+from registry_tools.desk.shown import asked, number_asked, show_page
 from registry_tools.desk.words import local
 from registry_tools.errors import FOUND, WordsFault
 from registry_tools.office.approvals import ASKED_FOR
@@ -22,7 +22,7 @@ from registry_tools.pages import compliance as standing
 from registry_tools.pages import html, month
 from registry_tools.pages.html import Markup, link
 from registry_tools.pages.rulebook import document_parts
-from registry_tools.pages.settled import Settled, in_words, joined_words, outcome_in_words
+from registry_tools.pages.settled import Settled, joined_words, outcome_in_words, record_in_words
 from registry_tools.questions import compliance as answers
 from registry_tools.questions import find as finding
 from registry_tools.second import faults, rules
@@ -46,7 +46,7 @@ def accounts(served: Served) -> Any:
     """The page of all accounts, or of those that a word finds."""
     settled, word = served.reading.settled(), asked("q")
     rows = [*account_rows(settled, word)] if settled else []
-    return show("accounts", "Accounts", rows=rows, q=word, settled=settled, shown_row=cells_of_account)
+    return show_page("accounts", "Accounts", rows=rows, q=word, settled=settled, shown_row=cells_of_account)
 
 
 def account_rows(settled: Settled, word: str) -> list[tuple[Any, ...]]:
@@ -74,7 +74,7 @@ def account(served: Served, number: str) -> Any:
     if parts is None:
         raise NotFound
     history = served.reading.history(int(number)) if asked("history") else None
-    return show("account", f"Account {number}", parts=parts, number=number, history=history)
+    return show_page("account", f"Account {number}", parts=parts, number=number, history=history)
 
 
 # Compliance.
@@ -85,12 +85,12 @@ def compliance(served: Served) -> Any:
     settled = served.reading.settled()
     if settled is None:
         raise WordsFault("no day is settled yet")
-    year = number_of("year") or answers.last_year_over(settled.head)
+    year = number_asked("year") or answers.last_year_over(settled.head)
     word = asked("deadline")
     deadline = date_of("the deadline", word) if word else served.reading.office().settings.due.surrender_of(year)
 
     rows = standings_of(served, settled, year)
-    return show(
+    return show_page(
         "compliance", f"Compliance for {year}", year=year, deadline=word, rows=[*map(row_of_standing, rows)],
         columns=COLUMNS,
         counts=standing.counts_table(rows) if rows else "", until=month.until_in_words(settled.head.date, deadline),
@@ -135,9 +135,9 @@ def month_page(served: Served) -> Any:
         raise WordsFault("no day is settled yet")
     # (without a word, the month of the last day)
     begin, end = said["from"] or str(dates[0].replace(day=1)), said["to"] or str(dates[0])
-    year = number_of("year")
+    year = number_asked("year")
     title, count, parts = served.reading.month(begin=begin, end=end, year=year, deadline=said["deadline"] or None)
-    return show(
+    return show_page(
         "month", title, count=count, own=parts, begin=begin, end=end, year=year or "", deadline=said["deadline"]
     )
 
@@ -151,7 +151,7 @@ def filters() -> dict[str, Any]:
     if act not in (None, *faults.ACT_WORDS):
         raise WordsFault(f"{act}: there is no such act")
     return {
-        "account": number_of("account"), "user": number_of("user"), "act": act, "refused": bool(asked("refused")),
+        "account": number_asked("account"), "user": number_asked("user"), "act": act, "refused": bool(asked("refused")),
         "begin": asked("from") or None, "end": asked("to") or None,
     }  # fmt: skip
 
@@ -166,7 +166,7 @@ def find(served: Served) -> Any:
     """The page of log rows over all days."""
     rows = [*map(row_of_log, found(served))] if flask.request.args else None
     query = flask.request.query_string.decode("ascii", "replace")
-    return show("find", "Find", rows=rows, said=flask.request.args, query=query, shown_row=cells_of_log)
+    return show_page("find", "Find", rows=rows, said=flask.request.args, query=query, shown_row=cells_of_log)
 
 
 def row_of_log(own: LogRow) -> tuple[Any, ...]:
@@ -174,7 +174,7 @@ def row_of_log(own: LogRow) -> tuple[Any, ...]:
     i = own.instruction
     named = ", ".join(map(str, dict.fromkeys(rules.named(i))))
     by = f"{i.proposer}, {i.approver}" if i.approver else i.proposer
-    return str(own.date), own.record, in_words(own), named, by, outcome_in_words(own)
+    return str(own.date), own.record, record_in_words(own), named, by, outcome_in_words(own)
 
 
 def cells_of_log(row: Sequence[Any]) -> Sequence[Any]:
@@ -216,7 +216,7 @@ def journal(served: Served) -> Any:
     office = served.reading.office()
     events = [(local(own.at), own.event, str(own.date), own.who, own.why) for own in reversed(office.journal.events)]
     by_hand = [(day, local(str(at)), who, why, row) for day, at, who, why, row in listing.changes_of(office)]
-    return show("journal", "Journal", events=events, by_hand=[*reversed(by_hand)])
+    return show_page("journal", "Journal", events=events, by_hand=[*reversed(by_hand)])
 
 
 # What takes long.
@@ -224,14 +224,14 @@ def journal(served: Served) -> Any:
 
 def audit(served: Served) -> Any:
     """The page of audits."""
-    return show("audit", "Audit", jobs=served.jobs.of("audit"))
+    return show_page("audit", "Audit", jobs=served.jobs.of("audit"))
 
 
 def send(served: Served) -> Any:
     """The page of packages for holders."""
     office = served.reading.office()
     dates = [own.date for own in reversed(office.journal.filed())]
-    return show("send", "Send", dates=dates, is_released=office.journal.is_released(), jobs=served.jobs.of("send"))
+    return show_page("send", "Send", dates=dates, is_released=office.journal.is_released(), jobs=served.jobs.of("send"))
 
 
 def job(served: Served, number: str) -> Any:
@@ -241,7 +241,7 @@ def job(served: Served, number: str) -> Any:
         raise WordsFault("the desk knows nothing of this any more: Today and the journal say what was done")
     has_changed = bool(there.seen) and there.seen != flask.g.state
     date = next((word.partition("=")[2] for word in there.words if word.startswith("--date=")), "")
-    return show(
+    return show_page(
         "job", WHAT[there.command], job=there, status=there.status, has_changed=has_changed, date=date,
         is_asked_for=there.status == FOUND and any(ASKED_FOR in line for line in there.said("stdout")),
         refresh=2 if there.status is None else None,
@@ -263,4 +263,4 @@ def packages(served: Served, number: str) -> Response:
 def document(_served: Served, name: str) -> Any:
     """The page of a document."""
     title, body = document_parts(name)
-    return show("body", title, body=body)
+    return show_page("body", title, body=body)

@@ -11,7 +11,7 @@ from pathlib import Path
 from typing import Any, Callable, Iterator, TypeVar
 
 from registry_tools.errors import FileFault, WordsFault
-from registry_tools.office import close, composing, folder, handed, labels, lock, past, trial
+from registry_tools.office import close, composing, folder, handed, labels, lock, past, prepared, trial
 from registry_tools.office.composing import NextDay
 from registry_tools.office.folder import Office
 from registry_tools.office.journal import Event
@@ -78,7 +78,7 @@ class Reading:
 
     def has_leftovers(self) -> bool:
         """Whether an interrupted command left something that the next one puts right."""
-        return folder.has_leftovers(self.path) and not lock.is_held(self.path / lock.NAME)
+        return prepared.has_leftovers(self.path) and not lock.is_held(self.path / lock.NAME)
 
     def holder(self) -> str:
         """Who works on the folder now; nobody, if it is free."""
@@ -257,7 +257,7 @@ class Reading:
         left = close.left_for_later(office.handed_in(), next_day.date)
 
         def work() -> close.Outcome:
-            return close.outcome_of(close.settle(office, next_day, by_second=True))
+            return close.outcome_of_day(close.settle(office, next_day, by_second=True))
 
         state = f"{folder.state_of(office)} {next_day.date}"
         return self.once(("closing", next_day.date), state, work), left

@@ -6,7 +6,7 @@ from typing import Any, Callable, Collection, Sequence
 
 import flask
 
-from registry_tools.pages.html import Markup, Table, joined, link, tag, visible
+from registry_tools.pages.html import Markup, Table, joined, link, tag, words_in_cell
 
 ROWS, NEAR = 100, 4
 NUMBER = re.compile("[-+]?[0-9]{1,30}")
@@ -22,7 +22,7 @@ def address(**more: object) -> str:
 
 def sort_key(cell: object) -> tuple[bool, int, str]:
     """Numbers by what they are, and behind them words."""
-    text = visible(cell)
+    text = words_in_cell(cell)
     digits = text.replace(",", "")
     return (False, int(digits), "") if NUMBER.fullmatch(digits) else (True, 0, text)
 
@@ -44,7 +44,7 @@ def heads(columns: Sequence[str], key: str, word: str) -> list[object]:
     ]
 
 
-def table(
+def sorted_table(
     caption: str,
     columns: Sequence[str],
     rows: Sequence[Sequence[Any]],
@@ -58,14 +58,14 @@ def table(
     word = flask.request.args.get(sort, "")
     rows = sorted_rows(columns, rows, word)
     last = max(-(-len(rows) // ROWS), 1)
-    number = min(max(number_of(flask.request.args.get(page, "")), 1), last)
+    number = min(max(page_number(flask.request.args.get(page, "")), 1), last)
     part = [["" if cell is None else cell for cell in show(row)] for row in rows[(number - 1) * ROWS : number * ROWS]]
     own = Table(columns, right, heads=heads(columns, sort, word) if len(rows) > 1 else None)
     counted = f"{caption} ({len(rows):,})" if last > 1 else caption
     return joined(own.of(counted, part), *([ways(page, number, last)] if last > 1 else []))
 
 
-def number_of(word: str) -> int:
+def page_number(word: str) -> int:
     """The number of a page that an address names; else the first."""
     return int(word) if re.fullmatch("[0-9]{1,9}", word, re.ASCII) else 1
 

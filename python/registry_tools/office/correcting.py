@@ -13,12 +13,14 @@ from typing import Iterator
 from registry_tools.calendars.due_days import NOT_DUE
 from registry_tools.errors import FileFault, WordsFault
 from registry_tools.office import (
-    close, composing, files, folder, hand_in, handed, incoming, journal, past, rebasing, undo,
+    close, composing, files, folder, hand_in, handed_files, incoming, journal, past, prepared, rebasing, undo,
+    whole_change,
 )  # fmt: skip
 from registry_tools.office.close import Settled
 from registry_tools.office.folder import Office
 from registry_tools.office.handed import CHANGES, DO, FIRST, Approved, HandedIn, Taken
 from registry_tools.office.journal import FILES, UNDONE, Event, Journal
+from registry_tools.office.waits import waits_of, write_waits
 from registry_tools.progress import progress
 from registry_tools.texts.report import LogRow, Report
 
@@ -149,7 +151,7 @@ class Correction:
             contents[CHANGES], changed = rebasing.rebased(contents[CHANGES], *reports)
             whole = "was handed in as a whole, and comes with what it holds by then"
             self.notes += [f"{event.date}: account {number} {whole}" for number in changed]
-        own = handed.again(place, office.journal.last_line, filed, contents, event.date)
+        own = handed_files.again(place, office.journal.last_line, filed, contents, event.date)
         own.login = self.office.login
         own.approved = [*approved_again(filed, own)]
         if event.date == self.date:
@@ -182,7 +184,7 @@ class Correction:
         new = {own.record: own for day in settled for own in day.report.log}
         rows = [do_row(own) for day in settled for own in day.report.log]
         rows += [row for item in self.office.handed_in().items(DO) for row in item.rows]
-        rows += [own.do_row() for own in composing.waits_of(self.office)]
+        rows += [own.do_row() for own in waits_of(self.office)]
         for row in dict.fromkeys(rows):
             fields = row.split(",")
             if fields[4] != REVERSE or not (fields[6].isascii() and fields[6].isdigit()):
@@ -217,12 +219,12 @@ def approved_again(filed: HandedIn, again: HandedIn) -> Iterator[Approved]:
         yield from (replace(own, place=part.start) for own in filed.approved if own.place == before.start)
 
 
-def keep(correction: Correction, change: folder.Change, events: list[Event], settled: Settled) -> None:
+def keep(correction: Correction, change: whole_change.Change, events: list[Event], settled: Settled) -> None:
     """Has the new days count, with what was handed in since: in one step."""
     since = correction.office.handed_in()
-    there = handed.begin(change.make(folder.NEW_NEXT), events[-1].line)
-    handed.put_left(there, since, since.parts)
-    waiting = change.folder / folder.NEW_DAYS / str(events[-1].date) / FILES["waiting"]
-    composing.write_waits(there.folder, settled.day, settled.report, str(waiting))
+    there = handed_files.begin(change.make(prepared.NEW_NEXT), events[-1].line)
+    handed_files.put_left(there, since, since.parts)
+    waiting = change.folder / prepared.NEW_DAYS / str(events[-1].date) / FILES["waiting"]
+    write_waits(there.folder, settled.day, settled.report, str(waiting))
     there.keep()
     change.keep(*events)

@@ -23,7 +23,7 @@ from typing import Iterator
 from registry_tools import tables
 from registry_tools.calendars.dates import date_of
 from registry_tools.calendars.due_days import NOT_DUE, due_day_after, is_due
-from registry_tools.calendars.working_days import in_words, look_at_calendar, next_calendar
+from registry_tools.calendars.working_days import days_in_words, look_at_calendar, next_calendar
 from registry_tools.errors import FOUND, FileFault, RowFault, WordsFault
 from registry_tools.notes import BY_HAND, ROW, Notes
 from registry_tools.options import add_to
@@ -214,7 +214,7 @@ def about_date(before: DayText, head: rules.Day) -> Iterator[str]:
     yield from about_weekday(head)
     between = [skipped for skipped in head.working_days if before.head.date < skipped < head.date]
     if between:
-        yield f"working days that have no text: {in_words(between)}"
+        yield f"working days that have no text: {days_in_words(between)}"
 
 
 def next_head(

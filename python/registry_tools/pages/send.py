@@ -41,6 +41,8 @@ from registry_tools.texts.accounts import Block
 from registry_tools.texts.report import Report
 
 EXAMPLE = "./day send out/sent --day 2025-09-24 --holder 5502 --office out/office"
+
+
 def add_words(parser: argparse.ArgumentParser) -> None:
     """Tells a parser the words of the command."""
     parser.add_argument("folder", metavar="FOLDER", help="the folder that is made")

@@ -8,9 +8,9 @@ from registry_tools.pages.grid import Names
 from registry_tools.pages.html import Markup, paragraph, table, tag
 from registry_tools.pages.plan import MOST_BOXES, Task, arrows_of, bars, both, box_of, figure, plan_of
 from registry_tools.pages.rulebook import ACTS
-from registry_tools.pages.settled import Settled, count_of, in_words, outcome_in_words
+from registry_tools.pages.settled import Settled, count_of, outcome_in_words, record_in_words
 from registry_tools.texts.in_words import grouped
-from registry_tools.texts.lanes import LanesFault, columns, read_lanes
+from registry_tools.texts.lanes import LanesFault, columns_of_lanes, read_lanes
 from registry_tools.texts.rows import bytes_of
 
 
@@ -34,7 +34,7 @@ def lanes_of(path: str, settled: Settled, tasks: dict[int, Task]) -> tuple[list[
             f"each place from 1 to {len(tasks)} once, as {settled.day.path} has them",
         )
     arrows = [(tail, head) for head, task in tasks.items() for tail, _ in task.tails]
-    column = columns(records, arrows)
+    column = columns_of_lanes(records, arrows)
     if column is None:
         raise FileFault(
             path,
@@ -62,7 +62,7 @@ def lanes_parts(tasks: dict[int, Task], records: list[list[int]], column: dict[i
     said = f"A lane for each of {count_of(len(records), 'worker', 'workers')}, with the arrows of the plan"
     yield figure(said, both(said, boxes, [*arrows_of(tasks, tasks)], names))
     rows = (
-        (name_of(worker), place, record, in_words(tasks[record].logged), outcome_in_words(tasks[record].logged))
+        (name_of(worker), place, record, record_in_words(tasks[record].logged), outcome_in_words(tasks[record].logged))
         for worker, lane in enumerate(records)
         for place, record in enumerate(lane, 1)
     )

@@ -28,6 +28,7 @@ from registry_tools.notes import counted
 from registry_tools.office import composing, folder, labels, naming, past, words
 from registry_tools.office.folder import Office
 from registry_tools.office.labels import Labels
+from registry_tools.office.waits import waits_of
 from registry_tools.output import NewFile
 from registry_tools.questions.compliance import NO_EMISSIONS, SETTLED, Standing, standings
 from registry_tools.showing import Cell
@@ -144,7 +145,7 @@ def of_rows(day: DayText, report: Report, names: Labels) -> Iterator[Due]:
 
 def waiting(office: Office, names: Labels) -> Iterator[Due]:
     """The instructions that wait. One without a due day in the calendar is not due on a day that is known."""
-    for own in composing.waits_of(office):
+    for own in waits_of(office):
         if own.due:
             text = instruction_in_words(own.instruction, names.account)
             yield Due(own.due, WAITING, own.instruction.first, own.record, text)
@@ -185,7 +186,7 @@ def next_dates(office: Office, most: int) -> list[tuple[datetime.date, str]]:
 
 def waiting_dates(office: Office) -> Iterator[tuple[datetime.date, str]]:
     """On which days instructions that wait are due."""
-    count = Counter(own.due for own in composing.waits_of(office) if own.due)
+    count = Counter(own.due for own in waits_of(office) if own.due)
     for date, often in count.items():
         yield date, f"{counted(often, 'instruction that waits is', 'instructions that wait are')} due"
 

@@ -89,7 +89,8 @@ _ROOM = [ctypes.c_void_p, ctypes.c_size_t]
 
 
 def _function(name: str, *parameters: Any) -> Callable[..., Answer]:
-    """A function of the library, with the types of its parameters behind the day text and before the room."""
+    """A function of the library, with the types of its parameters behind the day text and before the room. It is looked
+    up when it is asked: an older library may not have it, and settles all the same."""
     function: Any = getattr(_library, f"registry_{name}")
     function.restype, function.argtypes = Answer, [*_DAY, *parameters, *_ROOM]
     call: Callable[..., Answer] = function
@@ -125,10 +126,8 @@ def bytes_of(day: Text) -> bytes:
 
 
 def _command(name: str) -> Callable[[Text], bytes]:
-    call = _function(name)
-
     def run(day: Text) -> bytes:
-        text = bytes_of(day)
+        text, call = bytes_of(day), _function(name)
         return _ask(lambda room: call(text, len(text), room, len(room)), 2 * len(text) + 4096)
 
     return run
@@ -139,21 +138,20 @@ attempt = _command("try")
 plan = _command("plan")
 figures = _command("figures")
 totals = _command("totals")
-_statement = _function("statement", ctypes.c_uint32)
+statements = _command("statements")
 
 
 def statement(day: Text, account: int) -> bytes:
     text = bytes_of(day)
     # (any other number is asked for as 0, which no account has: a fault of the text is told first, as always)
-    number = account if 0 <= account <= MOST_NUMBER else 0
-    return _ask(lambda room: _statement(text, len(text), number, room, len(room)), len(text) + 4096, account)
+    number, call = account if 0 <= account <= MOST_NUMBER else 0, _function("statement", ctypes.c_uint32)
+    return _ask(lambda room: call(text, len(text), number, room, len(room)), len(text) + 4096, account)
 
 
 def _words(name: str, *parameters: Any) -> Callable[..., str]:
     """A function of the library that tells words, whatever it is asked."""
 
     def told(*asked: int) -> str:
-        # (looked up when it is asked: an older library does not have it, and settles all the same)
         function: Any = getattr(_library, f"registry_{name}")
         function.restype, function.argtypes = Answer, [*parameters, *_ROOM]
         call: Callable[..., Answer] = function

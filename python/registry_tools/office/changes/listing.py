@@ -8,7 +8,7 @@ from pathlib import Path
 from typing import Iterator
 
 from registry_tools import showing, tables
-from registry_tools.office import files, folder, handed, past
+from registry_tools.office import files, folder, handed_files, handed_journal, past
 from registry_tools.office.folder import Office
 from registry_tools.office.handed import CHANGES, EDITS, HandedIn, Part
 from registry_tools.office.journal import FILES
@@ -51,25 +51,24 @@ def changes_of(office: Office) -> Iterator[list[Cell]]:
         yield from changes_of_day(office.day_folder(event.date), str(event.date))
     there: HandedIn = office.handed_in()
     for item in there.items(CHANGES, EDITS):
-        yield row_of(NEXT, item.part, item.rows)
+        yield change_row(NEXT, item.part, item.rows)
 
 
 def changes_of_day(path: Path, date: str) -> Iterator[list[Cell]]:
     """The changes before a settled day, by the folder that has its files."""
-    handed_path = path / FILES["handed"]
-    filed = handed.from_text(path, handed_path, files.bytes_in(handed_path))
+    filed = handed_journal.read_journal(path / FILES["handed"])
     left = {
-        kind: handed.items_of_text(path / FILES[kind], kind, files.bytes_in(path / FILES[kind]))
+        kind: handed_files.items_of_text(path / FILES[kind], kind, files.bytes_in(path / FILES[kind]))
         for kind in (CHANGES, EDITS)
     }
     gone = {taking.place for taking in filed.taken}
     for part in filed.parts:
         if part.kind in left:
             for _ in range(sum(place not in gone for place in range(part.start, part.end))):
-                yield row_of(date, part, handed.next_item(left[part.kind], path / FILES[part.kind]))
+                yield change_row(date, part, handed_files.next_item(left[part.kind], path / FILES[part.kind]))
 
 
-def row_of(day: str, part: Part, rows: list[str]) -> list[Cell]:
+def change_row(day: str, part: Part, rows: list[str]) -> list[Cell]:
     """A change: a difference with its reason, or a whole account with the name of the file that it came in."""
     more = f" and {len(rows) - 1} rows" if len(rows) > 1 else ""
     return [day, part.at, part.who, part.name, f"{rows[0]}{more}"]
