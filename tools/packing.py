@@ -40,6 +40,8 @@ SOURCES = {f"src/{name}": f"examples/{name}" for name in ("c", "java", "python",
 LEFT_OUT = shutil.ignore_patterns("target", "out", "tests", "__pycache__", "*.class", "*.so", "*.jar", "*.pyc")
 # The day texts that the examples among these read.
 READ = ("first-transfer.csv", "morning-batch.csv", "compliance-year.csv", "wrong-date.csv")
+# Where else the library is.
+AGAIN = "The wheel of the engine has lib/libregistry.so.1, too, and the jar links lib/libregistry.a."
 # What is in the archive and was only tested.
 ONLY_TESTED = "registry-day, registry-rules, the Python packages, the Rust crate, the Java binding, pages, completion"
 
@@ -169,7 +171,7 @@ def manifest(folder: Path, version: str, platform: str) -> str:
             f"  {path}", f"    source: {told['source']}", f"    proved and built with {told['kit']}",
             f"    crates: {crates(crate)}", f"    sha256: {sum_of(folder / path)}",
         ]  # fmt: skip
-    return "\n".join([*lines, "", f"Only tested: {ONLY_TESTED}.", ""])
+    return "\n".join([*lines, "", AGAIN, "", f"Only tested: {ONLY_TESTED}.", ""])
 
 
 def sums(folder: Path) -> Iterator[str]:

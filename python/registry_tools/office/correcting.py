@@ -83,11 +83,11 @@ class Correction:
     def waited(self, record: int) -> str:
         """That a record waited since an earlier day, and the words by which it is left out of that one."""
         event, logged = self.logged(record)
-        row = do_row(logged)
+        row = logged.instruction.row
         said = f"--without {record}: it waited since an earlier day, which it was handed in for: {row}"
         for earlier in reversed([own for own in self.office.journal.filed() if own.date < event.date]):
             _, report = past.read(past.pair_of(self.office, earlier), None)
-            waited = [own.record for own in report.log if own.name == NOT_DUE and do_row(own) == row]
+            waited = [own.record for own in report.log if own.name == NOT_DUE and own.instruction.row == row]
             if waited:
                 return f"{said}; ./day correct {earlier.date} --without {waited[0]} leaves it out"
         return said
@@ -182,25 +182,20 @@ class Correction:
         """Ends the command if a reversal names a record that becomes another one."""
         old = {own.record: own for day in self.before for own in day.report.log}
         new = {own.record: own for day in settled for own in day.report.log}
-        rows = [do_row(own) for day in settled for own in day.report.log]
+        rows = [own.instruction.row for day in settled for own in day.report.log]
         rows += [row for item in self.office.handed_in().items(DO) for row in item.rows]
-        rows += [own.do_row() for own in waits_of(self.office)]
+        rows += [own.instruction.row for own in waits_of(self.office)]
         for row in dict.fromkeys(rows):
             fields = row.split(",")
             if fields[4] != REVERSE or not (fields[6].isascii() and fields[6].isdigit()):
                 continue
             number = int(fields[6])
             was, becomes = old.get(number), new.get(number)
-            if (was and do_row(was)) != (becomes and do_row(becomes)):
+            if (was and was.instruction.row) != (becomes and becomes.instruction.row):
                 raise WordsFault(
                     f"record {number} would be another one, and {row} names it: leave that reversal out too, and hand "
                     "it in once more for a later day"
                 )
-
-
-def do_row(logged: LogRow) -> str:
-    """The row that a log row is of."""
-    return ",".join(["do", *logged.instruction.fields])
 
 
 def without_row(content: bytes, place: int) -> bytes:

@@ -61,10 +61,6 @@ class Waiting:
         tag, day = (ENTERED, self.entered) if self.entered else (WAITS, self.due)
         return ",".join([tag, str(self.record or ""), str(day or ""), *self.instruction.fields])
 
-    def do_row(self) -> str:
-        """The `do` row of the instruction."""
-        return ",".join(["do", *self.instruction.fields])
-
 
 @dataclass
 class PendingFile:
