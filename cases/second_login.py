@@ -220,6 +220,10 @@ def change_trials(work: Path) -> Iterator[Told]:
     yield "audit", told(0, ["0 differences"], "audit", "--second", *kept_own)
     must_do(["undo", TUESDAY, *WHY, *of("eva"), *kept_own])
     yield "undo takes approvals back, too", told(0, ["places 1 to 2, change by"], "approve", *kept_own)
+    must_do(["take-back", "1-2", *WHY, *of("anna"), *kept_own])
+    yield "nobody approves what was taken back", told(0, ["nothing waits for another login"], "approve", *kept_own)
+    said = Said("close", "--date", TUESDAY, *of("eva"), *kept_own)
+    yield "nor does a close wait for it", None if said.status == 0 and "LOOK AT THIS" not in str(said) else said
     yield from whole_account_trials(work)
 
 

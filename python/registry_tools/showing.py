@@ -74,9 +74,7 @@ def as_table(columns: Sequence[str], rows: Sequence[Sequence[Cell]], numbers: Se
 
 
 # Numbers that name something: they are not grouped.
-NAMES = {
-    "record", "account", "year", "user", "code", "proposer", "approver", "from", "to", "place", "line", "number",
-}  # fmt: skip
+NAMES = {"record", "account", "year", "user", "code", "proposer", "approver", "from", "to", "place", "line", "number"}
 
 
 def fault_row(fault: FileFault | None) -> list[Cell]:

@@ -33,4 +33,4 @@ pub use laws::{region_is_as_the_day, regions_are_a_day};
 pub use not_settled::{NotSettled, RegionsFault};
 pub use region::{Indexes, Placed};
 pub use running::shift::WorkShift;
-pub use settlement::settle_regions;
+pub use settlement::{settle_regions, settle_without_shifts};

@@ -222,7 +222,7 @@ def look_at(office: Office, handed_in: HandedIn) -> None:
     handed_in.waiting, handed_in.approved = [], []
     for part in handed_in.parts:
         command = COMMAND_OF.get(part.kind)
-        if command is None or not waits(office, command):
+        if command is None or not waits(office, command) or not handed_in.counts(part):
             continue
         own = sum_of_part(handed_in, part)
         by = next((each for each in valid if is_second(office, each, command, own, part.login)), None)

@@ -213,7 +213,7 @@ def later_text(
     next_day.check_count(report.next_record, len(entered) + len(new))
     rows = heading
     rows += report.book_rows if book is report.book else [row for block in book.values() for row in block.rows]
-    rows += [*(waits.do_row() for waits in entered), *new.rows, "end"]
+    rows += [*(waits.instruction.row for waits in entered), *new.rows, "end"]
     return NextDay(date, report.next_record, handed.text_of_rows(rows), waiting, entered, [], {}, notes.lines)
 
 

@@ -10,6 +10,7 @@ from dataclasses import dataclass, field, replace
 from pathlib import Path
 from typing import Iterator
 
+from registry_tools.calendars.due_days import NOT_DUE
 from registry_tools.errors import FileFault, WordsFault
 from registry_tools.office import (
     close, composing, files, folder, hand_in, handed_files, incoming, journal, past, prepared, rebasing, undo,
@@ -78,6 +79,18 @@ class Correction:
             f"--without {record}: {first.date} has the records {first.first} to {first.next - 1}, and the days behind "
             f"it have them up to {last.next - 1}"
         )
+
+    def waited(self, record: int) -> str:
+        """That a record waited since an earlier day, and the words by which it is left out of that one."""
+        event, logged = self.logged(record)
+        row = logged.instruction.row
+        said = f"--without {record}: it waited since an earlier day, which it was handed in for: {row}"
+        for earlier in reversed([own for own in self.office.journal.filed() if own.date < event.date]):
+            _, report = past.read(past.pair_of(self.office, earlier), None)
+            waited = [own.record for own in report.log if own.name == NOT_DUE and own.instruction.row == row]
+            if waited:
+                return f"{said}; ./day correct {earlier.date} --without {waited[0]} leaves it out"
+        return said
 
     # The days once more.
 
@@ -150,8 +163,7 @@ class Correction:
     def leave_out(self, record: int, place: int, filed: HandedIn, contents: dict[str, bytes]) -> None:
         """Takes an instruction out of what was handed in for a day, by its place there."""
         if place < 0:
-            row = do_row(self.logged(record)[1])
-            raise WordsFault(f"--without {record}: it waited since an earlier day, which it was handed in for: {row}")
+            raise WordsFault(self.waited(record))
         first = next((part for part in filed.parts if part.kind == FIRST), None)
         count = first.count if first else 0
         if first and place < count:
@@ -170,25 +182,20 @@ class Correction:
         """Ends the command if a reversal names a record that becomes another one."""
         old = {own.record: own for day in self.before for own in day.report.log}
         new = {own.record: own for day in settled for own in day.report.log}
-        rows = [do_row(own) for day in settled for own in day.report.log]
+        rows = [own.instruction.row for day in settled for own in day.report.log]
         rows += [row for item in self.office.handed_in().items(DO) for row in item.rows]
-        rows += [own.do_row() for own in waits_of(self.office)]
+        rows += [own.instruction.row for own in waits_of(self.office)]
         for row in dict.fromkeys(rows):
             fields = row.split(",")
             if fields[4] != REVERSE or not (fields[6].isascii() and fields[6].isdigit()):
                 continue
             number = int(fields[6])
             was, becomes = old.get(number), new.get(number)
-            if (was and do_row(was)) != (becomes and do_row(becomes)):
+            if (was and was.instruction.row) != (becomes and becomes.instruction.row):
                 raise WordsFault(
                     f"record {number} would be another one, and {row} names it: leave that reversal out too, and hand "
                     "it in once more for a later day"
                 )
-
-
-def do_row(logged: LogRow) -> str:
-    """The row that a log row is of."""
-    return ",".join(["do", *logged.instruction.fields])
 
 
 def without_row(content: bytes, place: int) -> bytes:

@@ -206,7 +206,7 @@ def refuse_instructions(office: Office, here: Here, own: Incoming) -> None:
         row: Before(f"one that {earlier}: {row}", None, earlier.may_come_again)
         for row, earlier in had.instructions_had(office, rows).items()
     }
-    for row in rows & {waits.do_row() for waits in waits_of(office)}:
+    for row in rows & {waits.instruction.row for waits in waits_of(office)}:
         there[row] = Before(f"one that waits for its due day, and comes by itself: {row}")
     for item in here.handed_in.items(handed.FIRST, DO):
         row = item.rows[0]

@@ -167,6 +167,11 @@ class HandedIn:
         """Whether a file stays here when this day is filed."""
         return part.is_of_later(date) or part in self.waiting
 
+    def counts(self, part: Part) -> bool:
+        """Whether something of a file was not taken back."""
+        gone = {taking.place for taking in self.taken}
+        return any(place not in gone for place in range(part.start, part.end))
+
     def items(self, *kinds: str) -> Iterator[Item]:
         """What counts of these kinds, in order."""
         gone = {taking.place for taking in self.taken}

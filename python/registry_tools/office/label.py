@@ -30,7 +30,6 @@ from registry_tools.office.whole_change import Change
 from registry_tools.sheets import importing, mapping as mappings, sheets
 from registry_tools.sheets.mapping import Mapping
 from registry_tools.sheets.table import Table
-from registry_tools.texts.accounts import Block
 from registry_tools.texts.in_words import as_looked_up
 from registry_tools.texts.rows import packed_bytes_of, rows_of, rows_of_text
 
@@ -256,9 +255,4 @@ def numbers_of(office: Office) -> dict[str, set[int]]:
     users = {int(row.split(",")[1]) for row in heading if row.startswith("admin,")}
     for block in book.values():
         users |= {int(row.split(",")[1]) for row in block.list_rows if row.startswith("user,")}
-    return {ACCOUNT: {*book}, HOLDER: {*map(holder_of, book.values())}, USER: users}
-
-
-def holder_of(block: Block) -> int:
-    """The holder of an account."""
-    return int(block.rows[0].split(",")[3])
+    return {ACCOUNT: {*book}, HOLDER: {block.holder for block in book.values()}, USER: users}

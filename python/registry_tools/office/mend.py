@@ -59,6 +59,8 @@ def run(said: argparse.Namespace) -> int:
         mending = Mending(office, event)
         mending.mend()
         place = office.day_folder(date)
+        for key in FILES:
+            files.remove_beside(place / FILES[key])
         if mending.made and not place.is_dir():
             files.make_folder(place)
         for key in mending.made:

@@ -99,9 +99,7 @@ def blocks_in(path: str | None) -> dict[int, list[str]]:
 
 
 @contextlib.contextmanager
-def edited_changes(
-    made: list[Edit], report: Report, path: str | None, work: str | None
-) -> Iterator[str | None]:
+def edited_changes(made: list[Edit], report: Report, path: str | None, work: str | None) -> Iterator[str | None]:
     """A file of the accounts that are changed by hand: by whole blocks, and by differences. Without differences, the
     file of blocks, if its accounts rise."""
     blocks = blocks_in(path)

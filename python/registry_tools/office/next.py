@@ -133,7 +133,7 @@ def waiting_after(
         notes.warn(*found.warnings)
         notes.warn(
             *(
-                f"{lost.place}: this was entered into {day.path}, which does not have it: {lost.do_row()}"
+                f"{lost.place}: this was entered into {day.path}, which does not have it: {lost.instruction.row}"
                 for lost in found.lost
             )
         )
@@ -152,7 +152,7 @@ def enter_due(head: rules.Day, waiting: list[pending.Waiting], notes: Notes) -> 
             continue
         waits.due = due_day_after(head, waits.instruction)
         if waits.due is None:
-            notes.warn(f"the calendar has no due day for this, which goes on waiting: {waits.do_row()}")
+            notes.warn(f"the calendar has no due day for this, which goes on waiting: {waits.instruction.row}")
     return [waits for waits in waiting if waits.entered]
 
 
@@ -166,8 +166,8 @@ def new_instructions(path: str | None, report: Report, count: int) -> Rows:
 def tell_refused(report: Report, notes: Notes) -> None:
     """Tells what the day refused, and nobody enters again."""
     for logged in (own for own in report.log if own.name == OUTSIDE):
-        notes.warn(f"{report.path}:{logged.line}: refused as {OUTSIDE}. Add working days and enter it again: "
-                   f"do,{','.join(logged.instruction.fields)}")  # fmt: skip
+        again = f"Add working days and enter it again: {logged.instruction.row}"
+        notes.warn(f"{report.path}:{logged.line}: refused as {OUTSIDE}. {again}")
     others = sum(not logged.is_done and logged.name not in (NOT_DUE, OUTSIDE) for logged in report.log)
     notes.add(
         f"refused by {report.path} for other reasons: {others}{' (./day log --refused shows each)' if others else ''}"
@@ -256,7 +256,7 @@ def run(words: argparse.Namespace) -> int:
     rows = [*heading_of(day, head.date, report.next_record, head.working_days)]
     for block in book.values():
         rows += block.rows
-    rows += [*(own.do_row() for own in entered), *new.rows, "end", ""]
+    rows += [*(own.instruction.row for own in entered), *new.rows, "end", ""]
     made = pending.Made(head.date, report.next_record)
     others = [NewFile(path, pending.text_of(waiting, made))] if path else []
     write_answer("\n".join(rows), words.to, *others)

@@ -87,7 +87,7 @@ def rows_for_programs(office: Office, handed_in: HandedIn, faults: list[FileFaul
         for date in missed_days(office):
             yield [MISSED, str(date), None, None, None, None, None]
     for waits in waits_of(office):
-        yield [WAITS, str(waits.due) if waits.due else None, waits.record, None, None, None, waits.do_row()]
+        yield [WAITS, str(waits.due) if waits.due else None, waits.record, None, None, None, waits.instruction.row]
     for item in handed_in.items(*KINDS):
         day = str(item.part.earliest) if item.part.earliest else None
         yield [HANDED, day, None, item.place, item.part.who, item.part.at, "\n".join(item.rows)]
@@ -128,7 +128,7 @@ def waiting_lines(office: Office, names: Labels) -> Iterator[tuple[str, str]]:
     waiting = sorted(waits_of(office), key=lambda own: (own.due is None, str(own.due)))
     yield "waiting", str(len(waiting)) if waiting else "nothing"
     for waits in waiting[:MOST_SHOWN]:
-        row = waits.do_row()
+        row = waits.instruction.row
         yield "", f"{waits.due or 'no due day in the calendar'}  {row}{named_in(row, names)}"
     yield from more(len(waiting))
 

@@ -80,7 +80,7 @@ def look(next_day: NextDay, day: DayText, names: Labels = Labels()) -> list[Look
     places = [*(None for _ in next_day.entered), *(item.place for item in next_day.new)]
     looked = []
     for place, instruction, logged in zip(places, day.instructions, composing.asked_rules(day)):
-        own, said = ",".join(["do", *instruction.fields]), in_words.instruction_in_words(instruction, names.account)
+        own, said = instruction.row, in_words.instruction_in_words(instruction, names.account)
         outcome = outcome_by_rules(logged, instruction)
         looked.append(Looked(place, own, said, outcome, str(logged.due or ""), logged.line))
     return looked

@@ -155,9 +155,7 @@ def page_of(title: str, lead: str, sections: list[Markup]) -> str:
     return f"{head}<body>\n{body}\n</body>\n</html>\n"
 
 
-def letter(
-    settled: Settled, days: list[DayOfAccounts], holder: int, places: dict[int, int], head: str
-) -> str:
+def letter(settled: Settled, days: list[DayOfAccounts], holder: int, places: dict[int, int], head: str) -> str:
     """The page of a holder: each account from the day at its place on; and the head of the folder that it was made
     of."""
     name = settled.names.holder(holder)

@@ -172,7 +172,9 @@ def compliant_share(day: DayText, report: Report, year: int) -> tuple[int, int]:
     entries, begins = Entries(day, report), f"figure,{year},"
     rows, blocks = report.source.rows, [*report.book.values()]
     count = sum(rows[block.index].split(",", 3)[2] in rules.OPERATORS for block in blocks)
-    places = [place for place in range(report.first_account, report.first_totals) if rows[place].startswith(begins)]
+    # (of the rows of accounts, only figures begin with this letter)
+    figures = (place for place in range(report.first_account, report.first_totals) if rows[place][0] == "f")
+    places = [place for place in figures if rows[place].startswith(begins)]
     determined = [blocks[bisect.bisect_right(blocks, place, key=AT) - 1] for place in places]
     accounts = (block.account() for block in determined if block.kind in rules.OPERATORS)
     verdicts = (standing_of(day.head, account, year, entries).verdict for account in accounts)

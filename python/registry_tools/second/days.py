@@ -83,6 +83,11 @@ class Instruction:
     year: int | None = None
     tonnes: int | None = None
 
+    @property
+    def row(self) -> str:
+        """The row of a day text that tells it."""
+        return ",".join(["do", *self.fields])
+
 
 @dataclass
 class Day:

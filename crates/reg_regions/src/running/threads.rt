@@ -6,6 +6,7 @@ ghost use Rattle.reg_regions.specs.Stealing.{IsGround, AreSettled};
 
 use crate::gate::PlaceGate;
 use crate::running::list_region::{Cutting, ListRegion};
+use crate::running::shift::Notes;
 use crate::running::worker::{BusyWorker, ReadyWorker, work};
 use crossbeam_deque::Stealer;
 use reg_base::{Batch, NoMemory};
@@ -20,7 +21,7 @@ use std::thread::Threads;
 ///
 /// # Errors
 /// `NoMemory` if memory ran out. All threads have ended then.
-pub(crate) fn run_all<C: Cutting + Send + Sync, R: Threads + Sync, G: PlaceGate>(
+pub(crate) fn run_all<C: Cutting + Send + Sync, N: Notes + Send, R: Threads + Sync, G: PlaceGate>(
     rt: &R,
     alloc: Global,
     setting: &Setting,
@@ -29,20 +30,20 @@ pub(crate) fn run_all<C: Cutting + Send + Sync, R: Threads + Sync, G: PlaceGate>
     stealers: &[Stealer<ListRegion<C>>],
     gate: &G,
     workers: Vec<ReadyWorker<C>>,
-) -> Result<Vec<BusyWorker<C>>, NoMemory>
+) -> Result<Vec<BusyWorker<C, N>>, NoMemory>
     requires ground { IsGround setting.now batch.now C.openings C.deals }
     requires table { (table_id table.now ≡ C.table) × (places table.now ≡ length C.openings) }
-    ensures numbers { IfOk result (λ all. map (λ w. w.shift.worker) all.items ≡ map (λ w. w.number) workers.items) }
+    ensures numbers { IfOk result (λ all. map (λ w. N.worker w.notes) all.items ≡ map (λ w. w.number) workers.items) }
     ensures settled { IfOk result
         (λ all. All (λ w. AreSettled setting.now batch.now C.openings C.deals w.settled.items) all.items) }
 {
     let ended = thread::map_vec(
         rt,
         workers,
-        &|worker: ReadyWorker<C>| -> Result<BusyWorker<C>, NoMemory>
+        &|worker: ReadyWorker<C>| -> Result<BusyWorker<C, N>, NoMemory>
             requires { IsGround setting.now batch.now C.openings C.deals × (table_id table.now ≡ C.table)
                 × (places table.now ≡ length C.openings) }
-            ensures number { IfOk result (λ w. w.shift.worker ≡ worker.number) }
+            ensures number { IfOk result (λ w. N.worker w.notes ≡ worker.number) }
             ensures settled { IfOk result
                 (λ w. AreSettled setting.entry.now batch.entry.now C.openings C.deals w.settled.items) }
         { work(alloc, setting, batch, table, stealers, gate, worker) },
@@ -52,10 +53,10 @@ pub(crate) fn run_all<C: Cutting + Send + Sync, R: Threads + Sync, G: PlaceGate>
 }
 
 // What all workers answered, if none of them lacked memory.
-fn all_ended<C: Cutting>(
+fn all_ended<C: Cutting, N: Notes>(
     alloc: Global,
-    ended: Vec<Result<BusyWorker<C>, NoMemory>>,
-) -> Result<Vec<BusyWorker<C>>, NoMemory>
+    ended: Vec<Result<BusyWorker<C, N>, NoMemory>>,
+) -> Result<Vec<BusyWorker<C, N>>, NoMemory>
     ensures { IfOk result (λ all. map Ok all.items ≡ ended.items) }
 {
     let mut all = Vec::with_capacity(alloc, ended.len())?;

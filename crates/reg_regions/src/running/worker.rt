@@ -2,14 +2,13 @@
 
 ghost use Rattle.std.specs.Prelude.{◌≡◌, [], ◌++◌, length, IfOk};
 ghost use Rattle.reg_claim.specs.Seats.{known, seat_table, table_id, places, IsToFinish};
-ghost use Rattle.reg_regions.specs.Settling.{places_in};
+ghost use Rattle.reg_regions.specs.Settling.{kept, places_in};
 ghost use Rattle.reg_regions.specs.Stealing.{IsGround, IsSettledList, AreSettled, numbers_of, settled_places};
 
 use crate::gate::PlaceGate;
 use crate::running::list_region::{Cutting, ListRegion};
-use crate::running::regions::settle_list;
 use crate::running::settled_list::SettledList;
-use crate::running::shift::WorkShift;
+use crate::running::shift::{Notes, settle_gated};
 use crossbeam_deque::{Steal, Stealer, Worker};
 use reg_base::{Batch, NoMemory};
 use reg_claim::{ClaimTable, Seat};
@@ -31,17 +30,17 @@ pub(crate) struct ReadyWorker<C: Cutting> {
     pub(crate) ghost fresh: { (known seat).finished ≡ [] },
 }
 
-/// A worker that has begun: its shift, its seat, and the regions that it settled, in the order in which it did.
+/// A worker that has begun: its notes, its seat, and the regions that it settled, in the order in which it did.
 #[derive(Drop)]
-pub(crate) struct BusyWorker<C: Cutting> {
-    pub(crate) shift: WorkShift,
+pub(crate) struct BusyWorker<C: Cutting, N: Notes> {
+    pub(crate) notes: N,
     pub(crate) seat: Seat,
     pub(crate) settled: Vec<SettledList>,
     pub(crate) of: PhantomData<C>,
     pub(crate) ghost table_is: { seat_table seat ≡ C.table },
     pub(crate) ghost one_stake: { (known seat).stake ≡ 1 },
     pub(crate) ghost finished: { numbers_of settled.items ≡ (known seat).finished },
-    pub(crate) ghost noted: { shift.places.items ≡ settled_places settled.items },
+    pub(crate) ghost noted: { N.places notes ≡ kept N.keeps (settled_places settled.items) },
 }
 
 /// Runs regions of its own deque, and when there are none, regions that it steals from the others. It leaves when it
@@ -49,7 +48,7 @@ pub(crate) struct BusyWorker<C: Cutting> {
 ///
 /// # Errors
 /// `NoMemory` if memory ran out.
-pub(crate) fn work<C: Cutting, G: PlaceGate>(
+pub(crate) fn work<C: Cutting, N: Notes, G: PlaceGate>(
     alloc: Global,
     setting: &Setting,
     batch: &Batch,
@@ -57,10 +56,10 @@ pub(crate) fn work<C: Cutting, G: PlaceGate>(
     stealers: &[Stealer<ListRegion<C>>],
     gate: &G,
     worker: ReadyWorker<C>,
-) -> Result<BusyWorker<C>, NoMemory>
+) -> Result<BusyWorker<C, N>, NoMemory>
     requires ground { IsGround setting.now batch.now C.openings C.deals }
     requires table { (table_id table.now ≡ C.table) × (places table.now ≡ length C.openings) }
-    ensures number { IfOk result (λ ended. ended.shift.worker ≡ worker.number) }
+    ensures number { IfOk result (λ ended. N.worker ended.notes ≡ worker.number) }
     ensures settled { IfOk result
         (λ ended. AreSettled setting.now batch.now C.openings C.deals ended.settled.items) }
 {
@@ -74,12 +73,12 @@ pub(crate) fn work<C: Cutting, G: PlaceGate>(
     Ok(busy)
 }
 
-// A worker begins: it settled nothing, and has an empty shift.
-fn begin<C: Cutting>(
+// A worker begins: it settled nothing, and has noted nothing.
+fn begin<C: Cutting, N: Notes>(
     alloc: Global,
     worker: ReadyWorker<C>,
-) -> (BusyWorker<C>, Worker<ListRegion<C>>)
-    ensures number { result.0.shift.worker ≡ worker.number }
+) -> (BusyWorker<C, N>, Worker<ListRegion<C>>)
+    ensures number { N.worker result.0.notes ≡ worker.number }
     ensures none { result.0.settled.items ≡ [] }
 {
     let ReadyWorker {
@@ -88,7 +87,7 @@ fn begin<C: Cutting>(
         seat,
     } = worker;
     let busy = BusyWorker {
-        shift: WorkShift::begin(alloc, number),
+        notes: N::begin(alloc, number),
         seat,
         settled: Vec::new(alloc),
         of: PhantomData,
@@ -127,19 +126,19 @@ fn steal<C: Cutting>(stealer: &Stealer<ListRegion<C>>) -> Option<ListRegion<C>> 
 }
 
 // Claims a region, settles it, and counts it as finished. If it is claimed already, it is not settled.
-fn run<C: Cutting, G: PlaceGate>(
+fn run<C: Cutting, N: Notes, G: PlaceGate>(
     alloc: Global,
     setting: &Setting,
     batch: &Batch,
     table: &ClaimTable,
     gate: &G,
-    busy: BusyWorker<C>,
+    busy: BusyWorker<C, N>,
     region: ListRegion<C>,
-) -> Result<BusyWorker<C>, NoMemory>
+) -> Result<BusyWorker<C, N>, NoMemory>
     requires ground { IsGround setting.now batch.now C.openings C.deals }
     requires table { (table_id table.now ≡ C.table) × (places table.now ≡ length C.openings) }
     requires before { AreSettled setting.now batch.now C.openings C.deals busy.settled.items }
-    ensures worker { IfOk result (λ next. next.shift.worker ≡ busy.shift.worker) }
+    ensures worker { IfOk result (λ next. N.worker next.notes ≡ N.worker busy.notes) }
     ensures settled { IfOk result (λ next. AreSettled setting.now batch.now C.openings C.deals next.settled.items) }
 {
     let mut busy = busy;
@@ -148,40 +147,61 @@ fn run<C: Cutting, G: PlaceGate>(
         return Ok(busy);
     }
     let BusyWorker {
-        mut shift,
+        mut notes,
         mut seat,
         mut settled,
         ..
     } = busy;
-    let one = run_claimed(alloc, setting, batch, gate, &seat, &mut shift, region)?;
+    let one = run_claimed(alloc, setting, batch, gate, &seat, &mut notes, region)?;
     settled.reserve(1)?;
     table.finish(&mut seat, one.number);
     settled.push_reserved(one);
     Ok(BusyWorker {
-        shift,
+        notes,
         seat,
         settled,
         of: PhantomData,
     })
 }
 
-// Settles a region whose number the worker has claimed. No worker that steals settles a region anywhere else.
-fn run_claimed<C: Cutting, G: PlaceGate>(
+// Carries out the instructions of a region whose number the worker has claimed, in their order. No worker does so
+// anywhere else.
+fn run_claimed<C: Cutting, N: Notes, G: PlaceGate>(
     alloc: Global,
     setting: &Setting,
     batch: &Batch,
     gate: &G,
     _seat: &Seat,
-    shift: &mut WorkShift,
+    notes: &mut N,
     region: ListRegion<C>,
 ) -> Result<SettledList, NoMemory>
     requires ground { IsGround setting.now batch.now C.openings C.deals }
     requires claimed { IsToFinish region.number (known _seat.now) }
     ensures number { IfOk result (λ settled. settled.number ≡ region.number) }
     ensures settled { IfOk result (λ settled. IsSettledList setting.now batch.now C.openings C.deals settled) }
-    ensures worker { shift.new.worker ≡ shift.old.worker }
+    ensures worker { N.worker notes.new ≡ N.worker notes.old }
     ensures noted { IfOk result
-        (λ settled. shift.new.places.items ≡ shift.old.places.items ++ places_in settled.replies.items) }
+        (λ settled. N.places notes.new ≡ N.places notes.old ++ kept N.keeps (places_in settled.replies.items)) }
 {
-    settle_list(alloc, setting, batch, gate, shift, region)
+    let ListRegion {
+        number,
+        deal,
+        mut accounts,
+        ..
+    } = region;
+    let replies = settle_gated(
+        alloc,
+        setting,
+        batch,
+        &deal.places,
+        &deal.indexes,
+        &mut accounts,
+        gate,
+        notes,
+    )?;
+    Ok(SettledList {
+        number,
+        accounts,
+        replies,
+    })
 }

@@ -16,10 +16,10 @@ returns g c =
     let good = as-many ws rs is in
     let len : length ws ≡ length jobs = omega (arith, both, answers, ready, good) in
     record {
-      numbers = same-at jobs ws (λ w. w.number) (λ w. w.shift.worker) len (λ i j w lt.
+      numbers = same-at jobs ws (λ w. w.number) (λ w. g.N.Notes.worker w.notes) len (λ i j w lt.
           let k = (each i (Ok w) lt).1 in
-          let same : (get_or ws i w).shift.worker ≡ k.job.number =
-          answered ws rs (λ v. v.shift.worker ≡ k.job.number) is i w (omega (arith, lt, len)) k.call.met.0 in
+          let same : g.N.Notes.worker (get_or ws i w).notes ≡ k.job.number =
+          answered ws rs (λ v. g.N.Notes.worker v.notes ≡ k.job.number) is i w (omega (arith, lt, len)) k.call.met.0 in
           same ∙ sym (ap (λ v. v.number) (k.job_is j)));
       settled = λ i w lt.
           let k = (each i (Ok w) (omega (arith, lt, len))).1 in

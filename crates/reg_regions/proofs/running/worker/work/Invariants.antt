@@ -4,6 +4,6 @@ use Rattle.reg_regions.proofs.running.worker.work.Given as goal
 
 abbrev pub invariant-loop-turn : goal.invariant-loop-turn
 invariant-loop-turn g l = record {
-  number : l.busy.shift.worker ≡ l.fn.worker.number;
+  number : g.N.Notes.worker l.busy.notes ≡ l.fn.worker.number;
   settled : AreSettled l.setting l.batch g.C.Cutting.openings g.C.Cutting.deals l.busy.settled.items;
 }

@@ -1,6 +1,6 @@
 use Rattle.std.proofs.Common.{◌+◌, ◌++◌, ◌∷◌, [], sym, ap, ◌∙◌}
 use Rattle.reg_regions.proofs.Placing.{count-more}
-use Rattle.reg_regions.proofs.running.whole.all_places.Goals as goal
+use Rattle.reg_regions.proofs.dealing.all_places.Goals as goal
 
 pub loop-before-preserved : goal.loop-before-preserved
 loop-before-preserved c =

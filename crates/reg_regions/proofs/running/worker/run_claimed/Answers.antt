@@ -7,7 +7,7 @@ use Rattle.reg_book.specs.Indexes.{index_lists}
 use Rattle.reg_regions.specs.declared.dealing.Deal.{Deal}
 use Rattle.reg_regions.specs.Homes.{AreHome}
 use Rattle.reg_regions.specs.Settling.{IsRun}
-use Rattle.reg_regions.proofs.running.regions.settle_list.Goals as goal
+use Rattle.reg_regions.proofs.running.worker.run_claimed.Goals as goal
 
 pub settle_gated-requires-clause-ready : goal.settle_gated-requires-clause-ready
 settle_gated-requires-clause-ready g c κs inside =
