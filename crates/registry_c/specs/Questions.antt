@@ -41,4 +41,5 @@ AsksForNobody question book = ⊥
 abbrev pub IsRefusal : Question → BookValue → Fault → Type 0
 IsRefusal question book (fault.Row row cause) = ⊥
 IsRefusal question book fault.NoAccount = AsksForNobody question book
+IsRefusal question book fault.NoDate = ⊥
 IsRefusal question book fault.NoMemory = ⊤
