@@ -1,5 +1,5 @@
 use Rattle.std.proofs.Common.{◌≡◌}
-use Rattle.reg_work.proofs.worker.Worker.hand_on.Given as goal
+use Rattle.reg_work.proofs.worker.Worker+Task+N+N+I.hand_on.Given as goal
 
 -- neither the seat nor the run changes
 abbrev pub invariant-loop-parcel : goal.invariant-loop-parcel
