@@ -24,7 +24,7 @@
  * A call takes memory by malloc and realloc and gives all of it back by free. It has no state, starts no thread, takes
  * no lock, and uses no file and no stream. So calls may come from several threads at once, each with a room of its own;
  * day texts may be shared. Not from a signal handler, and not in a forked child of a process with several threads. A
- * call needs less than 64 KiB of the stack of its thread, however long the day text is.
+ * call needs less than 128 KiB of the stack of its thread, however long the day text is.
  *
  * The library was proved to answer as it is said here (crates/registry_c). This header is written by hand.
  */
@@ -48,7 +48,8 @@ enum registry_status {
   REGISTRY_DONE = 0,       /* there is a text */
   REGISTRY_NO_ACCOUNT = 2, /* the account of a statement is not in the book of the day */
   REGISTRY_FAULT = 3,      /* the bytes are no day text: cause and row tell the first fault */
-  REGISTRY_NO_MEMORY = 4   /* memory ran out: all that the call took was given back */
+  REGISTRY_NO_MEMORY = 4,  /* memory ran out: all that the call took was given back */
+  REGISTRY_NO_DATE = 6     /* of registry_next alone, and no exit status: the date is none, or not later than the day */
 };
 
 /* What is wrong with the first faulty row. If several apply to it, the first of: END, TAG, FIELDS, the first faulty field
@@ -90,6 +91,13 @@ struct registry_answer registry_statement(const char *day, size_t day_length, ui
 /* The statements of all accounts in one text, in the order of the accounts: each is that of registry_statement, and ends
  * with its row `end`. The day is settled once. */
 struct registry_answer registry_statements(const char *day, size_t day_length, char *room, size_t room_length);
+
+/* The text of the next day up to its instructions: the heading of the day with the date of the next one and the next
+ * record number, and the accounts as the day leaves them, byte for byte as they stand in its report. With `do` rows or
+ * none and the row `end` behind it, it is a day text. The date is YYYY-MM-DD, in so many bytes, and later than the day.
+ * A fault of the day text is told before that of the date. */
+struct registry_answer registry_next(const char *day, size_t day_length, const char *date, size_t date_length,
+                                     char *room, size_t room_length);
 
 /* The determined compliance figures of all accounts after the day, as `registry figures`. */
 struct registry_answer registry_figures(const char *day, size_t day_length, char *room, size_t room_length);

@@ -10,6 +10,7 @@
  *                          first call and of the fastest one
  *
  * Standard input has the requests, one after another: a line COMMAND ACCOUNT LENGTH, and so many bytes of a day text.
+ * For the command `next` the account is the date of the next day, as the number 20251001.
  * `answer` writes for each a line STATUS CAUSE ROW LENGTH and the text. A promise that does not hold ends the program
  * with status 1 and a line on standard error. It is linked with --wrap for malloc, realloc and free.
  */
@@ -102,6 +103,11 @@ static struct registry_answer call(const struct request *r, char *room, size_t l
   const char *day = r->length ? r->day : NULL;
   for (size_t at = 0; at < sizeof calls / sizeof *calls; at++)
     if (!strcmp(r->command, calls[at].command)) return calls[at].call(day, r->length, room, length);
+  if (!strcmp(r->command, "next")) {
+    char date[16];
+    int written = snprintf(date, sizeof date, "%04u-%02u-%02u", r->account / 10000, r->account / 100 % 100, r->account % 100);
+    return registry_next(day, r->length, date, (size_t)written, room, length);
+  }
   if (strcmp(r->command, "statement")) fail("there is no such command", r->command);
   return registry_statement(day, r->length, r->account, room, length);
 }

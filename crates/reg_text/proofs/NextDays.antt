@@ -192,7 +192,7 @@ module _ (closing : CommittedIsClosing) (leaves : ChainLeavesABook) where
 
 -- ---- the account rows of a report
 
-report-parts : (day : DayValue) → StandInReport day (accounts_text (book_after day))
+pub report-parts : (day : DayValue) → StandInReport day (accounts_text (book_after day))
 report-parts day =
     let book = book_after day in
     let log = log_rows (log_of day) in

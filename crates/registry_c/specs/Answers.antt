@@ -10,7 +10,7 @@ use Rattle.reg_text.specs.declared.cause.DayFault.{DayFault}
 use Rattle.reg_text.specs.declared.cause.DayFault.TheVariants as day
 use Rattle.registry_c.specs.declared.answer.Answer.{Answer}
 use Rattle.registry_c.specs.declared.fault.Fault.{Fault}
-use Rattle.registry_c.specs.declared.fault.Fault.TheVariants.{Row, NoAccount, NoMemory}
+use Rattle.registry_c.specs.declared.fault.Fault.TheVariants.{Row, NoAccount, NoDate, NoMemory}
 use Rattle.registry_c.specs.declared.question.Question.{Question}
 use Rattle.registry_c.specs.Questions.{AsksForNobody, IsAnswer}
 
@@ -37,6 +37,7 @@ answer_of (Ok text) = record { status = 0; cause = 0; row = 0; length = length t
 answer_of (Err NoAccount) = record { status = 2; cause = 0; row = 0; length = 0 }
 answer_of (Err (Row row cause)) = record { status = 3; cause = cause_number cause; row = row; length = 0 }
 answer_of (Err NoMemory) = record { status = 4; cause = 0; row = 0; length = 0 }
+answer_of (Err NoDate) = record { status = 6; cause = 0; row = 0; length = 0 }
 
 -- the caller's room after the call: a text stands at its front if there is room for all of it, and each byte behind the
 -- text is as it was; otherwise each byte is as it was
@@ -52,6 +53,7 @@ IsDue question bytes (Ok text) = (day : DayValue) × IsReading (rows_in_text byt
 IsDue question bytes (Err NoAccount) =
     (day : DayValue) × IsReading (rows_in_text bytes) day × AsksForNobody question day.book
 IsDue question bytes (Err (Row row cause)) = day_of_rows (rows_in_text bytes) ≡ Err (row, cause)
+IsDue question bytes (Err NoDate) = ⊥
 IsDue question bytes (Err NoMemory) = ⊤
 
 -- a call was asked this of these bytes, gave this answer, and found and left the room so

@@ -1,6 +1,6 @@
 -- The words and sentences that a caller can ask for, so that it needs no table of its own. A number that names nothing
 -- has the empty text.
-use Rattle.std.specs.Prelude.{◌≡◌, ℕ, List, [], Option, Some, None, ◌==◌, find, codes, Ok}
+use Rattle.std.specs.Prelude.{◌≡◌, ℕ, List, [], Option, Some, None, ◌==◌, find, Ok}
 use Rattle.reg_base.specs.Refusals.{checks, code_of, refusal_name}
 use Rattle.reg_base.specs.Sentences.{refusal_sentence}
 use Rattle.reg_base.specs.declared.refusals.Refusal.{Refusal}

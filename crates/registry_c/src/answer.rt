@@ -3,8 +3,10 @@
 ghost use Rattle.std.specs.Prelude.{◌≡◌, Ok, Err};
 ghost use Rattle.registry_c.specs.Answers.{Tells, answer_of, cause_number, room_after};
 ghost use Rattle.registry_c.specs.Names.{TellsText};
+ghost use Rattle.registry_c.specs.Next.{TellsNext};
 
 use crate::fault::Fault;
+use crate::next::next_for;
 use crate::question::Question;
 use crate::texts::text_for;
 use reg_text::Cause;
@@ -14,7 +16,8 @@ use std::alloc::Global;
 #[repr(C)]
 #[derive(Clone, Copy, Debug, PartialEq, Eq)]
 pub struct Answer {
-    /// 0 if there is a text; 2 if there is no such account; 3 if the day text has a fault; 4 if memory ran out.
+    /// 0 if there is a text; 2 if there is no such account; 3 if the day text has a fault; 4 if memory ran out; 6 if
+    /// the date of the next day is none, or not later than the day.
     pub status: u32,
     /// The first cause that applies to the faulty row, from 1 on in the order of [`Cause`]. Otherwise 0.
     pub cause: u32,
@@ -29,6 +32,17 @@ pub(crate) fn tell(alloc: Global, question: Question, day: &[u8], room: &mut [u8
     ensures { Tells question day.now result room.old room.new }
 {
     match text_for(alloc, question, day) {
+        Ok(text) => put(text.as_slice(), room),
+        Err(fault) => refuse(fault),
+    }
+}
+
+/// Answers the text of the next day up to its instructions, from the text of the day and a date, and writes it if there
+/// is room for all of it.
+pub(crate) fn tell_next(alloc: Global, day: &[u8], date: &[u8], room: &mut [u8]) -> Answer
+    ensures { TellsNext day.now date.now result room.old room.new }
+{
+    match next_for(alloc, day, date) {
         Ok(text) => put(text.as_slice(), room),
         Err(fault) => refuse(fault),
     }
@@ -66,6 +80,7 @@ fn refuse(fault: Fault) -> Answer
         Fault::NoAccount => (2, 0, 0),
         Fault::Row { row, cause } => (3, number_of(cause), row),
         Fault::NoMemory => (4, 0, 0),
+        Fault::NoDate => (6, 0, 0),
     };
     Answer {
         status,

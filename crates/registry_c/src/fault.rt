@@ -20,6 +20,8 @@ pub enum Fault {
     },
     /// The account of a statement is not in the book.
     NoAccount,
+    /// What should be the date of the next day is no date, or none that is later than the day.
+    NoDate,
     /// Memory ran out.
     NoMemory,
 }

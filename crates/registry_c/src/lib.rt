@@ -10,17 +10,18 @@ ghost use Rattle.std.specs.Prelude.{◌≡◌, codes};
 ghost use Rattle.registry_c.specs.Answers.{Tells};
 ghost use Rattle.registry_c.specs.Names.{TellsText, cause_with, check_with};
 ghost use Rattle.registry_c.specs.Names.{sentence_of_check, word_of_cause, word_of_check};
+ghost use Rattle.registry_c.specs.Next.{TellsNext};
 ghost use Rattle.registry_c.specs.declared.question.Question.TheVariants.{Figures, Log, Plan};
 ghost use Rattle.registry_c.specs.declared.question.Question.TheVariants.{Report, Statement, Statements, Totals};
 
 mod answer;
 mod fault;
 mod names;
+mod next;
 mod question;
-mod statements;
 mod texts;
 
-use crate::answer::{tell, tell_text};
+use crate::answer::{tell, tell_next, tell_text};
 pub use answer::Answer;
 pub use fault::Fault;
 pub use question::Question;
@@ -76,6 +77,16 @@ pub extern "C" fn registry_statements(alloc: Global, day: &[u8], room: &mut [u8]
     ensures { Tells Statements day.now result room.old room.new }
 {
     tell(alloc, Question::Statements, day, room)
+}
+
+/// The text of the next day up to its instructions, from the text of a day and a later date: its heading, and the
+/// accounts as the day leaves them. The law `each_next_text_is_read_on` of `reg_text` says how it is read with
+/// instructions behind it.
+#[unsafe(no_mangle)]
+pub extern "C" fn registry_next(alloc: Global, day: &[u8], date: &[u8], room: &mut [u8]) -> Answer
+    ensures { TellsNext day.now date.now result room.old room.new }
+{
+    tell_next(alloc, day, date, room)
 }
 
 /// The determined compliance figures of all accounts after the day.

@@ -77,6 +77,8 @@ pub enum Fault {
     },
     /// The day has no such account.
     NoAccount,
+    /// The date of a next day is not later than the day, or no date of a day text.
+    NoNextDate,
     /// Memory ran out.
     NoMemory,
 }
@@ -86,6 +88,7 @@ impl fmt::Display for Fault {
         match self {
             Fault::Row { row, cause } => write!(f, "row {row}: {cause}"),
             Fault::NoAccount => f.write_str("no such account"),
+            Fault::NoNextDate => f.write_str("the next day is later than the day, and a date of a day text"),
             Fault::NoMemory => f.write_str("out of memory"),
         }
     }

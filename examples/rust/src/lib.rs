@@ -133,6 +133,27 @@ pub fn totals(day: &[u8]) -> Result<Vec<u8>, Fault> {
     native::totals(day)
 }
 
+/// The text of the next day up to its instructions, from the text of a day: its `do` rows, if it has some, and the row
+/// `end` go behind it.
+///
+/// ```
+/// use registry::Date;
+///
+/// let mut next = registry::next_day(
+///     &std::fs::read("../first-transfer.csv")?,
+///     Date { year: 2025, month: 4, day: 1 },
+/// )?;
+/// next.extend_from_slice(b"end\n");
+/// assert_eq!(registry::settle(&next)?.accounts().next().map(|own| own.general), Some(60));
+/// # Ok::<(), Box<dyn std::error::Error>>(())
+/// ```
+///
+/// # Errors
+/// As [`settle`], and `NoNextDate` if the date is not later than the day, or no date of a day text.
+pub fn next_day(day: &[u8], date: Date) -> Result<Vec<u8>, Fault> {
+    native::next_day(day, &date.to_string())
+}
+
 /// The version of the engine, such as `1.1`.
 ///
 /// ```

@@ -1,6 +1,6 @@
 //! What the crate answers, on the examples and on texts that are no day texts.
 
-use registry::{Account, Act, Cause, Fault, LogRow, Outcome};
+use registry::{Account, Act, Cause, Date, Fault, LogRow, Outcome};
 use std::fs;
 use std::path::{Path, PathBuf};
 use std::thread;
@@ -49,6 +49,20 @@ fn other_questions_are_answered() {
     let figures = registry::figures(&example("compliance-year.csv")).unwrap();
     assert_eq!(figures, stored("compliance-year-figures.stdout").into_bytes());
     assert!(registry::totals(&day).unwrap().starts_with(b"totals,general,"));
+}
+
+#[test]
+fn a_day_is_led_on() {
+    let day = example("first-transfer.csv");
+    let mut next = registry::next_day(&day, Date { year: 2025, month: 4, day: 1 }).unwrap();
+    next.extend_from_slice(b"end\n");
+    let (before, after) = (registry::settle(&day).unwrap(), registry::settle(&next).unwrap());
+    assert_eq!(after.book().collect::<Vec<_>>(), before.book().collect::<Vec<_>>());
+    assert_eq!(after.next_record(), before.next_record());
+    for (year, day_of_month) in [(2025, 31), (2025, 99), (2101, 1)] {
+        let none = registry::next_day(&day, Date { year, month: 3, day: day_of_month });
+        assert_eq!(none, Err(Fault::NoNextDate));
+    }
 }
 
 #[test]

@@ -200,6 +200,11 @@ class Day:
         rows = [row for row in _rows(native.figures(self.text)) if row[0] == "determined"]
         return (Determined(int(account), int(year), int(figure)) for _, account, year, figure in rows)
 
+    def next_day(self, on: date) -> bytes:
+        """The text of the next day up to its instructions: its `do` rows, if it has some, and the row `end` go behind
+        it. Raises `NoNextDate` if this date is not later than the day."""
+        return native.next_day(self.text, on)
+
     def plan(self) -> Iterator[Task]:
         """Which instructions must wait for which others."""
         place, level, waits_for = 0, 0, []  # type: int, int, list[tuple[int, int]]

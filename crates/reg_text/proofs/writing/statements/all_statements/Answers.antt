@@ -2,11 +2,11 @@
 use Rattle.std.proofs.Common.{◌≡◌, ℕ, true, subst, sym}
 use Rattle.std.specs.Prelude.{is_some}
 use Rattle.reg_rules.specs.State.{State, account}
-use Rattle.registry_c.proofs.EachAccount.{own-found}
-use Rattle.registry_c.proofs.statements.all_statements.Goals as goal
+use Rattle.reg_text.proofs.StatementFacts.{own-found}
+use Rattle.reg_text.proofs.writing.statements.all_statements.Goals as goal
 
-pub statement_of-requires : goal.statement_of-requires
-statement_of-requires c =
+pub put_statement-requires-clause-known : goal.put_statement-requires-clause-known
+put_statement-requires-clause-known c =
     let own = c.account-item.result in
     let found = own-found c.accounts-accounts.result.now c.loop-account.account-index own c.loop-account-test.true
     c.account-item.is in
