@@ -21,8 +21,7 @@ ghost use Rattle.reg_regions.specs.Stealing.{first_numbers, settled_places, time
 use crate::dealing::Deal;
 use crate::gate::PlaceGate;
 use crate::running::deques::{ReadyWorkers, deal_regions, make_workers};
-use crate::running::list_region::{Cutting, ListRegion};
-use crate::running::regions::make_regions;
+use crate::running::region::{Cutting, ListRegion, make_regions};
 use crate::running::replies::replies_for_all;
 use crate::running::settled_list::SettledList;
 use crate::running::shift::Notes;
@@ -39,8 +38,7 @@ use std::marker::Brand;
 use std::thread::Threads;
 
 mod deques;
-mod list_region;
-mod regions;
+mod region;
 mod replies;
 pub(crate) mod settled_list;
 pub(crate) mod shift;
@@ -52,7 +50,7 @@ mod worker;
 
 /// What workers made of lists of accounts.
 #[derive(Drop)]
-pub(crate) struct SettledLists<N> {
+pub(crate) struct Outcome<N> {
     /// The lists, in their order.
     pub(crate) lists: Vec<Vec<Account>>,
     /// The replies, in the order of the batch.
@@ -77,7 +75,7 @@ pub(crate) fn settle_lists<N: Notes + Send, R: Threads + Sync, G: PlaceGate>(
     lists: Vec<Vec<Account>>,
     workers: u32,
     gate: &G,
-) -> Result<SettledLists<N>, NoMemory>
+) -> Result<Outcome<N>, NoMemory>
     requires workers { (1 ≤ workers) × (workers ≤ 8) }
     requires rules { AreRules setting.now.rules }
     requires ready { IsReady (batch.now.base + 1) (joined_lists lists.items) }
@@ -175,7 +173,7 @@ fn settle_by_workers<C: Cutting + Send + Sync, N: Notes + Send, R: Threads + Syn
     seat: Seat,
     workers: u32,
     gate: &G,
-) -> Result<SettledLists<N>, NoMemory>
+) -> Result<Outcome<N>, NoMemory>
     requires workers { (1 ≤ workers) × (workers ≤ 8) }
     requires table { (places table ≡ vec_len lists) × (seat_table seat ≡ table_id table) }
     requires fresh { known seat ≡ fresh }

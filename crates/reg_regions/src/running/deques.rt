@@ -4,7 +4,7 @@ ghost use Rattle.std.specs.Prelude.{◌≡◌, ◌+◌, ◌≤◌, [], All, map,
 ghost use Rattle.reg_claim.specs.Seats.{known, seat_table, table_id};
 ghost use Rattle.reg_deques.specs.Yards.{deques_of_pass, worker_of};
 
-use crate::running::list_region::{Cutting, ListRegion};
+use crate::running::region::{Cutting, ListRegion};
 use crate::running::taker::{Sharing, Taker};
 use crate::running::worker::ReadyWorker;
 use reg_base::NoMemory;

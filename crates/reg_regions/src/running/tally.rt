@@ -10,7 +10,7 @@ ghost use Rattle.reg_regions.specs.Homes.{IsPlaceUpTo};
 ghost use Rattle.reg_regions.specs.Settling.{kept};
 ghost use Rattle.reg_regions.specs.Stealing.{numbers_of, settled_places, times_noted};
 
-use crate::running::SettledLists;
+use crate::running::Outcome;
 use crate::running::replies::put_replies;
 use crate::running::settled_list::SettledList;
 use crate::running::shift::Notes;
@@ -112,7 +112,7 @@ pub(crate) fn take_apart<N: Notes>(
     settled: Vec<SettledList>,
     notes: Vec<N>,
     slots: Vec<Reply>,
-) -> Result<SettledLists<N>, NoMemory>
+) -> Result<Outcome<N>, NoMemory>
     requires { All (IsPlaceUpTo (length slots.items)) (settled_places settled.items) }
     ensures lists { IfOk result (λ all. all.lists.items ≡ map (λ s. s.accounts) settled.items) }
     ensures replies { IfOk result
@@ -130,7 +130,7 @@ pub(crate) fn take_apart<N: Notes>(
         lists.push(accounts)?;
         put_replies(&mut replies, own);
     }
-    Ok(SettledLists {
+    Ok(Outcome {
         lists,
         replies,
         notes,

@@ -6,7 +6,7 @@ ghost use Rattle.reg_deques.specs.Yards.{deques, worker_of};
 ghost use Rattle.reg_regions.specs.Stealing.{IsGround, AreSettled};
 
 use crate::gate::PlaceGate;
-use crate::running::list_region::{Cutting, ListRegion};
+use crate::running::region::{Cutting, ListRegion};
 use crate::running::shift::Notes;
 use crate::running::taker::Sharing;
 use crate::running::worker::{BusyWorker, ReadyWorker, work};

@@ -8,7 +8,7 @@ ghost use Rattle.reg_regions.specs.Stealing.{IsGround, IsSettledList, AreSettled
 ghost use Rattle.reg_regions.specs.Taking.{WereTaken, taker_view};
 
 use crate::gate::PlaceGate;
-use crate::running::list_region::{Cutting, ListRegion};
+use crate::running::region::{Cutting, ListRegion};
 use crate::running::settled_list::SettledList;
 use crate::running::shift::{Notes, settle_gated};
 use crate::running::taker::{Sharing, Taker};

@@ -1,7 +1,7 @@
 use Rattle.std.proofs.Common.{◌≡◌, ◌+◌, map, drop, length, vec_len}
 use Rattle.reg_base.specs.Rising.{count_up}
 use Rattle.reg_regions.specs.Stealing.{region_openings}
-use Rattle.reg_regions.proofs.running.regions.make_regions.Given as goal
+use Rattle.reg_regions.proofs.running.region.make_regions.Given as goal
 
 -- what is left are the lists from the next number on
 abbrev pub invariant-loop-accounts : goal.invariant-loop-accounts

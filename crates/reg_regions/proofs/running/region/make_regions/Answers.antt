@@ -4,7 +4,7 @@ use Rattle.std.proofs.lemmas.List.{map-append}
 use Rattle.reg_regions.specs.Stealing.{region_openings}
 use Rattle.reg_regions.proofs.Listed.{next-opening, next-deal}
 use Rattle.reg_regions.proofs.Placing.{count-more}
-use Rattle.reg_regions.proofs.running.regions.make_regions.Goals as goal
+use Rattle.reg_regions.proofs.running.region.make_regions.Goals as goal
 
 pub loop-accounts-preserved : goal.loop-accounts-preserved
 loop-accounts-preserved g c =
