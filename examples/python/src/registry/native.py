@@ -149,6 +149,7 @@ statements = _command("statements")
 
 
 def statement(day: Text, account: int) -> bytes:
+    """The statement of an account. Raises `NoAccount` if the day has no such account."""
     text = bytes_of(day)
     # (any other number is asked for as 0, which no account has: a fault of the text is told first, as always)
     number, call = account if 0 <= account <= MOST_NUMBER else 0, _function("statement", ctypes.c_uint32)
@@ -156,6 +157,7 @@ def statement(day: Text, account: int) -> bytes:
 
 
 def next_day(day: Text, on: date) -> bytes:
+    """The text of the next day up to its instructions. Raises `NoNextDate` if this date is not later than the day."""
     text, named, call = bytes_of(day), on.isoformat().encode(), _function("next", *_DAY)
     return _ask(lambda room: call(text, len(text), named, len(named), room, len(room)), len(text) + 4096)
 
