@@ -95,6 +95,11 @@ def settings_trials(work: Path) -> Iterator[Told]:
         for words in (["status"], ["close", "--date", TUESDAY]):
             yield f"{lines!r}: {words[0]}", unchanged(office, 3, ["office.ini", has], *words, *own)
         shutil.rmtree(office)
+    office, own = settled(work, "alone", "close, release", {"eva": "Eva: close", "finn": "Finn: close, release"})
+    alone = ["LOOK AT THIS: release waits for a second one, and office.ini names fewer than two who may give it"]
+    yield "what one person alone may do", told(0, alone, "status", *own)
+    said = Said("status", *own)
+    yield "what two may do", said if "close waits" in str(said) else None
 
 
 def login_trials(work: Path) -> Iterator[Told]:

@@ -18,7 +18,7 @@ use Rattle.reg_book.specs.Day.{DayValue, IsDay, setting, closing_state, settled_
 use Rattle.reg_book.specs.Settled.{committed}
 use Rattle.reg_book.specs.Laws.{StaysReady, NumbersStay, ClosingIsABook, CommittedIsClosing}
 use Rattle.reg_book.proofs.lemmas.Logs.{length-replies_of}
-use Rattle.reg_regions.specs.declared.region.Placed.{Placed}
+use Rattle.reg_regions.specs.declared.instruction.Placed.{Placed}
 use Rattle.reg_regions.specs.declared.dealing.Dealing.{Dealing}
 use Rattle.reg_regions.specs.declared.dealing.Swap.{Swap}
 use Rattle.reg_regions.specs.Days.{RegionsAreADay}

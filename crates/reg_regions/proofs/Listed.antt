@@ -19,7 +19,7 @@ use Rattle.reg_rules.specs.Laws.{StepLaws, IsReady}
 use Rattle.reg_rules.proofs.lemmas.Accounts.{length-numbers}
 use Rattle.reg_book.specs.Indexes.{index_lists}
 use Rattle.reg_regions.specs.declared.dealing.Deal.{Deal}
-use Rattle.reg_regions.specs.declared.region.Placed.{Placed}
+use Rattle.reg_regions.specs.declared.instruction.Placed.{Placed}
 use Rattle.reg_regions.specs.declared.running.settled_list.SettledList.{SettledList}
 use Rattle.reg_regions.specs.Days.{Run, all_opening, AreRuns}
 use Rattle.reg_regions.specs.Dealing.{AreDealt, AreDealtOnce, AreSettledOnce, put_all}

@@ -1,8 +1,8 @@
 -- Settled regions counted: each number once, and each place as often as it was dealt out.
 use Rattle.std.proofs.Common.{◌≡◌, ℕ, zero, suc, ◌+◌, ◌<◌, ◌≤◌, ◌==◌, Bool, true, false, List, [], ◌∷◌, ◌++◌}
-use Rattle.std.proofs.Common.{append_assoc, length, length-append, map, refl, sym, ap, ◌∙◌, arith, add-one}
+use Rattle.std.proofs.Common.{append_assoc, length, map, refl, sym, ap, ◌∙◌, arith, add-one}
 use Rattle.std.specs.Prelude.{IsPermutation, All}
-use Rattle.std.specs.List.{flat_map, sum_by}
+use Rattle.std.specs.List.{flat_map, range_with_len, sum_by}
 use Rattle.std.specs.List.Sorted.{IsNonDecreasingBy}
 use Rattle.std.proofs.lemmas.List.{length-map, get_or-map}
 use Rattle.std.proofs.lemmas.List.Elements.{All-append, All-nil, All-head, All-tail}
@@ -141,9 +141,15 @@ all-flat P f (x ∷ xs) all =
     All-append P (f x) (flat_map f xs) (All-head (λ y. All P (f y)) x xs all)
     (all-flat P f xs (All-tail (λ y. All P (f y)) x xs all))
 
-pub length-below : (n : ℕ) → length (first_numbers n) ≡ n
-length-below zero = refl
-length-below (suc n) =
-    let both = length-append (first_numbers n) (n ∷ []) in
-    let before = length-below n in
-    omega (arith, both, before)
+-- two words for the numbers below one
+pub range-first : (n : ℕ) → range_with_len 0 n ≡ first_numbers n
+range-first zero = refl
+range-first (suc n) =
+    let e : 0 + n ≡ n = omega arith in
+    go n 0 ∙ ap (λ x. range_with_len 0 n ++ x ∷ []) e ∙ ap (λ ns. ns ++ n ∷ []) (range-first n)
+  where
+    go : (m f : ℕ) → range_with_len f (suc m) ≡ range_with_len f m ++ (f + m) ∷ []
+    go zero f = let e : f ≡ f + 0 = omega arith in ap (λ x. x ∷ []) e
+    go (suc m) f =
+        let e : f + 1 + m ≡ f + suc m = omega arith in
+        ap (λ xs. f ∷ xs) (go m (f + 1)) ∙ ap (λ x. f ∷ (range_with_len (f + 1) m ++ x ∷ [])) e

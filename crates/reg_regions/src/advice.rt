@@ -12,7 +12,7 @@ use crate::advice::lookups::{find_by_runs, find_touches};
 use crate::advice::movers::Movers;
 use crate::advice::numbers::{index_at, number_or_zero};
 use crate::dealing::{Deal, Dealing};
-use crate::region::Indexes;
+use crate::instruction::Indexes;
 use crate::runs::runs_of;
 use reg_account::Account;
 use reg_base::{Batch, NoMemory};

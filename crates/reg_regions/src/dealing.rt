@@ -3,7 +3,7 @@
 ghost use Rattle.std.specs.Prelude.{◌≡◌, IfOk};
 ghost use Rattle.reg_base.specs.Rising.{count_up};
 
-use crate::region::Indexes;
+use crate::instruction::Indexes;
 use reg_base::NoMemory;
 use std::alloc::Global;
 

@@ -21,16 +21,16 @@ mod advice;
 mod dealing;
 mod exchange;
 mod gate;
+mod instruction;
 mod laws;
 mod not_settled;
-mod region;
 mod running;
 mod runs;
 mod settlement;
 
 pub use gate::{FreePlaces, PlaceGate};
+pub use instruction::{Indexes, Placed};
 pub use laws::{region_is_as_the_day, regions_are_a_day};
 pub use not_settled::{NotSettled, RegionsFault};
-pub use region::{Indexes, Placed};
 pub use running::shift::WorkShift;
 pub use settlement::{settle_regions, settle_without_shifts};

@@ -4,43 +4,45 @@
 //! One worker settles it whole, in the order of the batch. Each worker has a deque of regions. One whose deque is empty
 //! steals from the others, and leaves when there is nothing to steal: no region appears later, so nobody waits.
 
-ghost use Rattle.std.specs.Prelude.{◌≡◌, ◌+◌, ◌≤◌, ◌<◌, ◌^◌, ℕ, length, map, vec_len, IfOk, IfSome};
+ghost use Rattle.std.specs.Prelude.{◌≡◌, ◌+◌, ◌≤◌, ◌<◌, ◌^◌, ℕ, All, length, map, vec_len, IfOk, IfSome};
 ghost use Rattle.reg_base.specs.Rules.{AreRules};
 ghost use Rattle.reg_rules.specs.Laws.{IsReady};
 ghost use Rattle.reg_claim.specs.Views.{fresh};
 ghost use Rattle.reg_claim.specs.Seats.{known, seat_table, table_id, places};
+ghost use Rattle.reg_deques.specs.Yards.{deques, deques_of_pass, worker_of};
+ghost use Rattle.reg_facts.specs.Counting.{times, once};
 ghost use Rattle.reg_regions.specs.Dealing.{AreDealtOnce, AreSettledOnce};
 ghost use Rattle.reg_regions.specs.Homes.{AreAllHome};
 ghost use Rattle.reg_regions.specs.Lists.{joined_lists, sizes_of};
-ghost use Rattle.reg_regions.specs.Stealing.{region_openings, IsGround, AreNotesOf};
-ghost use Rattle.reg_regions.specs.Stealing.{first_numbers, times_noted};
+ghost use Rattle.reg_regions.specs.Settling.{kept};
+ghost use Rattle.reg_regions.specs.Stealing.{region_openings, IsGround, AreSettled, AreNotesOf, numbers_of};
+ghost use Rattle.reg_regions.specs.Stealing.{first_numbers, settled_places, times_noted};
 
 use crate::dealing::Deal;
 use crate::gate::PlaceGate;
-use crate::running::deques::{
-    ReadyWorkers, deal_regions, make_deques, make_stealers, make_workers,
-};
-use crate::running::list_region::Cutting;
-use crate::running::regions::make_regions;
+use crate::running::deques::{ReadyWorkers, deal_regions, make_workers};
+use crate::running::region::{Cutting, ListRegion, make_regions};
 use crate::running::replies::replies_for_all;
 use crate::running::settled_list::SettledList;
 use crate::running::shift::Notes;
+use crate::running::taker::Sharing;
 use crate::running::tally::{Done, count_up, in_order, take_apart};
 use crate::running::threads::run_all;
 use reg_account::Account;
 use reg_base::{Batch, NoMemory};
 use reg_claim::{ClaimTable, Seat};
+use reg_deques::{Owner, Pass, Yard};
 use reg_rules::{Reply, Setting, step_laws};
 use std::alloc::Global;
 use std::marker::Brand;
 use std::thread::Threads;
 
 mod deques;
-mod list_region;
-mod regions;
+mod region;
 mod replies;
 pub(crate) mod settled_list;
 pub(crate) mod shift;
+mod taker;
 mod tally;
 mod threads;
 pub(crate) mod whole;
@@ -48,7 +50,7 @@ mod worker;
 
 /// What workers made of lists of accounts.
 #[derive(Drop)]
-pub(crate) struct SettledLists<N> {
+pub(crate) struct Outcome<N> {
     /// The lists, in their order.
     pub(crate) lists: Vec<Vec<Account>>,
     /// The replies, in the order of the batch.
@@ -73,7 +75,7 @@ pub(crate) fn settle_lists<N: Notes + Send, R: Threads + Sync, G: PlaceGate>(
     lists: Vec<Vec<Account>>,
     workers: u32,
     gate: &G,
-) -> Result<SettledLists<N>, NoMemory>
+) -> Result<Outcome<N>, NoMemory>
     requires workers { (1 ≤ workers) × (workers ≤ 8) }
     requires rules { AreRules setting.now.rules }
     requires ready { IsReady (batch.now.base + 1) (joined_lists lists.items) }
@@ -114,7 +116,9 @@ fn new_table(alloc: Global, count: u32) -> Result<(ClaimTable, Seat), NoMemory>
 
 // How many workers there are regions for: one, or all.
 fn crew_for(deals: &[Deal], workers: u32) -> u32
-    ensures { result ≤ workers }
+    requires { 1 ≤ workers }
+    ensures some { 1 ≤ result }
+    ensures few { result ≤ workers }
 {
     if are_few(deals) {
         workers.min(1)
@@ -169,9 +173,9 @@ fn settle_by_workers<C: Cutting + Send + Sync, N: Notes + Send, R: Threads + Syn
     seat: Seat,
     workers: u32,
     gate: &G,
-) -> Result<SettledLists<N>, NoMemory>
-    requires workers { workers ≤ 8 }
-    requires table { (table_id table ≡ C.table) × (places table ≡ vec_len lists) × (seat_table seat ≡ C.table) }
+) -> Result<Outcome<N>, NoMemory>
+    requires workers { (1 ≤ workers) × (workers ≤ 8) }
+    requires table { (places table ≡ vec_len lists) × (seat_table seat ≡ table_id table) }
     requires fresh { known seat ≡ fresh }
     requires openings { C.openings ≡ region_openings lists.items }
     requires deals { C.deals ≡ deals.items }
@@ -188,20 +192,61 @@ fn settle_by_workers<C: Cutting + Send + Sync, N: Notes + Send, R: Threads + Syn
     let count = lists.len() as u32;
     let crew = crew_for(&deals, workers);
     let regions = make_regions::<C>(alloc, deals, lists)?;
-    let mut deques = make_deques(alloc, crew)?;
-    let stealers = make_stealers(alloc, &deques)?;
-    deal_regions(regions, &mut deques)?;
-    let begun = make_workers(alloc, &table, seat, deques)?;
-    let ReadyWorkers {
-        seat: rest,
-        workers: ready,
-    } = begun;
-    let ended = run_all(rt, alloc, setting, batch, &table, &stealers, gate, ready)?;
-    let done = count_up(alloc, count, table, rest, ended)?;
+    let (yard, owners, passes) = Yard::new(alloc, crew)?;
+    let done = run_dealt::<C, Brand, N, R, G>(
+        rt, alloc, setting, batch, count, table, seat, regions, yard, owners, passes, gate,
+    )?;
     let Done { settled, notes } = done;
     let notes = with_idle(alloc, crew, workers, notes)?;
     let settled = in_order(settled);
     let slots = replies_for_all(alloc, batch.len())?;
     let all = take_apart(alloc, settled, notes, slots)?;
     Ok(all)
+}
+
+// Deals regions to the deques of workers, lets these run them, and counts up what they did.
+fn run_dealt<
+    C: Cutting + Send + Sync,
+    S: Sharing + Send + Sync,
+    N: Notes + Send,
+    R: Threads + Sync,
+    G: PlaceGate,
+>(
+    rt: &R,
+    alloc: Global,
+    setting: &Setting,
+    batch: &Batch,
+    count: u32,
+    table: ClaimTable,
+    seat: Seat,
+    regions: Vec<ListRegion<C>>,
+    yard: Yard<ListRegion<C>>,
+    owners: Vec<Owner<ListRegion<C>>>,
+    passes: Vec<Pass<ListRegion<C>>>,
+    gate: &G,
+) -> Result<Done<N>, NoMemory>
+    requires ground { IsGround setting.now batch.now C.openings C.deals }
+    requires count { count ≡ length C.openings }
+    requires table { (table_id table ≡ S.table) × (places table ≡ count) × (seat_table seat ≡ S.table) }
+    requires fresh { known seat ≡ fresh }
+    requires yard { deques yard ≡ S.deques }
+    requires passes { All (λ p. deques_of_pass p ≡ S.deques) passes.items }
+    requires few { vec_len passes ≤ 8 }
+    ensures settled { IfOk result (λ done. AreSettled setting.now batch.now C.openings C.deals done.settled.items) }
+    ensures each { IfOk result
+        (λ done. (p : ℕ) → times p (numbers_of done.settled.items) ≡ once (length C.openings) p) }
+    ensures workers { IfOk result (λ done. map N.worker done.notes.items ≡ map worker_of passes.items) }
+    ensures times { IfOk result (λ done. (p : ℕ) → times_noted N.places p done.notes.items
+        ≡ times p (kept N.keeps (settled_places done.settled.items))) }
+{
+    let mut owners = owners;
+    deal_regions(regions, &mut owners)?;
+    let begun: ReadyWorkers<ListRegion<C>, S> = make_workers(alloc, &table, seat, owners, passes)?;
+    let ReadyWorkers {
+        seat: rest,
+        workers: ready,
+    } = begun;
+    let ended = run_all(rt, alloc, setting, batch, &table, &yard, gate, ready)?;
+    let done = count_up(alloc, count, table, rest, ended)?;
+    Ok(done)
 }

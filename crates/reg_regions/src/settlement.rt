@@ -24,7 +24,7 @@ use crate::laws::regions_are_a_day;
 use crate::not_settled::{NotSettled, RegionsFault};
 use crate::running::shift::{NoShift, Notes, WorkShift};
 use crate::running::whole::settle_whole;
-use crate::running::{SettledLists, settle_lists};
+use crate::running::{Outcome, settle_lists};
 use reg_account::Account;
 use reg_base::{Batch, NoMemory, Rules};
 use reg_book::{
@@ -159,7 +159,7 @@ fn settle_book<N: Notes + Send, R: Threads + Sync, G: PlaceGate>(
         directory: &directory,
     };
     let settled = settle_by_advice(rt, alloc, &setting, batch, lists, workers, gate)?;
-    let SettledLists {
+    let Outcome {
         lists: left,
         replies,
         notes,
@@ -186,7 +186,7 @@ fn settle_by_advice<N: Notes + Send, R: Threads + Sync, G: PlaceGate>(
     lists: Vec<Vec<Account>>,
     workers: u32,
     gate: &G,
-) -> Result<SettledLists<N>, NoMemory>
+) -> Result<Outcome<N>, NoMemory>
     requires workers { (1 ≤ workers) × (workers ≤ 8) }
     requires rules { AreRules setting.now.rules }
     requires ready { IsReady (batch.now.base + 1) (joined_lists lists.items) }

@@ -1,7 +1,7 @@
 -- The statement of an account over a day: what it held before, the log rows that concern it, and what it holds after.
 use Rattle.std.specs.Prelude.{◌≡◌, ℕ, Bool, true, false, ◌==◌, List, [], ◌∷◌, ◌++◌, filter, filter_map, find, Option}
 use Rattle.std.specs.Prelude.{None, unwrap_or, is_some, codes}
-use Rattle.std.specs.List.{last_or}
+use Rattle.std.specs.List.{flat_map, last_or}
 use Rattle.reg_base.specs.Directory.{DirectoryValue}
 use Rattle.reg_base.specs.Footprint.{footprint, is_among}
 use Rattle.reg_rules.specs.declared.reply.HeldNow.{HeldNow}
@@ -16,11 +16,15 @@ use Rattle.reg_text.specs.declared.writing.statements.StatementFault.TheVariants
 use Rattle.reg_text.specs.TextRows.{TextRow}
 use Rattle.reg_text.specs.Spelling.{end_row}
 use Rattle.reg_text.specs.Log.{holding_fields}
-use Rattle.reg_text.specs.Report.{log_rows}
+use Rattle.reg_text.specs.Report.{log_rows, text_of}
+
+-- the accounts that the row's instruction reads or changes
+abbrev pub touched_by : DirectoryValue → LogRow → List ℕ
+touched_by directory row = footprint directory row.instruction.act
 
 -- the account is in the footprint of the row's instruction
 abbrev pub concerns : DirectoryValue → ℕ → LogRow → Bool
-concerns directory a row = is_among (footprint directory row.instruction.act) a
+concerns directory a row = is_among (touched_by directory row) a
 
 -- the log rows in whose footprint the account is, in order
 abbrev pub rows_about : DirectoryValue → ℕ → List LogRow → List LogRow
@@ -59,6 +63,10 @@ statement_rows directory opening rows =
 -- the statement of an account of the book before the day
 abbrev pub statement_of : BookValue → List LogRow → ℕ → List TextRow
 statement_of book rows a = statement_rows (directory_of book.accounts) (held_now book.accounts a) rows
+
+-- the statements of all accounts of the book, in their order, as one text
+abbrev pub statements_of : BookValue → List LogRow → List ℕ
+statements_of book rows = flat_map (λ v. text_of (statement_of book rows v.number)) book.accounts
 
 -- whether the account is in the book
 abbrev pub has_account : BookValue → ℕ → Bool

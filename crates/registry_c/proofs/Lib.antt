@@ -1,2 +1,1 @@
 mod Nobody
-pub mod EachAccount

@@ -1,25 +1,19 @@
 -- What a call asks of a day: the text that answers it, and why there may be none.
 use Rattle.std.specs.Prelude.{◌≡◌, ℕ, List, false, true, ⊤}
-use Rattle.std.specs.List.{flat_map}
 use Rattle.reg_book.specs.Book.{BookValue}
 use Rattle.reg_book.specs.Chains.{book_after}
 use Rattle.reg_book.specs.Day.{DayValue, log_of}
-use Rattle.reg_rules.specs.declared.reply.LogRow.{LogRow}
 use Rattle.reg_text.specs.Determined.{figures_rows}
 use Rattle.reg_text.specs.NextDays.{report_of}
 use Rattle.reg_text.specs.PlanText.{IsPlanText}
 use Rattle.reg_text.specs.Report.{log_rows, text_of}
-use Rattle.reg_text.specs.Statement.{has_account, statement_of}
+use Rattle.reg_text.specs.Statement.{has_account, statement_of, statements_of}
 use Rattle.reg_text.specs.Totals.{totals_rows}
 use Rattle.registry_c.specs.declared.fault.Fault.{Fault}
 use Rattle.registry_c.specs.declared.fault.Fault.TheVariants as fault
 use Rattle.registry_c.specs.declared.question.Question.{Question}
 use Rattle.registry_c.specs.declared.question.Question.TheVariants.{Figures, Log, Plan, Report, Statement}
 use Rattle.registry_c.specs.declared.question.Question.TheVariants.{Statements, Totals}
-
--- the statements of all accounts of a book with this log, in their order, as one text
-abbrev pub statements_of : BookValue → List LogRow → List ℕ
-statements_of book rows = flat_map (λ v. text_of (statement_of book rows v.number)) book.accounts
 
 -- these bytes are the text that answers the question of this day; only an account of the book has a statement
 abbrev pub IsAnswer : Question → DayValue → List ℕ → Type 0

@@ -19,7 +19,6 @@ mod fault;
 mod names;
 mod next;
 mod question;
-mod statements;
 mod texts;
 
 use crate::answer::{tell, tell_next, tell_text};

@@ -34,7 +34,8 @@ pub(crate) fn next_for(alloc: Global, day: &[u8], date: &[u8]) -> Result<Vec<u8>
     Ok(make_next(alloc, input, version, next)?)
 }
 
-// The text of the next day up to its instructions.
+// The text of the next day up to its instructions. As a call of its own it does not share a frame with the reader.
+#[inline(never)]
 fn make_next(
     alloc: Global,
     input: DayInput,

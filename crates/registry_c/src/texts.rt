@@ -14,13 +14,12 @@ ghost use Rattle.registry_c.specs.declared.question.Question.TheVariants as aske
 
 use crate::fault::Fault;
 use crate::question::Question;
-use crate::statements::all_statements;
 use reg_base::{AccountNo, NoMemory};
 use reg_book::{ClosedDay, SettleFault, Settled, log_is_made_again, settle_in_place, settle_plain};
 use reg_plan::Plan;
 use reg_text::{
-    DayInput, StatementFault, figures, plan_text, read_day, statement, totals_text, write_log,
-    write_report_over,
+    DayInput, StatementFault, all_statements, figures, plan_text, read_day, statement, totals_text,
+    write_log, write_report_over,
 };
 use std::alloc::Global;
 

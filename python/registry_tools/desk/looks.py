@@ -2,6 +2,7 @@
 tried by the functions behind the commands."""
 import contextlib
 import datetime
+import re
 import shutil
 import tempfile
 from dataclasses import dataclass, field
@@ -9,13 +10,18 @@ from pathlib import Path
 from typing import Iterator, NoReturn
 
 from registry_tools.desk.reading import Reading
+from registry_tools.desk.words import label
 from registry_tools.errors import FileFault, WordsFault
 from registry_tools.office import composing, hand_in, handed, handed_journal, trial
 from registry_tools.office.changes import change
 from registry_tools.office.folder import Office
 from registry_tools.office.incoming import Forms
 from registry_tools.options import Words
-from registry_tools.sheets.importing import OTHER_FORM
+
+
+# What an instruction that was typed is called, and a cell of it in a message.
+TYPED = "typed at the desk.csv"
+CELL_TYPED = re.compile(re.escape(TYPED) + ", cell [A-Z]+2: ([a-z]+[2-8]?)")
 
 
 class TellingWords(Words):
@@ -76,7 +82,7 @@ def look_at_incoming(own: Reading, paths: list[Path], again: list[tuple[int, int
         return Look([text.replace(f"{paths[0].parent}/", "")], (place, fault.at))
     except (FileFault, WordsFault) as fault:
         said = str(fault).replace(f"{paths[0].parent}/", "")
-        return Look(said.replace(OTHER_FORM, "another form is chosen with the file").split("\n"))
+        return Look(CELL_TYPED.sub(lambda found: label(found[1]), said).split("\n"))
 
 
 def look_at_change(own: Reading, asked: list[str]) -> change.Difference:

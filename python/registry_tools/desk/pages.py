@@ -1,11 +1,10 @@
 """The pages of the day's work: today, what is handed in, the next day, a change by hand, closing, and the days."""
-import datetime
 from typing import Any, Callable, Iterator, Sequence
 
 import flask
 from werkzeug.exceptions import NotFound
 
-from registry_tools.calendars import working_days
+from registry_tools.calendars.dates import date_of
 from registry_tools.calendars.due_days import NOT_DUE
 from registry_tools import installed
 from registry_tools.desk import forms, gate, tables
@@ -26,12 +25,13 @@ from registry_tools.pages.settled import Settled, by_hand_parts, long_date, outc
 from registry_tools.questions import due
 from registry_tools.second import faults, rules
 from registry_tools.sheets import columns as sheets
+from registry_tools.sheets import form
 from registry_tools.tables import RIGHTS
 from registry_tools.texts.in_words import grouped, instruction_in_words
-from registry_tools.texts.report import LogRow
 
 NAMES_OF_SUMS = ("held", "surrendered", "deleted")
-# How the last day of a year may be written in a spreadsheet.
+# What there are empty tables of; and how the last day of a year may be written in a spreadsheet.
+EMPTY = [own for own in form.WHAT if own != form.LABELS]
 DATES = ("31.12.2026", "31/12/2026", "12/31/2026")
 # Of more accounts none is offered in a list; and so many dates are told that come next.
 MOST_OFFERED, MOST_COMING = 1_000, 5
@@ -42,7 +42,6 @@ def today(served: Served) -> Any:
     own = served.reading
     office = own.office()
     handed_in, last = office.handed_in(), office.last()
-    passed = due.missed_days(office)
     items = [
         (item.place, item_in_words(item), item.part.name, item.part.who, local(item.part.at))
         for item in handed_in.items(*handed.KINDS)
@@ -53,7 +52,7 @@ def today(served: Served) -> Any:
     ]
     return show_page(
         "today", "Today", last=last, is_released=office.journal.is_released(), items=items, waits=waits,
-        missed=working_days.days_in_words(passed), taken=handed_in.taken, holder=own.holder(), dates=own.dates(),
+        missed=due.missed_days(office), taken=handed_in.taken, holder=own.holder(), dates=own.dates(),
         coming=due.next_dates(office, MOST_COMING), faults=[*office.changed_files(last)] if last else [],
         new=new_of(own) if items or waits else [], seconds=[*awaited.all_waiting(office, handed_in)],
         forged=approvals.all_approvals(office).faults,
@@ -74,7 +73,7 @@ def hand_in(served: Served) -> Any:
     act = asked("act")
     columns = sheets.columns_of_act(act) if act in faults.ACT_WORDS else []
     return show_page(
-        "hand_in", "Hand in", act=act if columns else "", columns=columns, said=flask.request.args,
+        "hand_in", "Hand in", act=act if columns else "", columns=columns, said=flask.request.args, empty=EMPTY,
         known=forms.accounts_offered(served.reading, MOST_OFFERED) if columns else [], dates=DATES,
         proposed=forms.dates_of_proposal(served.reading) if columns else [], choices=forms.CHOICES,
     )  # fmt: skip
@@ -133,10 +132,11 @@ def change(served: Served) -> Any:
     day = own.text_of_next()
     if number is not None and number not in day.book:
         raise WordsFault(f"there is no account {number} in the next day's text")
-    block = day.book[number] if number is not None else None
-    more = forms.account_fields(block) if block else forms.rule_fields(day) if of == "rules" else {}
+    more: dict[str, Any] = forms.rule_fields(day) if of == "rules" else {}
+    if number is not None:
+        of, more = "account", forms.account_fields(day.book[number], len(day.head.periods))
     return show_page(
-        "change", "Change", account=number, of=of if block is None else "account", date=day.head.date, **more,
+        "change", "Change", account=number, of=of, date=day.head.date, **more,
         known=forms.accounts_offered(own, MOST_OFFERED), kinds=faults.ACCOUNT_KINDS, rights=RIGHTS,
     )  # fmt: skip
 
@@ -152,19 +152,15 @@ def close(served: Served) -> Any:
     except (WordsFault, FileFault) as fault:
         why, notes = str(fault), []
     return show_page(
-        "close", "Close", date=date, dates=dates, why=why, own=outcome_of, alerts=alerts(notes), notes=notes,
+        "close", "Close", date=date, dates=dates, why=why, own=outcome_of, notes=notes,
+        alerts=[note for note in notes if note.startswith(LOOK)],
         totals=[*totals_of(outcome_of)] if outcome_of else [], settler=settler(own),
         asks_second=not own.office().settings.program and not installed.program() and find_library() is None,
     )  # fmt: skip
 
 
-def alerts(notes: list[str]) -> list[str]:
-    """Of these lines, those that somebody has to look at."""
-    return [note for note in notes if note.startswith(LOOK)]
-
-
 def settler(own: Reading) -> str:
-    """What settles the day, in words."""
+    """What settles the day, in words; nothing, if only the second answer does."""
     program = own.office().settings.program or installed.program()
     if program:
         return f"the program {program}"
@@ -172,7 +168,7 @@ def settler(own: Reading) -> str:
         return "the library"
     if installed.is_checkout():
         return "./run, which builds the program first if it is not there"
-    return "nothing yet: office.ini has to name a program, or the second answer settles"
+    return ""
 
 
 def totals_of(own: closing.Outcome) -> Iterator[tuple[str, str, str, str, str]]:
@@ -197,24 +193,20 @@ def days(served: Served) -> Any:
     )  # fmt: skip
 
 
-def day(served: Served, date: datetime.date) -> Any:
+def day(served: Served, word: str) -> Any:
     """The page of a day: what the pages of ./day page say, with its log as one table."""
+    date = date_of("the day", word)
     settled = served.reading.settled(date)
     if settled is None:
         raise NotFound
     only = asked("only")
     log = [own for own in settled.log if only not in ("done", "refused") or own.is_done == (only == "done")]
-    rows = [(own.record, record_in_words(own), named_in(own), outcome_in_words(own), own) for own in log]
+    rows = [(own.record, record_in_words(own), rules.named(own.instruction), outcome_in_words(own), own) for own in log]
     return show_page(
-        "day", long_date(date), date=date, parts=parts_of(settled, served.reading), rows=rows, only=only,
+        "day", long_date(date), date=date, above=parts_of(settled, served.reading), rows=rows, only=only,
         shown_row=lambda row: (row[0], row[1], settled.accounts_of(row[4]), row[3]),
         plan=plan_parts(settled) if settled.log else [],
     )  # fmt: skip
-
-
-def named_in(own: LogRow) -> str:
-    """The accounts of an instruction, by which its row is sorted."""
-    return ", ".join(map(str, rules.named(own.instruction)))
 
 
 def parts_of(settled: Settled, own: Reading) -> list[Markup]:

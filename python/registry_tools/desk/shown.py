@@ -16,7 +16,7 @@ NUMBER = re.compile("[1-9][0-9]{0,8}", re.ASCII)
 
 def show_page(template: str, title: str, **more: Any) -> Response:
     """A page of this template."""
-    text = flask.render_template(f"{template}.html", title=title, is_in=True, **more)
+    text = flask.render_template("base.html", page=f"{template}.html", title=title, is_in=True, **more)
     if 'class="dense' in text or ' dense"' in text:
         # (a page with the widest tables is as wide as they are)
         text = text.replace("<body>", '<body class="broad">', 1)

@@ -14,6 +14,7 @@ from registry_tools.office.sources import MAPPING, TABLE, Original
 from registry_tools.second import faults
 from registry_tools.sheets import columns, importing, sheets
 from registry_tools.sheets.mapping import Mapping
+from registry_tools.sheets.table import OTHER_HEADINGS
 from registry_tools.texts.day_text import read_blocks, read_rows_of
 from registry_tools.texts.rows import Rows, bytes_of, packed_bytes_of, rows_of, rows_of_text
 
@@ -24,10 +25,8 @@ COLUMNS = {*columns.INSTRUCTION_COLUMNS, *columns.ACCOUNT_COLUMNS}
 FIRST_BYTES = 65_536
 # What is tried by a reader of its own has no record number or period yet: all are allowed here, and tried in the day.
 ANY_YEARS = [*range(tables.MOST_PERIODS)]
-EXPECTED = (
-    "rows do, work or account in the first row: what is to be handed in; or the names of columns: ./day form makes an "
-    "empty table, and --mapping names other headings"
-)
+EMPTY_TABLE = f"./day form makes an empty table, and {OTHER_HEADINGS}"
+EXPECTED = f"rows do, work or account in the first row: what is to be handed in; or the names of columns: {EMPTY_TABLE}"
 
 
 @dataclass(frozen=True)

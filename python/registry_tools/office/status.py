@@ -146,11 +146,13 @@ def handed_lines(handed_in: HandedIn, names: Labels) -> Iterator[tuple[str, str]
 
 
 def second_lines(office: Office, handed_in: HandedIn) -> Iterator[tuple[str, str]]:
-    """What waits for another login, and what approves nothing."""
+    """What waits for another login, what approves nothing, and what nobody could approve."""
     for line in awaited.told(office, handed_in):
         yield SECOND, line
     for fault in approvals.all_approvals(office).faults:
         yield SECOND, f"{LOOK}: {fault}"
+    for command in office.people.without_second():
+        yield SECOND, f"{LOOK}: {command} waits for a second one, and office.ini names fewer than two who may give it"
 
 
 def more(count: int) -> Iterator[tuple[str, str]]:

@@ -15,7 +15,7 @@ ROOMS = {"small": (60, "44rem"), "middle": (92, "62rem"), "dense": (145, "78rem"
 EVERYWHERE = "everywhere"
 MANY_ROWS = 100
 # Cells of these columns are not broken.
-DATES = {"Day", "Proposed", "Due", "In effect from"}
+DATES = {"Day", "At", "Proposed", "Due", "In effect from"}
 
 
 # The cells of a row: texts, elements, or what else has words.

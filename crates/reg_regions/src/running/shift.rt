@@ -9,7 +9,7 @@ ghost use Rattle.reg_regions.specs.Homes.{IsHome, AreHome};
 ghost use Rattle.reg_regions.specs.Settling.{IsCarriedOut, IsRun, kept, places_in};
 
 use crate::gate::PlaceGate;
-use crate::region::{Indexes, Placed};
+use crate::instruction::{Indexes, Placed};
 use reg_account::Account;
 use reg_base::{Batch, NoMemory, RecordNo};
 use reg_rules::{Reply, Setting, execute_at, step_laws};

@@ -10,11 +10,11 @@ ghost use Rattle.reg_regions.specs.Homes.{IsPlaceUpTo};
 ghost use Rattle.reg_regions.specs.Settling.{kept};
 ghost use Rattle.reg_regions.specs.Stealing.{numbers_of, settled_places, times_noted};
 
-use crate::running::SettledLists;
-use crate::running::list_region::Cutting;
+use crate::running::Outcome;
 use crate::running::replies::put_replies;
 use crate::running::settled_list::SettledList;
 use crate::running::shift::Notes;
+use crate::running::taker::Sharing;
 use crate::running::worker::BusyWorker;
 use reg_base::NoMemory;
 use reg_claim::{ClaimTable, Seat};
@@ -34,20 +34,19 @@ pub(crate) struct Done<N> {
 ///
 /// # Errors
 /// `NoMemory` if memory ran out.
-pub(crate) fn count_up<C: Cutting, N: Notes>(
+pub(crate) fn count_up<S: Sharing, N: Notes>(
     alloc: Global,
     count: u32,
     table: ClaimTable,
     seat: Seat,
-    workers: Vec<BusyWorker<C, N>>,
+    workers: Vec<BusyWorker<S, N>>,
 ) -> Result<Done<N>, NoMemory>
-    requires count { count ≡ length C.openings }
-    requires table { (table_id table ≡ C.table) × (places table ≡ length C.openings) × (seat_table seat ≡ C.table) }
+    requires table { (table_id table ≡ S.table) × (places table ≡ count) × (seat_table seat ≡ S.table) }
     requires stake { (known seat).stake + vec_len workers ≡ 16 }
     requires fresh { (known seat).finished ≡ [] }
     ensures settled { IfOk result (λ done. done.settled.items ≡ flat_map (λ w. w.settled.items) workers.items) }
     ensures each { IfOk result
-        (λ done. (p : ℕ) → times p (numbers_of done.settled.items) ≡ once (length C.openings) p) }
+        (λ done. (p : ℕ) → times p (numbers_of done.settled.items) ≡ once count p) }
     ensures workers { IfOk result
         (λ done. map N.worker done.notes.items ≡ map (λ w. N.worker w.notes) workers.items) }
     ensures times { IfOk result (λ done. (p : ℕ) → times_noted N.places p done.notes.items
@@ -113,7 +112,7 @@ pub(crate) fn take_apart<N: Notes>(
     settled: Vec<SettledList>,
     notes: Vec<N>,
     slots: Vec<Reply>,
-) -> Result<SettledLists<N>, NoMemory>
+) -> Result<Outcome<N>, NoMemory>
     requires { All (IsPlaceUpTo (length slots.items)) (settled_places settled.items) }
     ensures lists { IfOk result (λ all. all.lists.items ≡ map (λ s. s.accounts) settled.items) }
     ensures replies { IfOk result
@@ -131,7 +130,7 @@ pub(crate) fn take_apart<N: Notes>(
         lists.push(accounts)?;
         put_replies(&mut replies, own);
     }
-    Ok(SettledLists {
+    Ok(Outcome {
         lists,
         replies,
         notes,

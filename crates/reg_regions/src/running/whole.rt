@@ -17,7 +17,7 @@ use crate::advice::lists::join_lists;
 use crate::dealing::Deal;
 use crate::gate::PlaceGate;
 use crate::running::shift::Notes;
-use crate::running::{SettledLists, settle_lists};
+use crate::running::{Outcome, settle_lists};
 use reg_account::Account;
 use reg_base::{Batch, NoMemory};
 use reg_book::all_indexes;
@@ -37,7 +37,7 @@ pub(crate) fn settle_whole<N: Notes + Send, R: Threads + Sync, G: PlaceGate>(
     lists: Vec<Vec<Account>>,
     workers: u32,
     gate: &G,
-) -> Result<SettledLists<N>, NoMemory>
+) -> Result<Outcome<N>, NoMemory>
     requires workers { (1 ≤ workers) × (workers ≤ 8) }
     requires rules { AreRules setting.now.rules }
     requires ready { IsReady (batch.now.base + 1) (joined_lists lists.items) }

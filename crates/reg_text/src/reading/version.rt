@@ -13,10 +13,11 @@ use reg_cuts::{next_row, start_rows};
 use std::alloc::Global;
 
 /// The version of the format in which a day text is spelled, by its first row. `None` if that is no row of a version,
-/// so that the text is no day text.
+/// so that the text is no day text. It is never part of a caller, whose frame would have room for its reader too.
 ///
 /// # Errors
 /// `NoMemory` if memory ran out.
+#[inline(never)]
 pub fn read_version(alloc: Global, text: &[u8]) -> Result<Option<Version>, NoMemory>
     ensures { IfOk result (λ version. (day : DayValue) (reading : IsReading (rows_in_text text.now) day)
         → version ≡ Some reading.version) }

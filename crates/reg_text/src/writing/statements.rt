@@ -1,7 +1,9 @@
 //! Writing the statement of an account.
 
 ghost use Rattle.std.specs.Prelude.{◌≡◌, ◌≤◌, [], ◌∷◌, ◌++◌, true, find, filter_map, option_map, ◌==◌, IfOk, OnOk};
-ghost use Rattle.std.specs.Prelude.{MatchResult, length};
+ghost use Rattle.std.specs.Prelude.{MatchResult, length, map};
+ghost use Rattle.reg_base.specs.Footprint.{is_among};
+ghost use Rattle.reg_book.specs.Book.{directory_of};
 ghost use Rattle.std.specs.List.{last_or};
 ghost use Rattle.csv.specs.Writing.{default_writer, row_text};
 ghost use Rattle.reg_rules.specs.State.{account};
@@ -11,14 +13,14 @@ ghost use Rattle.reg_text.specs.Plain.{IsPlain};
 ghost use Rattle.reg_text.specs.Log.{holding_fields};
 ghost use Rattle.reg_text.specs.Report.{text_of, log_rows};
 ghost use Rattle.reg_text.specs.Statement.{concerns, rows_about, told_by, last_told, statement_rows, statement_of};
-ghost use Rattle.reg_text.specs.Statement.{has_account, IsStatementFault};
+ghost use Rattle.reg_text.specs.Statement.{has_account, statements_of, touched_by, IsStatementFault};
 
 use crate::writing::log::put_log_row;
 use crate::writing::report::put_end;
 use crate::writing::row::RowText;
 use crate::writing::rows::put_numbers;
 use crate::writing::text::Text;
-use reg_base::{AccountNo, AllowanceKind, Directory, NoMemory};
+use reg_base::{AccountNo, AllowanceKind, Directory, Footprint, NoMemory};
 use reg_book::Book;
 use reg_rules::{HeldNow, LogRow, Reply};
 use std::alloc::Global;
@@ -166,4 +168,111 @@ pub fn statement(
         Ok(text) => Ok(text),
         Err(NoMemory) => Err(StatementFault::NoMemory),
     }
+}
+
+// The accounts that the instruction of each row reads or changes.
+#[tactic(auto, using(crate::proofs::StatementFacts::footprint_loop))]
+fn footprints_of(
+    alloc: Global,
+    directory: &Directory,
+    rows: &[LogRow],
+) -> Result<Vec<Footprint>, NoMemory>
+    ensures { IfOk result (λ all. all.items ≡ map (touched_by directory.now) rows.now) }
+{
+    let mut all = Vec::new(alloc);
+    for log in rows {
+        all.push(log.instruction.touches(directory))?;
+    }
+    Ok(all)
+}
+
+// Whether the account is among those of a footprint.
+fn is_in(touched: &Footprint, number: AccountNo) -> bool
+    ensures { result ≡ is_among touched.now number }
+{
+    touched.as_slice().iter().any(|known| *known == number)
+}
+
+// Adds a log row as [`put_row_about`] does, from the footprint of its instruction.
+fn put_row_touching(
+    text: &mut Text,
+    row: &mut RowText,
+    directory: &Directory,
+    number: AccountNo,
+    log: &LogRow,
+    touched: &Footprint,
+    told: Option<HeldNow>,
+) -> Result<Option<HeldNow>, NoMemory>
+    requires { touched.now ≡ touched_by directory.now log.now }
+    ensures text { OnOk result
+        (text.new ≡ text.old ++ text_of (log_rows (rows_about directory.now number (log.now ∷ [])))) }
+    ensures told { IfOk result
+        (λ last. last ≡ last_or told (filter_map (told_by number) (rows_about directory.now number (log.now ∷ [])))) }
+{
+    if !is_in(touched, number) {
+        return Ok(told);
+    }
+    put_row_about(text, row, directory, number, log, told)
+}
+
+// Adds log rows as [`put_rows_about`] does, from the footprints of their instructions.
+#[tactic(auto, using(crate::proofs::TextFacts::row_loop))]
+fn put_rows_touching(
+    text: &mut Text,
+    row: &mut RowText,
+    directory: &Directory,
+    number: AccountNo,
+    rows: &[LogRow],
+    touched: &[Footprint],
+) -> Result<Option<HeldNow>, NoMemory>
+    requires { touched.now ≡ map (touched_by directory.now) rows.now }
+    ensures text { OnOk result (text.new ≡ text.old ++ text_of (log_rows (rows_about directory.now number rows.now))) }
+    ensures told { IfOk result (λ told. told ≡ last_told directory.now number rows.now) }
+{
+    let mut told = None;
+    for index in 0..rows.len() {
+        let log = &rows[index];
+        let accounts = &touched[index];
+        told = put_row_touching(text, row, directory, number, log, accounts, told)?;
+    }
+    Ok(told)
+}
+
+// Adds the statement of an account, which is in the book.
+fn put_statement(
+    text: &mut Text,
+    row: &mut RowText,
+    book: &Book,
+    number: AccountNo,
+    rows: &[LogRow],
+    touched: &[Footprint],
+) -> Result<(), NoMemory>
+    requires known { has_account book.now number ≡ true }
+    requires touched { touched.now ≡ map (touched_by (directory_of book.now.accounts)) rows.now }
+    ensures { OnOk result (text.new ≡ text.old ++ text_of (statement_of book.now rows.now number)) }
+{
+    let opening = find_held_in(book, number).unwrap();
+    put_held(text, row, b"opening", &opening)?;
+    let told = put_rows_touching(text, row, book.directory(), number, rows, touched)?;
+    put_held(text, row, b"closing", &told.unwrap_or(opening))?;
+    put_end(text)
+}
+
+/// The statements of all accounts over a day, in the order of the book, one behind another: each is what [`statement`]
+/// answers, and ends with its row `end`. `book` is the book before the day, and `rows` are the day's log.
+///
+/// # Errors
+/// `NoMemory` if memory ran out.
+#[tactic(auto, using(crate::proofs::TextFacts::row_loop))]
+pub fn all_statements(alloc: Global, book: &Book, rows: &[LogRow]) -> Result<Vec<u8>, NoMemory>
+    ensures { IfOk result (λ text. text.items ≡ statements_of book.now rows.now) }
+{
+    let touched = footprints_of(alloc, book.directory(), rows)?;
+    let mut text = Text::new(alloc);
+    let mut row = RowText::new();
+    let accounts = book.accounts();
+    for account in accounts {
+        put_statement(&mut text, &mut row, book, account.number(), rows, &touched)?;
+    }
+    Ok(text.into_bytes())
 }

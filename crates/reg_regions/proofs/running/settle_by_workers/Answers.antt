@@ -1,31 +1,20 @@
-use Rattle.std.proofs.Common.{◌≡◌, arith, length, map, refl, sym, ap, subst, ◌∙◌}
+use Rattle.std.proofs.Common.{◌≡◌, length, map, refl, sym, ap, subst, ◌∙◌}
 use Rattle.std.specs.Prelude.{All}
-use Rattle.std.proofs.lemmas.List.{length-map}
 use Rattle.std.proofs.lemmas.List.Sorted.{All-permutation}
 use Rattle.reg_base.specs.Rising.{count_up}
 use Rattle.reg_facts.specs.Counting.{times}
 use Rattle.reg_regions.specs.declared.running.settled_list.SettledList.{SettledList}
 use Rattle.reg_regions.specs.Homes.{IsPlaceUpTo}
 use Rattle.reg_regions.specs.Settling.{kept}
-use Rattle.reg_regions.specs.Stealing.{IsSettledList, numbers_of, settled_places, first_numbers, times_noted}
+use Rattle.reg_regions.specs.Stealing.{IsSettledList, numbers_of, settled_places, times_noted}
 use Rattle.reg_regions.proofs.Listed.{dealt-sizes, settled-once, places-once}
 use Rattle.reg_regions.proofs.Marking.{once-within}
-use Rattle.reg_regions.proofs.Tallied.{sorted-numbers, places-permuted, all-flat, length-below}
+use Rattle.reg_regions.proofs.Tallied.{sorted-numbers, places-permuted, range-first}
 use Rattle.reg_regions.proofs.running.settle_by_workers.Goals as goal
-
-pub count_up-requires-clause-stake : goal.count_up-requires-clause-stake
-count_up-requires-clause-stake g c =
-    let numbers = ap length (c.in_ok-ended.ensures.numbers ∙ c.in_ok-begun.ensures.numbers) in
-    let many = length-map c.in_ok-ended.ended.items (λ w. g.N.Notes.worker w.notes) in
-    let count = length-below c.in_ok-deques.deques.len in
-    let stake = c.in_ok-begun.ensures.stake in
-    let len = c.in_ok-ended.ended.ok.0 in
-    omega (arith, numbers, many, count, stake, len)
 
 pub with_idle-requires-clause-crew : goal.with_idle-requires-clause-crew
 with_idle-requires-clause-crew g c =
-    c.in_ok-done.ensures.workers ∙ c.in_ok-ended.ensures.numbers ∙ c.in_ok-begun.ensures.numbers
-    ∙ ap first_numbers c.in_ok-deques.ensures
+    c.in_ok-done.ensures.workers ∙ c.in_ok-yard.ensures.numbers ∙ range-first c.crew_for-crew.result
 
 pub take_apart-requires : goal.take_apart-requires
 take_apart-requires g c =
@@ -42,9 +31,7 @@ take_apart-requires g c =
     sorted-numbers (length openings) done settled moved c.in_order-settled.ensures.sorted
     c.in_ok-done.ensures.each in
     let many = c.requires.ground.as_many in
-    let all : All is settled = All-permutation is done settled moved
-    (subst (All is) (sym c.in_ok-done.ensures.settled)
-    (all-flat is (λ w. w.settled.items) c.in_ok-ended.ended.items c.in_ok-ended.ensures.settled)) in
+    let all : All is settled = All-permutation is done settled moved c.in_ok-done.ensures.settled in
     let n = length batch.instructions in
     let size : length c.in_ok-slots.slots.items ≡ n = c.in_ok-slots.ensures ∙ c.len.ensures.value in
     subst (λ m. All (IsPlaceUpTo m) (settled_places settled)) (sym size)
@@ -67,9 +54,7 @@ returns g c =
     sorted-numbers (length openings) done settled moved c.in_order-settled.ensures.sorted
     c.in_ok-done.ensures.each in
     let many = c.requires.ground.as_many in
-    let all : All is settled = All-permutation is done settled moved
-    (subst (All is) (sym c.in_ok-done.ensures.settled)
-    (all-flat is (λ w. w.settled.items) c.in_ok-ended.ended.items c.in_ok-ended.ensures.settled)) in
+    let all : All is settled = All-permutation is done settled moved c.in_ok-done.ensures.settled in
     let new = c.in_ok-all.all.lists.items in
     let closed = c.in_ok-all.ensures.lists in
     let each = c.requires.each_once in

@@ -4,7 +4,7 @@ use Rattle.std.specs.Prelude.{All}
 use Rattle.std.proofs.lemmas.List.{take_more, map-append}
 use Rattle.std.proofs.lemmas.List.Elements.{All-weaker}
 use Rattle.reg_rules.specs.State.{numbers}
-use Rattle.reg_regions.specs.declared.region.Placed.{Placed}
+use Rattle.reg_regions.specs.declared.instruction.Placed.{Placed}
 use Rattle.reg_regions.specs.Settling.{kept, places_in}
 use Rattle.reg_regions.proofs.AtHome.{rise-before, ready-next}
 use Rattle.reg_regions.proofs.Keeping.{numbers-one}

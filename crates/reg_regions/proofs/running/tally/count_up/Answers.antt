@@ -68,7 +68,7 @@ returns g c =
       settled = sym (append-nil settled) ∙ ap (λ ws. settled ++ flat_map (λ w. w.settled.items) ws) (sym none)
           ∙ i.settled;
       each = λ p. ap (times p) (sym i.numbers)
-          ∙ c.close-tally.ensures.all (c.if-tally-count.false ∙ c.requires.count ∙ sym c.requires.table.1) p
+          ∙ c.close-tally.ensures.all (c.if-tally-count.false ∙ sym c.requires.table.1) p
           ∙ ap (λ n. once n p) c.requires.table.1;
       workers = sym (append-nil (map by all))
           ∙ ap (λ ws. map by all ++ map (λ w. by w.notes) ws) (sym none) ∙ i.workers;

@@ -11,7 +11,7 @@ abbrev pub invariant-loop-worker : goal.invariant-loop-worker
 invariant-loop-worker g l = record {
   can_go : (goal.iterator-loop-worker g).can_next l.worker-iterator;
   ends : (goal.iterator-loop-worker g).is_finite l.worker-iterator;
-  table : seat_table l.rest ≡ g.C.Cutting.table;
+  table : seat_table l.rest ≡ g.S.Sharing.table;
   stake : (known l.rest).stake + length l.worker-iterator.rest.items ≡ 16;
   numbers : (known l.rest).finished ≡ numbers_of l.settled.items;
   settled : l.settled.items ++ flat_map (λ w. w.settled.items) l.worker-iterator.rest.items
