@@ -8,6 +8,7 @@ import ctypes
 import os
 from datetime import date
 from enum import IntEnum
+from functools import lru_cache
 from pathlib import Path
 from typing import Any, Callable, Optional, Union
 
@@ -93,11 +94,12 @@ _DAY = [ctypes.c_char_p, ctypes.c_size_t]
 _ROOM = [ctypes.c_void_p, ctypes.c_size_t]
 
 
+@lru_cache(maxsize=None)
 def _function(name: str, *parameters: Any) -> Callable[..., Answer]:
-    """A function of the library, with the types of its parameters behind the day text and before the room. It is looked
-    up when it is asked: an older library may not have it, and settles all the same."""
+    """A function of the library, with the types of its parameters before the room. It is looked up when it is asked: an
+    older library may not have it, and settles all the same."""
     function: Any = getattr(_library, f"registry_{name}")
-    function.restype, function.argtypes = Answer, [*_DAY, *parameters, *_ROOM]
+    function.restype, function.argtypes = Answer, [*parameters, *_ROOM]
     call: Callable[..., Answer] = function
     return call
 
@@ -134,7 +136,7 @@ def bytes_of(day: Text) -> bytes:
 
 def _command(name: str) -> Callable[[Text], bytes]:
     def run(day: Text) -> bytes:
-        text, call = bytes_of(day), _function(name)
+        text, call = bytes_of(day), _function(name, *_DAY)
         return _ask(lambda room: call(text, len(text), room, len(room)), 2 * len(text) + 4096)
 
     return run
@@ -149,14 +151,16 @@ statements = _command("statements")
 
 
 def statement(day: Text, account: int) -> bytes:
+    """The statement of an account. Raises `NoAccount` if the day has no such account."""
     text = bytes_of(day)
     # (any other number is asked for as 0, which no account has: a fault of the text is told first, as always)
-    number, call = account if 0 <= account <= MOST_NUMBER else 0, _function("statement", ctypes.c_uint32)
+    number, call = account if 0 <= account <= MOST_NUMBER else 0, _function("statement", *_DAY, ctypes.c_uint32)
     return _ask(lambda room: call(text, len(text), number, room, len(room)), len(text) + 4096, account)
 
 
 def next_day(day: Text, on: date) -> bytes:
-    text, named, call = bytes_of(day), on.isoformat().encode(), _function("next", *_DAY)
+    """The text of the next day up to its instructions. Raises `NoNextDate` if this date is not later than the day."""
+    text, named, call = bytes_of(day), on.isoformat().encode(), _function("next", *_DAY, *_DAY)
     return _ask(lambda room: call(text, len(text), named, len(named), room, len(room)), len(text) + 4096)
 
 
@@ -164,9 +168,7 @@ def _words(name: str, *parameters: Any) -> Callable[..., str]:
     """A function of the library that tells words, whatever it is asked."""
 
     def told(*asked: int) -> str:
-        function: Any = getattr(_library, f"registry_{name}")
-        function.restype, function.argtypes = Answer, [*parameters, *_ROOM]
-        call: Callable[..., Answer] = function
+        call = _function(name, *parameters)
         return _ask(lambda room: call(*asked, room, len(room)), 128).decode("ascii")
 
     return told
